@@ -18,10 +18,14 @@ ghost use Rattle.quic_headline.specs.Isolated.{Isolated, IsolatedByAnswers, Isol
 ghost use Rattle.quic_headline.specs.Moments.{LossMoments, LossTimerQuiet, AckMoments};
 ghost use Rattle.quic_headline.specs.Polls.{PollsSendWhatWaits, PollsSendMessages, PacerSetsItsTimer, AskingGoesWhereLet, ProbesPass, WindowIsOfHistory};
 ghost use Rattle.quic_headline.specs.Rest.{DeliveredAtRest, NothingOwedAtRest};
+ghost use Rattle.quic_headline.specs.AcksDue.{AcksAreDue};
 ghost use Rattle.quic_headline.specs.Resets.{ResetsAreTold};
 ghost use Rattle.quic_headline.specs.Ids.{IdsAreNew, AcceptedWereOpened};
 ghost use Rattle.quic_headline.specs.Reasons.{ClosedHasAReason};
 ghost use Rattle.quic_headline.specs.Views.{ViewsTell};
+ghost use Rattle.quic_headline.specs.Credit.{CreditIsBounded, CountsAreBounded};
+ghost use Rattle.quic_headline.specs.Undone.{NoneOpenedOnlyForUndone};
+ghost use Rattle.quic_headline.specs.Unread.{BlockedOnlyForUnread};
 ghost use Rattle.quic_connection_core.specs.Telling.{windows_of, KeepsKeys};
 ghost use Rattle.quic_connection.specs.Ends.{world_of, first_world, world_left, policies_of, kept, AreOf, GoesOn, GoOn, OnHonest, OnRun, AtEachPlace};
 ghost use Rattle.quic_connection_core.specs.Drawn.{words_of};
@@ -602,6 +606,7 @@ pub fn run<H: HeaderKey + Drop, K: PacketKey + Drop, R: Rng + Drop, C: Controlle
         TracksInFlight }
     ensures loss_moments { OnHonest H.protection K.aead R.stream (windows_of C.steps C.window_of) ends events.now result LossMoments }
     ensures ack_moments { OnHonest H.protection K.aead R.stream (windows_of C.steps C.window_of) ends events.now result AckMoments }
+    ensures acks_are_due { OnHonest H.protection K.aead R.stream (windows_of C.steps C.window_of) ends events.now result AcksAreDue }
     ensures acknowledged_were_taken { OnHonest H.protection K.aead R.stream (windows_of C.steps C.window_of) ends events.now result
         AcknowledgedWereTaken }
     ensures names_were_taken { OnHonest H.protection K.aead R.stream (windows_of C.steps C.window_of) ends events.now result
@@ -634,6 +639,14 @@ pub fn run<H: HeaderKey + Drop, K: PacketKey + Drop, R: Rng + Drop, C: Controlle
         DeliveredAtRest }
     ensures nothing_owed_at_rest { OnHonest H.protection K.aead R.stream (windows_of C.steps C.window_of) ends events.now result
         NothingOwedAtRest }
+    ensures blocked_only_for_unread { OnHonest H.protection K.aead R.stream (windows_of C.steps C.window_of) ends events.now result
+        BlockedOnlyForUnread }
+    ensures none_opened_only_for_undone { OnHonest H.protection K.aead R.stream (windows_of C.steps C.window_of) ends events.now result
+        NoneOpenedOnlyForUndone }
+    ensures credit_is_bounded { OnHonest H.protection K.aead R.stream (windows_of C.steps C.window_of) ends events.now result
+        CreditIsBounded }
+    ensures counts_are_bounded { OnHonest H.protection K.aead R.stream (windows_of C.steps C.window_of) ends events.now result
+        CountsAreBounded }
 {
     // What every run of the machine keeps: laws, which do nothing.
     headline::ordered_prefix();
@@ -660,6 +673,7 @@ pub fn run<H: HeaderKey + Drop, K: PacketKey + Drop, R: Rng + Drop, C: Controlle
     headline::tracks_in_flight();
     headline::loss_moments();
     headline::ack_moments();
+    headline::acks_are_due();
     headline::acknowledged_were_taken();
     headline::names_were_taken();
     headline::opens_exactly();
@@ -679,6 +693,10 @@ pub fn run<H: HeaderKey + Drop, K: PacketKey + Drop, R: Rng + Drop, C: Controlle
     headline::taken_or_too_many();
     headline::delivered_at_rest();
     headline::nothing_owed_at_rest();
+    headline::blocked_only_for_unread();
+    headline::none_opened_only_for_undone();
+    headline::credit_is_bounded();
+    headline::counts_are_bounded();
     show_codes(events);
     run_events(alloc, ends, events)
 }

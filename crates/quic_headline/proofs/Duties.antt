@@ -4,9 +4,11 @@ pub mod InStreams
 pub mod Carrier
 pub mod Tail
 pub mod UnderWay
-pub mod Resets
+pub mod Listed
 pub mod Lasting
 pub mod Limits
 pub mod LimitsGo
+pub mod Halts
+pub mod Stopped
 pub mod Group
 pub mod Ledger

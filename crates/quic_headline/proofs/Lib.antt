@@ -12,4 +12,7 @@ pub mod Messages
 pub mod Held
 pub mod Steps
 pub mod Rest
+pub mod AcksDue
 pub mod Isolated
+pub mod Unread
+pub mod Credit

@@ -5,5 +5,6 @@ pub mod Quiet
 pub mod Delivered
 pub mod Awaited
 pub mod Reached
+pub mod Standing
 pub mod Unanswered
 pub mod Owed

@@ -1,16 +1,18 @@
 -- The ledger of duties: where what has to reach the peer is until it arrives (RFC 9000, section 13.3). A duty waits, is under way, or has arrived.
 use Rattle.std.specs.Prelude.{ℕ, ◌<◌, ◌≤◌, ◌≡◌, ◌⊎◌, Bool, true, false, ◌==◌, ◌||◌, List, [], ◌∷◌, length, Option, Some, None, IsSome}
 use Rattle.std.specs.List.{list_any}
+use Rattle.std.specs.Option.{is_none}
 use Rattle.quic_wire_core.specs.declared.stream_id.Side.{Side}
 use Rattle.quic_wire_core.specs.declared.stream_id.Dir.{Dir}
 use Rattle.quic_wire_core.specs.StreamId.{other_side}
-use Rattle.quic_wire.specs.Value.{FrameValue, max_data, max_stream_data, max_streams}
+use Rattle.quic_wire.specs.Value.{FrameValue, StopSendingValue, max_data, max_stream_data, max_streams}
 use Rattle.quic_wire.specs.FrameView.{is_one_way}
 use Rattle.quic_send_buffer.specs.declared.stream_meta.StreamMeta.{StreamMeta}
 use Rattle.quic_send_buffer.specs.Buffered.{is_lost, is_unsent}
 use Rattle.quic_streams_parts.specs.Table.{Table, at}
 use Rattle.quic_machine.specs.Tracking.{Carried, TrackedPacket}
 use Rattle.quic_streams_parts.specs.SendHalf.{SendHalf}
+use Rattle.quic_streams_parts.specs.RecvHalf.{RecvHalf}
 use Rattle.quic_streams_parts.specs.Dirs.{of}
 use Rattle.quic_retransmits.specs.Retransmits.{Retransmits, has_id}
 use Rattle.quic_streams_state.specs.Limits.{can_send_flow_control}
@@ -19,6 +21,8 @@ use Rattle.quic_machine.specs.Poll.{waits}
 use Rattle.quic_machine.specs.Machine.{World, end_at}
 use Rattle.quic_headline.specs.Runs.{Run, Told, Packet, In, until, AreServed, LeadsTo, written, ended, reset, HasArrived, EndHasArrived, ResetHasArrived}
 use Rattle.quic_headline.specs.Observer.{Sent, took, sents_until}
+use Rattle.quic_headline.specs.Amounts.{was_stopped}
+use Rattle.quic_headline.specs.Unread.{stopped}
 
 -- what an end limits: the bytes of all streams, those of one, or how many streams of a direction are opened (sections 4.1 and 4.6)
 pub data Limited : Type 0 where
@@ -26,11 +30,13 @@ pub data Limited : Type 0 where
   StreamData : (id : ℕ) → Limited
   StreamCount : (dir : Dir) → Limited
 
--- an offset of a stream, the end of one, or its reset; and a limit, with its value
+-- an offset of a stream, the end of one, or its reset; that the peer is to stop sending on one; and a
+-- limit, with its value
 pub data Duty : Type 0 where
   Offset : (id : ℕ) (offset : ℕ) → Duty
   Fin : (id : ℕ) → Duty
   Reset : (id : ℕ) → Duty
+  Stop : (id : ℕ) → Duty
   Limit : (what : Limited) (value : ℕ) → Duty
 
 -- ---- what is owed
@@ -59,12 +65,20 @@ pub record IsSaid (e : End) (own : List Sent) (what : Limited) (value : ℕ) : T
   pub greatest : (other : ℕ) → WasGiven own (limit_frame what other) → other ≤ value
   pub matters : Matters e what
 
--- what an end owes that gave these datagrams and was told this: of each stream that it didn't reset, each offset that was written, and
--- the end if it was finished; each reset; and each limit
+-- whether the final size of a stream is unknown to an end that receives on it: it knows that of a half
+-- that is done (section 4.5)
+abbrev pub lacks_size : Option RecvHalf → Bool
+lacks_size None = false
+lacks_size (Some half) = is_none half.final
+
+-- what an end owes that gave these datagrams and was told this: of each stream that it didn't reset,
+-- each offset that was written, and the end if it was finished; each reset; STOP_SENDING of each
+-- stream that it stopped, while the final size isn't known (section 3.5); and each limit
 abbrev pub IsOwed : End → List Sent → List Told → Duty → Type 0
 IsOwed e own told (Offset id offset) = (reset id told ≡ None) × (offset < length (written id told))
 IsOwed e own told (Fin id) = (reset id told ≡ None) × (ended id told ≡ true)
 IsOwed e own told (Reset id) = IsSome (reset id told)
+IsOwed e own told (Stop id) = (stopped id told ≡ true) × (lacks_size (at e.streams.receiving.halves.live id) ≡ true)
 IsOwed e own told (Limit what value) = IsSaid e own what value
 
 -- ---- it waits
@@ -78,6 +92,10 @@ on_half test (Some half) = test half
 abbrev pub has_reset : ℕ → List (ℕ × ℕ) → Bool
 has_reset id resets = list_any (λ r. r.0 == id) resets
 
+-- whether STOP_SENDING of a stream is
+abbrev pub has_stop : ℕ → List StopSendingValue → Bool
+has_stop id stops = list_any (λ s. s.id == id) stops
+
 -- whether a limit waits to be said, as it is then: no less than before
 abbrev pub limit_waits : Retransmits → Limited → Bool
 limit_waits p AllData = p.max_data
@@ -89,6 +107,7 @@ abbrev pub is_due : End → Duty → Bool
 is_due e (Offset id offset) = on_half (λ h. is_lost h.buffer offset || is_unsent h.buffer offset) (at e.streams.sending.halves.live id)
 is_due e (Fin id) = on_half (λ h. h.end_waits) (at e.streams.sending.halves.live id)
 is_due e (Reset id) = has_reset id e.waiting.frames.reset_stream
+is_due e (Stop id) = has_stop id e.waiting.frames.stop_sending
 is_due e (Limit what value) = limit_waits e.waiting.frames what
 
 -- It waits to go. What waits is queued: the end has something to send.
@@ -112,6 +131,7 @@ Carries frame duty = ⊥
 -- it stands in what a datagram carried
 abbrev pub StandsIn : Carried → Duty → Type 0
 StandsIn carried (Reset id) = has_reset id carried.retransmits.reset_stream ≡ true
+StandsIn carried (Stop id) = has_stop id carried.retransmits.stop_sending ≡ true
 StandsIn carried duty = AnyIn (λ frame. Carries frame duty) carried.stream_frames
 
 -- it stands in one of these, which are neither acknowledged nor lost yet
@@ -146,6 +166,7 @@ abbrev pub HasCome : List Packet → List Told → Duty → Type 0
 HasCome packets told (Offset id offset) = HasArrived packets id offset
 HasCome packets told (Fin id) = EndHasArrived packets id (length (written id told))
 HasCome packets told (Reset id) = ResetHasArrived packets id
+HasCome packets told (Stop id) = was_stopped id packets ≡ true
 HasCome packets told (Limit what value) = LimitHasArrived packets what value
 
 -- ---- where it is

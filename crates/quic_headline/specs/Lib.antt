@@ -10,8 +10,12 @@ pub mod Grown
 pub mod Messages
 pub mod Polls
 pub mod Rest
+pub mod AcksDue
 pub mod Resets
 pub mod Ids
 pub mod Reasons
 pub mod Views
 pub mod Isolated
+pub mod Unread
+pub mod Undone
+pub mod Credit

@@ -7,6 +7,7 @@ ghost use Rattle.quic_machine.specs.declared.run.View.{View};
 ghost use Rattle.quic_machine.specs.Machine.{World, Policies, Follows};
 ghost use Rattle.quic_headline.specs.Runs.{Run};
 ghost use Rattle.quic_headline.specs.Amounts.{WritesTakeWhatLimitsAllow};
+ghost use Rattle.quic_headline.specs.Credit.{CreditIsBounded, CountsAreBounded};
 ghost use Rattle.quic_headline.specs.Duties.{DutiesStand};
 ghost use Rattle.quic_headline.specs.Grown.{GrownLimitsWait};
 ghost use Rattle.quic_headline.specs.Messages.{MessagesAtMostOnce};
@@ -16,6 +17,9 @@ ghost use Rattle.quic_headline.specs.Moments.{LossMoments, LossTimerQuiet, AckMo
 ghost use Rattle.quic_headline.specs.Isolated.{Isolated, IsolatedByAnswers, IsolatedByLists};
 ghost use Rattle.quic_headline.specs.Polls.{PollsSendWhatWaits, PollsSendMessages, PacerSetsItsTimer, AskingGoesWhereLet, ProbesPass, WindowIsOfHistory};
 ghost use Rattle.quic_headline.specs.Rest.{DeliveredAtRest, NothingOwedAtRest};
+ghost use Rattle.quic_headline.specs.Unread.{BlockedOnlyForUnread};
+ghost use Rattle.quic_headline.specs.Undone.{NoneOpenedOnlyForUndone};
+ghost use Rattle.quic_headline.specs.AcksDue.{AcksAreDue};
 ghost use Rattle.quic_headline.specs.Resets.{ResetsAreTold};
 ghost use Rattle.quic_headline.specs.Ids.{IdsAreNew, AcceptedWereOpened};
 ghost use Rattle.quic_headline.specs.Reasons.{ClosedHasAReason};
@@ -68,8 +72,9 @@ pub fn accepted_were_opened()
     ensures { (r : Run) (end : World) → IsHonest r → IsRun r end → AcceptedWereOpened r }
 {}
 
-/// A read tells a reset, and so does a call that asks for one, only of a stream that the other end's
-/// application reset before, and with the code that it gave (RFC 9000, sections 3.2 and 19.4).
+/// A read tells a reset, and so does a call that asks for one, only of a stream that the other
+/// end's application reset before, and with the code that it gave (RFC 9000, sections 3.2 and
+/// 19.4).
 pub fn resets_are_told()
     ensures { (r : Run) (end : World) → IsHonest r → IsRun r end → ResetsAreTold r }
 {}
@@ -109,8 +114,8 @@ pub fn no_blame()
     ensures { (r : Run) (end : World) → IsHonest r → IsRun r end → NoBlame r }
 {}
 
-/// A view shows a reason of an end that closes or is drained, and none of one that is open or failed
-/// (RFC 9000, section 10), also where memory lacks.
+/// A view shows a reason of an end that closes or is drained, and none of one that is open or
+/// failed (RFC 9000, section 10), also where memory lacks.
 pub fn closed_has_a_reason()
     ensures { (r : Run) (end : World) → IsHonest r → IsRun r end → ClosedHasAReason r }
 {}
@@ -122,8 +127,9 @@ pub fn taken_or_too_many()
     ensures { (r : Run) (end : World) → IsHonest r → IsRun r end → TakenOrTooMany r }
 {}
 
-/// A call that asks when a timer expires is answered what the view behind it shows of that timer, and
-/// one that asks for the next timeout the earliest moment that it shows, also where memory lacks.
+/// A call that asks when a timer expires is answered what the view behind it shows of that timer,
+/// and one that asks for the next timeout the earliest moment that it shows, also where memory
+/// lacks.
 pub fn views_tell()
     ensures { (r : Run) (end : World) → IsHonest r → IsRun r end → ViewsTell r }
 {}
@@ -193,9 +199,26 @@ pub fn grown_limits_wait()
     ensures { (r : Run) (end : World) → IsHonest r → IsRun r end → GrownLimitsWait r }
 {}
 
-/// At each place an open end tracks exactly the datagrams that an observer of the run's lists counts
-/// as given, and neither acknowledged, nor lost by number or by time, nor forgotten: a long tail of
-/// datagrams that ask for no acknowledgement loses its oldest (RFC 9002, sections 2 and 6.1).
+/// Each limit that an end said lies at most a window past what was consumed: MAX_DATA past all
+/// bytes that were read, and past all that came of each stream that it stopped or whose reset came;
+/// MAX_STREAM_DATA past the bytes that were read of its stream. So no byte is let come twice, and
+/// none without bound (RFC 9000, sections 4.1, 19.9 and 19.10).
+pub fn credit_is_bounded()
+    ensures { (r : Run) (end : World) → IsHonest r → IsRun r end → CreditIsBounded r }
+{}
+
+/// Each count that an end said in MAX_STREAMS lies at most as many past those of its peer's streams
+/// that are done as it lets the peer have at once. A stream is done where its end was read, it was
+/// stopped or its reset came, and, where it runs two ways, this end finished or reset it (RFC 9000,
+/// sections 4.6 and 19.11).
+pub fn counts_are_bounded()
+    ensures { (r : Run) (end : World) → IsHonest r → IsRun r end → CountsAreBounded r }
+{}
+
+/// At each place an open end tracks exactly the datagrams that an observer of the run's lists
+/// counts as given, and neither acknowledged, nor lost by number or by time, nor forgotten: a long
+/// tail of datagrams that ask for no acknowledgement loses its oldest (RFC 9002, sections 2 and
+/// 6.1).
 pub fn tracks_in_flight()
     ensures { (r : Run) (end : World) → IsHonest r → IsRun r end → TracksInFlight r }
 {}
@@ -240,10 +263,11 @@ pub fn writes_take_what_limits_allow()
     ensures { (r : Run) (end : World) → IsHonest r → IsRun r end → WritesTakeWhatLimitsAllow r }
 {}
 
-/// Where a poll of an open end gives nothing though a byte that was written on a stream, or its end,
-/// is in no datagram that is in flight or was acknowledged, and the stream wasn't reset, either the
-/// congestion window that the view shows has no room for one more datagram beside those in flight,
-/// or the view shows the timer of the pacer set to a later moment (RFC 9002, sections 7 and 7.7).
+/// Where a poll of an open end gives nothing though a byte that was written on a stream, or its
+/// end, is in no datagram that is in flight or was acknowledged, and the stream wasn't reset,
+/// either the congestion window that the view shows has no room for one more datagram beside those
+/// in flight, or the view shows the timer of the pacer set to a later moment (RFC 9002, sections 7
+/// and 7.7).
 pub fn polls_send_what_waits()
     ensures { (r : Run) (end : World) → IsHonest r → IsRun r end → PollsSendWhatWaits r }
 {}
@@ -253,7 +277,8 @@ pub fn polls_send_messages()
     ensures { (r : Run) (end : World) → IsHonest r → IsRun r end → PollsSendMessages r }
 {}
 
-/// The timer of an open end's pacer is set only to the moment that the pacer named in the last poll.
+/// The timer of an open end's pacer is set only to the moment that the pacer named in the last
+/// poll.
 pub fn pacer_sets_its_timer()
     ensures { (r : Run) (end : World) → IsHonest r → IsRun r end → PacerSetsItsTimer r }
 {}
@@ -277,10 +302,10 @@ pub fn window_is_of_history()
 {}
 
 /// Where an end rests, each byte that was written on a stream that it didn't reset has arrived, and
-/// so has the end of each such stream that was finished. An end rests where its last call was a poll
-/// that gave nothing, and the view shows it open, its path validated, and the timers of losses, of
-/// acknowledgements and of the pacer not set; the other end may do anything meanwhile. It wants of
-/// the controllers that they keep room for two datagrams (RFC 9002, section 7.2).
+/// so has the end of each such stream that was finished. An end rests where its last call was a
+/// poll that gave nothing, and the view shows it open, its path validated, and the timers of
+/// losses, of acknowledgements and of the pacer not set; the other end may do anything meanwhile.
+/// It wants of the controllers that they keep room for two datagrams (RFC 9002, section 7.2).
 pub fn delivered_at_rest()
     ensures { (r : Run) (end : World) → IsHonest r → IsRun r end → DeliveredAtRest r }
 {}
@@ -290,6 +315,35 @@ pub fn delivered_at_rest()
 /// that isn't below it (RFC 9000, sections 13.2.1 and 13.2.4).
 pub fn nothing_owed_at_rest()
     ensures { (r : Run) (end : World) → IsHonest r → IsRun r end → NothingOwedAtRest r }
+{}
+
+/// Where both ends rest so and the next write at one is answered `Blocked`, whatever caused that,
+/// so much is left unread at the other end: of all streams together, its window for all less an
+/// eighth of it, or of this stream, its window for one stream less an eighth. Bytes count that
+/// arrived and weren't read, of streams that the reader didn't stop and whose reset didn't come. It
+/// wants of both ends that their windows aren't empty, and that they wrote less than 2^61 bytes
+/// (RFC 9000, section 4.1).
+pub fn blocked_only_for_unread()
+    ensures { (r : Run) (end : World) → IsHonest r → IsRun r end → BlockedOnlyForUnread r }
+{}
+
+/// Where both ends rest so, a call that opens a stream is answered none only for streams of that
+/// direction that this end opened and that aren't done at the peer: as many as the peer lets be
+/// open at once, less an eighth, rounded down but one at least, and one more. By the lists a stream
+/// is done there once the application read its end or was told of its reset, or stopped it and its
+/// final size came; and, if it runs two ways, once the application finished or reset what it sends.
+/// The peer lets one be open at least, and fewer than 2^59 were opened (RFC 9000, section 4.6).
+pub fn none_opened_only_for_undone()
+    ensures { (r : Run) (end : World) → IsHonest r → IsRun r end → NoneOpenedOnlyForUndone r }
+{}
+
+/// Where an ACK frame is due at an end that owes an acknowledgement, a poll that leaves it open
+/// gives a datagram with one. It is due from any of these on, until one goes: a packet that asks
+/// came, with which two wait, or out of order, which is below one that asks, or above all of them
+/// with a number missing between; a packet bore the mark of congestion while one that asks waits;
+/// or a timeout told that 25 ms have passed since one came (RFC 9000, sections 13.2.1 and 13.2.2).
+pub fn acks_are_due()
+    ensures { (r : Run) (end : World) → IsHonest r → IsRun r end → AcksAreDue r }
 {}
 
 /// A run less any choice of its idle events, which are injections and deliveries that their end
@@ -307,8 +361,8 @@ pub fn isolated_by_answers()
     ensures { (r : Run) (end : World) → IsRun r end → IsolatedByAnswers r end }
 {}
 
-/// So it is of all injections, and all deliveries of datagrams that by the run's lists don't open at
-/// their end, or came before: in each run of two ends that were made for one another, whatever
+/// So it is of all injections, and all deliveries of datagrams that by the run's lists don't open
+/// at their end, or came before: in each run of two ends that were made for one another, whatever
 /// their keys, at each place up to which memory served.
 pub fn isolated_by_lists()
     ensures { (r : Run) (end : World) → AreStarted r.start → IsRun r end → IsolatedByLists r }

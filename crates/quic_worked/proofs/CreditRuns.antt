@@ -177,27 +177,27 @@ no_one_below read by views end is = (not_below read by).never views end is.follo
 
 -- ---- a count
 
-counts_open : IsStep worked_policies narrow_count opens_one_way (answers.Open (Some 2)) count_opened
+pub counts_open : IsStep worked_policies narrow_count opens_one_way (answers.Open (Some 2)) count_opened
 counts_open = record { answer = refl; end = refl; control = refl; others = refl; lacking = tt }
 
-refuses_second : IsStep worked_policies count_opened opens_one_way (answers.Open None) count_refused
+pub refuses_second : IsStep worked_policies count_opened opens_one_way (answers.Open None) count_refused
 refuses_second = record { answer = refl; end = refl; control = refl; others = refl; lacking = tt }
 
-counts_write : IsStep worked_policies count_refused (writes_on 2 hello) (answers.Write (Ok 5)) count_written
+pub counts_write : IsStep worked_policies count_refused (writes_on 2 hello) (answers.Write (Ok 5)) count_written
 counts_write = record { answer = inl refl; end = refl; control = refl; others = refl; lacking = λ lacks. cc }
 
-counts_end : IsStep worked_policies count_written ends_one_way (answers.Finish (Ok tt)) count_ended
+pub counts_end : IsStep worked_policies count_written ends_one_way (answers.Finish (Ok tt)) count_ended
 counts_end = record { answer = inl refl; end = refl; control = refl; others = refl; lacking = λ lacks. cc }
 
-counts_give : IsStep worked_policies count_ended asks_datagram (gives_bytes 34) count_sent
+pub counts_give : IsStep worked_policies count_ended asks_datagram (gives_bytes 34) count_sent
 unfolding count_sent
 counts_give = record { answer = inl refl; end = refl; control = refl; others = refl; lacking = tt }
 
-counts_take : IsStep worked_policies count_sent delivers (answers.Deliver receives.Taken) count_taken
+pub counts_take : IsStep worked_policies count_sent delivers (answers.Deliver receives.Taken) count_taken
 unfolding count_taken
 counts_take = record { answer = inl refl; end = refl; control = refl; others = refl; lacking = tt }
 
-counts_accept : IsStep worked_policies count_taken accepts_one_way (answers.Accept (Some 2)) count_accepted
+pub counts_accept : IsStep worked_policies count_taken accepts_one_way (answers.Accept (Some 2)) count_accepted
 unfolding count_taken
 counts_accept = record { answer = refl; end = refl; control = refl; others = refl; lacking = tt }
 
@@ -208,10 +208,10 @@ counts_read_so = record { answer = (refl, (inl refl, (inl refl, tt))); lacking =
 counts_read_only : count_read ≡ with_server count_accepted count_read.server
 counts_read_only = refl
 
-counts_read : (read : ReadCall) → ReadsOneWay read → IsStep worked_policies count_accepted (reads_stream read) (answers.Read (Ok all_nexts)) count_read
+pub counts_read : (read : ReadCall) → ReadsOneWay read → IsStep worked_policies count_accepted (reads_stream read) (answers.Read (Ok all_nexts)) count_read
 counts_read = reads_at count_accepted count_read 2 true two_chunks all_nexts counts_read_so counts_read_only
 
-gives_back : IsStep worked_policies count_read asks_server (gives_bytes 33) count_given
+pub gives_back : IsStep worked_policies count_read asks_server (gives_bytes 33) count_given
 unfolding count_given
 gives_back = record { answer = inl refl; end = refl; control = refl; others = refl; lacking = tt }
 

@@ -39,4 +39,8 @@ mod SilentEnd
 mod AskedTimers
 mod MessageRuns
 mod RestedRun
+mod HastyRun
 mod IsolatedRuns
+mod BlockedRun
+mod UndoneRun
+mod BoundedRun

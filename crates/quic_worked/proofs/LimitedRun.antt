@@ -69,29 +69,29 @@ one_heard = record { client = waiting_view; server = sent_view }
 pub opens : IsStep worked_policies limited_start opens_stream (answers.Open (Some 0)) limited_opened
 opens = record { answer = refl; end = refl; control = refl; others = refl; lacking = tt }
 
-opens_both : IsStep worked_policies limited_opened opens_stream (answers.Open (Some 4)) limited_both
+pub opens_both : IsStep worked_policies limited_opened opens_stream (answers.Open (Some 4)) limited_both
 opens_both = record { answer = refl; end = refl; control = refl; others = refl; lacking = tt }
 
-writes_first : IsStep worked_policies limited_both (writes_on 0 sixteen) (answers.Write (Ok 5)) limited_first
+pub writes_first : IsStep worked_policies limited_both (writes_on 0 sixteen) (answers.Write (Ok 5)) limited_first
 writes_first = record { answer = inl refl; end = refl; control = refl; others = refl; lacking = λ lacks. cc }
 
-writes_second : IsStep worked_policies limited_first (writes_on 4 sixteen) (answers.Write (Ok 2)) limited_second
+pub writes_second : IsStep worked_policies limited_first (writes_on 4 sixteen) (answers.Write (Ok 2)) limited_second
 unfolding with_offsets with_range joining
 writes_second = record { answer = inl refl; end = refl; control = refl; others = refl; lacking = λ lacks. cc }
 
-blocks : IsStep worked_policies limited_second (writes_on 4 sixteen) (answers.Write (Err write_errors.Blocked)) limited_blocked
+pub blocks : IsStep worked_policies limited_second (writes_on 4 sixteen) (answers.Write (Err write_errors.Blocked)) limited_blocked
 unfolding with_offsets with_range joining
 blocks = record { answer = inl refl; end = refl; control = refl; others = refl; lacking = λ lacks. cc }
 
-gives : IsStep worked_policies limited_blocked asks_datagram (gives_bytes 39) limited_sent
+pub gives : IsStep worked_policies limited_blocked asks_datagram (gives_bytes 39) limited_sent
 unfolding limited_sent
 gives = record { answer = inl refl; end = refl; control = refl; others = refl; lacking = tt }
 
-takes : IsStep worked_policies limited_sent delivers (answers.Deliver receives.Taken) limited_taken
+pub takes : IsStep worked_policies limited_sent delivers (answers.Deliver receives.Taken) limited_taken
 unfolding limited_taken
 takes = record { answer = inl refl; end = refl; control = refl; others = refl; lacking = tt }
 
-accepts : IsStep worked_policies limited_taken accepts_stream (answers.Accept (Some 0)) limited_accepted
+pub accepts : IsStep worked_policies limited_taken accepts_stream (answers.Accept (Some 0)) limited_accepted
 unfolding limited_taken
 accepts = record { answer = refl; end = refl; control = refl; others = refl; lacking = tt }
 
@@ -102,10 +102,10 @@ reads_so = record { answer = (refl, (inl refl, tt)); lacking = (λ lacks. cc, tt
 reads_only : limited_read ≡ with_server limited_accepted limited_read.server
 reads_only = refl
 
-reads : (read : ReadCall) → ReadsEight read → IsStep worked_policies limited_accepted (reads_stream read) (answers.Read (Ok hello_nexts)) limited_read
+pub reads : (read : ReadCall) → ReadsEight read → IsStep worked_policies limited_accepted (reads_stream read) (answers.Read (Ok hello_nexts)) limited_read
 reads = reads_at limited_accepted limited_read 0 true eight_bounds hello_nexts reads_so reads_only
 
-raises : IsStep worked_policies limited_read asks_server (gives_bytes 36) limited_given
+pub raises : IsStep worked_policies limited_read asks_server (gives_bytes 36) limited_given
 unfolding limited_given
 raises = record { answer = inl refl; end = refl; control = refl; others = refl; lacking = tt }
 

@@ -18,6 +18,10 @@ pub mod Probed
 pub mod Messages
 pub mod Held
 pub mod Rested
+pub mod Hasty
 pub mod Isolated
 pub mod Paced
 pub mod Faults
+pub mod Blocked
+pub mod Undone
+pub mod Bounded

@@ -3,12 +3,15 @@
 #![tactic(auto)]
 
 pub mod acknowledged;
+pub mod blocked;
+pub mod bounded;
 pub mod broken;
 pub mod chunked;
 pub mod closed;
 pub mod credit;
 pub mod exchange;
 pub mod faults;
+pub mod hasty;
 pub mod held;
 pub mod isolated;
 pub mod limited;
@@ -23,4 +26,5 @@ pub mod raised;
 pub mod reordered;
 pub mod rested;
 pub mod timed;
+pub mod undone;
 pub mod worked;

@@ -18,8 +18,7 @@ use Rattle.quic_machine.specs.declared.run.Call.TheVariants as calls
 use Rattle.quic_machine.specs.declared.run.Answer.{Answer}
 use Rattle.quic_machine.specs.Calls.{is_open}
 use Rattle.quic_machine.specs.Machine.{World, policy_at, end_at, control_at, reads_window, given_by, IsAnswer}
-use Rattle.quic_headline.specs.Runs.{Run, In, ids_of, id_by, until, AreServed}
-use Rattle.quic_headline.specs.Headline.{IsHonest, IsAt}
+use Rattle.quic_headline.specs.Runs.{Run, id_by, AreServed}
 use Rattle.quic_headline.specs.Ids.{IdsAreNew}
 use Rattle.quic_headline.proofs.Places.Parties.{Party}
 use Rattle.quic_headline.proofs.Places.Groups.{Way}

@@ -1,5 +1,5 @@
 -- The streams of the peer's that an end has are those that frames opened which came, and those below them (RFC 9000, sections 2.1 and 3.2).
-use Rattle.std.proofs.Common.{◌≡◌, ℕ, ◌+◌, ◌<◌, ◌≤◌, ◌⊎◌, inl, inr, Bool, true, false, List, [], ◌∷◌, Option, Some, None, refl, sym, ap, ◌∙◌, subst, arith}
+use Rattle.std.proofs.Common.{◌≡◌, ℕ, ◌+◌, ◌<◌, ◌≤◌, ◌⊎◌, inl, inr, Bool, true, false, List, ◌∷◌, Option, Some, None, refl, sym, ◌∙◌, subst, arith}
 use Rattle.std.specs.Prelude.{nat_lt, nat_le, ◌&&◌, if◌then◌else◌}
 use Rattle.std.proofs.lemmas.Bool.{cond_both, ltb-true}
 use Rattle.quic_wire_core.specs.declared.stream_id.Side.{Side}
@@ -7,7 +7,6 @@ use Rattle.quic_wire_core.specs.declared.stream_id.Dir.{Dir}
 use Rattle.quic_wire_core.specs.declared.stream_id.Dir.TheVariants.{Bi, Uni}
 use Rattle.quic_wire_core.specs.StreamId.{stream_id, other_side, dir_of, index_of}
 use Rattle.quic_wire.specs.Value.{FrameValue}
-use Rattle.quic_config.specs.Transport.{Settings}
 use Rattle.quic_streams_parts.specs.Dirs.{Counts, of, more, is_own}
 use Rattle.quic_streams_state.specs.declared.state.StreamsState.{StreamsState}
 use Rattle.quic_streams_state.specs.State.{Opening}
@@ -26,9 +25,9 @@ use Rattle.quic_machine.specs.Receive.{Outcome, take_frame}
 use Rattle.quic_machine.specs.FrameCases.{begun, passed, frames_leave}
 use Rattle.quic_machine.specs.CallCases.{is_delivery}
 use Rattle.quic_machine.specs.Machine.{World, after_call}
-use Rattle.quic_headline.specs.Runs.{Run, Packet, Intake, In, OpensStream, WasNamed, AreServed}
-use Rattle.quic_headline.specs.Observer.{Sent, watch}
-use Rattle.quic_headline.specs.Headline.{IsHonest, IsAt}
+use Rattle.quic_headline.specs.Runs.{Run, Packet, Intake, In, OpensStream, AreServed}
+use Rattle.quic_headline.specs.Observer.{Sent}
+use Rattle.quic_headline.specs.Headline.{IsHonest}
 use Rattle.quic_headline.specs.Ids.{and_packet, came_in, WasOpened, AcceptedWereOpened}
 use Rattle.quic_headline.proofs.Packets.Group.{PacketsHold, meets}
 use Rattle.quic_headline.proofs.Packets.Delivered.{Arrivals, with_taken, with_refused}

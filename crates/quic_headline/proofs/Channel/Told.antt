@@ -1,6 +1,5 @@
 -- How far an end told its peer that it may come, on all streams and on each, the peer may come at it, whatever it does later (RFC 9000, sections 4.1, 19.9 and 19.10).
 use Rattle.std.proofs.Common.{◌≡◌, ℕ, zero, suc, ◌+◌, ◌-◌, ◌≤◌, Bool, List, [], ◌∷◌, ◌++◌, length, replicate, Option, Some, sym, ap, subst, inl, inr, arith}
-use Rattle.std.specs.Prelude.{if◌then◌else◌}
 use Rattle.quic_packet.specs.Number.{truncated}
 use Rattle.quic_wire.specs.Value.{FrameValue, padding, ping, stream, datagram, max_data, max_stream_data}
 use Rattle.quic_streams_parts.specs.Table.{at}

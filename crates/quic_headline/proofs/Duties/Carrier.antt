@@ -1,9 +1,11 @@
 -- What stands in one of a list: lists in two parts, tables of packets with one more, and lists from whose front one after another goes.
 use Rattle.std.proofs.Common.{◌≡◌, ℕ, ◌<◌, Bool, true, false, not, cond, List, [], ◌∷◌, ◌++◌, filter, Option, Some, None, refl, sym, ap, ◌∙◌, subst, ◌⊎◌, inl, inr, arith}
 use Rattle.std.specs.BTreeMap.{is_at}
+use Rattle.std.specs.List.{list_any}
 use Rattle.std.specs.Ordering.{nat_cmp, match_ordering}
 use Rattle.std.specs.declared.cmp.Ordering.{Ordering}
 use Rattle.std.specs.declared.cmp.Ordering.TheVariants.{Less, Equal, Greater}
+use Rattle.std.proofs.lemmas.Bool.{or_left, or_right}
 use Rattle.std.proofs.lemmas.Cmp.{ranked}
 use Rattle.quic_streams_parts.specs.Table.{Table, put, added, without}
 use Rattle.quic_machine.specs.Tracking.{Tracking, TrackedPacket, without_record, is_behind, without_packet, forgotten, after_sent}
@@ -21,6 +23,12 @@ use Rattle.quic_headline.proofs.Packets.TrackedSteps.{asking_packets, without_fe
 use Rattle.quic_headline.proofs.Timers.LossTimers.{forgotten_behind}
 
 -- ---- lists
+
+-- one of a list passes a test
+pub any_is : {X : Type 0} (f : X → Bool) (x : X) (xs : List X) → In x xs → f x ≡ true → list_any f xs ≡ true
+any_is f x [] i on = absurd i
+any_is f x (y ∷ xs) (inl same) on = or_left (f y) (list_any f xs) (ap f (sym same) ∙ on)
+any_is f x (y ∷ xs) (inr more) on = or_right (f y) (list_any f xs) (any_is f x xs more on)
 
 -- what holds of one of a list: it is among those that a test takes, or among the others
 pub any_either : {X : Type 0} (P : X → Type 0) (f : X → Bool) (xs : List X) → AnyIn P xs → AnyIn P (filter f xs) ⊎ AnyIn P (filter (λ x. not (f x)) xs)

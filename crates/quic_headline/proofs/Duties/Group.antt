@@ -1,4 +1,5 @@
--- What has to reach the peer is somewhere, as a group: what is in flight of streams stands in tracked packets, and a reset waits, stands in one, or came.
+-- What has to reach the peer is somewhere, as a group: what is in flight of streams stands in
+-- tracked packets, and a reset, and STOP_SENDING while it matters, waits, stands in one, or came.
 use Rattle.std.proofs.Common.{◌≡◌, ℕ, Bool, true, false, List, [], ◌∷◌, ◌++◌, Option, Some, None, refl, sym, ap, ◌∙◌, subst, inl, inr}
 use Rattle.std.specs.Option.{IsSome, is_some}
 use Rattle.quic_config.specs.Transport.{Settings, parameters_of}
@@ -17,6 +18,7 @@ use Rattle.quic_machine.specs.CallCases.{is_delivery}
 use Rattle.quic_machine.specs.Machine.{IsAnswer, after_call, gave}
 use Rattle.quic_streams_laws.specs.Quiet.{IsSentWithin}
 use Rattle.quic_machine.specs.Receive.{Outcome}
+use Rattle.quic_machine.specs.FrameCases.{begun as started, passed, frames_keep}
 use Rattle.quic_headline.specs.Runs.{Packet, Intake, In, first_of, reset_by, reset, nothing_came}
 use Rattle.quic_headline.specs.Observer.{Sent}
 use Rattle.quic_headline.specs.Duties.{Duty, Limited, limit_frame, WasGiven}
@@ -31,12 +33,13 @@ use Rattle.quic_headline.proofs.Places.Told.{in_append}
 use Rattle.quic_headline.proofs.Places.Steps.{poll_answer}
 use Rattle.quic_headline.proofs.Places.Groups.{Way, Calls, Group}
 use Rattle.quic_headline.proofs.Places.Coming.{by_coming}
+use Rattle.quic_headline.proofs.Halves.Ghosts.{IsWriting}
 use Rattle.quic_headline.proofs.Halves.Wrote.{wrote, done_by, reset_more}
 use Rattle.quic_headline.proofs.Halves.WordsCalls.{call_on_is}
 use Rattle.quic_headline.proofs.Halves.Small.{payload_small}
 use Rattle.quic_headline.proofs.Halves.Says.{sent_says}
 use Rattle.quic_headline.proofs.Halves.Arrived.{small_limits}
-use Rattle.quic_headline.proofs.Halves.Writer.{WritesHold, done_behind}
+use Rattle.quic_headline.proofs.Halves.Writer.{WritesHold, done_behind, grows_behind}
 use Rattle.quic_headline.proofs.Halves.QuietSteps.{sent_within}
 use Rattle.quic_headline.proofs.Channel.Names.{NamesHold}
 use Rattle.quic_headline.proofs.Channel.Received.{Stays}
@@ -45,15 +48,21 @@ use Rattle.quic_headline.proofs.Duties.Flies.{FliesIn, flies_along}
 use Rattle.quic_headline.proofs.Duties.Carrier.{IsNew}
 use Rattle.quic_headline.proofs.Duties.Tail.{AskBefore, next_new, before_call}
 use Rattle.quic_headline.proofs.Duties.UnderWay.{InPackets, Fly, TrackedEnds, arrivals_fly, call_fly}
-use Rattle.quic_headline.proofs.Duties.Resets.{ResetStands, reset_on, arrivals_stand, call_resets, call_stands}
+use Rattle.quic_headline.proofs.Duties.Listed.{Listed, ResetOf, StopOf, listed_in, ListedStands, came_on, arrivals_stand, call_resets, call_stands}
+use Rattle.quic_headline.proofs.Duties.Halts.{Halts, halts_first, halts_call}
+use Rattle.quic_headline.proofs.Duties.Stopped.{AreAsked, asked_more, asked_frame, asked_call, asked_first}
 use Rattle.quic_headline.proofs.Duties.Lasting.{Knows, knows_lasts, call_lasts}
 use Rattle.quic_headline.proofs.Duties.Limits.{LimitStands, Stated, arrivals_stated}
 use Rattle.quic_headline.proofs.Duties.LimitsGo.{stands_more, polled_stands, polled_says, call_stated}
 
--- what is in flight of the streams of x stands in packets that it tracks, and each of its resets is somewhere, and each limit that it said
+-- what is in flight of the streams of x stands in packets that it tracks, and each of its resets is
+-- somewhere, STOP_SENDING of each stream that it stopped and whose final size it doesn't know, and
+-- each limit that it said
 pub record Flying (x y : Party) : Type 0 where
   pub fly : Fly (wrote x.told) x.end
-  pub resets : (id : ℕ) → IsSome (reset id x.told) → ResetStands (came_to y x).took id x.end
+  pub resets : (id : ℕ) → IsSome (reset id x.told) → ListedStands (came_to y x).took (ResetOf id) x.end
+  pub halts : Halts x y
+  pub stops : AreAsked (λ id. ListedStands (came_to y x).took (StopOf id) x.end) x.end.streams
   pub limits : (what : Limited) (value : ℕ) → WasGiven x.sents (limit_frame what value) → Stated (came_to y x).took x.sents what value x.end
   -- what was sent since the last datagram that asks doesn't ask
   pub asked : AskBefore x.sents x.end.tracking.greatest_asking
@@ -65,6 +74,15 @@ pub record IsReadied (B : Way) : Type 1 where
   pub ready : (x y : Party) → B x y → (now : ℕ) → AreReady (ready_at x.end now).end.streams.sending.halves.live (ready_at x.end now).end.waiting.frames
   pub names : (x y : Party) → B x y → NamesHold x y
   pub within : (x y : Party) → B x y → Within x y
+
+-- what was written is that too
+readied_writing : (B : Way) → IsReadied B → IsWriting B
+readied_writing B b = record {
+  packets = b.packets;
+  written = λ x y h. (b.writes x y h).writes.keeps.holds;
+  says = λ x y h. (b.writes x y h).says;
+  grows = λ x y call a c. grows_behind B b.packets x y call a c (b.writes x y c.gives);
+}
 
 -- a call that is none on streams resets none
 none_reset : (id : ℕ) (call : Call) (a : Answer) → is_on_streams call ≡ false → IsSome (reset_by id call a) → ⊥
@@ -109,24 +127,41 @@ module _ (B : Way) (b : IsReadied B) (x y : Party) (call : Call) (a : Answer) (c
       F : Duty → Type 0
       F = InPackets (called x y.given call a).end.tracking.packets
 
-  -- a reset that was somewhere is so still
-  old_reset : (id : ℕ) → IsSome (reset id x.told) → ResetStands took id (called x y.given call a).end
-  old_reset id some = by_coming x y a c.joined c.served (meets y x takes) (λ (e : End) (j : Intake). ResetStands took id e) call c.answer (record {
-    apart = λ apart. call_stands took x.sents id x.policy x.end y.given call a apart gives.ascends gives.tracked i.asked new (b.ready x y c.gives) (i.resets id some);
-    none = λ delivery is. i.resets id some;
-    comes = λ delivery is s among. arrivals_stand took id x.sents (record { taken = gives.taken; rising = gives.gives.rising }) x.end delivery.now s.number s.frames (came_to x y)
-        (λ ak carried k named. takes.named s ak k among carried named) gives.tracked (i.resets id some);
+  -- what waits in lists, and was somewhere, is so still
+  old_listed : (what : Listed) → ListedStands took what x.end → ListedStands took what (called x y.given call a).end
+  old_listed what was = by_coming x y a c.joined c.served (meets y x takes) (λ (e : End) (j : Intake). ListedStands took what e) call c.answer (record {
+    apart = λ apart. call_stands took x.sents what x.policy x.end y.given call a apart gives.ascends gives.tracked i.asked new (b.ready x y c.gives) was;
+    none = λ delivery is. was;
+    comes = λ delivery is s among. arrivals_stand took what x.sents (record { taken = gives.taken; rising = gives.gives.rising }) x.end delivery.now s.number s.frames (came_to x y)
+        (λ ak carried k named. takes.named s ak k among carried named) gives.tracked was;
   })
 
-  -- a new one waits
-  new_reset : (id : ℕ) → IsSome (reset_by id call a) → ResetStands took id (called x y.given call a).end
+  -- a new reset waits
+  new_reset : (id : ℕ) → IsSome (reset_by id call a) → ListedStands took (ResetOf id) (called x y.given call a).end
   new_reset id some = go (is_on_streams call) refl
     where
-      go : (on : Bool) → is_on_streams call ≡ on → ResetStands took id (called x y.given call a).end
+      go : (on : Bool) → is_on_streams call ≡ on → ListedStands took (ResetOf id) (called x y.given call a).end
       go true on =
           let k = call_on_is x.policy x.end y.given call a on in
-          inl (ap (λ (e : End). reset_on id e) k.same ∙ call_resets id (is_open x.end.closing.state) (streams_at x.end) call a (k.answer c.answer) some)
+          inl (ap (λ (e : End). listed_in (ResetOf id) e.waiting.frames) k.same ∙ call_resets id (is_open x.end.closing.state) (streams_at x.end) call a (k.answer c.answer) some)
       go false off = absurd (none_reset id call a off some)
+
+  -- STOP_SENDING of a stream is somewhere
+  abbrev Asks : ℕ → Type 0
+  Asks id = ListedStands took (StopOf id) (called x y.given call a).end
+
+  -- so it is of each that matters
+  asks_still : AreAsked Asks x.end.streams
+  asks_still = asked_more (λ id. ListedStands took (StopOf id) x.end) Asks x.end.streams (λ id. old_listed (StopOf id)) i.stops
+
+  stops_call : AreAsked Asks (called x y.given call a).end.streams
+  stops_call = by_coming x y a c.joined c.served (meets y x takes) (λ (e : End) (j : Intake). AreAsked Asks e.streams) call c.answer (record {
+    apart = λ apart. asked_call Asks x.policy x.end y.given (sent_within done x.end.streams (b.writes x y c.gives).writes.keeps.holds) call a c.answer apart (λ id waits. inl waits) asks_still;
+    none = λ delivery is. asks_still;
+    comes = λ delivery is s among. (
+        let after : AreAsked Asks (passed s.frames (started x.end delivery.now s.number)).end.streams = frames_keep (λ (e : End). AreAsked Asks e.streams) (λ f e j. asked_frame Asks f e j) s.frames (started x.end delivery.now s.number) asks_still in
+        record { ignored = λ reason. asks_still; noted = λ closing reason. asks_still; takes = λ open_there fresh fine mark. after; refuses = λ open_there fresh f fault. after });
+  })
 
   -- ---- limits
 
@@ -200,19 +235,16 @@ module _ (B : Way) (b : IsReadied B) (x y : Party) (call : Call) (a : Answer) (c
     fly = fly_call;
     limits = said_limit;
     asked = before_call x.policy x.end y.given call a x.sents c.answer c.served gives.gives.below i.asked;
+    halts = halts_call B (readied_writing B b) x y call a c i.halts;
+    stops = stops_call;
     resets = λ id some. go id (reset id x.told) refl (subst (λ (o : Option ℕ). IsSome o) (reset_more id x.told (told_of call a x.end.closing.state)) some);
   }
     where
-      go : (id : ℕ) (o : Option ℕ) → reset id x.told ≡ o → IsSome (first_of o (reset_by id call a)) → ResetStands took id (called x y.given call a).end
-      go id (Some code) is some = old_reset id (ap is_some is)
+      go : (id : ℕ) (o : Option ℕ) → reset id x.told ≡ o → IsSome (first_of o (reset_by id call a)) → ListedStands took (ResetOf id) (called x y.given call a).end
+      go id (Some code) is some = old_listed (ResetOf id) (i.resets id (ap is_some is))
       go id None is some = new_reset id some
 
 -- what came stays so
-came_on : (old later : List Packet) (id : ℕ) (e : End) → ((packet : Packet) → In packet old → In packet later) → ResetStands old id e → ResetStands later id e
-came_on old later id e keeps (inl waits) = inl waits
-came_on old later id e keeps (inr (inl flies)) = inr (inl flies)
-came_on old later id e keeps (inr (inr came)) = inr (inr (record { packet = came.packet; was_taken = keeps came.packet came.was_taken; frame = came.frame; carried = came.carried; of_stream = came.of_stream }))
-
 limit_came_on : (old later : List Packet) (own : List Sent) (what : Limited) (value : ℕ) (e : End) → ((packet : Packet) → In packet old → In packet later) → LimitStands old own what value e → LimitStands later own what value e
 limit_came_on old later own what value e keeps (inl ends) = inl ends
 limit_came_on old later own what value e keeps (inr (inl waits)) = inr (inl waits)
@@ -227,6 +259,8 @@ flying_first x y m =
       fly = with_set_params (FliesIn (InPackets [])) (λ id w. Unit {0}) (λ id. nothing_done) (new_streams x.side s.max_uni s.max_bidi s.send_window s.receive_window s.stream_receive_window) (parameters_of y.making.settings) (small_limits y.making.settings m.y_is.range)
           (with_new (FliesIn (InPackets [])) (λ id w. Unit {0}) x.side s.max_uni s.max_bidi s.send_window s.receive_window s.stream_receive_window);
       resets = λ id some. cc;
+      halts = halts_first x y;
+      stops = asked_first (λ id. ListedStands (came_to (begun_as y x) (begun_as x y)).took (StopOf id) (begun_as x y).end) x y;
       limits = λ what value said. absurd said.among;
       asked = λ s among. absurd among;
     }
@@ -239,7 +273,10 @@ flying_group B b = record {
   reader = λ x y call a c back i. record {
     fly = i.fly;
     asked = i.asked;
-    resets = λ id some. came_on (came_to x y).took (came_to (called x y.given call a) y).took id y.end (took_more x.policy y.final x.told (told_of call a x.end.closing.state) (nothing_came (x.id ∷ []))) (i.resets id some);
+    halts = record { halted = i.halts.halted };
+    stops = asked_more (λ id. ListedStands (came_to x y).took (StopOf id) y.end) (λ id. ListedStands (came_to (called x y.given call a) y).took (StopOf id) y.end) y.end.streams
+        (λ id. came_on (came_to x y).took (came_to (called x y.given call a) y).took (StopOf id) y.end (took_more x.policy y.final x.told (told_of call a x.end.closing.state) (nothing_came (x.id ∷ [])))) i.stops;
+    resets = λ id some. came_on (came_to x y).took (came_to (called x y.given call a) y).took (ResetOf id) y.end (took_more x.policy y.final x.told (told_of call a x.end.closing.state) (nothing_came (x.id ∷ []))) (i.resets id some);
     limits = λ what value said. (let was = i.limits what value said in record {
       knows = was.knows;
       stand = limit_came_on (came_to x y).took (came_to (called x y.given call a) y).took y.sents what value y.end (took_more x.policy y.final x.told (told_of call a x.end.closing.state) (nothing_came (x.id ∷ []))) was.stand;
@@ -248,6 +285,8 @@ flying_group B b = record {
   shows = λ x y here there above below i j. record {
     fly = i.fly;
     resets = i.resets;
+    halts = record { halted = i.halts.halted };
+    stops = i.stops;
     limits = λ what value said. (let was = i.limits what value said in record { knows = was.knows; stand = was.stand });
     asked = i.asked;
   };

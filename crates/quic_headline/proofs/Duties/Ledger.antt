@@ -1,6 +1,6 @@
 -- Where each duty is, from what holds at a place; and so at each place of an honest run.
-use Rattle.std.proofs.Common.{◌≡◌, ℕ, ◌<◌, Bool, true, false, ltb, leb, ◌||◌, ◌&&◌, not, List, [], ◌∷◌, length, take, Option, Some, None, refl, sym, ap, ◌∙◌, subst, inl, inr, arith}
-use Rattle.std.specs.Option.{IsSome, is_some, option_map}
+use Rattle.std.proofs.Common.{◌≡◌, ℕ, ◌<◌, Bool, true, false, ltb, leb, ◌||◌, ◌&&◌, ◌==◌, not, List, [], ◌∷◌, length, take, Option, Some, None, refl, sym, ap, ◌∙◌, subst, inl, inr, arith}
+use Rattle.std.specs.Option.{IsSome, is_some, is_none, option_map}
 use Rattle.std.specs.Map.{lookup}
 use Rattle.std.specs.List.{list_any}
 use Rattle.std.specs.Ordering.{nat_cmp}
@@ -9,6 +9,7 @@ use Rattle.std.proofs.lemmas.List.{length-drop}
 use Rattle.quic_wire_core.specs.declared.stream_id.Side.{Side}
 use Rattle.quic_wire_core.specs.StreamId.{other_side}
 use Rattle.quic_recovery_core.specs.PendingAcks.{can_send}
+use Rattle.quic_wire.specs.Value.{StopSendingValue}
 use Rattle.quic_send_buffer.specs.Buffered.{is_acknowledged, is_lost, is_unsent, is_in_flight, has_unsent}
 use Rattle.quic_send_buffer.specs.Buffered as buffered
 use Rattle.quic_sets.proofs.Offsets.Edits.{has_is}
@@ -18,7 +19,7 @@ use Rattle.std.specs.BTreeMap.{is_at}
 use Rattle.quic_streams_parts.specs.Queue.{Place, place_cmp, is_any as is_any_queued}
 use Rattle.quic_streams_parts.specs.SendHalf.{SendHalf, has_pending}
 use Rattle.quic_streams_parts.specs.RecvHalf.{RecvHalf, takes_limits}
-use Rattle.quic_retransmits.specs.declared.retransmits.ControlKind.TheVariants.{ResetStream, MaxData, MaxStreamData, MaxStreams}
+use Rattle.quic_retransmits.specs.declared.retransmits.ControlKind.TheVariants.{ResetStream, StopSending, MaxData, MaxStreamData, MaxStreams}
 use Rattle.quic_retransmits.specs.Retransmits.{Retransmits, has_id, is_any}
 use Rattle.quic_streams_halves.specs.Halves.{status_from, has_place}
 use Rattle.quic_streams_state.specs.declared.state.StreamsState.{StreamsState}
@@ -37,8 +38,9 @@ use Rattle.quic_machine.specs.Poll.{waits, message_waits, asks_to_go}
 use Rattle.quic_machine.specs.Machine.{World, end_at}
 use Rattle.quic_machine.specs.RunLaws.{one_run}
 use Rattle.quic_headline.specs.Runs.{Run, Packet, Intake, AreServed, until, written, ended, EndHasArrived}
+use Rattle.quic_headline.specs.Unread.{stopped}
 use Rattle.quic_headline.specs.Observer.{Sent, Watch, took, sents_until}
-use Rattle.quic_headline.specs.Duties.{Limited, AllData, StreamData, StreamCount, Duty, Offset, Fin, Reset, Limit, limit_frame, limit_waits, Matters, IsSaid, IsOwed, on_half, is_due, has_reset, IsInFlight, IsSomewhere, DutiesStand}
+use Rattle.quic_headline.specs.Duties.{Limited, AllData, StreamData, StreamCount, Duty, Offset, Fin, Reset, Stop, Limit, limit_frame, limit_waits, Matters, IsSaid, lacks_size, IsOwed, on_half, is_due, IsInFlight, IsSomewhere, DutiesStand}
 use Rattle.quic_headline.specs.Headline.{IsHonest}
 use Rattle.quic_headline.proofs.Packets.Group.{PacketsHold}
 use Rattle.quic_headline.proofs.Packets.Sight.{Sight}
@@ -54,6 +56,9 @@ use Rattle.quic_headline.proofs.Duties.Flies.{FliesIn}
 use Rattle.quic_headline.proofs.Duties.UnderWay.{InPackets}
 use Rattle.quic_headline.proofs.Duties.Lasting.{WasUsed, Ends}
 use Rattle.quic_headline.proofs.Duties.Limits.{LimitStands}
+use Rattle.quic_headline.proofs.Duties.Listed.{Listed, ResetOf, StopOf, listed_in, ListedStands, reset_has_come, stop_has_come}
+use Rattle.quic_headline.proofs.Duties.Halts.{IsHalted}
+use Rattle.quic_headline.proofs.Duties.Stopped.{IsAsked}
 use Rattle.quic_headline.proofs.Duties.Group.{Flying}
 
 -- ---- what waits is queued
@@ -72,25 +77,26 @@ pending_queued s id h orderly found pending = go h.place refl (orderly.queue.pen
     go (Some p) is some = standing_queued s.sending.queue.entries (is_at (place_cmp p)) id (orderly.queue.stand.placed id p (ap place_of found ∙ is))
 
 -- so the end waits to be polled
-half_queued : (e : End) → can_send_stream_data e.streams ≡ true → waits e ≡ true
+pub half_queued : (e : End) → can_send_stream_data e.streams ≡ true → waits e ≡ true
 half_queued e queued =
     or_right (can_send e.acknowledging) (asks_to_go e)
     (or_right e.waiting.ping (not (is_empty e.waiting.frames e.streams) || (message_waits e || can_send_stream_data e.streams))
     (or_right (not (is_empty e.waiting.frames e.streams)) (message_waits e || can_send_stream_data e.streams) (or_right (message_waits e) (can_send_stream_data e.streams) queued)))
 
--- where a reset waits, something does
-not_empty : (p : Retransmits) (s : StreamsState) → is_any p.reset_stream ≡ true → not (is_empty p s) ≡ true
-not_empty p s any = ap not (fills ResetStream p s any)
+-- where one waits in a list, something does
+any_listed : {X : Type 0} (f : X → Bool) (xs : List X) → list_any f xs ≡ true → is_any xs ≡ true
+any_listed f [] is = cc
+any_listed f (x ∷ xs) is = refl
 
-any_reset : (id : ℕ) (rs : List (ℕ × ℕ)) → has_reset id rs ≡ true → is_any rs ≡ true
-any_reset id [] is = cc
-any_reset id (r ∷ rs) is = refl
+not_empty : (what : Listed) (p : Retransmits) (s : StreamsState) → listed_in what p ≡ true → not (is_empty p s) ≡ true
+not_empty (ResetOf id) p s is = ap not (fills ResetStream p s (any_listed (λ (r : ℕ × ℕ). r.0 == id) p.reset_stream is))
+not_empty (StopOf id) p s is = ap not (fills StopSending p s (any_listed (λ (x : StopSendingValue). x.id == id) p.stop_sending is))
 
-reset_queued : (e : End) (id : ℕ) → has_reset id e.waiting.frames.reset_stream ≡ true → waits e ≡ true
-reset_queued e id is =
+pub listed_queued : (e : End) (what : Listed) → listed_in what e.waiting.frames ≡ true → waits e ≡ true
+listed_queued e what is =
     or_right (can_send e.acknowledging) (asks_to_go e)
     (or_right e.waiting.ping (not (is_empty e.waiting.frames e.streams) || (message_waits e || can_send_stream_data e.streams))
-    (or_left (not (is_empty e.waiting.frames e.streams)) (message_waits e || can_send_stream_data e.streams) (not_empty e.waiting.frames e.streams (any_reset id e.waiting.frames.reset_stream is))))
+    (or_left (not (is_empty e.waiting.frames e.streams)) (message_waits e || can_send_stream_data e.streams) (not_empty what e.waiting.frames e.streams is)))
 
 -- a limit that matters, and waits, is something that waits
 limit_any : (what : Limited) (e : End) → Matters e what → limit_waits e.waiting.frames what ≡ true → not (is_empty e.waiting.frames e.streams) ≡ true
@@ -105,7 +111,7 @@ limit_any (StreamData id) e matters waits = ap not (fills MaxStreamData e.waitin
     ]
 limit_any (StreamCount dir) e matters waits = ap not (fills (MaxStreams dir) e.waiting.frames e.streams waits)
 
-limit_queued : (e : End) (what : Limited) → Matters e what → limit_waits e.waiting.frames what ≡ true → waits e ≡ true
+pub limit_queued : (e : End) (what : Limited) → Matters e what → limit_waits e.waiting.frames what ≡ true → waits e ≡ true
 limit_queued e what matters waits =
     or_right (can_send e.acknowledging) (asks_to_go e)
     (or_right e.waiting.ping (not (is_empty e.waiting.frames e.streams) || (message_waits e || can_send_stream_data e.streams))
@@ -221,6 +227,30 @@ module _ (x y : Party) (writes : WritesHold x y) (packets : PacketsHold x y) (ar
           inr (inl (subst (λ n. IsInFlight x.sents x.end.tracking.packets (limit_frame what n)) same f))
       go (inr (inr (inr came))) = inr (inr came)
 
+  -- a reset
+  reset_somewhere : (id : ℕ) → ListedStands (came_to y x).took (ResetOf id) x.end → Somewhere (Reset id)
+  reset_somewhere id (inl waits) = inl (record { due = waits; queued = listed_queued x.end (ResetOf id) waits })
+  reset_somewhere id (inr (inl flies)) = inr (inl flies)
+  reset_somewhere id (inr (inr here)) = inr (inr (reset_has_come (came_to y x).took id here))
+
+  -- STOP_SENDING
+  stop_somewhere : (id : ℕ) → ListedStands (came_to y x).took (StopOf id) x.end → Somewhere (Stop id)
+  stop_somewhere id (inl waits) = inl (record { due = waits; queued = listed_queued x.end (StopOf id) waits })
+  stop_somewhere id (inr (inl flies)) = inr (inl flies)
+  stop_somewhere id (inr (inr here)) = inr (inr (stop_has_come (came_to y x).took id here))
+
+  -- that of a stream that was stopped, and whose final size isn't known
+  stop_stands : (id : ℕ) → stopped id x.told ≡ true → lacks_size (at x.end.streams.receiving.halves.live id) ≡ true → ListedStands (came_to y x).took (StopOf id) x.end
+  stop_stands id halted lacks = go (at x.end.streams.receiving.halves.live id) (receives_on x.end.streams.side id && is_opened x.end.streams id) (has_place x.end.streams.side x.end.streams.receiving.halves.places id) (flying.halts.halted.each id) (flying.stops.each id) lacks
+    where
+      unknown_size : (o : Option ℕ) → is_none o ≡ true → o ≡ None
+      unknown_size None is = refl
+      unknown_size (Some size) is = cc
+
+      go : (o : Option RecvHalf) (m used : Bool) → IsHalted (stopped id x.told) (status_from o m used) → IsAsked (λ q. ListedStands (came_to y x).took (StopOf q) x.end) id (status_from o m used) → lacks_size o ≡ true → ListedStands (came_to y x).took (StopOf id) x.end
+      go (Some h) m used stops asked none = asked.1 (stops halted) (unknown_size h.final none)
+      go None m used stops asked none = cc
+
   -- each duty is somewhere
   pub duty_somewhere : (u : Duty) → IsOwed x.end x.sents x.told u → Somewhere u
   duty_somewhere (Offset id o) owed = by_half id (Offset id o)
@@ -231,10 +261,8 @@ module _ (x y : Party) (writes : WritesHold x y) (packets : PacketsHold x y) (ar
       (λ nothing. absurd (both_ways (ended id x.told) (ap (λ (v : Wrote). v.ended) nothing) owed.1))
       (λ h found held acked flies. half_fin id h found owed.0 held acked flies owed.1)
       (λ settled. elim settled [ inl all ↦ inr (inr (end_at_last id all.end)) | inr some ↦ settled_free id (Somewhere (Fin id)) some owed.0 ])
-  duty_somewhere (Reset id) owed = elim (flying.resets id owed) [
-    | inl waits ↦ inl (record { due = waits; queued = reset_queued x.end id waits })
-    | inr more ↦ inr more
-  ]
+  duty_somewhere (Reset id) owed = reset_somewhere id (flying.resets id owed)
+  duty_somewhere (Stop id) owed = stop_somewhere id (stop_stands id owed.0 owed.1)
   duty_somewhere (Limit what value) owed = limit_somewhere what value owed
 
 -- ---- the clause

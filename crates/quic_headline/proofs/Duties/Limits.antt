@@ -1,7 +1,6 @@
 -- A limit that was said waits to be said anew, stands in a datagram that is tracked, or came, each no less than it was said; or it matters
 -- no more. Each frame that comes keeps that, and calls take nothing off what waits.
 use Rattle.std.proofs.Common.{◌≡◌, ℕ, ◌≤◌, Bool, true, false, not, cond, List, [], ◌∷◌, filter, Option, Some, None, Ok, refl, sym, ap, ◌∙◌, subst, ◌⊎◌, inl, inr, length}
-use Rattle.std.specs.List.{list_any}
 use Rattle.std.specs.Ordering.{nat_cmp}
 use Rattle.std.specs.BTreeMap.{is_at}
 use Rattle.std.proofs.lemmas.Bool.{or_left, or_right}
@@ -39,6 +38,7 @@ use Rattle.quic_headline.proofs.Packets.Delivered.{Arrivals, arrived}
 use Rattle.quic_headline.proofs.Packets.Named.{NamesTaken, Stands, by_frame}
 use Rattle.quic_headline.proofs.Packets.Rising.{one_number}
 use Rattle.quic_headline.proofs.Grown.Flags.{KeptIn, Decides, calls_keep, acked_keeps as acked_flags, reset_acked_keeps, lost_keeps, frame_keeps}
+use Rattle.quic_headline.proofs.Duties.Carrier.{any_is}
 use Rattle.quic_headline.proofs.Duties.Lasting.{Knows, Ends, knows_lasts, ends_lasts, frame_lasts}
 
 -- ---- what waits
@@ -126,11 +126,6 @@ module _ (what : Limited) where
   }) f e (waits_in what (streams_at e) is))
 
 -- ---- what a datagram carries
-
-any_is : {X : Type 0} (f : X → Bool) (x : X) (xs : List X) → In x xs → f x ≡ true → list_any f xs ≡ true
-any_is f x [] i on = absurd i
-any_is f x (y ∷ xs) (inl same) on = or_left (f y) (list_any f xs) (ap f (sym same) ∙ on)
-any_is f x (y ∷ xs) (inr more) on = or_right (f y) (list_any f xs) (any_is f x xs more on)
 
 limits_have : (id limit : ℕ) (fs : List FrameValue) → In (max_stream_data (record { id = id; limit = limit })) fs → has_id id (limits_in fs) ≡ true
 limits_have id limit [] i = absurd i

@@ -123,23 +123,23 @@ module _ (s : StreamsState) (p : Retransmits) where
   written_same (Err write_errors.ClosedStream) id bytes = same_pile p
   written_same (Err write_errors.Memory) id bytes = same_pile p
 
-  write_same : (b : Bool) (answer : Result ℕ WriteError) (id : ℕ) (bytes : List ℕ) → SamePile p (after_write b answer s p id bytes).pending
+  pub write_same : (b : Bool) (answer : Result ℕ WriteError) (id : ℕ) (bytes : List ℕ) → SamePile p (after_write b answer s p id bytes).pending
   write_same true answer id bytes = written_same answer id bytes
   write_same false answer id bytes = same_pile p
 
-  chunks_same : (b : Bool) (answer : Result Written WriteError) (id : ℕ) (cs : List (List ℕ)) → SamePile p (after_write_chunks b answer s p id cs).pending
+  pub chunks_same : (b : Bool) (answer : Result Written WriteError) (id : ℕ) (cs : List (List ℕ)) → SamePile p (after_write_chunks b answer s p id cs).pending
   chunks_same true (Ok w) id cs = same_pile p
   chunks_same true (Err e) id cs = written_same (Err e) id []
   chunks_same false answer id cs = same_pile p
 
-  finalize_same : (id : ℕ) → SamePile p (after_finalize s p id).pending
+  pub finalize_same : (id : ℕ) → SamePile p (after_finalize s p id).pending
   finalize_same id = go (stream_grew s id)
     where
       go : (b : Bool) → SamePile p (with_stream_if b id (decided s p))
       go true = record { resets = refl; stops = refl; ids = refl; retired = refl; frequency = refl }
       go false = record { resets = refl; stops = refl; ids = refl; retired = refl; frequency = refl }
 
-  received_reset_same : (id : ℕ) → SamePile p (after_received_reset s p id).pending
+  pub received_reset_same : (id : ℕ) → SamePile p (after_received_reset s p id).pending
   received_reset_same id = go (reset_of (receiving_half s id))
     where
       go : (r : Result (Option ℕ) ClosedStream) → SamePile p (reset_told r s p id).pending

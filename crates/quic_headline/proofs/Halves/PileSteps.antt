@@ -69,14 +69,14 @@ both p false x y on off = off
 pub same_pile : (p : Retransmits) → SamePile p p
 same_pile p = record { resets = refl; stops = refl; ids = refl; retired = refl; frequency = refl }
 
-acked_same : (s : StreamsState) (p : Retransmits) (m : StreamMeta) → SamePile p (after_stream_acked s p m).pending
+pub acked_same : (s : StreamsState) (p : Retransmits) (m : StreamMeta) → SamePile p (after_stream_acked s p m).pending
 acked_same s p m = go (sent_half s m.id)
   where
     go : (o : Option SendHalf) → SamePile p (acked_at o s p m).pending
     go None = same_pile p
     go (Some h) = both p (is_some h.reset) _ _ (same_pile p) (both p (is_acked (half_acked h m)) _ _ (record { resets = refl; stops = refl; ids = refl; retired = refl; frequency = refl }) (same_pile p))
 
-reset_acked_same : (s : StreamsState) (p : Retransmits) (id : ℕ) → SamePile p (after_reset_acked s p id).pending
+pub reset_acked_same : (s : StreamsState) (p : Retransmits) (id : ℕ) → SamePile p (after_reset_acked s p id).pending
 reset_acked_same s p id = go (sent_half s id)
   where
     go : (o : Option SendHalf) → SamePile p (reset_acked_at o s p id).pending
@@ -249,7 +249,7 @@ named_step (p ∷ ps) rises a e is h =
 
 -- ---- frames that come
 
-stream_same : (s : StreamsState) (p : Retransmits) (f : StreamValue) → SamePile p (taking.after_stream s p f).pending
+pub stream_same : (s : StreamsState) (p : Retransmits) (f : StreamValue) → SamePile p (taking.after_stream s p f).pending
 stream_same s p f = go (taking.refusal s f.id _ f.fin)
   where
     half : (o : Option RecvHalf) → SamePile p (taking.stream_at o s p f).pending
@@ -260,7 +260,7 @@ stream_same s p f = go (taking.refusal s f.id _ f.fin)
     go (Some b) = same_pile p
     go None = half (taking.part_for s f.id)
 
-reset_same : (s : StreamsState) (p : Retransmits) (f : ResetStreamValue) → SamePile p (taking.after_reset_frame s p f).pending
+pub reset_same : (s : StreamsState) (p : Retransmits) (f : ResetStreamValue) → SamePile p (taking.after_reset_frame s p f).pending
 reset_same s p f = go (taking.reset_breach s f)
   where
     half : (o : Option RecvHalf) → SamePile p (taking.reset_at o s p f).pending

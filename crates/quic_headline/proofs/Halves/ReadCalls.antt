@@ -46,7 +46,15 @@ use Rattle.quic_headline.proofs.Halves.Bringing.{Brought}
 
 -- ---- facts that every call keeps
 
--- a fact that calls about what an end sends leave, and each word about what it receives but that which accepts a stream
+-- a fact that calls about what an end sends leave, and each word about what it receives but those that
+-- accept or stop a stream
+pub record IsKeptElse (P : StreamsState → Type 0) : Type 0 where
+  pub quiet : IsQuiet P
+  pub begun : (s : StreamsState) (id : ℕ) (ordered : Bool) → P s → P (after_read_begun s id ordered)
+  pub next : (told : Told) (s : StreamsState) (id most : ℕ) (answer : Next) → IsNextAnswer told s id most answer → P s → P (after_next told answer s id most)
+  pub received_reset : (s : StreamsState) (p : Retransmits) (id : ℕ) → P s → P (after_received_reset s p id).state
+
+-- and which a stop leaves too
 pub record IsKept (P : StreamsState → Type 0) : Type 0 where
   pub quiet : IsQuiet P
   pub begun : (s : StreamsState) (id : ℕ) (ordered : Bool) → P s → P (after_read_begun s id ordered)
@@ -75,11 +83,11 @@ kept_taken taken = record {
 }
 
 -- what a call leaves that changes nothing where it is refused
-if_done : (P : StreamsState → Type 0) (r : Result (Unit {0}) UpdateError) (after before : Streams) → P after.state → P before.state → P (if_ok r after before).state
+pub if_done : (P : StreamsState → Type 0) (r : Result (Unit {0}) UpdateError) (after before : Streams) → P after.state → P before.state → P (if_ok r after before).state
 if_done P (Ok x) after before now i = now
 if_done P (Err error) after before now i = i
 
-module _ (P : StreamsState → Type 0) (k : IsKept P) where
+module _ (P : StreamsState → Type 0) (k : IsKeptElse P) where
   nexts_kept : (told : Told) (s : StreamsState) (id : ℕ) (mosts : List ℕ) (answers : List Next) → AreNexts told s id mosts answers → P s → P (after_nexts told s id mosts answers)
   nexts_kept told s id [] [] a i = i
   nexts_kept told s id [] (x ∷ answers) a i = absurd a
@@ -87,20 +95,26 @@ module _ (P : StreamsState → Type 0) (k : IsKept P) where
   nexts_kept told s id (most ∷ mosts) (x ∷ answers) a i = nexts_kept (told_by x told) (after_next told x s id most) id mosts answers a.1 (k.next told s id most x a.0 i)
 
   module _ (p : Policy) (e : End) (theirs : List (List ℕ)) (within : (id : ℕ) → IsSentWithin e.streams id) (i : P e.streams) where
-    -- a stop at this end
-    stop_kept : (id code : ℕ) (a : Answer) → IsAnswer p e theirs (calls.Stop id code) a → P (after_call p e theirs (calls.Stop id code) a).streams
-    stop_kept id code a (inl is) = subst (λ (b : Answer). P (after_call p e theirs (calls.Stop id code) b).streams) (sym is)
-        (if_done P (stop_answer e.streams id) (after_stop e.streams e.waiting.frames id code) (streams_at e) (k.stop e.streams e.waiting.frames id code i) i)
-    stop_kept id code a (inr is) = subst (λ (b : Answer). P (after_call p e theirs (calls.Stop id code) b).streams) (sym is) i
+    -- any call but a delivery, where a stop leaves it
+    pub call_kept_else : (call : Call) (a : Answer) → IsAnswer p e theirs call a → is_delivery call ≡ false → ((dir : Dir) → call ≡ calls.Accept dir → P (after_accept dir e.streams))
+        → ((id code : ℕ) → call ≡ calls.Stop id code → IsAnswer p e theirs (calls.Stop id code) a → P (after_call p e theirs (calls.Stop id code) a).streams) → P (after_call p e theirs call a).streams
+    call_kept_else (calls.Accept dir) a is apart accepts stops = accepts dir refl
+    call_kept_else (calls.Read rd) (answers.Read (Ok said)) is apart accepts stops = nexts_kept told_bytes (after_read_begun e.streams rd.id rd.ordered) rd.id rd.nexts.items said is.1 (k.begun e.streams rd.id rd.ordered i)
+    call_kept_else (calls.Read rd) a is apart accepts stops = i
+    call_kept_else (calls.Stop id code) a is apart accepts stops = stops id code refl is
+    call_kept_else (calls.ReceivedReset id) a is apart accepts stops = k.received_reset e.streams e.waiting.frames id i
+    call_kept_else call a is apart accepts stops = call_quiet P k.quiet p e theirs call a is within apart refl i
 
-    -- any call but a delivery
-    pub call_kept : (call : Call) (a : Answer) → IsAnswer p e theirs call a → is_delivery call ≡ false → ((dir : Dir) → call ≡ calls.Accept dir → P (after_accept dir e.streams)) → P (after_call p e theirs call a).streams
-    call_kept (calls.Accept dir) a is apart accepts = accepts dir refl
-    call_kept (calls.Read rd) (answers.Read (Ok said)) is apart accepts = nexts_kept told_bytes (after_read_begun e.streams rd.id rd.ordered) rd.id rd.nexts.items said is.1 (k.begun e.streams rd.id rd.ordered i)
-    call_kept (calls.Read rd) a is apart accepts = i
-    call_kept (calls.Stop id code) a is apart accepts = stop_kept id code a is
-    call_kept (calls.ReceivedReset id) a is apart accepts = k.received_reset e.streams e.waiting.frames id i
-    call_kept call a is apart accepts = call_quiet P k.quiet p e theirs call a is within apart refl i
+module _ (P : StreamsState → Type 0) (k : IsKept P) (p : Policy) (e : End) (theirs : List (List ℕ)) (within : (id : ℕ) → IsSentWithin e.streams id) (i : P e.streams) where
+  -- a stop at this end
+  stop_kept : (id code : ℕ) (a : Answer) → IsAnswer p e theirs (calls.Stop id code) a → P (after_call p e theirs (calls.Stop id code) a).streams
+  stop_kept id code a (inl is) = subst (λ (b : Answer). P (after_call p e theirs (calls.Stop id code) b).streams) (sym is)
+      (if_done P (stop_answer e.streams id) (after_stop e.streams e.waiting.frames id code) (streams_at e) (k.stop e.streams e.waiting.frames id code i) i)
+  stop_kept id code a (inr is) = subst (λ (b : Answer). P (after_call p e theirs (calls.Stop id code) b).streams) (sym is) i
+
+  -- any call but a delivery
+  pub call_kept : (call : Call) (a : Answer) → IsAnswer p e theirs call a → is_delivery call ≡ false → ((dir : Dir) → call ≡ calls.Accept dir → P (after_accept dir e.streams)) → P (after_call p e theirs call a).streams
+  call_kept call a is apart accepts = call_kept_else P (record { quiet = k.quiet; begun = k.begun; next = k.next; received_reset = k.received_reset }) p e theirs within i call a is apart accepts (λ id code same answer. stop_kept id code a answer)
 
 -- what packets brought stays
 pub brought_call : (side : Side) (were : FrameValue → Type 0) (p : Policy) (e : End) (theirs : List (List ℕ)) (call : Call) (a : Answer) → ((id : ℕ) → IsSentWithin e.streams id) → IsAnswer p e theirs call a → is_delivery call ≡ false

@@ -1,5 +1,5 @@
 -- A reset is told with the code with which the other end's application reset the stream.
-use Rattle.std.proofs.Common.{◌≡◌, ℕ, Bool, true, false, List, ◌∷◌, ◌++◌, Option, Some, None, Result, Ok, Err, refl, sym, ◌∙◌}
+use Rattle.std.proofs.Common.{◌≡◌, ℕ, Bool, true, false, List, ◌∷◌, ◌++◌, Option, Some, None, Result, Ok, Err, refl}
 use Rattle.std.specs.Prelude.{if◌then◌else◌}
 use Rattle.quic_wire_core.specs.declared.stream_id.Side.{Side}
 use Rattle.quic_wire_core.specs.StreamId.{other_side}
@@ -32,7 +32,7 @@ use Rattle.quic_headline.proofs.Halves.Wrote.{wrote}
 use Rattle.quic_headline.proofs.Halves.Ghosts.{read}
 use Rattle.quic_headline.proofs.Halves.Reading.{read_nexts, begun_reads, next_on}
 use Rattle.quic_headline.proofs.Halves.Ends.{told_at}
-use Rattle.quic_headline.proofs.Halves.ReadGroup.{WasIn, ReadsHold}
+use Rattle.quic_headline.proofs.Halves.ReadGroup.{WasIn}
 use Rattle.quic_headline.proofs.Halves.ReadClauses.{SaysWhatIsRead}
 
 -- a `next` tells a reset of a stream that was reset so

@@ -1,11 +1,10 @@
 -- Behind a poll that gave nothing and left its end open: what its end still has to give is held back, as the view shows.
-use Rattle.std.proofs.Common.{◌≡◌, ℕ, zero, suc, ◌+◌, ◌<◌, ◌≤◌, true, false, List, [], ◌∷◌, ◌++◌, take, Option, Some, None, Ok, Err, refl, sym, ap, ◌∙◌, subst, ◌⊎◌, inl, inr, arith}
+use Rattle.std.proofs.Common.{◌≡◌, ℕ, zero, suc, ◌+◌, ◌<◌, true, false, List, [], ◌∷◌, ◌++◌, take, Option, Some, None, Ok, Err, refl, sym, ap, ◌∙◌, subst, ◌⊎◌, inl, inr, arith}
 use Rattle.std.specs.Prelude.{slice_get, not, ◌&&◌}
 use Rattle.std.proofs.lemmas.Bool.{leb-true, or_parts}
 use Rattle.quic_wire_core.specs.declared.stream_id.Side.{Side}
 use Rattle.quic_wire_core.specs.declared.stream_id.Side.TheVariants.{Client, Server}
 use Rattle.quic_wire_core.specs.StreamId.{other_side}
-use Rattle.quic_time.specs.Timers.{each_timer}
 use Rattle.quic_recovery_core.specs.PendingAcks.{can_send}
 use Rattle.quic_congestion.specs.Congestion.{Told}
 use Rattle.quic_machine.specs.declared.answers.State.TheVariants as states
@@ -24,12 +23,11 @@ use Rattle.quic_machine.specs.PollCases.{ready_at}
 use Rattle.quic_machine.specs.Machine.{World, Policies, IsStep, Follows, policy_at, end_at, control_at, view_of}
 use Rattle.quic_headline.specs.Runs.{Run, LeadsTo}
 use Rattle.quic_headline.specs.Observer.{Watch, watch}
-use Rattle.quic_headline.specs.Moments.{timers_in}
 use Rattle.quic_headline.specs.Headline.{IsHonest}
 use Rattle.quic_headline.specs.Polls.{window_in, mtu_in, pacing_timer, GaveNothing, bytes_flying, IsFull, IsPaced, IsHeldBack}
 use Rattle.quic_headline.proofs.Packets.Group.{PacketsHold}
 use Rattle.quic_headline.proofs.Packets.Sight.{Sight}
-use Rattle.quic_headline.proofs.Places.Parties.{Party, watch_of}
+use Rattle.quic_headline.proofs.Places.Parties.{Party}
 use Rattle.quic_headline.proofs.Places.Groups.{Way}
 use Rattle.quic_headline.proofs.Places.Placed.{party_at, Placed, placed_less, shown, watch_is}
 use Rattle.quic_headline.proofs.Timers.Watched.{timers_behind, open_behind}

@@ -1,23 +1,22 @@
 -- Where a poll of an open end gives nothing, window or pacer hold back what waits: the clauses, at each place of an honest run.
-use Rattle.std.proofs.Common.{◌≡◌, ℕ, suc, Bool, true, not, ◌||◌, List, length, take, Option, sym, ap, ◌∙◌, subst, ◌⊎◌, inl, inr}
+use Rattle.std.proofs.Common.{◌≡◌, ℕ, suc, true, not, ◌||◌, List, length, take, sym, ap, ◌∙◌, subst, inl, inr}
 use Rattle.std.proofs.lemmas.Bool.{or_left, or_right}
 use Rattle.quic_wire_core.specs.declared.stream_id.Side.{Side}
 use Rattle.quic_wire_core.specs.StreamId.{other_side}
 use Rattle.quic_streams_state.specs.Waiting.{is_empty, can_send_stream_data}
-use Rattle.quic_machine.specs.declared.run.View.{View}
 use Rattle.quic_machine.specs.Opens.{own_id_length}
 use Rattle.quic_machine.specs.End.{End}
 use Rattle.quic_machine.specs.Poll.{message_waits, asks_to_go}
 use Rattle.quic_machine.specs.Machine.{World, end_at}
 use Rattle.quic_machine.specs.RunLaws.{one_run}
-use Rattle.quic_headline.specs.Runs.{Run, In, AreServed, LeadsTo}
-use Rattle.quic_headline.specs.Observer.{Sent, HoldsOffset, HoldsEnd, Watch, watch}
+use Rattle.quic_headline.specs.Runs.{Run, In, AreServed}
+use Rattle.quic_headline.specs.Observer.{HoldsOffset, HoldsEnd, Watch, watch}
 use Rattle.quic_headline.specs.Headline.{IsHonest, IsRun}
-use Rattle.quic_headline.specs.Polls.{GaveNothing, IsHeldBack, IsByteToGo, IsEndToGo, IsToGo, PollsSendWhatWaits, PollsSendMessages}
+use Rattle.quic_headline.specs.Polls.{IsByteToGo, IsEndToGo, PollsSendWhatWaits, PollsSendMessages}
 use Rattle.quic_headline.proofs.Packets.Group.{PacketsHold, has_room}
 use Rattle.quic_headline.proofs.Packets.Sight.{Sight}
 use Rattle.quic_headline.proofs.Places.Parties.{Party, watch_of}
-use Rattle.quic_headline.proofs.Places.Groups.{Way, Nothing, And, Group, both, over}
+use Rattle.quic_headline.proofs.Places.Groups.{Way, Nothing, And, Group, both}
 use Rattle.quic_headline.proofs.Places.Placed.{party_at, Placed, placed, watch_is}
 use Rattle.quic_headline.proofs.Places.Everything as everything
 use Rattle.quic_headline.proofs.Places.Theorems.{ready}
@@ -26,7 +25,7 @@ use Rattle.quic_headline.proofs.Halves.Ready.{Ready}
 use Rattle.quic_headline.proofs.Halves.Writer.{WritesHold}
 use Rattle.quic_headline.proofs.Duties.Group.{Flying}
 use Rattle.quic_headline.proofs.Settled.Group.{Settled, settled_group}
-use Rattle.quic_headline.proofs.Held.Behind.{SaysWhatFlies, open_now, held_back}
+use Rattle.quic_headline.proofs.Held.Behind.{open_now, held_back}
 use Rattle.quic_headline.proofs.Held.Messages.{AreShort, short_waits, short_group}
 use Rattle.quic_headline.proofs.Held.Unsent.{offset_queued, end_queued}
 

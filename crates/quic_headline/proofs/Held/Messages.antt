@@ -1,11 +1,10 @@
 -- Each message that waits at an end fits in a datagram, whichever number it has: a longer one is refused (RFC 9221, section 5.4).
-use Rattle.std.proofs.Common.{◌≡◌, ℕ, ◌+◌, ◌-◌, ◌<◌, ◌≤◌, ◌^◌, min, Bool, true, false, ◌==◌, List, [], ◌∷◌, length, Option, Some, None, Ok, Err, refl, sym, ap, ◌∙◌, subst, inl, inr, arith}
+use Rattle.std.proofs.Common.{◌≡◌, ℕ, ◌+◌, ◌-◌, ◌<◌, ◌≤◌, ◌^◌, min, Bool, true, false, ◌==◌, List, [], ◌∷◌, length, Some, None, Ok, Err, sym, ap, ◌∙◌, subst, arith}
 use Rattle.std.specs.Prelude.{if◌then◌else◌, nat_le, nat_lt, is_some, is_ok}
-use Rattle.std.specs.List.{AllByRecursion}
 use Rattle.std.proofs.lemmas.Bool.{leb-true, ltb-false, le-leb}
 use Rattle.quic_wire.specs.Value.{datagram}
 use Rattle.quic_wire.proofs.FrameRange.{size_most}
-use Rattle.quic_messages.specs.declared.errors.SendDatagramError.TheVariants.{TooLarge, Blocked}
+use Rattle.quic_messages.specs.declared.errors.SendDatagramError.TheVariants.{Blocked}
 use Rattle.quic_messages.specs.Messages.{frame_bytes, fitting, is_taken}
 use Rattle.quic_messages.specs.Sending.{max_size, sized_answer}
 use Rattle.quic_machine.specs.declared.run.Call.{Call}
@@ -20,7 +19,7 @@ use Rattle.quic_headline.proofs.Packets.Stays.{placed_call}
 use Rattle.quic_headline.proofs.Packets.Group.{PacketsHold}
 use Rattle.quic_headline.proofs.Places.Parties.{Party, called}
 use Rattle.quic_headline.proofs.Places.Groups.{Way, Calls, Group}
-use Rattle.quic_headline.proofs.Channel.Messages.{AreTaken, TakesSized, not_longer, call_leaves}
+use Rattle.quic_headline.proofs.Channel.Messages.{AreTaken, not_longer, call_leaves}
 
 -- ---- how long messages are
 

@@ -1,9 +1,8 @@
 -- A poll that gives nothing and leaves its end open leaves it with nothing to give but what window or pacer hold back.
-use Rattle.std.proofs.Common.{◌≡◌, ℕ, ◌<◌, Bool, true, false, not, List, [], Option, Some, None, Ok, refl, sym, ap, ◌∙◌, ◌⊎◌, inl, inr, arith}
+use Rattle.std.proofs.Common.{◌≡◌, ℕ, ◌<◌, Bool, true, false, [], Option, Some, None, Ok, refl, sym, ap, ◌∙◌, arith}
 use Rattle.std.specs.Prelude.{if◌then◌else◌, ◌&&◌, nat_lt}
-use Rattle.std.proofs.lemmas.Bool.{ltb-true, and_parts, or_parts, both_ways}
+use Rattle.std.proofs.lemmas.Bool.{ltb-true, or_parts, both_ways}
 use Rattle.quic_recovery_core.specs.PendingAcks.{can_send}
-use Rattle.quic_congestion.specs.Congestion.{Told}
 use Rattle.quic_machine.specs.declared.answers.State.{State}
 use Rattle.quic_machine.specs.declared.answers.State.TheVariants as states
 use Rattle.quic_machine.specs.Closing.{ticked}
@@ -11,7 +10,7 @@ use Rattle.quic_spaces.specs.Numbers.{can_number}
 use Rattle.quic_machine.specs.Policy.{Policy}
 use Rattle.quic_machine.specs.End.{End, with_closing}
 use Rattle.quic_machine.specs.Control.{is_window_full, pacer_answer, if_later, paced_until, pacer_asked, Gated, lets, holds, with_pacing_timer}
-use Rattle.quic_machine.specs.Poll.{probed, asks_to_go, is_gated, gated, goes, rests, sends, polled_if, polled_in, polled, told_if, told_polled_in, told_polled}
+use Rattle.quic_machine.specs.Poll.{probed, asks_to_go, is_gated, goes, rests, sends, polled_if, polled_in, polled, told_if, told_polled_in, told_polled}
 use Rattle.quic_machine.specs.PollCases.{ready_at, ready_leaves, by_gate}
 
 -- ---- a poll that gives nothing

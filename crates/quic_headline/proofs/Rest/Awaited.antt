@@ -1,5 +1,5 @@
 -- At an open end where a packet that asks came since the last acknowledgement went, one is due, or the timer of acknowledgements is set: each call keeps that.
-use Rattle.std.proofs.Common.{◌≡◌, ℕ, ◌+◌, ◌-◌, ◌^◌, ◌<◌, ◌⊎◌, Bool, true, false, not, ◌||◌, ◌&&◌, cond, min, List, Option, Some, None, refl, sym, ap, ◌∙◌, subst, inl, inr, arith}
+use Rattle.std.proofs.Common.{◌≡◌, ℕ, ◌<◌, ◌≤◌, ◌⊎◌, Bool, true, false, not, ◌||◌, ◌&&◌, cond, max, List, Option, Some, None, refl, sym, ap, ◌∙◌, subst, inl, inr, arith}
 use Rattle.std.specs.Prelude.{if◌then◌else◌, nat_lt, is_none}
 use Rattle.std.specs.Option.{is_some}
 use Rattle.std.proofs.lemmas.Bool.{and_parts, or_left, lt-ltb}
@@ -34,18 +34,24 @@ use Rattle.quic_headline.proofs.Places.Placed.{start_is}
 use Rattle.quic_headline.proofs.Timers.BothEnds.{AtBoth, run_keeps}
 use Rattle.quic_headline.proofs.Packets.Probes.{MayLeave, by_going}
 
--- Where packets that ask were counted, an acknowledgement is due or the timer is set; and it was set only for such a packet.
-pub record Comes (due : Bool) (asking : ℕ) (since timer : Option ℕ) : Type 0 where
+-- Where packets that ask were counted, an acknowledgement is due or the timer is set; it was set only for such a packet, and to 25 ms behind the clock at the latest.
+pub record Comes (due : Bool) (asking : ℕ) (since timer : Option ℕ) (clock : ℕ) : Type 0 where
   pub waits : 0 < asking → (due ≡ true) ⊎ (is_some timer ≡ true)
   pub counted : is_some since ≡ true → 0 < asking
+  pub known : is_some timer ≡ true → is_some since ≡ true
+  pub soon : (moment : ℕ) → timer ≡ Some moment → moment ≤ ack_due clock
 
--- so it is of what is to be acknowledged, and a timer
-abbrev pub AckComes : Pending → Option ℕ → Type 0
-AckComes p timer = Comes p.due p.asking p.since timer
+-- so it is of what is to be acknowledged, a timer and a clock
+abbrev pub AckComes : Pending → Option ℕ → ℕ → Type 0
+AckComes p timer clock = Comes p.due p.asking p.since timer clock
 
 -- and at an open end
 abbrev pub IsAwaited : End → Type 0
-IsAwaited e = e.closing.state ≡ states.Open → AckComes e.acknowledging e.timers.max_ack_delay
+IsAwaited e = e.closing.state ≡ states.Open → AckComes e.acknowledging e.timers.max_ack_delay e.closing.clock
+
+-- a clock may go on
+later : (p : Pending) (timer : Option ℕ) (clock now : ℕ) → AckComes p timer clock → AckComes p timer (max clock now)
+later p timer clock now c = record { waits = c.waits; counted = c.counted; known = c.known; soon = λ moment set. (let before = c.soon moment set in omega arith) }
 
 -- an end that closed isn't open
 closed_awaited : (reason : LostReason) (e : End) → IsAwaited (closed_by reason e)
@@ -54,14 +60,14 @@ closed_awaited reason e opened = cc
 -- ---- a datagram
 
 -- an acknowledgement may become due
-more_due : (b : Bool) (p : Pending) (timer : Option ℕ) → AckComes p timer → AckComes (record p { due = p.due || b }) timer
-more_due b p timer c = record { waits = λ some. elim (c.waits some) [ inl due ↦ inl (or_left p.due b due) | inr set ↦ inr set ]; counted = c.counted }
+more_due : (b : Bool) (p : Pending) (timer : Option ℕ) (clock : ℕ) → AckComes p timer clock → AckComes (record p { due = p.due || b }) timer clock
+more_due b p timer clock c = record { waits = λ some. elim (c.waits some) [ inl due ↦ inl (or_left p.due b due) | inr set ↦ inr set ]; counted = c.counted; known = c.known; soon = c.soon }
 
 -- a packet that asks: the timer is set, or an acknowledgement was due or is now, or the timer was set before
-asking_comes : (t : Timers) (p : Pending) (now n : ℕ) (s : Seen) (b : Bool) → starts_wait (asking_counted p n s) ≡ b → AckComes p t.max_ack_delay
-    → AckComes (cond b (record (asking_counted p n s) { since = Some now }) (asking_counted p n s)) (if b then with_ack_timer t (Some (ack_due now)) else t).max_ack_delay
-asking_comes t p now n s true is c = record { waits = λ some. inr refl; counted = λ some. omega arith }
-asking_comes t p now n s false is c = record { waits = λ some. go p.since refl is; counted = λ some. omega arith }
+asking_comes : (t : Timers) (p : Pending) (now n : ℕ) (s : Seen) (b : Bool) → starts_wait (asking_counted p n s) ≡ b → AckComes p t.max_ack_delay now
+    → AckComes (cond b (record (asking_counted p n s) { since = Some now }) (asking_counted p n s)) (if b then with_ack_timer t (Some (ack_due now)) else t).max_ack_delay now
+asking_comes t p now n s true is c = record { waits = λ some. inr refl; counted = λ some. omega arith; known = λ set. refl; soon = λ moment set. (let same : ack_due now ≡ moment = cc in omega arith) }
+asking_comes t p now n s false is c = record { waits = λ some. go p.since refl is; counted = λ some. omega arith; known = c.known; soon = c.soon }
   where
     counted : Pending
     counted = asking_counted p n s
@@ -74,7 +80,7 @@ asking_comes t p now n s false is c = record { waits = λ some. go p.since refl 
     go None none quiet = inl (send_case (counted.due && is_filled counted.runs) refl quiet)
     go (Some moment) set quiet = elim (c.waits (c.counted (ap (λ (o : Option ℕ). is_some o) set))) [ inl due ↦ inl (or_left p.due _ due) | inr timer ↦ inr timer ]
 
-packet_comes : (asks : Bool) (t : Timers) (p : Pending) (now n : ℕ) (s : Seen) → AckComes p t.max_ack_delay → AckComes (after_packet p now n asks s) (timers_after t p now n asks s).max_ack_delay
+packet_comes : (asks : Bool) (t : Timers) (p : Pending) (now n : ℕ) (s : Seen) → AckComes p t.max_ack_delay now → AckComes (after_packet p now n asks s) (timers_after t p now n asks s).max_ack_delay now
 packet_comes true t p now n s c = asking_comes t p now n s (starts_wait (asking_counted p n s)) refl c
 packet_comes false t p now n s c = c
 
@@ -85,10 +91,10 @@ settling = record { known = λ n e i. i; reset = λ id e i. i; acked = λ m e i.
 receives : Receives IsAwaited
 receives = record {
   notes = λ n e i. i;
-  begins = λ now n e i. i;
+  begins = λ now n e i opened. later e.acknowledging e.timers.max_ack_delay e.closing.clock now (i opened);
   frame = frame_keeps IsAwaited (record { ack = λ rises a e i. acked_keeps IsAwaited settling rises a (named a e) i; on_streams = λ f e on i. frame_leaves IsAwaited f e on (λ t. i); message = λ m e i. i });
   takes = λ n asks mark e i opened.
-      packet_comes asks e.timers (with_due (is_congested mark) (after_insert e.acknowledging n e.closing.clock)) e.closing.clock n e.numbers.opened (more_due (is_congested mark) e.acknowledging e.timers.max_ack_delay (i opened));
+      packet_comes asks e.timers (with_due (is_congested mark) (after_insert e.acknowledging n e.closing.clock)) e.closing.clock n e.numbers.opened (more_due (is_congested mark) e.acknowledging e.timers.max_ack_delay e.closing.clock (i opened));
   closes = λ reason e i. closed_awaited reason e;
 }
 
@@ -97,7 +103,7 @@ receives = record {
 -- an ACK that goes answers all, and no other frame changes what is awaited
 draft_awaited : (held : Bool) (e : End) → MayLeave held e → IsAwaited e → IsAwaited (draft_if held e).end
 draft_awaited = by_leave (λ (d : Draft). IsAwaited d.end) (record {
-  ack = λ d filled may i opened. record { waits = λ some. absurd (omega arith); counted = λ some. cc };
+  ack = λ d filled may i opened. record { waits = λ some. absurd (omega arith); counted = λ some. cc; known = λ set. cc; soon = λ moment set. cc };
   ping = λ d i. i;
   drops = λ d kind i. i;
   control = λ d kind f is i. i;
@@ -106,10 +112,10 @@ draft_awaited = by_leave (λ (d : Draft). IsAwaited d.end) (record {
 })
 
 lazied_awaited : (e : End) → IsAwaited e → IsAwaited (lazied e)
-lazied_awaited e i opened = more_due (nat_lt LAZY_ACK_THRESHOLD e.acknowledging.silent) e.acknowledging e.timers.max_ack_delay (i opened)
+lazied_awaited e i opened = more_due (nat_lt LAZY_ACK_THRESHOLD e.acknowledging.silent) e.acknowledging e.timers.max_ack_delay e.closing.clock (i opened)
 
 ready_awaited : (e : End) (now : ℕ) → IsAwaited e → IsAwaited (ready_at e now).end
-ready_awaited e now i = subst (λ (x : End). IsAwaited x) (sym (ready_leaves e now)) i
+ready_awaited e now i = subst (λ (x : End). IsAwaited x) (sym (ready_leaves e now)) (λ opened. later e.acknowledging e.timers.max_ack_delay e.closing.clock now (i opened))
 
 polled_awaited : (p : Policy) (e : End) (now : ℕ) → IsAwaited e → IsAwaited (polled p e now).end
 polled_awaited p e now i = by_poll_to p e now (λ (q : Polled). IsAwaited q.end) (record {
@@ -131,9 +137,9 @@ judged_awaited (Some moment) e i = losses_keep IsAwaited settling e i
 acks_awaited : (acks loss : Bool) (e : End) → IsAwaited e → IsAwaited (acks_expired acks (loss_expired loss e))
 acks_awaited true true e i opened = expired_comes (loss_judged e.tracking.loss_time e).acknowledging (judged_awaited e.tracking.loss_time e i opened)
   where
-    expired_comes : {timer : Option ℕ} (p : Pending) → AckComes p timer → AckComes (record p { due = nat_lt 0 p.asking }) None
-    expired_comes p c = record { waits = λ some. inl (lt-ltb 0 p.asking some); counted = c.counted }
-acks_awaited true false e i opened = record { waits = λ some. inl (lt-ltb 0 e.acknowledging.asking some); counted = (i opened).counted }
+    expired_comes : {timer : Option ℕ} {clock now : ℕ} (p : Pending) → AckComes p timer clock → AckComes (record p { due = nat_lt 0 p.asking }) None now
+    expired_comes p c = record { waits = λ some. inl (lt-ltb 0 p.asking some); counted = c.counted; known = λ set. cc; soon = λ moment set. cc }
+acks_awaited true false e i opened = record { waits = λ some. inl (lt-ltb 0 e.acknowledging.asking some); counted = (i opened).counted; known = λ set. cc; soon = λ moment set. cc }
 acks_awaited false true e i opened = judged_awaited e.tracking.loss_time e i opened
 acks_awaited false false e i opened = i opened
 
@@ -144,9 +150,9 @@ pacing_awaited false e i = i
 expired_awaited : (e : End) (now : ℕ) (expiry : Expiry) → IsAwaited e → IsAwaited (at_expiry e now expiry)
 expired_awaited e now expiry i =
     let begun : End = with_closing e (ticked e.closing now) in
-    pacing_awaited expiry.pacing (acks_expired expiry.acks (loss_expired expiry.loss begun)) (acks_awaited expiry.acks expiry.loss begun i)
+    pacing_awaited expiry.pacing (acks_expired expiry.acks (loss_expired expiry.loss begun)) (acks_awaited expiry.acks expiry.loss begun (λ opened. later e.acknowledging e.timers.max_ack_delay e.closing.clock now (i opened)))
 
-call_awaited : (p : Policy) (e : End) (theirs : List (List ℕ)) (call : Call) (a : Answer) → IsAwaited e → IsAwaited (after_call p e theirs call a)
+pub call_awaited : (p : Policy) (e : End) (theirs : List (List ℕ)) (call : Call) (a : Answer) → IsAwaited e → IsAwaited (after_call p e theirs call a)
 call_awaited p e theirs call a i = by_plain_call p e theirs IsAwaited call a (record {
   same = i;
   on_streams = λ t. i;
@@ -162,13 +168,13 @@ call_awaited p e theirs call a i = by_plain_call p e theirs IsAwaited call a (re
 -- ---- a run
 
 -- nothing came yet
-first_comes : AckComes none_pending None
-first_comes = record { waits = λ some. absurd (omega arith); counted = λ some. cc }
+pub first_comes : (clock : ℕ) → AckComes none_pending None clock
+first_comes clock = record { waits = λ some. absurd (omega arith); counted = λ some. cc; known = λ set. cc; soon = λ moment set. cc }
 
 starts_awaited : (w : World) → AreStarted w → AtBoth IsAwaited w
 starts_awaited w s = (
-  subst (λ (e : End). IsAwaited e) (sym (start_is w s Client)) (λ opened. first_comes),
-  subst (λ (e : End). IsAwaited e) (sym (start_is w s Server)) (λ opened. first_comes),
+  subst (λ (e : End). IsAwaited e) (sym (start_is w s Client)) (λ opened. first_comes _),
+  subst (λ (e : End). IsAwaited e) (sym (start_is w s Server)) (λ opened. first_comes _),
 )
 
 -- so it is at both ends, wherever a run leads

@@ -1,24 +1,23 @@
 -- What an end has to acknowledge reaches each number that it took, or a greater one, until the peer acknowledges a datagram whose ACK frame has no lesser greatest number.
-use Rattle.std.proofs.Common.{◌≡◌, ℕ, ◌+◌, ◌<◌, ◌≤◌, ◌⊎◌, Bool, true, false, not, List, [], ◌∷◌, length, map, Option, Some, None, Ok, refl, sym, ap, ◌∙◌, subst, inl, inr, arith}
+use Rattle.std.proofs.Common.{◌≡◌, ℕ, ◌<◌, ◌≤◌, ◌⊎◌, Bool, true, false, List, [], ◌∷◌, length, Option, Some, None, refl, sym, ◌∙◌, subst, inl, inr, arith}
 use Rattle.std.proofs.lemmas.Bool.{cases_lt}
 use Rattle.quic_sets.specs.Runs.{Run, Has, AreRunsFrom, AreRuns}
 use Rattle.quic_wire.specs.Value.{FrameValue, AckValue, ack}
-use Rattle.quic_send_buffer.specs.declared.stream_meta.StreamMeta.{StreamMeta}
 use Rattle.quic_recovery_core.specs.PendingAcks.{with_one, but_least, at_most, above}
 use Rattle.quic_recovery_core.specs.declared.spaces.pending_acks.TheConstants.{MAX_ACK_RUNS}
 use Rattle.quic_recovery_core.proofs.AckRunSteps.{with_one_runs, with_one_in, at_most-many, at_most-few, above_in}
 use Rattle.quic_streams_parts.specs.Table.{Table}
-use Rattle.quic_machine.specs.Tracking.{Tracking, TrackedPacket, Carried, acked_in, acked_by, lost_by}
-use Rattle.quic_machine.specs.End.{End, with_streams, with_messages}
-use Rattle.quic_machine.specs.Acked.{without_known, resets_acked, packet_acked, packets_acked, verdict, losses_detected, measured, sampled, without_acked, losses_taken, after_named}
-use Rattle.quic_machine.specs.Receive.{Progress, is_above, names_ungiven, take_frame}
-use Rattle.quic_machine.specs.FrameCases.{OnStreams, named, ack_taken, passed, streams_acked_keep, resets_acked_keep, packets_lost_keep, by_marks, frame_leaves, frames_leave}
+use Rattle.quic_machine.specs.Tracking.{TrackedPacket, Carried, acked_in, acked_by, lost_by}
+use Rattle.quic_machine.specs.End.{End}
+use Rattle.quic_machine.specs.Acked.{without_known, resets_acked, packet_acked, packets_acked, verdict, measured, sampled, without_acked, losses_taken, after_named}
+use Rattle.quic_machine.specs.Receive.{is_above, names_ungiven, take_frame}
+use Rattle.quic_machine.specs.FrameCases.{named, ack_taken, passed, streams_acked_keep, resets_acked_keep, packets_lost_keep, by_marks, frame_leaves, frames_leave}
 use Rattle.quic_headline.specs.Runs.{Packet, In, IsNamed, names}
 use Rattle.quic_headline.specs.Observer.{Sent}
 use Rattle.quic_headline.specs.InFlight.{first_acknowledged}
 use Rattle.quic_headline.proofs.Packets.Invariant.{AreTracked, carried_acks}
 use Rattle.quic_headline.proofs.Packets.Carried.{acknowledged_same}
-use Rattle.quic_headline.proofs.Packets.Named.{IsNoAck, in_filter, filter_chose, frame_fewer, by_frame, sampled_tracking}
+use Rattle.quic_headline.proofs.Packets.Named.{in_filter, filter_chose, frame_fewer, by_frame}
 
 -- ---- numbers to acknowledge
 

@@ -1,11 +1,9 @@
 -- The packets that ask and came since an end gave an ACK frame: it counts them, and what it has to acknowledge reaches each that the peer doesn't know of.
-use Rattle.std.proofs.Common.{◌≡◌, ℕ, ◌+◌, ◌-◌, ◌^◌, ◌<◌, ◌≤◌, ◌⊎◌, Bool, true, false, ◌||◌, cond, min, List, [], ◌∷◌, ◌++◌, length, filter, map, replicate, Option, Some, None, Ok, refl, sym, ap, ◌∙◌, subst, inl, inr, arith}
+use Rattle.std.proofs.Common.{◌≡◌, ℕ, ◌+◌, ◌-◌, ◌^◌, ◌<◌, Bool, true, false, cond, min, List, [], ◌∷◌, ◌++◌, map, Option, Some, Ok, refl, sym, ap, ◌∙◌, subst, inl, inr, arith}
 use Rattle.std.specs.Prelude.{if◌then◌else◌}
 use Rattle.std.specs.List.{list_any}
-use Rattle.std.proofs.lemmas.Bool.{or_parts, or_from}
-use Rattle.std.proofs.lemmas.List.Folds.{list_any-append}
 use Rattle.quic_wire_core.specs.declared.shared.EcnCodepoint.{EcnCodepoint}
-use Rattle.quic_wire.specs.Value.{FrameValue, AckValue, ack, asks, padding}
+use Rattle.quic_wire.specs.Value.{FrameValue, AckValue, ack, asks}
 use Rattle.quic_sets.specs.Runs.{Run, AreRuns}
 use Rattle.quic_recovery_core.specs.Duplicates.{Seen}
 use Rattle.quic_recovery_core.specs.PendingAcks.{Pending, with_one, at_most, after_insert, asking_counted, starts_wait, after_packet}
@@ -13,157 +11,46 @@ use Rattle.quic_spaces.specs.Marks.{is_congested}
 use Rattle.quic_spaces.specs.Acknowledging.{with_due}
 use Rattle.quic_machine.specs.declared.answers.State.TheVariants as states
 use Rattle.quic_machine.specs.declared.run.Call.{Call}
-use Rattle.quic_machine.specs.declared.run.Call.TheVariants as calls
 use Rattle.quic_machine.specs.declared.run.Answer.{Answer}
-use Rattle.quic_machine.specs.declared.run.Answer.TheVariants as answers
-use Rattle.quic_machine.specs.Policy.{Policy}
-use Rattle.quic_machine.specs.Closing.{ticked}
-use Rattle.quic_machine.specs.Tracking.{lost_by}
-use Rattle.quic_machine.specs.End.{End, with_closing}
-use Rattle.quic_machine.specs.Acked.{verdict, losses_detected}
+use Rattle.quic_machine.specs.End.{End}
 use Rattle.quic_machine.specs.Receive.{asks_in, after_taken, Outcome}
-use Rattle.quic_machine.specs.Poll.{Polled, Draft, lazied, polled, draft_if}
-use Rattle.quic_machine.specs.Timeouts.{Expiry, loss_judged, acks_expired, loss_expired, pacing_expired}
-use Rattle.quic_machine.specs.Machine.{IsAnswer, after_call, fails, gave}
-use Rattle.quic_machine.specs.CallCases.{is_delivery, is_poll, by_plain_call}
-use Rattle.quic_machine.specs.LeaveCases.{at_expiry}
-use Rattle.quic_machine.specs.FrameCases.{Settling, named, begun, passed, acked_keeps, frame_keeps, frame_leaves, frames_keep, packets_lost_keep}
-use Rattle.quic_machine.specs.PollCases.{ready_at, draft_at, frames_at, by_poll_to}
-use Rattle.quic_machine.specs.DraftLaws.{by_leave, due_alone}
-use Rattle.quic_headline.specs.Runs.{Packet, Intake, In, Told, IsNamed, names, folded, nothing_came}
+use Rattle.quic_machine.specs.Machine.{after_call}
+use Rattle.quic_machine.specs.CallCases.{is_delivery}
+use Rattle.quic_machine.specs.FrameCases.{named, begun}
+use Rattle.quic_headline.specs.Runs.{Packet, Intake, In, Told, IsNamed, names, folded}
 use Rattle.quic_headline.specs.Observer.{Sent, Watch, first_watch, news, Lens, watch_told}
-use Rattle.quic_headline.specs.Moments.{is_ack, acknowledges, went}
-use Rattle.quic_headline.specs.Rest.{Unanswered, asking_among, packets_behind, unanswered_told, none_unanswered}
-use Rattle.quic_headline.proofs.Packets.Entries.{IsControl, control_of}
+use Rattle.quic_headline.specs.Moments.{acknowledges}
+use Rattle.quic_headline.specs.Rest.{Unanswered, asking_among, unanswered_told, none_unanswered}
 use Rattle.quic_headline.proofs.Packets.Invariant.{AreTracked, Acks}
-use Rattle.quic_headline.proofs.Packets.Intakes.{folded_more, took_more}
+use Rattle.quic_headline.proofs.Packets.Intakes.{folded_more}
 use Rattle.quic_headline.proofs.Packets.Delivered.{Arrivals, arrived, with_taken}
-use Rattle.quic_headline.proofs.Packets.Watching.{none_new, one_new, watched_intake}
+use Rattle.quic_headline.proofs.Packets.Watching.{none_new, one_new}
 use Rattle.quic_headline.proofs.Packets.Stays.{keeps_frames}
 use Rattle.quic_headline.proofs.Packets.Acking.{packet_runs, runs_step}
-use Rattle.quic_headline.proofs.Packets.Group.{PacketsHold, meets}
-use Rattle.quic_headline.proofs.Packets.Probes.{MayLeave, by_going, ready_acks}
+use Rattle.quic_headline.proofs.Packets.Group.{meets}
 use Rattle.quic_headline.proofs.Places.Told.{in_left, in_append}
-use Rattle.quic_headline.proofs.Places.Steps.{poll_answer}
-use Rattle.quic_headline.proofs.Places.Parties.{sent_by, sent_if, sents_by, told_of, Party, called, came_to, lens, watch_of}
+use Rattle.quic_headline.proofs.Places.Parties.{sents_by, told_of, Party, called, came_to, lens, watch_of}
 use Rattle.quic_headline.proofs.Places.Groups.{Calls, Group}
 use Rattle.quic_headline.proofs.Places.Coming.{by_coming}
 use Rattle.quic_headline.proofs.Timers.Still.{was_open}
-use Rattle.quic_headline.proofs.Timers.Watched.{Observed, behind_is, own_behind}
-use Rattle.quic_headline.proofs.Timers.AckMoments.{went_is}
-use Rattle.quic_headline.proofs.Rest.Reached.{Reaches, one_reached, more_reached, IsKnown, IsReached, known_on, frames_reached}
-
--- ---- a call that gives no ACK frame
-
--- as many packets that ask are counted
-abbrev CountsAs : End → End → Type 0
-CountsAs e f = f.acknowledging.asking ≡ e.acknowledging.asking
-
--- PADDING is no ACK
-none_padded : (fs : List FrameValue) (count : ℕ) → list_any is_ack (fs ++ replicate count padding) ≡ false → list_any is_ack fs ≡ false
-none_padded fs count none = (or_parts (list_any is_ack fs) (list_any is_ack (replicate count padding)) (sym (list_any-append is_ack fs (replicate count padding)) ∙ none)).0
-
--- where no frame of a draft is an ACK, they are counted still
-abbrev Leaves : End → Draft → Type 0
-Leaves e d = list_any is_ack d.frames ≡ false → CountsAs e d.end
-
--- one more frame: those before it have none either
-parts : (fs : List FrameValue) (f : FrameValue) → list_any is_ack (fs ++ f ∷ []) ≡ false → (list_any is_ack fs ≡ false) × (is_ack f ≡ false)
-parts fs f none =
-    let both = or_parts (list_any is_ack fs) (is_ack f || false) (sym (list_any-append is_ack fs (f ∷ [])) ∙ none) in
-    (both.0, (or_parts (is_ack f) false both.1).0)
-
-draft_counts : (held : Bool) (e : End) → MayLeave held e → Leaves e (draft_if held e)
-draft_counts held e alone = by_leave (Leaves e) (record {
-  ack = λ d filled may i none. absurd (let some = (parts d.frames _ none).1 in cc);
-  ping = λ d i none. i (parts d.frames _ none).0;
-  drops = λ d kind i. i;
-  control = λ d kind f is i none. i (parts d.frames f none).0;
-  message = λ d m ms is fit i none. i (parts d.frames _ none).0;
-  stream = λ d id h room found first some is counts i none. i (parts d.frames _ none).0;
-}) held e alone (λ none. refl)
-
-ready_counts : (e : End) (now : ℕ) → CountsAs e (ready_at e now).end
-ready_counts e now = ap (λ (p : Pending). p.asking) (ready_acks e now)
-
-polled_counts : (p : Policy) (e : End) (now : ℕ) → acknowledges (sent_if (gave (answers.Poll (polled p e now).answer)) (sent_by e now)) ≡ false → CountsAs e (polled p e now).end
-polled_counts p e now = by_poll_to p e now (λ (q : Polled). acknowledges (sent_if (gave (answers.Poll q.answer)) (sent_by e now)) ≡ false → CountsAs e q.end) (record {
-  silent = λ none. refl;
-  failed = λ none. refl;
-  nothing = λ is quiet none. ready_counts e now;
-  used_up = λ none. ready_counts e now;
-  gives = λ is may some none.
-      by_going (CountsAs e) p (draft_at e now) (λ pacing. draft_counts (ready_at e now).held (lazied (ready_at e now).end) (due_alone (ready_at e now) some) (none_padded (draft_at e now).frames _ (or_parts (list_any is_ack (frames_at e now)) false none).0) ∙ ready_counts e now);
-})
-
--- nor does a timeout change that
-judged_counts : (o : Option ℕ) (e : End) → CountsAs e (loss_judged o e)
-judged_counts None e = refl
-judged_counts (Some moment) e = packets_lost_keep (CountsAs e) (λ m x i. i) (λ c x i. i) (lost_by (verdict e) e.tracking.packets) e refl
-
-expired_counts : (e : End) (now : ℕ) (expiry : Expiry) → CountsAs e (at_expiry e now expiry)
-expired_counts e now expiry = go expiry.acks expiry.loss expiry.pacing
-  where
-    begins : End
-    begins = with_closing e (ticked e.closing now)
-
-    go : (acks loss pacing : Bool) → (pacing_expired pacing (acks_expired acks (loss_expired loss begins))).acknowledging.asking ≡ e.acknowledging.asking
-    go true true true = judged_counts e.tracking.loss_time begins
-    go true true false = judged_counts e.tracking.loss_time begins
-    go false true true = judged_counts e.tracking.loss_time begins
-    go false true false = judged_counts e.tracking.loss_time begins
-    go true false true = refl
-    go true false false = refl
-    go false false true = refl
-    go false false false = refl
-
--- a call that is neither a poll nor a delivery
-quiet_counts : (p : Policy) (e : End) (theirs : List (List ℕ)) (call : Call) (a : Answer) → is_delivery call ≡ false → is_poll call ≡ false → CountsAs e (after_call p e theirs call a)
-quiet_counts p e theirs call a apart silent = by_plain_call p e theirs (CountsAs e) call a (record {
-  same = refl;
-  on_streams = λ t. refl;
-  on_messages = λ m. refl;
-  pings = refl;
-  heard = λ path same. refl;
-  times = λ now expiry is. expired_counts e now expiry;
-  polls = λ now is. (let clash : true ≡ false = sym is ∙ silent in cc);
-  hears = λ arrival d is. (let clash : true ≡ false = sym is ∙ apart in cc);
-  tells = λ told. refl;
-})
-
-call_counts : (p : Policy) (e : End) (theirs : List (List ℕ)) (call : Call) (a : Answer) → is_delivery call ≡ false → IsAnswer p e theirs call a → fails a ≡ false → acknowledges (sents_by e call a) ≡ false → CountsAs e (after_call p e theirs call a)
-call_counts p e theirs (calls.Poll now) a apart is served none = polled_counts p e now (ap (λ (b : Answer). acknowledges (sent_if (gave b) (sent_by e now))) (sym (poll_answer p e now a is served)) ∙ none)
-call_counts p e theirs (calls.Deliver delivery) a apart is served none = cc
-call_counts p e theirs call a apart is served none = quiet_counts p e theirs call a refl refl
+use Rattle.quic_headline.proofs.Timers.Watched.{Observed, watch_behind, went_behind, came_before, came_behind}
+use Rattle.quic_headline.proofs.Timers.AckMoments.{asks_same}
+use Rattle.quic_headline.proofs.Rest.Standing.{frames_acks, call_stands}
+use Rattle.quic_headline.proofs.Rest.Reached.{Reaches, one_reached, more_reached, IsReached, known_on, frames_reached}
 
 -- ---- a packet that is taken
-
--- frames count none
-settling : (n : ℕ) → Settling (λ (e : End). e.acknowledging.asking ≡ n)
-settling n = record { known = λ k e i. i; reset = λ id e i. i; acked = λ m e i. i; lost = λ m e i. i; again = λ carried e i. i; tracked = λ t e i. i; measured = λ r first e i. i; marked = λ m marking e i. i }
-
-frames_count : (fs : List FrameValue) (e : End) → CountsAs e (passed fs e).end
-frames_count fs e = frames_keep (CountsAs e) (frame_keeps (CountsAs e) (record {
-  ack = λ rises a x i. acked_keeps (CountsAs e) (settling e.acknowledging.asking) rises a (named a x) i;
-  on_streams = λ f x on i. frame_leaves (CountsAs e) f x on (λ t. i);
-  message = λ m x i. i;
-})) fs e refl
 
 -- a packet that asks counts, and one that doesn't leaves the count
 wait_counts : (b : Bool) (p : Pending) (now : ℕ) → (cond b (record p { since = Some now }) p).asking ≡ p.asking
 wait_counts true p now = refl
 wait_counts false p now = refl
 
-taken_counts : (asks : Bool) (p : Pending) (now n : ℕ) (s : Seen) → (asks ≡ true → 0 < (after_packet p now n asks s).asking) × (0 < p.asking → 0 < (after_packet p now n asks s).asking)
+pub taken_counts : (asks : Bool) (p : Pending) (now n : ℕ) (s : Seen) → (asks ≡ true → 0 < (after_packet p now n asks s).asking) × (0 < p.asking → 0 < (after_packet p now n asks s).asking)
 taken_counts true p now n s =
     let counted = asking_counted p n s in
     let is : (after_packet p now n true s).asking ≡ min (p.asking + 1) (2 ^ 64 - 1) = wait_counts (starts_wait counted) counted now in
     (λ asks. omega (arith, is), λ some. omega (arith, is))
 taken_counts false p now n s = (λ asks. cc, λ some. some)
-
-asks_same : (fs : List FrameValue) → asks_in (map Ok fs) ≡ list_any asks fs
-asks_same [] = refl
-asks_same (f ∷ fs) = ap (λ (b : Bool). asks f || b) (asks_same fs)
 
 -- ---- what is owed
 
@@ -238,7 +125,7 @@ module _ (e : End) (now n : ℕ) (frames : List FrameValue) (i : Intake) (sents 
   -- one that was owed before
   older : (mark : Option EcnCodepoint) (p : Packet) → Owes sents i.took e p.number → Owes sents taken (after mark) p.number
   older mark p owes = record {
-    counted = (counts mark).1 (subst (λ (k : ℕ). 0 < k) (sym (frames_count frames (begun e now n))) owes.counted);
+    counted = (counts mark).1 (subst (λ (k : ℕ). 0 < k) (sym (ap (λ (p : Pending). p.asking) (frames_acks frames (begun e now n)))) owes.counted);
     reached = elim (passed_on p.number owes.reached) [
       | inl known ↦ inl known
       | inr reached ↦ inr (subst (λ (rs : List Run). Reaches rs p.number) (sym (after_runs mark)) (more_reached n p.number left.acknowledging.runs runs reached))
@@ -275,7 +162,7 @@ call_owes x y call a c ps none owes = by_coming x y a c.joined c.served (meets y
     apart_owes : is_delivery call ≡ false → x.end.closing.state ≡ states.Open → OwesAll x.sents (came_to x y).took (after_call x.policy x.end y.given call a) ps
     apart_owes apart opened p i =
         let was = owes opened p i in
-        let count = call_counts x.policy x.end y.given call a apart c.answer c.served none in
+        let count = (call_stands x.policy x.end y.given call a apart c.answer c.served none).0 in
         let runs = (runs_step x.policy x.end y.given call a apart).0 in
         record {
           counted = subst (λ (k : ℕ). 0 < k) (sym count) was.counted;
@@ -289,9 +176,26 @@ abbrev pub unanswered_of : Party → Party → Unanswered
 unanswered_of x y = folded (unanswered_told (lens x y)) x.told (none_unanswered (first_watch (x.id ∷ []) x.final x.began x.initial_rtt))
 
 -- the watch within it is the observer's
-same_watch : (l : Lens) (told : List Told) (u : Unanswered) → (folded (unanswered_told l) told u).watch ≡ folded (watch_told l) told u.watch
+pub same_watch : (l : Lens) (told : List Told) (u : Unanswered) → (folded (unanswered_told l) told u).watch ≡ folded (watch_told l) told u.watch
 same_watch l [] u = refl
 same_watch l (t ∷ told) u = same_watch l told (unanswered_told l t u)
+
+module _ (x y : Party) (call : Call) (a : Answer) (c : Calls Observed x y call a) where
+  -- what it knew before the call
+  abbrev before : Unanswered
+  before = unanswered_of x y
+
+  pub watch_within : before.watch ≡ watch_of x y
+  watch_within = same_watch (lens x y) x.told (none_unanswered (first_watch (x.id ∷ []) x.final x.began x.initial_rtt))
+
+  -- what isn't answered behind a call: an ACK frame that goes ends it
+  pub packets_told : (unanswered_of (called x y.given call a) y).packets ≡ (if acknowledges (sents_by x.end call a) then [] else asking_among (news (came_to x y) (came_to (called x y.given call a) y)) ++ before.packets)
+  packets_told =
+      let after : Watch = watch_behind x y call a c before.watch watch_within in
+      ap (λ (v : Unanswered). v.packets) (folded_more (unanswered_told (lens x y)) x.told (told_of call a x.end.closing.state) (none_unanswered (first_watch (x.id ∷ []) x.final x.began x.initial_rtt)))
+      ∙ ap (λ (ss : List Sent). if acknowledges ss then [] else asking_among (news before.watch.intake after.intake) ++ before.packets) (went_behind x y call a c before.watch watch_within)
+      ∙ ap (λ (j : Intake). if acknowledges (sents_by x.end call a) then [] else asking_among (news j after.intake) ++ before.packets) (came_before x y call a c before.watch watch_within)
+      ∙ ap (λ (j : Intake). if acknowledges (sents_by x.end call a) then [] else asking_among (news (came_to x y) j) ++ before.packets) (came_behind x y call a c before.watch watch_within)
 
 -- While x is open, it owes an acknowledgement of each.
 pub record Answers (x y : Party) : Type 0 where
@@ -306,52 +210,18 @@ owes_sent old more took e number o = record {
 
 -- so it does behind any call
 answers_step : (x y : Party) (call : Call) (a : Answer) → Calls Observed x y call a → Answers x y → Answers (called x y.given call a) y
-answers_step x y call a c i = record { owes = owes }
+answers_step x y call a c i = record { owes = λ opened p among. by_acks (acknowledges (sents_by x.end call a)) refl opened p (subst (λ (ps : List Packet). In p ps) (packets_told x y call a c) among) }
   where
-    u : Unanswered
-    u = unanswered_of x y
-
-    t : Told
-    t = told_of call a x.end.closing.state
-
-    first : Watch
-    first = first_watch (x.id ∷ []) x.final x.began x.initial_rtt
-
-    same : u.watch ≡ watch_of x y
-    same = same_watch (lens x y) x.told (none_unanswered first)
-
-    after : Watch
-    after = watch_told (lens x y) t u.watch
-
-    before_is : u.watch.intake ≡ came_to x y
-    before_is = ap (λ (w : Watch). w.intake) same ∙ watched_intake (lens x y) x.told first
-
-    after_is : after.intake ≡ came_to (called x y.given call a) y
-    after_is = ap (λ (w : Watch). w.intake) (sym (behind_is x y call a c u.watch same)) ∙ watched_intake (lens x y) (x.told ++ t ∷ []) first
-
-    went_here : went u.watch after ≡ sents_by x.end call a
-    went_here = went_is u.watch after (sents_by x.end call a) (own_behind x y call a c u.watch same)
+    ps : List Packet
+    ps = (unanswered_of x y).packets
 
     took : List Packet
     took = (came_to (called x y.given call a) y).took
 
-    -- what isn't answered behind the call
-    left_is : (b : Bool) → acknowledges (sents_by x.end call a) ≡ b → packets_behind u after ≡ (if b then [] else asking_among (news (came_to x y) (came_to (called x y.given call a) y)) ++ u.packets)
-    left_is b is =
-        ap (λ (c : Bool). if c then [] else asking_among (news u.watch.intake after.intake) ++ u.packets) (ap acknowledges went_here ∙ is)
-        ∙ ap (λ (j : Intake). if b then [] else asking_among (news j after.intake) ++ u.packets) before_is
-        ∙ ap (λ (j : Intake). if b then [] else asking_among (news (came_to x y) j) ++ u.packets) after_is
-
     by_acks : (b : Bool) → acknowledges (sents_by x.end call a) ≡ b → (called x y.given call a).end.closing.state ≡ states.Open → (p : Packet)
-        → In p (if b then [] else asking_among (news (came_to x y) (came_to (called x y.given call a) y)) ++ u.packets) → Owes (called x y.given call a).sents took (called x y.given call a).end p.number
+        → In p (if b then [] else asking_among (news (came_to x y) (came_to (called x y.given call a) y)) ++ ps) → Owes (called x y.given call a).sents took (called x y.given call a).end p.number
     by_acks true some opened p among = absurd among
-    by_acks false none opened p among = owes_sent x.sents (sents_by x.end call a) took (called x y.given call a).end p.number (call_owes x y call a c u.packets none i.owes opened p among)
-
-    owes : (called x y.given call a).end.closing.state ≡ states.Open → (p : Packet) → In p (unanswered_of (called x y.given call a) y).packets → Owes (called x y.given call a).sents took (called x y.given call a).end p.number
-    owes opened p among =
-        let behind : unanswered_of (called x y.given call a) y ≡ unanswered_told (lens x y) t u = folded_more (unanswered_told (lens x y)) x.told t (none_unanswered first) in
-        let there : In p (packets_behind u after) = subst (λ (v : Unanswered). In p v.packets) behind among in
-        by_acks (acknowledges (sents_by x.end call a)) refl opened p (subst (λ (ps : List Packet). In p ps) (left_is (acknowledges (sents_by x.end call a)) refl) there)
+    by_acks false none opened p among = owes_sent x.sents (sents_by x.end call a) took (called x y.given call a).end p.number (call_owes x y call a c ps none i.owes opened p among)
 
 -- over the packets and what observers know of them
 pub answers_group : Group Observed Answers

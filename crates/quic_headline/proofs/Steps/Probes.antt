@@ -1,5 +1,5 @@
 -- Where a probe waits, a poll that leaves its end open gives a datagram that asks for an acknowledgement (RFC 9002, sections 6.2.4 and 7.5).
-use Rattle.std.proofs.Common.{◌≡◌, ℕ, ◌+◌, ◌-◌, ◌<◌, ◌≤◌, ◌^◌, List, [], ◌∷◌, ◌++◌, length, Bool, true, false, Some, None, Ok, refl, sym, ap, ◌∙◌, subst, ◌⊎◌, inl, inr, arith}
+use Rattle.std.proofs.Common.{◌≡◌, ℕ, ◌+◌, ◌-◌, ◌<◌, ◌≤◌, ◌^◌, [], ◌∷◌, ◌++◌, length, Bool, true, false, Some, None, Ok, refl, sym, ap, ◌∙◌, subst, ◌⊎◌, inl, inr, arith}
 use Rattle.std.specs.Prelude.{not, ◌||◌, ◌==◌}
 use Rattle.std.proofs.lemmas.Bool.{lt-ltb, or_left, or_right, and_right, and_parts, not-true, ne_eqb}
 use Rattle.std.proofs.lemmas.List.{length-append}

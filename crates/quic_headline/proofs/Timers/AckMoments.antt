@@ -1,6 +1,6 @@
 -- The timer of acknowledgements of an open end, where it is set, is due for a packet that asks, which an observer of the run's lists knows:
 -- each call keeps that.
-use Rattle.std.proofs.Common.{◌≡◌, ℕ, zero, suc, ◌⊎◌, Bool, true, false, ◌||◌, List, [], ◌∷◌, ◌++◌, length, drop, map, replicate, Option, Some, None, Ok, refl, sym, ap, ◌∙◌, subst, inl, inr}
+use Rattle.std.proofs.Common.{◌≡◌, ℕ, zero, suc, ◌⊎◌, Bool, true, false, ◌||◌, List, [], ◌∷◌, ◌++◌, map, replicate, Option, Some, None, Ok, refl, sym, ap, ◌∙◌, subst, inl, inr}
 use Rattle.std.specs.Prelude.{if◌then◌else◌, slice_get}
 use Rattle.std.specs.List.{list_any}
 use Rattle.quic_wire_core.specs.declared.shared.EcnCodepoint.{EcnCodepoint}
@@ -28,13 +28,13 @@ use Rattle.quic_machine.specs.FrameCases.{Settling, named, begun, passed, acked_
 use Rattle.quic_machine.specs.PollCases.{ready_at, ready_leaves, draft_at, frames_at, by_poll_to}
 use Rattle.quic_machine.specs.DraftLaws.{by_leave, due_alone}
 use Rattle.quic_headline.specs.Runs.{Run, Told, Packet, Intake, In, given_of, until, folded, AreServed}
-use Rattle.quic_headline.specs.Observer.{Sent, Watch, first_watch, news, Lens, watch_told, lens_of}
+use Rattle.quic_headline.specs.Observer.{Watch, first_watch, news, Lens, watch_told, lens_of}
 use Rattle.quic_headline.specs.Headline.{IsHonest}
 use Rattle.quic_headline.specs.Moments.{is_ack, acknowledges, went, arrivals_of, Debt, arrivals_behind, debt_told, first_debt, IsDueFor, AckMoments}
 use Rattle.quic_headline.proofs.Packets.Entries.{IsControl, control_of}
 use Rattle.quic_headline.proofs.Packets.Intakes.{folded_more}
 use Rattle.quic_headline.proofs.Packets.Delivered.{Arrivals, arrived, with_taken}
-use Rattle.quic_headline.proofs.Packets.Watching.{one_new, watched_intake}
+use Rattle.quic_headline.proofs.Packets.Watching.{one_new}
 use Rattle.quic_headline.proofs.Packets.Group.{meets}
 use Rattle.quic_headline.proofs.Places.Told.{in_left, in_right}
 use Rattle.quic_headline.proofs.Places.Steps.{poll_answer}
@@ -43,7 +43,7 @@ use Rattle.quic_headline.proofs.Places.Groups.{And, Calls, Group}
 use Rattle.quic_headline.proofs.Places.Coming.{by_coming}
 use Rattle.quic_headline.proofs.Places.Placed.{Placed, party_at, known_first}
 use Rattle.quic_headline.proofs.Timers.Still.{was_open}
-use Rattle.quic_headline.proofs.Timers.Watched.{Observed, behind_is, own_behind, watched_behind, timers_behind, open_behind}
+use Rattle.quic_headline.proofs.Timers.Watched.{Observed, went_behind, came_before, came_behind, watched_behind, timers_behind, open_behind}
 use Rattle.quic_headline.proofs.Packets.Probes.{MayLeave, by_going}
 
 -- ---- what goes
@@ -66,7 +66,7 @@ any_more fs f none some = go (list_any is_ack fs) (sym (any_both fs (f ∷ []) �
     go false is = is
 
 -- nor does PADDING
-any_padded : (fs : List FrameValue) (count : ℕ) → list_any is_ack (fs ++ replicate count padding) ≡ list_any is_ack fs
+pub any_padded : (fs : List FrameValue) (count : ℕ) → list_any is_ack (fs ++ replicate count padding) ≡ list_any is_ack fs
 any_padded [] zero = refl
 any_padded [] (suc count) = any_padded [] count
 any_padded (f ∷ fs) count = ap (λ (b : Bool). is_ack f || b) (any_padded fs count)
@@ -117,7 +117,7 @@ abbrev SetsNone : End → End → Type 0
 SetsNone e f = (moment : ℕ) → f.timers.max_ack_delay ≡ Some moment → e.timers.max_ack_delay ≡ Some moment
 
 -- losses leave it
-judged_none : (o : Option ℕ) (e : End) → (loss_judged o e).timers.max_ack_delay ≡ e.timers.max_ack_delay
+pub judged_none : (o : Option ℕ) (e : End) → (loss_judged o e).timers.max_ack_delay ≡ e.timers.max_ack_delay
 judged_none None e = refl
 judged_none (Some moment) e = losses_keep (HasTimer e.timers.max_ack_delay) (timer_settles e.timers.max_ack_delay) e refl
 
@@ -169,7 +169,7 @@ call_none p e theirs call a apart = by_plain_call p e theirs (SetsNone e) call a
 -- ---- a delivery
 
 -- whether one of some packets asks for an acknowledgement
-abbrev one_asks : List Packet → Bool
+abbrev pub one_asks : List Packet → Bool
 one_asks ps = list_any (λ (p : Packet). list_any asks p.frames) ps
 
 -- the timer was set, or it is set to 25 ms behind the clock for a packet that came and asks
@@ -177,14 +177,14 @@ abbrev SetBy : End → Intake → End → Intake → Type 0
 SetBy e i f j = (moment : ℕ) → f.timers.max_ack_delay ≡ Some moment → (e.timers.max_ack_delay ≡ Some moment) ⊎ ((moment ≡ ack_due f.closing.clock) × (one_asks (news i j) ≡ true))
 
 -- frames leave the timer
-frames_timer : (fs : List FrameValue) (e : End) → HasTimer e.timers.max_ack_delay (passed fs e).end
+pub frames_timer : (fs : List FrameValue) (e : End) → HasTimer e.timers.max_ack_delay (passed fs e).end
 frames_timer fs e = frames_keep (HasTimer e.timers.max_ack_delay) (frame_keeps (HasTimer e.timers.max_ack_delay) (record {
   ack = λ rises a x i. acked_keeps (HasTimer e.timers.max_ack_delay) (timer_settles e.timers.max_ack_delay) rises a (named a x) i;
   on_streams = λ f x on i. frame_leaves (HasTimer e.timers.max_ack_delay) f x on (λ t. i);
   message = λ m x i. i;
 })) fs e refl
 
-asks_same : (fs : List FrameValue) → asks_in (map Ok fs) ≡ list_any asks fs
+pub asks_same : (fs : List FrameValue) → asks_in (map Ok fs) ≡ list_any asks fs
 asks_same [] = refl
 asks_same (f ∷ fs) = ap (λ (b : Bool). asks f || b) (asks_same fs)
 
@@ -253,14 +253,6 @@ comes_due d after moment none due some =
 
 -- ---- what a call gives
 
-drop_all : (xs ys : List Sent) → drop (length xs) (xs ++ ys) ≡ ys
-drop_all [] ys = refl
-drop_all (x ∷ xs) ys = drop_all xs ys
-
--- what goes at a call is what the end gives
-pub went_is : (before after : Watch) (ss : List Sent) → after.own ≡ before.own ++ ss → went before after ≡ ss
-went_is before after ss is = ap (λ (xs : List Sent). drop (length before.own) xs) is ∙ drop_all before.own ss
-
 -- a call that gives an ACK stops the timer
 acks_stop : (p : Policy) (e : End) (theirs : List (List ℕ)) (call : Call) (a : Answer) → IsAnswer p e theirs call a → fails a ≡ false → acknowledges (sents_by e call a) ≡ true → (after_call p e theirs call a).timers.max_ack_delay ≡ None
 acks_stop p e theirs (calls.Poll now) a is served some = polled_stopped p e now (ap (λ (b : Answer). acknowledges (sent_if (gave b) (sent_by e now))) (sym (poll_answer p e now a is served)) ∙ some)
@@ -277,7 +269,7 @@ abbrev pub debt_of : Party → Party → Debt
 debt_of x y = folded (debt_told (lens x y)) x.told (debt_first x.id x.final x.began x.initial_rtt)
 
 -- the watch within the debt is the observer's
-owed_watch : (l : Lens) (told : List Told) (d : Debt) → (folded (debt_told l) told d).watch ≡ folded (watch_told l) told d.watch
+pub owed_watch : (l : Lens) (told : List Told) (d : Debt) → (folded (debt_told l) told d).watch ≡ folded (watch_told l) told d.watch
 owed_watch l [] d = refl
 owed_watch l (t ∷ told) d = owed_watch l told (debt_told l t d)
 
@@ -303,13 +295,13 @@ debt_step x y call a c i = record { owes = owes }
 
     -- what came before, and behind it
     before_is : d.watch.intake ≡ came_to x y
-    before_is = ap (λ (w : Watch). w.intake) same ∙ watched_intake (lens x y) x.told (first_watch (x.id ∷ []) x.final x.began x.initial_rtt)
+    before_is = came_before x y call a c d.watch same
 
     after_is : after.intake ≡ came_to (called x y.given call a) y
-    after_is = ap (λ (w : Watch). w.intake) (sym (behind_is x y call a c d.watch same)) ∙ watched_intake (lens x y) (x.told ++ t ∷ []) (first_watch (x.id ∷ []) x.final x.began x.initial_rtt)
+    after_is = came_behind x y call a c d.watch same
 
     went_here : went d.watch after ≡ sents_by x.end call a
-    went_here = went_is d.watch after (sents_by x.end call a) (own_behind x y call a c d.watch same)
+    went_here = went_behind x y call a c d.watch same
 
     by_acks : (b : Bool) → acknowledges (sents_by x.end call a) ≡ b → (called x y.given call a).end.closing.state ≡ states.Open → Owes (debt_told (lens x y) t d) (called x y.given call a).end
     by_acks true some still moment set =

@@ -31,8 +31,7 @@ use Rattle.quic_headline.proofs.Places.Groups.{And, Calls, Group}
 use Rattle.quic_headline.proofs.Places.Placed.{Placed, party_at, watch_is}
 use Rattle.quic_headline.proofs.Places.Openings.{named_taken}
 use Rattle.quic_headline.proofs.Timers.LossTimers.{stands_follow}
-use Rattle.quic_headline.proofs.Timers.Watched.{Observed, behind_is, own_behind, timers_behind, open_behind}
-use Rattle.quic_headline.proofs.Timers.AckMoments.{went_is}
+use Rattle.quic_headline.proofs.Timers.Watched.{Observed, behind_is, own_behind, timers_behind, open_behind, went_is}
 
 -- ---- what stays in flight
 

@@ -1,5 +1,5 @@
 -- What the observer of an end knows behind a call of it, and what the view there shows.
-use Rattle.std.proofs.Common.{◌≡◌, ℕ, suc, List, [], ◌∷◌, ◌++◌, Some, refl, sym, ap, ◌∙◌, subst}
+use Rattle.std.proofs.Common.{◌≡◌, ℕ, suc, List, [], ◌∷◌, ◌++◌, length, drop, Some, refl, sym, ap, ◌∙◌, subst}
 use Rattle.std.specs.Prelude.{slice_get}
 use Rattle.quic_time.specs.Timers.{each_timer}
 use Rattle.quic_wire_core.specs.declared.stream_id.Side.{Side}
@@ -11,12 +11,12 @@ use Rattle.quic_machine.specs.declared.run.View.{View}
 use Rattle.quic_machine.specs.Machine.{World, end_at, view_of}
 use Rattle.quic_headline.specs.Runs.{Run, LeadsTo, state_in}
 use Rattle.quic_headline.specs.Observer.{Sent, Watch, first_watch, watch_told}
-use Rattle.quic_headline.specs.Moments.{timers_in}
+use Rattle.quic_headline.specs.Moments.{timers_in, went}
 use Rattle.quic_headline.proofs.Packets.Intakes.{folded_more}
-use Rattle.quic_headline.proofs.Packets.Watching.{IsWatched}
+use Rattle.quic_headline.proofs.Packets.Watching.{IsWatched, watched_intake}
 use Rattle.quic_headline.proofs.Packets.Group.{PacketsHold}
 use Rattle.quic_headline.proofs.Packets.Sight.{Sight}
-use Rattle.quic_headline.proofs.Places.Parties.{sents_by, told_of, Party, called, lens, watch_of}
+use Rattle.quic_headline.proofs.Places.Parties.{sents_by, told_of, Party, called, came_to, lens, watch_of}
 use Rattle.quic_headline.proofs.Places.Groups.{Way, And, Calls}
 use Rattle.quic_headline.proofs.Places.Moments.{state_shown}
 use Rattle.quic_headline.proofs.Places.Placed.{shown}
@@ -24,6 +24,15 @@ use Rattle.quic_headline.proofs.Places.Placed.{shown}
 -- the packets between two ends, and what their observers know
 abbrev pub Observed : Way
 Observed = And PacketsHold Sight
+
+-- what lies behind the first of two lists
+drop_all : (xs ys : List Sent) → drop (length xs) (xs ++ ys) ≡ ys
+drop_all [] ys = refl
+drop_all (x ∷ xs) ys = drop_all xs ys
+
+-- what goes at a call is what the end gives
+pub went_is : (before after : Watch) (ss : List Sent) → after.own ≡ before.own ++ ss → went before after ≡ ss
+went_is before after ss is = ap (λ (xs : List Sent). drop (length before.own) xs) is ∙ drop_all before.own ss
 
 module _ (x y : Party) (call : Call) (a : Answer) (c : Calls Observed x y call a) (w : Watch) (is : w ≡ watch_of x y) where
   -- what the observer knows behind the call
@@ -42,6 +51,19 @@ module _ (x y : Party) (call : Call) (a : Answer) (c : Calls Observed x y call a
       ap (λ (v : Watch). v.own) (sym behind_is)
       ∙ c.gives_behind.1.own
       ∙ ap (λ (ss : List Sent). ss ++ sents_by x.end call a) (sym c.gives.1.own ∙ ap (λ (v : Watch). v.own) (sym is))
+
+  -- it goes at the call
+  pub went_behind : went w watch_behind ≡ sents_by x.end call a
+  went_behind = went_is w watch_behind (sents_by x.end call a) own_behind
+
+  -- it knows what came before the call, and what came by then
+  pub came_before : w.intake ≡ came_to x y
+  came_before = ap (λ (v : Watch). v.intake) is ∙ watched_intake (lens x y) x.told (first_watch (x.id ∷ []) x.final x.began x.initial_rtt)
+
+  pub came_behind : watch_behind.intake ≡ came_to (called x y.given call a) y
+  came_behind =
+      ap (λ (v : Watch). v.intake) (sym behind_is)
+      ∙ watched_intake (lens x y) (x.told ++ told_of call a x.end.closing.state ∷ []) (first_watch (x.id ∷ []) x.final x.began x.initial_rtt)
 
   -- and what the end waits for
   pub watched_behind : IsWatched x.terms watch_behind (called x y.given call a).end

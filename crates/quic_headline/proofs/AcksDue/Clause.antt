@@ -1,0 +1,201 @@
+-- Where an ACK frame is due at an open end, and it owes an acknowledgement, a poll that leaves it
+-- open gives one.
+use Rattle.std.proofs.Common.{◌≡◌, ℕ, suc, Bool, true, false, ◌||◌, List, [], ◌∷◌, ◌++◌, refl, sym, ap, ◌∙◌, subst}
+use Rattle.std.specs.Prelude.{nat_lt}
+use Rattle.std.specs.List.{list_any}
+use Rattle.std.proofs.lemmas.Bool.{or_left, and_from, and_parts}
+use Rattle.std.proofs.lemmas.List.Folds.{list_any-append}
+use Rattle.quic_wire_core.specs.StreamId.{other_side}
+use Rattle.quic_wire.specs.Value.{FrameValue, ack}
+use Rattle.quic_recovery_core.specs.PendingAcks.{lazy_threshold, can_send, is_filled}
+use Rattle.quic_machine.specs.declared.answers.State.{State}
+use Rattle.quic_machine.specs.declared.answers.State.TheVariants as states
+use Rattle.quic_machine.specs.declared.run.Call.{Call}
+use Rattle.quic_machine.specs.declared.run.Call.TheVariants as calls
+use Rattle.quic_machine.specs.declared.run.Answer.{Answer}
+use Rattle.quic_machine.specs.declared.run.Answer.TheVariants as answers
+use Rattle.quic_spaces.specs.Numbers.{can_number}
+use Rattle.quic_machine.specs.Policy.{Policy}
+use Rattle.quic_machine.specs.End.{End, with_window}
+use Rattle.quic_machine.specs.Control.{Gated}
+use Rattle.quic_machine.specs.Poll.{Polled, Draft, no_frames, with_asking, ack_of, with_ack, composed_if, lazied, goes, draft_if, draft_of, sends, polled_if, polled_in, polled}
+use Rattle.quic_machine.specs.PollCases.{ready_at, frames_at}
+use Rattle.quic_machine.specs.DraftLaws.{by_asking}
+use Rattle.quic_machine.specs.Machine.{World, gave, end_at, control_at, policy_at}
+use Rattle.quic_headline.specs.Runs.{Run, Intake, In, folded, until, given_of}
+use Rattle.quic_headline.specs.Observer.{Watch, first_watch, lens_of, watch, took, sents_until}
+use Rattle.quic_headline.specs.Headline.{IsHonest, IsRun}
+use Rattle.quic_headline.specs.Moments.{is_ack, acknowledges}
+use Rattle.quic_headline.specs.Polls.{IsMade}
+use Rattle.quic_headline.specs.Rest.{unanswered_told, none_unanswered}
+use Rattle.quic_headline.specs.AcksDue.{haste_told, no_haste, AcksAreDue}
+use Rattle.quic_headline.proofs.Packets.Watching.{watched_intake}
+use Rattle.quic_headline.proofs.Packets.Probes.{ready_acks}
+use Rattle.quic_headline.proofs.Places.Parties.{sent_by, sent_if, sents_by, Party, came_to, lens}
+use Rattle.quic_headline.proofs.Places.Groups.{Way, Nothing, And, Group, both, over}
+use Rattle.quic_headline.proofs.Places.Placed.{party_at, Placed, placed, known_first}
+use Rattle.quic_headline.proofs.Places.Steps.{poll_answer}
+use Rattle.quic_headline.proofs.Timers.Watched.{Observed, went_is, open_behind}
+use Rattle.quic_headline.proofs.Timers.Still.{was_open}
+use Rattle.quic_headline.proofs.Timers.AckMoments.{any_padded}
+use Rattle.quic_headline.proofs.Steps.Made.{made_served, made_end, polling, PollHolds, poll_holds, sents_more}
+use Rattle.quic_headline.proofs.Held.Behind.{Last, last_step}
+use Rattle.quic_headline.proofs.Rest.Unanswered.{Owes}
+use Rattle.quic_headline.proofs.Rest.Owed.{Known, known, owed_filled}
+use Rattle.quic_headline.proofs.AcksDue.Arrivals.{IsPressed}
+use Rattle.quic_headline.proofs.AcksDue.Waits.{Punctual, punctual_group}
+use Rattle.quic_headline.proofs.AcksDue.Group.{Waiting, Hastes, hastes_group}
+
+-- ---- a draft with an ACK frame
+
+-- one of its frames is an ACK
+abbrev Acknowledges : Draft → Type 0
+Acknowledges d = list_any is_ack d.frames ≡ true
+
+-- it is still where a frame goes behind
+still_acks : (d : Draft) (f : FrameValue) → Acknowledges d → list_any is_ack (d.frames ++ f ∷ []) ≡ true
+still_acks d f is = list_any-append is_ack d.frames (f ∷ []) ∙ or_left (list_any is_ack d.frames) (list_any is_ack (f ∷ [])) is
+
+asking_acks : (d : Draft) → Acknowledges d → Acknowledges (with_asking d)
+asking_acks = by_asking Acknowledges (record {
+  ack = λ d filled may is. still_acks d (ack (ack_of d.end)) is;
+  ping = λ d is. still_acks d _ is;
+  drops = λ d kind is. is;
+  control = λ d kind f is i. still_acks d f i;
+  message = λ d m ms first fit is. still_acks d _ is;
+  stream = λ d id h room found first left at counts is. still_acks d _ is;
+})
+
+-- where one is due, it goes: first, or alone
+draft_acks : (held : Bool) (e : End) → can_send e.acknowledging ≡ true → Acknowledges (draft_if held e)
+draft_acks true e due = refl
+draft_acks false e due = subst (λ (b : Bool). Acknowledges (composed_if b e)) (sym due) (asking_acks (with_ack (no_frames e)) refl)
+
+-- ---- a poll
+
+module _ (p : Policy) (e : End) (now : ℕ) (due : can_send e.acknowledging ≡ true) where
+  abbrev g : Gated
+  g = ready_at e now
+
+  due_ready : can_send g.end.acknowledging ≡ true
+  due_ready = ap can_send (ready_acks e now) ∙ due
+
+  -- something goes
+  some : goes g ≡ true
+  some = or_left (can_send g.end.acknowledging) _ due_ready
+
+  -- its frames have an ACK
+  frames_acknowledge : list_any is_ack (frames_at e now) ≡ true
+  frames_acknowledge =
+      let parts = and_parts g.end.acknowledging.due (is_filled g.end.acknowledging.runs) due_ready in
+      any_padded (draft_of g).frames _
+      ∙ draft_acks g.held (lazied g.end) (and_from (g.end.acknowledging.due || nat_lt lazy_threshold g.end.acknowledging.silent) (is_filled g.end.acknowledging.runs) (or_left g.end.acknowledging.due (nat_lt lazy_threshold g.end.acknowledging.silent) parts.0) parts.1)
+
+  polled_as : e.closing.state ≡ states.Open → polled p e now ≡ sends (can_number g.end.numbers) p g
+  polled_as opened = ap (λ (s : State). polled_in s p e now) opened ∙ ap (λ (b : Bool). polled_if b p g) some
+
+  -- so a poll gives one that leaves an open end open
+  pub gives_ack : e.closing.state ≡ states.Open → (polled p e now).end.closing.state ≡ states.Open → acknowledges (sent_if (gave (answers.Poll (polled p e now).answer)) (sent_by e now)) ≡ true
+  gives_ack opened still = go (can_number g.end.numbers) (polled_as opened)
+    where
+      go : (b : Bool) → polled p e now ≡ sends b p g → acknowledges (sent_if (gave (answers.Poll (polled p e now).answer)) (sent_by e now)) ≡ true
+      go true is = ap (λ (q : Polled). acknowledges (sent_if (gave (answers.Poll q.answer)) (sent_by e now))) is ∙ or_left (list_any is_ack (frames_at e now)) false frames_acknowledge
+      go false is = let clash : states.Drained ≡ states.Open = sym (ap (λ (q : Polled). q.end.closing.state) is) ∙ still in cc
+
+-- ---- the clause
+
+-- all that is known of the packets, what isn't answered, and how long it waits
+abbrev Timed : Way
+Timed = And Known Punctual
+
+timed : Group Nothing Timed
+timed = both Nothing Known Punctual known (over Observed (And Nothing Known) Punctual (λ x y h. (h.1.0.0.0, h.1.0.1)) punctual_group)
+
+-- and what is due
+abbrev All : Way
+All = And Timed Hastes
+
+all : Group Nothing All
+all = both Nothing Timed Hastes timed (over Waiting (And Nothing Timed) Hastes (λ x y h. ((h.1.0.0.0.0, h.1.0.0.1), (h.1.0.1, h.1.1))) hastes_group)
+
+pub acks_are_due : (r : Run) (end : World) → IsHonest r → IsRun r end → AcksAreDue r
+acks_are_due r end honest run side i now a v q served at there opened due owed =
+    ap acknowledges (went_is (watch r side i) (watch r side (suc i)) (sents_by e call a) (sents_more r i side now a w seen))
+    ∙ ap (λ (b : Answer). acknowledges (sent_if (gave b) (sent_by e now))) (poll_answer p e now a made.step.answer (made_served r i side call a w next made))
+    ∙ gives_ack p e now can opened_before (sym (ap (λ (z : End). z.closing.state) left) ∙ opened_behind)
+  where
+    call : Call
+    call = calls.Poll now
+
+    behind : Placed All r end side (suc i)
+    behind = placed All all r end honest run side (suc i) served
+
+    next : World
+    next = behind.world
+
+    -- the step
+    last : Last r.keys i r.start next r.events r.answers r.views (record { side = side; call = call }) a
+    last = last_step r.keys i r.start next r.events r.answers r.views (record { side = side; call = call }) a at.event at.answer behind.leads
+
+    w : World
+    w = last.before
+
+    made : IsMade r i side call a w next
+    made = record { at = at; leads = last.leads; step = last.step; served = served }
+
+    h : PollHolds All r i side now a w
+    h = poll_holds All all r end honest run i side now a w next made
+
+    x : Party
+    x = polling r i w side h.sents
+
+    y : Party
+    y = party_at r i w (other_side side) h.theirs
+
+    seen : PollHolds Observed r i side now a w
+    seen = record {
+      sents = h.sents;
+      theirs = h.theirs;
+      joined = h.joined;
+      gives = (h.gives.0.0.0.0.0, h.gives.0.0.0.1);
+      takes = (h.takes.0.0.0.0.0, h.takes.0.0.0.1);
+      behind = (h.behind.0.0.0.0.0, h.behind.0.0.0.1);
+      seen = h.seen;
+      seen_behind = h.seen_behind;
+    }
+
+    p : Policy
+    p = policy_at side r.keys
+
+    e : End
+    e = with_window (end_at side w) (control_at side w [])
+
+    left : end_at side next ≡ (polled p e now).end
+    left = made_end r i side call a w next made
+
+    opened_behind : (end_at side next).closing.state ≡ states.Open
+    opened_behind = open_behind r next i v side behind.leads there opened
+
+    opened_before : e.closing.state ≡ states.Open
+    opened_before = was_open p e y.given call a (sym (ap (λ (z : End). z.closing.state) left) ∙ opened_behind)
+
+    -- an ACK frame is due, and there is something to acknowledge
+    pressed : IsPressed e.acknowledging
+    pressed = h.gives.1.due opened_before
+        (subst (λ (ids : List (List ℕ)). (folded (haste_told (lens_of r side)) (until r side i) (no_haste (first_watch ids (given_of r side) (end_at side r.start).closing.clock (end_at side r.start).transport.initial_rtt))).due ≡ true) (known_first r honest side) due)
+
+    since : In q (folded (unanswered_told (lens x y)) x.told (none_unanswered (first_watch (x.id ∷ []) x.final x.began x.initial_rtt))).packets
+    since = subst (λ (ids : List (List ℕ)). In q (folded (unanswered_told (lens_of r side)) (until r side i) (none_unanswered (first_watch ids (given_of r side) (end_at side r.start).closing.clock (end_at side r.start).transport.initial_rtt))).packets) (known_first r honest side) owed.since
+
+    owes : Owes x.sents (came_to x y).took x.end q.number
+    owes = h.gives.0.0.1.owes opened_before q since
+
+    -- what it gave and took is what the observer of the run knows
+    sents_are : sents_until r side i ≡ x.sents
+    sents_are = ap (λ (v : Watch). v.own) h.seen ∙ h.gives.0.0.0.1.own
+
+    took_is : took r side i ≡ (came_to x y).took
+    took_is = ap (λ (v : Watch). v.intake.took) h.seen ∙ ap (λ (j : Intake). j.took) (watched_intake (lens x y) x.told (first_watch (x.id ∷ []) x.final x.began x.initial_rtt))
+
+    can : can_send e.acknowledging ≡ true
+    can = and_from e.acknowledging.due (is_filled e.acknowledging.runs) pressed.0 (owed_filled r side i q owed e x.sents (came_to x y).took sents_are took_is owes)

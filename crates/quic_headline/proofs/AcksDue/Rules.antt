@@ -1,0 +1,124 @@
+-- By which rules an end holds acknowledgements back stays as it began: of the packets that ask one
+-- may wait, and each must come in order (RFC 9000, sections 13.2.1 and 13.2.2); and the greatest
+-- number of those that asked is known.
+use Rattle.std.proofs.Common.{◌≡◌, ℕ, Bool, true, false, cond, max, List, ◌∷◌, map, Option, Some, Ok, sym, ap, ◌∙◌, subst, arith}
+use Rattle.std.specs.Prelude.{if◌then◌else◌, unwrap_or}
+use Rattle.std.specs.List.{list_any}
+use Rattle.quic_wire_core.specs.declared.shared.EcnCodepoint.{EcnCodepoint}
+use Rattle.quic_wire.specs.Value.{FrameValue, asks}
+use Rattle.quic_recovery_core.specs.Duplicates.{Seen}
+use Rattle.quic_recovery_core.specs.PendingAcks.{Pending, after_insert, asking_counted, starts_wait, after_packet, after_timeout}
+use Rattle.quic_spaces.specs.Marks.{is_congested}
+use Rattle.quic_spaces.specs.Acknowledging.{with_due}
+use Rattle.quic_machine.specs.declared.run.Call.{Call}
+use Rattle.quic_machine.specs.declared.run.Answer.{Answer}
+use Rattle.quic_machine.specs.Policy.{Policy}
+use Rattle.quic_machine.specs.End.{End}
+use Rattle.quic_machine.specs.Receive.{asks_in, after_taken, Outcome}
+use Rattle.quic_machine.specs.Control.{Gated}
+use Rattle.quic_machine.specs.Poll.{Polled, Draft, lazied, polled, draft_if}
+use Rattle.quic_machine.specs.Machine.{after_call}
+use Rattle.quic_machine.specs.CallCases.{is_delivery, by_plain_call}
+use Rattle.quic_machine.specs.FrameCases.{begun}
+use Rattle.quic_machine.specs.PollCases.{ready_at, draft_at, by_poll_to}
+use Rattle.quic_machine.specs.DraftLaws.{by_leave, due_alone}
+use Rattle.quic_headline.specs.Runs.{Packet, Intake}
+use Rattle.quic_headline.specs.AcksDue.{greatest_asking}
+use Rattle.quic_headline.proofs.Packets.Delivered.{Arrivals, arrived}
+use Rattle.quic_headline.proofs.Packets.Probes.{MayLeave, by_going, ready_acks}
+use Rattle.quic_headline.proofs.Timers.AckMoments.{asks_same}
+use Rattle.quic_headline.proofs.Rest.Standing.{frames_acks, expired_acks}
+
+-- the rules, with the greatest number of the packets that ask and were taken
+abbrev pub Ruled : Pending → List Packet → Type 0
+Ruled p taken = (p.threshold ≡ 1) × (p.reordering ≡ 1) × (unwrap_or p.greatest 0 ≡ greatest_asking taken)
+
+-- ---- a call that is no delivery
+
+-- so it is of all that differs in nothing else
+abbrev Keeps : List Packet → End → Type 0
+Keeps taken e = Ruled e.acknowledging taken
+
+-- an ACK frame that goes leaves the rules too
+draft_ruled : (taken : List Packet) (held : Bool) (e : End) → MayLeave held e → Keeps taken e → Keeps taken (draft_if held e).end
+draft_ruled taken = by_leave (λ (d : Draft). Keeps taken d.end) (record {
+  ack = λ d filled may i. i;
+  ping = λ d i. i;
+  drops = λ d kind i. i;
+  control = λ d kind f is i. i;
+  message = λ d m ms is fit i. i;
+  stream = λ d id h room found first some is counts i. i;
+})
+
+ready_ruled : (taken : List Packet) (e : End) (now : ℕ) → Keeps taken e → Keeps taken (ready_at e now).end
+ready_ruled taken e now i = subst (λ (p : Pending). Ruled p taken) (sym (ready_acks e now)) i
+
+polled_ruled : (taken : List Packet) (p : Policy) (e : End) (now : ℕ) → Keeps taken e → Keeps taken (polled p e now).end
+polled_ruled taken p e now i = by_poll_to p e now (λ (q : Polled). Keeps taken q.end) (record {
+  silent = i;
+  failed = i;
+  nothing = λ is none. ready_ruled taken e now i;
+  used_up = ready_ruled taken e now i;
+  gives = λ is may some.
+      let g : Gated = ready_at e now in
+      by_going (Keeps taken) p (draft_at e now) (λ pacing. draft_ruled taken g.held (lazied g.end) (due_alone g some) (ready_ruled taken e now i));
+})
+
+-- nor does its timer
+expired_ruled : (taken : List Packet) (b : Bool) (p : Pending) → Ruled p taken → Ruled (if b then after_timeout p else p) taken
+expired_ruled taken true p i = i
+expired_ruled taken false p i = i
+
+pub call_ruled : (taken : List Packet) (p : Policy) (e : End) (theirs : List (List ℕ)) (call : Call) (a : Answer) → is_delivery call ≡ false → Ruled e.acknowledging taken → Ruled (after_call p e theirs call a).acknowledging taken
+call_ruled taken p e theirs call a apart i = by_plain_call p e theirs (Keeps taken) call a (record {
+  same = i;
+  on_streams = λ t. i;
+  on_messages = λ m. i;
+  pings = i;
+  heard = λ path same. i;
+  times = λ now expiry is. subst (λ (q : Pending). Ruled q taken) (sym (expired_acks e now expiry)) (expired_ruled taken expiry.acks e.acknowledging i);
+  polls = λ now is. polled_ruled taken p e now i;
+  hears = λ arrival d is. (let clash : true ≡ false = sym is ∙ apart in cc);
+  tells = λ told. i;
+})
+
+-- ---- a packet that is taken
+
+-- the timer changes none of it
+waited : (b : Bool) (p : Pending) (now : ℕ) (taken : List Packet) → Ruled p taken → Ruled (cond b (record p { since = Some now }) p) taken
+waited true p now taken i = i
+waited false p now taken i = i
+
+-- the greatest number behind one more
+greatest_more : (g h n : ℕ) → g ≡ h → max g n ≡ max n h
+greatest_more g h n same = omega (arith, same)
+
+pub packet_ruled : (taken : List Packet) (frames : List FrameValue) (b : Bool) (p : Pending) (now n : ℕ) (s : Seen) → list_any asks frames ≡ b → Ruled p taken
+    → Ruled (after_packet p now n b s) (record { number = n; frames = frames } ∷ taken)
+packet_ruled taken frames true p now n s is i =
+    let counted = asking_counted p n s in
+    let all : List Packet = record { number = n; frames = frames } ∷ taken in
+    let greatest : max (unwrap_or p.greatest 0) n ≡ greatest_asking all = greatest_more (unwrap_or p.greatest 0) (greatest_asking taken) n i.2 ∙ ap (λ (c : Bool). if c then max n (greatest_asking taken) else greatest_asking taken) (sym is) in
+    waited (starts_wait counted) counted now all (i.0, i.1, greatest)
+packet_ruled taken frames false p now n s is i = (i.0, i.1, i.2 ∙ ap (λ (c : Bool). if c then max n (greatest_asking taken) else greatest_asking taken) (sym is))
+
+-- frames leave the rules
+pub frames_ruled : (e : End) (now n : ℕ) (frames : List FrameValue) (taken : List Packet) → Ruled e.acknowledging taken → Ruled (arrived e now n frames).end.acknowledging taken
+frames_ruled e now n frames taken i = subst (λ (p : Pending). Ruled p taken) (sym (frames_acks frames (begun e now n))) i
+
+-- each case of a delivery
+pub arrivals_ruled : (e : End) (now n : ℕ) (frames : List FrameValue) (i : Intake) → Ruled e.acknowledging i.took → Arrivals e now n frames i (λ (o : Outcome) (j : Intake). Ruled o.end.acknowledging j.took)
+arrivals_ruled e now n frames i ruled = record {
+  ignored = λ reason. ruled;
+  noted = λ state reason. ruled;
+  takes = λ state new none mark. taken mark;
+  refuses = λ state new f is. frames_ruled e now n frames i.took ruled;
+}
+  where
+    left : End
+    left = (arrived e now n frames).end
+
+    taken : (mark : Option EcnCodepoint) → Ruled (after_taken n (asks_in (map Ok frames)) mark left).acknowledging (record { number = n; frames = frames } ∷ i.took)
+    taken mark =
+        packet_ruled i.took frames (asks_in (map Ok frames)) (with_due (is_congested mark) (after_insert left.acknowledging n left.closing.clock)) left.closing.clock n left.numbers.opened (sym (asks_same frames))
+        (frames_ruled e now n frames i.took ruled)

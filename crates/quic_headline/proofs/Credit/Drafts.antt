@@ -1,0 +1,95 @@
+-- What holds of the frames that go into a datagram, where something is known of the streams that each of them leaves known, and from which it follows of each limit.
+use Rattle.std.proofs.Common.{◌≡◌, ℕ, zero, suc, ◌+◌, ◌-◌, Bool, List, [], ◌∷◌, ◌++◌, length, replicate, Some, sym, subst, inl, inr}
+use Rattle.quic_packet.specs.Number.{truncated}
+use Rattle.quic_wire.specs.Value.{FrameValue, AckValue, StreamValue, padding, ack, ping, stream, datagram}
+use Rattle.quic_spaces.specs.Numbers.{cut_against}
+use Rattle.quic_streams_parts.specs.Table.{at}
+use Rattle.quic_streams_parts.specs.SendHalf.{SendHalf, frame_of}
+use Rattle.quic_retransmits.specs.Retransmits.{Retransmits}
+use Rattle.quic_streams_state.specs.declared.state.StreamsState.{StreamsState}
+use Rattle.quic_streams_state.specs.Frames.{after_frame_sent}
+use Rattle.quic_streams_state.specs.Control.{Goes, frame_told}
+use Rattle.quic_machine.specs.declared.answers.State.TheVariants as states
+use Rattle.quic_machine.specs.declared.run.Answer.TheVariants as answers
+use Rattle.quic_machine.specs.Policy.{Policy}
+use Rattle.quic_machine.specs.End.{End, number_of}
+use Rattle.quic_machine.specs.Poll.{Polled, Draft, ack_of, lazied, composed, polled, draft_if}
+use Rattle.quic_machine.specs.PollCases.{ready_at, draft_at, frames_padded, by_poll_to}
+use Rattle.quic_machine.specs.DraftLaws.{Writing, by_writing, by_leave, due_alone}
+use Rattle.quic_machine.specs.Machine.{gave}
+use Rattle.quic_headline.specs.Runs.{In}
+use Rattle.quic_headline.specs.Observer.{Sent}
+use Rattle.quic_headline.proofs.Packets.Probes.{MayLeave, ready_state, poll_state}
+use Rattle.quic_headline.proofs.Places.Parties.{sent_by, sent_if}
+use Rattle.quic_headline.proofs.Places.Told.{in_append}
+
+-- What frames leave known, and what follows of each.
+pub record AreFine (Known : StreamsState → Type 0) (Fine : FrameValue → Type 0) : Type 0 where
+  pub told : (f : FrameValue) (s : StreamsState) → Known s → Known (frame_told f s)
+  pub sent : (fair : Bool) (s : StreamsState) (id room : ℕ) (h : SendHalf) → at s.sending.halves.live id ≡ Some h → Known s → Known (after_frame_sent fair s id h room)
+  pub limits : (p : Retransmits) (s : StreamsState) (f : FrameValue) → Known s → Goes p s f → Fine f
+  pub pads : Fine padding
+  pub pings : Fine ping
+  pub acks : (a : AckValue) → Fine (ack a)
+  pub messages : (m : List ℕ) → Fine (datagram m)
+  pub streams : (f : StreamValue) → Fine (stream f)
+
+module _ (Known : StreamsState → Type 0) (Fine : FrameValue → Type 0) (k : AreFine Known Fine) where
+  -- so it is of each of these frames
+  abbrev AllFine : List FrameValue → Type 0
+  AllFine fs = (f : FrameValue) → In f fs → Fine f
+
+  and_fine : (fs : List FrameValue) (g : FrameValue) → AllFine fs → Fine g → AllFine (fs ++ g ∷ [])
+  and_fine fs g all one f i = elim (in_append f fs (g ∷ []) i) [
+    | inl old ↦ all f old
+    | inr new ↦ elim new [ inl is ↦ subst Fine (sym is) one | inr none ↦ absurd none ]
+  ]
+
+  padded_fine : (fs : List FrameValue) (count : ℕ) → AllFine fs → AllFine (fs ++ replicate count padding)
+  padded_fine fs count all f i = elim (in_append f fs (replicate count padding) i) [ inl here ↦ all f here | inr behind ↦ zeros count behind ]
+    where
+      zeros : (n : ℕ) → In f (replicate n padding) → Fine f
+      zeros zero i = absurd i
+      zeros (suc n) (inl is) = subst Fine (sym is) k.pads
+      zeros (suc n) (inr i) = zeros n i
+
+  abbrev DraftIs : Draft → Type 0
+  DraftIs d = Known d.end.streams × AllFine d.frames
+
+  writing : Writing DraftIs
+  writing = record {
+    ack = λ d filled may j. (j.0, and_fine d.frames (ack (ack_of d.end)) j.1 (k.acks (ack_of d.end)));
+    ping = λ d j. (j.0, and_fine d.frames ping j.1 k.pings);
+    drops = λ d kind j. j;
+    control = λ d kind f is j. (k.told f d.end.streams j.0, and_fine d.frames f j.1 (k.limits d.end.waiting.frames d.end.streams f j.0 is.says));
+    message = λ d m ms is fit j. (j.0, and_fine d.frames (datagram m) j.1 (k.messages m));
+    stream = λ d id h room found first some is counts j. (k.sent d.end.transport.send_fairness d.end.streams id room h found j.0, and_fine d.frames (stream (frame_of id h room)) j.1 (k.streams (frame_of id h room)));
+  }
+
+  draft_is : (held : Bool) (e : End) → MayLeave held e → Known e.streams → DraftIs (draft_if held e)
+  draft_is held e alone known = by_leave DraftIs writing held e alone (known, λ f i. absurd i)
+
+  -- what a poll gives is fine, where so much is known of an end that is open
+  pub poll_fine : (p : Policy) (e : End) (now : ℕ) → (e.closing.state ≡ states.Open → Known e.streams) → (t : Sent) → In t (sent_if (gave (answers.Poll (polled p e now).answer)) (sent_by e now)) → (f : FrameValue) → In f t.frames → Fine f
+  poll_fine p e now known = by_poll_to p e now (λ (q : Polled). (t : Sent) → In t (sent_if (gave (answers.Poll q.answer)) (sent_by e now)) → (f : FrameValue) → In f t.frames → Fine f) (record {
+    silent = λ t i. absurd i;
+    failed = λ t i. absurd i;
+    nothing = λ is none t i. absurd i;
+    used_up = λ t i. absurd i;
+    gives = λ is numbered some t i f j. (
+        let d : Draft = draft_at e now in
+        let ready : Known (ready_at e now).end.streams = subst Known (sym (ready_state e now)) (known is) in
+        let all : DraftIs d = draft_is (ready_at e now).held (lazied (ready_at e now).end) (due_alone (ready_at e now) some) ready in
+        padded_fine d.frames (4 - ((truncated (number_of d.end) (cut_against d.end.numbers)).width + length d.bytes)) all.1 f (one t i f j));
+  })
+    where
+      one : (t : Sent) → In t (sent_by e now ∷ []) → (f : FrameValue) → In f t.frames → In f (frames_padded (draft_at e now))
+      one t (inl is) f j = subst (λ (s : Sent). In f s.frames) is j
+      one t (inr none) f j = absurd none
+
+  composed_known : (e : End) → Known e.streams → Known (composed e).end.streams
+  composed_known e known = (by_writing DraftIs writing e (known, λ f i. absurd i)).0
+
+  -- and it leaves as much known
+  pub poll_known : (p : Policy) (e : End) (now : ℕ) → Known e.streams → Known (polled p e now).end.streams
+  poll_known p e now known = poll_state Known p e now composed_known known
