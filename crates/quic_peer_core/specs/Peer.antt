@@ -4,6 +4,7 @@ use Rattle.quic_parameters.specs.ParametersRead.{parameters_at}
 use Rattle.quic_congestion.specs.NewReno.{Reno, default_reno, reno_made, reno_steps, window_after}
 use Rattle.quic_machine.specs.Policy.{Policy}
 use Rattle.quic_machine.specs.End.{ConnectionValue, policy_of, MadeFrom, HasFailed, refusal_of}
+use Rattle.quic_machine.specs.Arrival.{Arrival, arriving}
 use Rattle.quic_machine.specs.CallCases.{is_poll}
 use Rattle.quic_machine.specs.Machine.{IsAnswer, IsLeft, IsTold, reads_window, fails, gives}
 use Rattle.quic_machine.specs.Receive.{received, told_received}
@@ -50,11 +51,11 @@ pub record IsNew (options : Options) (new : NewEnd) (held : Held) : Type 0 where
   pub keys : held.keys ≡ keys_of new.side
   pub random : stream_from held.random ≡ after_words 1 (source_stream options.source)
 
--- Bytes came to an end at a moment: this is printed of what came of them, and the end is left so.
-pub record Receives (now : ℕ) (bytes : List ℕ) (old : Held) (text : List ℕ) (new : Held) : Type 0 where
+-- Bytes came to an end, at a moment and with a mark or with none: this is printed of what came of them, and the end is left so.
+pub record Receives (arrival : Arrival) (bytes : List ℕ) (old : Held) (text : List ℕ) (new : Held) : Type 0 where
   pub answer : Received
-  pub is_answer : answer ≢ receives_as.Failed → answer ≡ (received (policy_at old) old.end now bytes).answer
-  pub left : answer ≢ receives_as.Failed → new ≡ telling reno_steps old (told_received (policy_at old) old.end now bytes) (received (policy_at old) old.end now bytes).end
+  pub is_answer : answer ≢ receives_as.Failed → answer ≡ (received (policy_at old) old.end arrival bytes).answer
+  pub left : answer ≢ receives_as.Failed → new ≡ telling reno_steps old (told_received (policy_at old) old.end arrival.now bytes) (received (policy_at old) old.end arrival bytes).end
   pub failed : answer ≡ receives_as.Failed → HasFailed old new
   pub line : text ≡ line_text (codes "receive") (received_text answer)
 
@@ -101,7 +102,7 @@ IsDone nothing s text t = (text ≡ []) × (t ≡ s)
 IsDone (sets setting) s text t = (s.end ≡ None) × (text ≡ line_text (codes "set") (codes "ok")) × (t ≡ record { options = with_setting setting s.options; end = None })
 IsDone tells s text t = (text ≡ line_text (codes "params") (parameters_text s.options)) × (t ≡ s)
 IsDone (makes new) s text t = (s.end ≡ None) × IsMaking (refusal s.options new) new s text t
-IsDone (receives now ecn bytes) s text t = Goes (Receives now bytes) s.end s text t
+IsDone (receives now ecn bytes) s text t = Goes (Receives (arriving now ecn) bytes) s.end s text t
 IsDone (asks asked) s text t = Goes (IsCall asked) s.end s text t
 
 -- what a line prints, and the stage behind it, by what it asks for

@@ -1,5 +1,6 @@
 //! An end, and what is printed of what it answers.
 ghost use Rattle.std.specs.Prelude.{◌≡◌, ◌++◌, IfOk, IfErr, OnOk, MatchResult, Some, None, codes, string_bytes};
+ghost use Rattle.quic_machine.specs.Arrival.{injected_by};
 ghost use Rattle.quic_run_core.specs.Language.{asked_of};
 ghost use Rattle.quic_peer_core.specs.Printed.{refusal_text, datagram_text, told_text, parameters_text, line_text};
 ghost use Rattle.quic_peer_core.specs.Peer.{refusal, IsNew, IsCall, Receives};
@@ -69,7 +70,9 @@ pub(crate) fn tell_params(alloc: Global, options: &Options) -> Result<String, Al
 
 /// Hands a datagram in, and gives the line that tells what comes of it. An error is want of memory.
 pub(crate) fn take(alloc: Global, end: &mut End, datagram: &Injection) -> Result<String, AllocError>
-    ensures { IfOk result (λ text. Receives datagram.entry.now.now datagram.entry.now.bytes end.old (string_bytes text) end.new) }
+    ensures { IfOk result (λ text. Receives (injected_by datagram.entry.now) datagram.entry.now.bytes end.old
+        (string_bytes text)
+        end.new) }
 {
     let mut bytes = Vec::from_slice(alloc, datagram.bytes.as_slice())?;
     let received = end.receive(datagram.now, datagram.ecn, &mut bytes);
