@@ -43,4 +43,5 @@ mod HastyRun
 mod IsolatedRuns
 mod BlockedRun
 mod UndoneRun
+mod ToldRuns
 mod BoundedRun

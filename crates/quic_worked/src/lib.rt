@@ -26,5 +26,6 @@ pub mod raised;
 pub mod reordered;
 pub mod rested;
 pub mod timed;
+pub mod told;
 pub mod undone;
 pub mod worked;

@@ -12,6 +12,7 @@ use Rattle.quic_messages.specs.Sending.{send_answer, after_send}
 use Rattle.quic_messages.specs.History.{times}
 use Rattle.quic_headline.specs.Runs.{In, is_again}
 use Rattle.quic_headline.specs.Observer.{Sent}
+use Rattle.std.specs.List.{filter}
 
 -- ---- how often
 
@@ -37,6 +38,15 @@ often_append m xs ys = sum_by-append (λ x. cond (bytes_eq m x) 1 0) xs ys
 -- one more behind others
 pub often_more : (m x : List ℕ) (xs : List (List ℕ)) → often m (x ∷ xs) ≡ often m (x ∷ []) + often m xs
 often_more m x xs = often_append m (x ∷ []) xs
+
+-- no message is there more often where some are left out
+pub often_filter : (m : List ℕ) (keep : List ℕ → Bool) (xs : List (List ℕ)) → often m (filter keep xs) ≤ often m xs
+often_filter m keep [] = omega arith
+often_filter m keep (x ∷ xs) = go (keep x) (often_filter m keep xs)
+  where
+    go : (b : Bool) → often m (filter keep xs) ≤ often m xs → often m (cond b (x ∷ filter keep xs) (filter keep xs)) ≤ often m (x ∷ xs)
+    go true less = let some = often_more m x (filter keep xs) in let all = often_more m x xs in omega arith
+    go false less = let all = often_more m x xs in omega arith
 
 -- ---- queues
 
