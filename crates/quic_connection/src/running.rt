@@ -24,7 +24,8 @@ ghost use Rattle.quic_headline.specs.Ids.{IdsAreNew, AcceptedWereOpened};
 ghost use Rattle.quic_headline.specs.Reasons.{ClosedHasAReason};
 ghost use Rattle.quic_headline.specs.Views.{ViewsTell};
 ghost use Rattle.quic_headline.specs.Events.{MessagesAreTold, OpeningsAreTold, ReadablesAreTold};
-ghost use Rattle.quic_headline.specs.Sizes.{SizeIsOfHistory, SizesMove, DatagramsAreSized};
+ghost use Rattle.quic_headline.specs.Queue.{MessagesGo, MessagesGoInOrder};
+ghost use Rattle.quic_headline.specs.Allowed.{ReadsAreAllowed, ReadsAreOver, WritesAreAllowed, ResetsAreAllowed};
 ghost use Rattle.quic_headline.specs.Credit.{CreditIsBounded, CountsAreBounded};
 ghost use Rattle.quic_headline.specs.Undone.{NoneOpenedOnlyForUndone};
 ghost use Rattle.quic_headline.specs.Unread.{BlockedOnlyForUnread};
@@ -600,15 +601,10 @@ pub fn run<H: HeaderKey + Drop, K: PacketKey + Drop, R: Rng + Drop, C: Controlle
         PacerSetsItsTimer }
     ensures asking_goes_where_let { OnHonest H.protection K.aead R.stream (windows_of C.steps C.window_of) ends events.now result
         AskingGoesWhereLet }
-    ensures datagrams_are_sized { OnHonest H.protection K.aead R.stream (windows_of C.steps C.window_of) ends events.now result
-        DatagramsAreSized }
     ensures probes_pass { OnHonest H.protection K.aead R.stream (windows_of C.steps C.window_of) ends events.now result
         ProbesPass }
     ensures window_is_of_history { OnHonest H.protection K.aead R.stream (windows_of C.steps C.window_of) ends events.now result
         WindowIsOfHistory }
-    ensures size_is_of_history { OnHonest H.protection K.aead R.stream (windows_of C.steps C.window_of) ends events.now result
-        SizeIsOfHistory }
-    ensures sizes_move { OnHonest H.protection K.aead R.stream (windows_of C.steps C.window_of) ends events.now result SizesMove }
     ensures tracks_in_flight { OnHonest H.protection K.aead R.stream (windows_of C.steps C.window_of) ends events.now result
         TracksInFlight }
     ensures loss_moments { OnHonest H.protection K.aead R.stream (windows_of C.steps C.window_of) ends events.now result LossMoments }
@@ -654,6 +650,18 @@ pub fn run<H: HeaderKey + Drop, K: PacketKey + Drop, R: Rng + Drop, C: Controlle
         CreditIsBounded }
     ensures counts_are_bounded { OnHonest H.protection K.aead R.stream (windows_of C.steps C.window_of) ends events.now result
         CountsAreBounded }
+    ensures reads_are_allowed { OnHonest H.protection K.aead R.stream (windows_of C.steps C.window_of) ends events.now result
+        ReadsAreAllowed }
+    ensures reads_are_over { OnHonest H.protection K.aead R.stream (windows_of C.steps C.window_of) ends events.now result
+        ReadsAreOver }
+    ensures writes_are_allowed { OnHonest H.protection K.aead R.stream (windows_of C.steps C.window_of) ends events.now result
+        WritesAreAllowed }
+    ensures resets_are_allowed { OnHonest H.protection K.aead R.stream (windows_of C.steps C.window_of) ends events.now result
+        ResetsAreAllowed }
+    ensures messages_go { OnHonest H.protection K.aead R.stream (windows_of C.steps C.window_of) ends events.now result
+        MessagesGo }
+    ensures messages_go_in_order { OnHonest H.protection K.aead R.stream (windows_of C.steps C.window_of) ends events.now result
+        MessagesGoInOrder }
     ensures messages_are_told { OnHonest H.protection K.aead R.stream (windows_of C.steps C.window_of) ends events.now result
         MessagesAreTold }
     ensures openings_are_told { OnHonest H.protection K.aead R.stream (windows_of C.steps C.window_of) ends events.now result
@@ -681,11 +689,8 @@ pub fn run<H: HeaderKey + Drop, K: PacketKey + Drop, R: Rng + Drop, C: Controlle
     headline::polls_send_messages();
     headline::pacer_sets_its_timer();
     headline::asking_goes_where_let();
-    headline::datagrams_are_sized();
     headline::probes_pass();
     headline::window_is_of_history();
-    headline::size_is_of_history();
-    headline::sizes_move();
     headline::tracks_in_flight();
     headline::loss_moments();
     headline::ack_moments();
@@ -713,6 +718,12 @@ pub fn run<H: HeaderKey + Drop, K: PacketKey + Drop, R: Rng + Drop, C: Controlle
     headline::none_opened_only_for_undone();
     headline::credit_is_bounded();
     headline::counts_are_bounded();
+    headline::reads_are_allowed();
+    headline::reads_are_over();
+    headline::writes_are_allowed();
+    headline::resets_are_allowed();
+    headline::messages_go();
+    headline::messages_go_in_order();
     headline::messages_are_told();
     headline::openings_are_told();
     headline::readables_are_told();

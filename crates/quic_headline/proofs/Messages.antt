@@ -5,3 +5,5 @@ pub mod Going
 pub mod Coming
 pub mod Group
 pub mod Clause
+pub mod Waiting
+pub mod Order

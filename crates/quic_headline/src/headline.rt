@@ -16,16 +16,17 @@ ghost use Rattle.quic_headline.specs.Causes.{NoBlame, NumberLimit, TooManyPieces
 ghost use Rattle.quic_headline.specs.Moments.{LossMoments, LossTimerQuiet, AckMoments};
 ghost use Rattle.quic_headline.specs.Isolated.{Isolated, IsolatedByAnswers, IsolatedByLists};
 ghost use Rattle.quic_headline.specs.Polls.{PollsSendWhatWaits, PollsSendMessages, PacerSetsItsTimer, AskingGoesWhereLet, ProbesPass, WindowIsOfHistory};
+ghost use Rattle.quic_headline.specs.Queue.{MessagesGo, MessagesGoInOrder};
 ghost use Rattle.quic_headline.specs.Rest.{DeliveredAtRest, NothingOwedAtRest};
 ghost use Rattle.quic_headline.specs.Unread.{BlockedOnlyForUnread};
 ghost use Rattle.quic_headline.specs.Undone.{NoneOpenedOnlyForUndone};
+ghost use Rattle.quic_headline.specs.Allowed.{ReadsAreAllowed, ReadsAreOver, WritesAreAllowed, ResetsAreAllowed};
 ghost use Rattle.quic_headline.specs.AcksDue.{AcksAreDue};
 ghost use Rattle.quic_headline.specs.Events.{MessagesAreTold, OpeningsAreTold, ReadablesAreTold};
 ghost use Rattle.quic_headline.specs.Resets.{ResetsAreTold};
 ghost use Rattle.quic_headline.specs.Ids.{IdsAreNew, AcceptedWereOpened};
 ghost use Rattle.quic_headline.specs.Reasons.{ClosedHasAReason};
 ghost use Rattle.quic_headline.specs.Views.{ViewsTell};
-ghost use Rattle.quic_headline.specs.Sizes.{SizeIsOfHistory, SizesMove, DatagramsAreSized};
 ghost use Rattle.quic_machine.specs.Start.{AreStarted};
 ghost use Rattle.quic_headline.specs.Headline.{IsHonest, IsRun, OrderedPrefix, Slices, Once, EndAfterAll, BlockedOnlyWithoutBytes, AcceptsAll, FinishedMeansArrived, FinishedIsTold, AcknowledgedWereTaken, NamesWereTaken, OpensExactly, NewestOpens, LossTimersFollow, AckTimersFollow, NumbersRise};
 
@@ -279,24 +280,30 @@ pub fn polls_send_messages()
     ensures { (r : Run) (end : World) → IsHonest r → IsRun r end → PollsSendMessages r }
 {}
 
+/// So it is of the messages that wait by the run's lists alone: those that the end sent, in their
+/// order, less as many of the oldest as each datagram that it gave has, and less those that were
+/// dropped for a later one whose call lets that be, the oldest first, until it fits in the buffer
+/// (RFC 9221, section 5.4).
+pub fn messages_go()
+    ensures { (r : Run) (end : World) → IsHonest r → IsRun r end → MessagesGo r }
+{}
+
+/// The messages of a datagram that a poll gives are the first of those that wait so, in their
+/// order, and all others wait behind the poll as before (RFC 9221, section 5).
+pub fn messages_go_in_order()
+    ensures { (r : Run) (end : World) → IsHonest r → IsRun r end → MessagesGoInOrder r }
+{}
+
 /// The timer of an open end's pacer is set only to the moment that the pacer named in the last
 /// poll.
 pub fn pacer_sets_its_timer()
     ensures { (r : Run) (end : World) → IsHonest r → IsRun r end → PacerSetsItsTimer r }
 {}
 
-/// Where no probe of losses waits, an ack-eliciting datagram goes only where the congestion window
-/// has room for one more beside those in flight, and the pacer names no later moment (RFC 9002,
-/// sections 7 and 7.7), or as a probe of a size where nothing waits: PING and zeros alone, of the
-/// size that is looked for, where the window has room for the greatest one (RFC 8899, section 5.3).
+/// An ack-eliciting datagram that is no probe goes only where the congestion window has room for it
+/// beside those in flight, and the pacer names no later moment (RFC 9002, sections 7 and 7.7).
 pub fn asking_goes_where_let()
     ensures { (r : Run) (end : World) → IsHonest r → IsRun r end → AskingGoesWhereLet r }
-{}
-
-/// A datagram has as many bytes as the answer says: at most the current size, or it is a probe of a
-/// size, and has exactly the one that is looked for (RFC 9000, section 14).
-pub fn datagrams_are_sized()
-    ensures { (r : Run) (end : World) → IsHonest r → IsRun r end → DatagramsAreSized r }
 {}
 
 /// Where a probe waits at an open end, a poll that leaves it open gives an ack-eliciting datagram,
@@ -309,19 +316,6 @@ pub fn probes_pass()
 /// shows once it was told what the calls up to there tell (RFC 9002, section 7).
 pub fn window_is_of_history()
     ensures { (r : Run) (end : World) → IsHonest r → IsRun r end → WindowIsOfHistory r }
-{}
-
-/// The size of datagrams that a view shows is the last that the end's controller was told of, or
-/// that with which its path began (RFC 8899, section 4.3).
-pub fn size_is_of_history()
-    ensures { (r : Run) (end : World) → IsHonest r → IsRun r end → SizeIsOfHistory r }
-{}
-
-/// From one view of an open end to the next its size of datagrams stays; or it grows to that of a
-/// datagram of PING and zeros alone that was in flight before and is acknowledged behind; or it
-/// falls to the least that is configured for its path (RFC 8899, section 4.3).
-pub fn sizes_move()
-    ensures { (r : Run) (end : World) → IsHonest r → IsRun r end → SizesMove r }
 {}
 
 /// Where an end rests, each byte that was written on a stream that it didn't reset has arrived, and
@@ -358,6 +352,35 @@ pub fn blocked_only_for_unread()
 /// The peer lets one be open at least, and fewer than 2^59 were opened (RFC 9000, section 4.6).
 pub fn none_opened_only_for_undone()
     ensures { (r : Run) (end : World) → IsHonest r → IsRun r end → NoneOpenedOnlyForUndone r }
+{}
+
+/// A call that reads a stream, stops it or asks for its reset is answered that the stream is closed
+/// only where by the lists nothing more is to be read: the application read its end, or was told of
+/// its reset, or stopped it before; or the end only sends on it. The application uses only streams
+/// that it opened or accepted (RFC 9000, sections 2.4 and 3.2).
+pub fn reads_are_allowed()
+    ensures { (r : Run) (end : World) → IsHonest r → IsRun r end → ReadsAreAllowed r }
+{}
+
+/// Where nothing more is to be read so, each such call is answered that the stream is closed, or
+/// finds no memory (RFC 9000, sections 2.4 and 3.2).
+pub fn reads_are_over()
+    ensures { (r : Run) (end : World) → IsHonest r → IsRun r end → ReadsAreOver r }
+{}
+
+/// A call that writes on a stream or finishes it is answered that the stream is closed only where
+/// the application finished or reset it before, or the end only receives on it (RFC 9000, sections
+/// 2.4 and 3.1).
+pub fn writes_are_allowed()
+    ensures { (r : Run) (end : World) → IsHonest r → IsRun r end → WritesAreAllowed r }
+{}
+
+/// A call that resets a stream or sets its priority is answered that the stream is closed only
+/// where the application reset it before, or finished it and all that was written on it, and its
+/// end, are in what the other end took; or the end only receives on it (RFC 9000, sections 2.4 and
+/// 3.1).
+pub fn resets_are_allowed()
+    ensures { (r : Run) (end : World) → IsHonest r → IsRun r end → ResetsAreAllowed r }
 {}
 
 /// Where an ACK frame is due at an end that owes an acknowledgement, a poll that leaves it open

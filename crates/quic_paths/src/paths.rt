@@ -61,9 +61,9 @@ impl<C> Model for PathData<C> {
 
 impl<C: Controller> PathData<C> {
     /// A path made now, of which nothing was measured and whose peer isn't validated. The factory
-    /// makes its controller for the size of datagrams that the settings begin with. A greater one
-    /// is looked for where that is allowed and configured, within the peer's
-    /// `max_udp_payload_size`, in bytes, if it is known.
+    /// makes its controller for the size of datagrams that the settings begin with. A greater one is
+    /// looked for where that is allowed and configured, within the peer's `max_udp_payload_size`, in
+    /// bytes, if it is known.
     pub fn new<F: ControllerFactory<Controller = C>>(
         allow_mtud: bool,
         peer_max_udp_payload_size: Option<u16>,
@@ -121,8 +121,7 @@ impl<C: Controller> PathData<C> {
     }
 
     /// Forgets now what was measured: round trip, controller, size search and pacer are as on a new
-    /// path, within the peer's limit that is known. The rest stays. It is for a path of which it is
-    /// known that it changed.
+    /// path, within the peer's limit that is known. The rest stays. It is for a path of which it is known that it changed.
     pub fn reset<F: ControllerFactory<Controller = C>>(
         &mut self,
         now: Instant,

@@ -4,7 +4,7 @@ use Rattle.std.specs.List.{IsDistinct}
 use Rattle.quic_wire_core.specs.declared.stream_id.Side.{Side}
 use Rattle.quic_wire_core.specs.declared.stream_id.Side.TheVariants.{Client, Server}
 use Rattle.quic_wire.specs.Value.{FrameValue, reset_stream, stream}
-use Rattle.quic_worked.specs.Settings.{plain_settings}
+use Rattle.quic_config.specs.Transport.{default_settings}
 use Rattle.quic_streams_parts.specs.declared.answers.WriteError.TheVariants as write_errors
 use Rattle.quic_machine.specs.declared.run.Call.TheVariants as calls
 use Rattle.quic_machine.specs.declared.run.Answer.TheVariants as answers
@@ -102,10 +102,10 @@ abbrev started : AreStarted rested_start
 started = record {
   client_making = record (making client_id) { windows = roomy_windows };
   server_making = record (making server_id) { windows = roomy_windows };
-  client_is = record { range = in_range; sizes = lit≤ tt; says = parameters_say; id = refl };
-  server_is = record { range = in_range; sizes = lit≤ tt; says = parameters_say; id = refl };
-  client = subst (λ read. IsMade Client plain_settings roomy_windows read client_id server_id 0 true 63 rested_start.client) (sym parameters_say) refl;
-  server = subst (λ read. IsMade Server plain_settings roomy_windows read server_id client_id 0 true 63 rested_start.server) (sym parameters_say) refl;
+  client_is = record { range = in_range; says = parameters_say; id = refl };
+  server_is = record { range = in_range; says = parameters_say; id = refl };
+  client = subst (λ read. IsMade Client default_settings roomy_windows read client_id server_id 0 true 63 rested_start.client) (sym parameters_say) refl;
+  server = subst (λ read. IsMade Server default_settings roomy_windows read server_id client_id 0 true 63 rested_start.server) (sym parameters_say) refl;
   client_gave = refl;
   server_gave = refl;
 }

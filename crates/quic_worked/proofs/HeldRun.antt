@@ -4,7 +4,7 @@ use Rattle.quic_wire_core.specs.declared.stream_id.Side.{Side}
 use Rattle.quic_wire_core.specs.declared.stream_id.Side.TheVariants.{Client, Server}
 use Rattle.quic_wire.specs.Value.{FrameValue, StreamValue, stream}
 use Rattle.quic_congestion.specs.Congestion.{Sent}
-use Rattle.quic_worked.specs.Settings.{plain_settings}
+use Rattle.quic_config.specs.Transport.{default_settings}
 use Rattle.quic_machine.specs.declared.run.Answer.TheVariants as answers
 use Rattle.quic_machine.specs.End.{IsMade}
 use Rattle.quic_machine.specs.Control.{bytes_in_flight, is_window_full}
@@ -32,10 +32,10 @@ pub held_started : AreStarted held_start
 held_started = record {
   client_making = record (making client_id) { windows = narrow_windows };
   server_making = record (making server_id) { windows = narrow_windows };
-  client_is = record { range = record { receive_window = lit< tt; stream_receive_window = lit< tt; bounds = record { bidi = lit≤ tt; uni = lit≤ tt; divides = lit< tt; initial = lit≤ tt; least = lit≤ tt }; search = tt }; sizes = lit≤ tt; says = parameters_say; id = refl };
-  server_is = record { range = record { receive_window = lit< tt; stream_receive_window = lit< tt; bounds = record { bidi = lit≤ tt; uni = lit≤ tt; divides = lit< tt; initial = lit≤ tt; least = lit≤ tt }; search = tt }; sizes = lit≤ tt; says = parameters_say; id = refl };
-  client = subst (λ read. IsMade Client plain_settings narrow_windows read client_id server_id 0 true 63 held_start.client) (sym parameters_say) refl;
-  server = subst (λ read. IsMade Server plain_settings narrow_windows read server_id client_id 0 true 63 held_start.server) (sym parameters_say) refl;
+  client_is = record { range = record { receive_window = lit< tt; stream_receive_window = lit< tt; initial_mtu = lit≤ tt }; says = parameters_say; id = refl };
+  server_is = record { range = record { receive_window = lit< tt; stream_receive_window = lit< tt; initial_mtu = lit≤ tt }; says = parameters_say; id = refl };
+  client = subst (λ read. IsMade Client default_settings narrow_windows read client_id server_id 0 true 63 held_start.client) (sym parameters_say) refl;
+  server = subst (λ read. IsMade Server default_settings narrow_windows read server_id client_id 0 true 63 held_start.server) (sym parameters_say) refl;
   client_gave = refl;
   server_gave = refl;
 }

@@ -45,3 +45,4 @@ mod BlockedRun
 mod UndoneRun
 mod ToldRuns
 mod BoundedRun
+pub mod AllowedRun

@@ -113,12 +113,10 @@ word_went = refl
 
 pub goes_then : GaveAsking paced_run Client 3 full_again (once_paced 3) (once_paced 4)
 goes_then = record {
-  one = record {
-    transmit = record { size = 34; ecn = Some Ect0 };
-    made = record { at = record { event = refl; answer = refl }; leads = leads; step = gives; served = refl };
-    sent = word_sent;
-    went = word_went;
-  };
+  transmit = record { size = 34; ecn = Some Ect0 };
+  made = record { at = record { event = refl; answer = refl }; leads = leads; step = gives; served = refl };
+  sent = word_sent;
+  went = word_went;
   asks = refl;
 }
 

@@ -1,12 +1,13 @@
 -- The run in which both ends come to rest, event by event, and those of machines that rest too early or not at all.
-use Rattle.std.proofs.Common.{◌≡◌, ℕ, ◌^◌, ◌<◌, List, [], ◌∷◌, ◌++◌, replicate, take, true, Option, Some, None, Ok, refl, inl, inr, sym, ap, ◌∙◌, subst, lit<, lit≤, arith}
+use Rattle.std.proofs.Common.{◌≡◌, ℕ, suc, ◌+◌, ◌*◌, ◌^◌, ◌<◌, ◌≤◌, List, [], ◌∷◌, ◌++◌, length, replicate, take, true, false, Option, Some, None, Ok, refl, inl, inr, sym, ap, ◌∙◌, subst, lit<, lit≤, arith}
 use Rattle.std.specs.Prelude.{slice_get}
+use Rattle.std.specs.List.{All}
 use Rattle.std.proofs.lemmas.List.Elements.{All-head, All-tail}
 use Rattle.quic_wire_core.specs.declared.stream_id.Side.{Side}
 use Rattle.quic_wire_core.specs.declared.stream_id.Side.TheVariants.{Client, Server}
 use Rattle.quic_wire.specs.Value.{ack, stream}
 use Rattle.quic_congestion.specs.Congestion.{Told, Sent, Acked, AcksEnded, Congested, Resized, IsSized, AreSized, size_told, last_size, HasRoom}
-use Rattle.quic_worked.specs.Settings.{plain_settings}
+use Rattle.quic_config.specs.Transport.{default_settings}
 use Rattle.quic_machine.specs.declared.answers.Received.TheVariants as receives
 use Rattle.quic_machine.specs.declared.run.Answer.TheVariants as answers
 use Rattle.quic_machine.specs.declared.run.View.{View}
@@ -15,17 +16,17 @@ use Rattle.quic_machine.specs.Start.{AreStarted, IsController}
 use Rattle.quic_machine.specs.Machine.{World, IsStep, Follows, view_of}
 use Rattle.quic_machine.specs.RunLaws.{one_run}
 use Rattle.quic_headline.specs.Runs.{Packet, In, IsNamed, HasArrived, EndHasArrived, until}
-use Rattle.quic_headline.specs.Observer.{Sent as SentAs, took, sents_until}
+use Rattle.quic_headline.specs.Observer.{Sent as SentAs, asks_of, took, sents_until}
 use Rattle.quic_headline.specs.Moments.{loss_timer, ack_timer, AllNamed, LossTimerQuiet}
 use Rattle.quic_headline.specs.Polls.{pacing_timer, IsPaced}
 use Rattle.quic_headline.specs.Headline.{IsHonest, IsRun}
 use Rattle.quic_headline.specs.Rest.{ShowsStill, Rests, HaveRoom, unanswered, IsUnacknowledged, DeliveredAtRest, NothingOwedAtRest}
-use Rattle.quic_worked.specs.Worked.{ran, worked_policies, client_id, server_id, opens_stream, writes_hello, finishes_stream, asks_datagram, gives_bytes, hello_frame}
+use Rattle.quic_worked.specs.Worked.{ran, worked_policies, client_id, server_id, once_sent, opens_stream, writes_hello, finishes_stream, asks_datagram, gives_bytes, hello_frame}
 use Rattle.quic_worked.specs.Acknowledged.{client_acked}
 use Rattle.quic_worked.specs.Broken.{IsNoRun}
 use Rattle.quic_worked.specs.Timed.{serves, asks_at, comes_at, NeverShows}
 use Rattle.quic_worked.specs.Held.{gives_nothing}
-use Rattle.quic_worked.specs.Rested.{roomy_window, roomy_control, roomy_windows, rested_start, once_rested, rest_view, still_view, given_view, taken_view, rested_run, hello_packet, kept_run, forgotten_run, heard_events, heard_answers, unanswered_run, timed_on, paced_view, paced_run}
+use Rattle.quic_worked.specs.Rested.{roomy_window, roomy_control, roomy_windows, rested_start, rested_events, rested_answers, once_rested, rest_view, still_view, given_view, taken_view, rested_run, hello_packet, kept_run, forgotten_run, heard_events, heard_answers, unanswered_run, timed_on, paced_view, paced_run}
 use Rattle.quic_worked.proofs.Codes.{no_codes}
 use Rattle.quic_worked.proofs.OwnIds.{AreOwn, own_ids}
 use Rattle.quic_worked.proofs.BrokenRuns.{IsRefused, stops, behind}
@@ -39,10 +40,10 @@ rested_started : AreStarted rested_start
 rested_started = record {
   client_making = record (making client_id) { windows = roomy_windows };
   server_making = record (making server_id) { windows = roomy_windows };
-  client_is = record { range = in_range; sizes = lit≤ tt; says = parameters_say; id = refl };
-  server_is = record { range = in_range; sizes = lit≤ tt; says = parameters_say; id = refl };
-  client = subst (λ read. IsMade Client plain_settings roomy_windows read client_id server_id 0 true 63 rested_start.client) (sym parameters_say) refl;
-  server = subst (λ read. IsMade Server plain_settings roomy_windows read server_id client_id 0 true 63 rested_start.server) (sym parameters_say) refl;
+  client_is = record { range = in_range; says = parameters_say; id = refl };
+  server_is = record { range = in_range; says = parameters_say; id = refl };
+  client = subst (λ read. IsMade Client default_settings roomy_windows read client_id server_id 0 true 63 rested_start.client) (sym parameters_say) refl;
+  server = subst (λ read. IsMade Server default_settings roomy_windows read server_id client_id 0 true 63 rested_start.server) (sym parameters_say) refl;
   client_gave = refl;
   server_gave = refl;
 }

@@ -4,8 +4,7 @@
 use Rattle.std.specs.Prelude.{ℕ, true, List, [], ◌∷◌, ◌++◌, replicate, take, Some, None, Ok}
 use Rattle.quic_wire_core.specs.declared.stream_id.Side.TheVariants.{Client, Server}
 use Rattle.quic_congestion.specs.Congestion.{Told}
-use Rattle.quic_config.specs.Transport.{parameters_of}
-use Rattle.quic_worked.specs.Settings.{plain_settings}
+use Rattle.quic_config.specs.Transport.{default_settings, parameters_of}
 use Rattle.quic_machine.specs.declared.run.RunEvent.{RunEvent}
 use Rattle.quic_machine.specs.declared.run.Answer.{Answer}
 use Rattle.quic_machine.specs.declared.run.Answer.TheVariants as answers
@@ -38,8 +37,8 @@ narrow_windows = record { initial = narrow_window; present = narrow_window }
 -- both ends, before anything was given
 abbrev pub held_start : World
 held_start = record {
-  client = new_end Client plain_settings narrow_windows (parameters_of plain_settings) client_id server_id 0 true 63;
-  server = new_end Server plain_settings narrow_windows (parameters_of plain_settings) server_id client_id 0 true 63;
+  client = new_end Client default_settings narrow_windows (parameters_of default_settings) client_id server_id 0 true 63;
+  server = new_end Server default_settings narrow_windows (parameters_of default_settings) server_id client_id 0 true 63;
   from_client = [];
   from_server = [];
   client_control = narrow_control;

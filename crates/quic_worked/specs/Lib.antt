@@ -22,8 +22,8 @@ pub mod Hasty
 pub mod Isolated
 pub mod Paced
 pub mod Faults
-pub mod Settings
 pub mod Blocked
 pub mod Undone
 pub mod Told
 pub mod Bounded
+pub mod Allowed

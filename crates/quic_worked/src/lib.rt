@@ -3,6 +3,7 @@
 #![tactic(auto)]
 
 pub mod acknowledged;
+pub mod allowed;
 pub mod blocked;
 pub mod bounded;
 pub mod broken;

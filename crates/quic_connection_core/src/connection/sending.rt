@@ -1,5 +1,5 @@
 //! Giving a datagram (RFC 9000, sections 12.2, 13.2, 13.3 and 14.1).
-ghost use Rattle.std.specs.Prelude.{◌≡◌, ◌≢◌, ◌+◌, ◌-◌, ◌<◌, ◌≤◌, ◌^◌, ◌++◌, length, replicate, take, drop, IfOk, IfSome, OnOk, OnErr, Ok, Some, None, true, false, [], vec_len, vec_capacity, max, if◌then◌else◌};
+ghost use Rattle.std.specs.Prelude.{◌≡◌, ◌≢◌, ◌+◌, ◌-◌, ◌<◌, ◌≤◌, ◌^◌, ◌++◌, length, replicate, take, drop, IfOk, IfSome, IsSome, OnOk, OnErr, Ok, Some, None, true, false, [], vec_len, vec_capacity, max, if◌then◌else◌};
 ghost use Rattle.quic_packet.specs.Number.{truncated};
 ghost use Rattle.quic_packet.specs.Header.{header_bytes};
 ghost use Rattle.quic_packet.specs.Datagram.{protected};
@@ -11,13 +11,11 @@ ghost use Rattle.quic_recovery_core.specs.PendingAcks.{can_send, is_filled};
 ghost use Rattle.quic_time.specs.Timers.{no_timers};
 ghost use Rattle.quic_retransmits.specs.Kept.{made};
 ghost use Rattle.quic_streams_state.specs.State.{streams_of};
-ghost use Rattle.quic_machine.specs.End.{with_end, with_tracking, with_number_given, number_of, policy_of, HasFailed};
+ghost use Rattle.quic_machine.specs.End.{with_end, with_tracking, with_window, with_number_given, number_of, policy_of, HasFailed};
 ghost use Rattle.quic_spaces.specs.Acknowledging.{most_ack_bytes};
 ghost use Rattle.quic_spaces.specs.Numbers.{can_number, cut_against};
 ghost use Rattle.quic_machine.specs.Tracking.{carried_in, retransmits_in, after_sent};
-ghost use Rattle.quic_machine.specs.Poll.{IsSilent, polled, told_polled, is_gated, gated, asks_to_go, waits, alone, leaves, leaves_if, draft_left, draft_as, lazied_as, most_of, composed, mark_of, frame_room, payload_of, datagram_of, datagram_size, paid_if, told_draft, after_given, asking, tracked, probed, ack_of, after_ack};
-ghost use Rattle.quic_machine.specs.PollCases.{ready_at};
-ghost use Rattle.quic_connection_core.specs.Leaving.{leaving_of, Leaves, rested, IsLooked, least_of};
+ghost use Rattle.quic_machine.specs.Poll.{IsSilent, polled, told_polled, is_gated, gated, goes, draft_if, composed, mark_of, frame_room, payload_of, datagram_of, datagram_size, paid_if, told_draft, after_given, asking, tracked, probed, lazied, ack_of, after_ack};
 ghost use Rattle.quic_machine.specs.Parts.{current_mtu};
 ghost use Rattle.quic_machine.specs.Control.{is_window_full, by_window, told_sent};
 ghost use Rattle.quic_machine.specs.Lacking.{PollTakes, MovesRecord};
@@ -34,7 +32,6 @@ ghost use Rattle.quic_connection_core.specs.Flying.{is_flying, flight_left_any, 
 
 use crate::connection::Connection;
 use crate::connection::acked::leave_flight;
-use crate::connection::leaving::Leaving;
 use crate::connection::messages::put_messages;
 use crate::connection::statistics::{count_frames, count_streams};
 use crate::connection::telling::tell_sent;
@@ -105,21 +102,6 @@ impl SentFrames {
         }
     }
 
-    /// PING went alone, as a probe of a size.
-    fn probe(alloc: Global) -> Self
-        ensures asks { result.asks ≡ true }
-        ensures carried { result.carried ≡ record { largest_acked = None; stream_frames = []; retransmits = nothing_waits } }
-    {
-        SentFrames {
-            asks: true,
-            carried: Carried {
-                largest_acked: None,
-                stream_frames: Vec::new(alloc),
-                retransmits: ThinRetransmits::new(),
-            },
-        }
-    }
-
     /// An ACK frame that names numbers up to this one went besides, or none did.
     fn with_ack(self, largest_acked: Option<u64>) -> Self
         ensures asks { result.asks ≡ self.asks }
@@ -157,15 +139,10 @@ impl<H: HeaderKey + Drop, K: PacketKey + Drop, R: Rng + Drop, C: Controller> Con
     /// set; a due acknowledgement goes alone then, and a probe that waits passes both (RFC 9002,
     /// sections 7, 7.5 and 7.7).
     ///
-    /// Where nothing waits, a PING may go as a probe of a size greater than the current one: where
-    /// a search is configured, the peer's address is validated, and the congestion window has room
-    /// for the greatest size that is looked at (RFC 8899, section 5.3; RFC 9000, section 14.3).
-    ///
-    /// The datagram has at most [`Connection::current_mtu`] bytes, or is such a probe, which has
-    /// the size that is looked for. It is to be marked as the answer says: ECT(0), until an ACK
-    /// shows that marks don't come through (section 13.4.2). Where something goes and the packet
-    /// numbers are used up, the end closes, no timer of it is set any more, and nothing is given.
-    /// An end that gives nothing and is open has nothing left to send but what is held back.
+    /// The datagram has at most [`Connection::current_mtu`] bytes and is to be marked as
+    /// the answer says: ECT(0), until an ACK shows that marks don't come through (section 13.4.2). Where something goes and the
+    /// packet numbers are used up, the end closes, no timer of it is set any more, and nothing is
+    /// given. An end that gives nothing and is open has nothing left to send but what is held back.
     ///
     /// # Errors
     ///
@@ -187,7 +164,7 @@ impl<H: HeaderKey + Drop, K: PacketKey + Drop, R: Rng + Drop, C: Controller> Con
         ensures nothing { OnErr result (out.new.items ≡ out.old.items) }
         ensures lacking { OnErr result (PollTakes (policy_of H.protection K.aead (words_of R.stream) self.old) (reading C.window_of self.old) now) }
         ensures still { self.old.end.closing.state ≡ State.Failed → self.new ≡ self.old }
-        ensures size { IfOk result (λ given. IfSome given (λ transmit. transmit.size ≤ 65527)) }
+        ensures size { IfOk result (λ given. IfSome given (λ transmit. transmit.size ≤ current_mtu self.old.end.path)) }
         ensures silent { result ≡ Ok None → self.new.end.closing.state ≡ State.Open → IsSilent self.new.end }
     {
         match self.state() {
@@ -213,38 +190,26 @@ impl<H: HeaderKey + Drop, K: PacketKey + Drop, R: Rng + Drop, C: Controller> Con
         ensures stopped { OnErr result (self.new.end.timers ≡ no_timers) }
         ensures nothing { OnErr result (out.new.items ≡ out.old.items) }
         ensures lacking { OnErr result (PollTakes (policy_of H.protection K.aead (words_of R.stream) self.old) self.old.end now) }
-        ensures size { IfOk result (λ given. IfSome given (λ transmit. transmit.size ≤ 65527)) }
+        ensures size { IfOk result (λ given. IfSome given (λ transmit. transmit.size ≤ current_mtu self.old.end.path)) }
         ensures silent { result ≡ Ok None → self.new.end.closing.state ≡ State.Open → IsSilent self.new.end }
-    {
-        // The proof reads between which sizes the search stays.
-        let _ = &self.path;
-        let Some(leaving) = self.make_ready(now)? else {
-            return Ok(None);
-        };
-        if !self.can_number() {
-            self.close_by(LostReason::NumberLimit);
-            return Ok(None);
-        }
-        let size = self.give(leaving, out)?;
-        Ok(Some(Transmit {
-            size,
-            ecn: self.mark(),
-        }))
-    }
-
-    /// Takes a moment over, stops the timer of the pacer, and sees that something goes with a probe
-    /// that waits: what leaves then, if something does. Where memory lacks, the end fails for good.
-    fn make_ready(&mut self, now: Instant) -> Result<Option<Leaving>, Failed>
-        ensures leaving { IfOk result (λ leaving. Leaves leaving (ready_at self.old.end now).leaving) }
-        ensures end { OnOk result (self.new ≡ with_end self.old (rested (ready_at self.old.end now))) }
-        ensures failed { OnErr result (HasFailed self.old self.new) }
-        ensures stopped { OnErr result (self.new.end.timers ≡ no_timers) }
-        ensures lacking { OnErr result (MovesRecord self.old.end) }
     {
         self.tick(now);
         self.timers.stop(Timer::Pacing);
         self.queue_probe()?;
-        Ok(self.leaving())
+        let held = self.is_held_back();
+        if !self.has_to_give(held) {
+            self.app_limited = !held;
+            return Ok(None);
+        }
+        if !self.can_number() {
+            self.close_by(LostReason::NumberLimit);
+            return Ok(None);
+        }
+        let size = self.give(held, out)?;
+        Ok(Some(Transmit {
+            size,
+            ecn: self.mark(),
+        }))
     }
 
     /// The mark of a datagram: ECT(0), while the path is marked (RFC 9000, section 13.4).
@@ -258,43 +223,12 @@ impl<H: HeaderKey + Drop, K: PacketKey + Drop, R: Rng + Drop, C: Controller> Con
         }
     }
 
-    /// What leaves, if something does: all that waits, unless window or pacer hold back what asks;
-    /// a due acknowledgement goes alone then. Where nothing waits, the search for a greater size
-    /// may name one to probe (RFC 8899, section 5.3).
-    fn leaving(&mut self) -> Option<Leaving>
-        ensures leaving { Leaves result (leaves (gated self.old.end)).leaving }
-        ensures end { self.new ≡ with_end self.old (rested (leaves (gated self.old.end))) }
+    /// Whether something goes: what asks unless it is held back, and a due acknowledgement in any
+    /// case.
+    fn has_to_give(&self, held: bool) -> bool
+        ensures { result ≡ goes (record { held = held; end = self.now.end }) }
     {
-        let asks = self.asks_to_go();
-        let goes = self.waits(asks);
-        if self.is_held_back(asks) {
-            return self.acks_alone();
-        }
-        if goes {
-            return Some(Leaving::Whole);
-        }
-        self.search()
-    }
-
-    /// Whether something waits to go: a due acknowledgement, or something that asks for one, which
-    /// `asks` says.
-    fn waits(&self, asks: bool) -> bool
-        requires { asks ≡ asks_to_go self.now.end }
-        ensures { result ≡ waits self.now.end }
-    {
-        self.is_ack_due() || asks
-    }
-
-    /// A due acknowledgement, which goes alone where what asks is held back.
-    fn acks_alone(&mut self) -> Option<Leaving>
-        ensures leaving { Leaves result (leaves_if true self.old.end).leaving }
-        ensures end { self.new ≡ with_end self.old (rested (leaves_if true self.old.end)) }
-    {
-        if self.is_ack_due() {
-            return Some(Leaving::Alone);
-        }
-        self.app_limited = false;
-        None
+        self.is_ack_due() || (!held && self.asks_to_go())
     }
 
     /// Sees that something goes with a probe that waits. Where memory lacks, the end fails for
@@ -326,14 +260,12 @@ impl<H: HeaderKey + Drop, K: PacketKey + Drop, R: Rng + Drop, C: Controller> Con
 
     /// Whether what asks for an acknowledgement is held back: it would exceed the congestion
     /// window, or the pacer names a later moment, to which its timer is set (RFC 9002, sections 7
-    /// and 7.7). A probe that waits passes both (section 7.5). `asks` says whether something waits
-    /// that asks.
-    fn is_held_back(&mut self, asks: bool) -> bool
-        requires { asks ≡ asks_to_go self.old.end }
+    /// and 7.7). A probe that waits passes both (section 7.5).
+    fn is_held_back(&mut self) -> bool
         ensures held { result ≡ (gated self.old.end).held }
         ensures end { self.new ≡ with_end self.old (gated self.old.end).end }
     {
-        if !self.is_gated(asks) {
+        if !self.is_gated() {
             return false;
         }
         self.is_window_full() || self.is_paced()
@@ -341,11 +273,10 @@ impl<H: HeaderKey + Drop, K: PacketKey + Drop, R: Rng + Drop, C: Controller> Con
 
     /// Whether window and pacer may hold something back: something waits that asks, and no probe.
     #[tactic(auto, using(crate::proofs::Gates::none_waits))]
-    fn is_gated(&self, asks: bool) -> bool
-        requires { asks ≡ asks_to_go self.now.end }
+    fn is_gated(&self) -> bool
         ensures { result ≡ is_gated self.now.end }
     {
-        asks && !self.space.tracking.has_probes()
+        self.asks_to_go() && !self.space.tracking.has_probes()
     }
 
     /// Whether the congestion window has no room for one more datagram.
@@ -371,64 +302,49 @@ impl<H: HeaderKey + Drop, K: PacketKey + Drop, R: Rng + Drop, C: Controller> Con
         }
     }
 
-    /// A packet is made: an acknowledgement is due where many packets came that don't ask. A probe
-    /// of a size carries none.
-    fn lazy(&mut self, leaving: Leaving)
-        ensures { self.new ≡ with_end self.old (lazied_as (leaving_of leaving) self.old.end) }
+    /// A packet is made: an acknowledgement is due where many packets came that don't ask.
+    fn lazy(&mut self)
+        ensures { self.new ≡ with_end self.old (lazied self.old.end) }
     {
-        match leaving {
-            Leaving::Whole | Leaving::Alone => self.space.acknowledging.lazy(),
-            Leaving::Probe(_) => {}
-        }
+        self.space.acknowledging.lazy();
     }
 
-    /// How many bytes the datagram of what leaves has at most.
-    fn most_size(&self, leaving: Leaving) -> usize
-        ensures { result ≡ most_of (leaving_of leaving) self.now.end }
-    {
-        match leaving {
-            Leaving::Whole | Leaving::Alone => usize::from(self.path.current_mtu()),
-            Leaving::Probe(size) => usize::from(size.max(self.path.current_mtu())),
-        }
-    }
-
-    /// Appends the datagram of what leaves, tracks it, and counts it as given: its size. Where
-    /// memory lacks, nothing is appended, and the end fails for good.
-    fn give(&mut self, leaving: Leaving, out: &mut Vec<u8>) -> Result<usize, Failed>
+    /// Appends the datagram of what waits, a due ACK alone where what asks is held back, tracks it,
+    /// and counts it as given: its size. Where memory lacks, nothing is appended, and the end fails
+    /// for good.
+    fn give(&mut self, held: bool, out: &mut Vec<u8>) -> Result<usize, Failed>
         requires number { can_number self.old.end.numbers ≡ true }
-        requires due { leaving_of leaving ≡ alone → can_send (lazied_as (leaving_of leaving) self.old.end).acknowledging ≡ true }
-        requires looked { IsLooked leaving self.old.end }
-        ensures items { OnOk result (out.new.items ≡ out.old.items ++ datagram_of (policy_of H.protection K.aead (words_of R.stream) self.old) (draft_as (leaving_of leaving) self.old.end)) }
+        requires due { held ≡ true → can_send self.old.end.acknowledging ≡ true }
+        ensures items { OnOk result (out.new.items ≡ out.old.items ++ datagram_of (policy_of H.protection K.aead (words_of R.stream) self.old) (draft_if held (lazied self.old.end))) }
         ensures size { IfOk result (λ size. vec_len out.new ≡ vec_len out.old + size) }
-        ensures most { IfOk result (λ size. size ≤ most_of (leaving_of leaving) self.old.end) }
-        ensures end { OnOk result (self.new.end ≡ after_given (policy_of H.protection K.aead (words_of R.stream) self.old) (draft_as (leaving_of leaving) self.old.end)) }
-        ensures control { OnOk result (self.new.control ≡ after_calls C.steps self.old.control (told_draft (draft_as (leaving_of leaving) self.old.end))) }
+        ensures most { IfOk result (λ size. size ≤ current_mtu self.old.end.path) }
+        ensures end { OnOk result (self.new.end ≡ after_given (policy_of H.protection K.aead (words_of R.stream) self.old) (draft_if held (lazied self.old.end))) }
+        ensures control { OnOk result (self.new.control ≡ after_calls C.steps self.old.control (told_draft (draft_if held (lazied self.old.end)))) }
         ensures keys { self.new.keys ≡ self.old.keys }
         ensures random { OnOk result (R.stream self.new.random ≡ after_words (self.new.end.filter.drawn - self.old.end.filter.drawn) (R.stream self.old.random)) }
         ensures failed { OnErr result (HasFailed self.old self.new) }
         ensures stopped { OnErr result (self.new.end.timers ≡ no_timers) }
         ensures nothing { OnErr result (out.new.items ≡ out.old.items) }
     {
-        if out.reserve(self.most_size(leaving)).is_err() {
+        if out.reserve(usize::from(self.path.current_mtu())).is_err() {
             self.fail();
             return Err(Failed);
         }
-        self.lazy(leaving);
-        self.put_datagram(leaving, out)
+        self.lazy();
+        self.put_datagram(held, out)
     }
 
     /// The same, where there is room for the datagram, and an acknowledgement is due if many
     /// packets came that don't ask.
-    fn put_datagram(&mut self, leaving: Leaving, out: &mut Vec<u8>) -> Result<usize, Failed>
+    fn put_datagram(&mut self, held: bool, out: &mut Vec<u8>) -> Result<usize, Failed>
         requires number { can_number self.old.end.numbers ≡ true }
-        requires due { leaving_of leaving ≡ alone → can_send self.old.end.acknowledging ≡ true }
-        requires looked { IsLooked leaving self.old.end }
-        requires room { vec_len out.old + most_of (leaving_of leaving) self.old.end ≤ vec_capacity out.old }
-        ensures items { OnOk result (out.new.items ≡ out.old.items ++ datagram_of (policy_of H.protection K.aead (words_of R.stream) self.old) (draft_left (leaving_of leaving) self.old.end)) }
+        requires due { held ≡ true → can_send self.old.end.acknowledging ≡ true }
+        requires room { vec_len out.old + current_mtu self.old.end.path ≤ vec_capacity out.old }
+        ensures items { OnOk result (out.new.items ≡ out.old.items ++ datagram_of (policy_of H.protection K.aead (words_of R.stream) self.old) (draft_if held self.old.end)) }
         ensures size { IfOk result (λ size. vec_len out.new ≡ vec_len out.old + size) }
-        ensures most { IfOk result (λ size. size ≤ most_of (leaving_of leaving) self.old.end) }
-        ensures end { OnOk result (self.new.end ≡ after_given (policy_of H.protection K.aead (words_of R.stream) self.old) (draft_left (leaving_of leaving) self.old.end)) }
-        ensures control { OnOk result (self.new.control ≡ after_calls C.steps self.old.control (told_draft (draft_left (leaving_of leaving) self.old.end))) }
+        ensures most { IfOk result (λ size. size ≤ current_mtu self.old.end.path) }
+        ensures end { OnOk result (self.new.end ≡ after_given (policy_of H.protection K.aead (words_of R.stream) self.old) (draft_if held self.old.end)) }
+        ensures control { OnOk result (self.new.control ≡ after_calls C.steps self.old.control (told_draft (draft_if held self.old.end))) }
         ensures keys { self.new.keys ≡ self.old.keys }
         ensures random { OnOk result (R.stream self.new.random ≡ after_words (self.new.end.filter.drawn - self.old.end.filter.drawn) (R.stream self.old.random)) }
         ensures failed { OnErr result (HasFailed self.old self.new) }
@@ -437,7 +353,7 @@ impl<H: HeaderKey + Drop, K: PacketKey + Drop, R: Rng + Drop, C: Controller> Con
     {
         let start = out.len();
         let number = self.number();
-        if self.put_tracked(leaving, out).is_err() {
+        if self.put_tracked(held, out).is_err() {
             out.truncate(start);
             self.fail();
             return Err(Failed);
@@ -451,17 +367,16 @@ impl<H: HeaderKey + Drop, K: PacketKey + Drop, R: Rng + Drop, C: Controller> Con
     /// Appends the packet of what waits, for which there is room, unsealed, tracks it, and counts
     /// its number as given. An error is want of memory; the end is of no more use then, and some of
     /// the packet may stand in `out`.
-    fn put_tracked(&mut self, leaving: Leaving, out: &mut Vec<u8>) -> Result<(), AllocError>
+    fn put_tracked(&mut self, held: bool, out: &mut Vec<u8>) -> Result<(), AllocError>
         requires number { can_number self.old.end.numbers ≡ true }
-        requires due { leaving_of leaving ≡ alone → can_send self.old.end.acknowledging ≡ true }
-        requires looked { IsLooked leaving self.old.end }
-        requires room { vec_len out.old + most_of (leaving_of leaving) self.old.end ≤ vec_capacity out.old }
-        ensures items { OnOk result (out.new.items ≡ out.old.items ++ (header_bytes self.old.end.ids.active.id (truncated (number_of self.old.end) (cut_against self.old.end.numbers)) ++ payload_of (draft_left (leaving_of leaving) self.old.end))) }
+        requires due { held ≡ true → can_send self.old.end.acknowledging ≡ true }
+        requires room { vec_len out.old + current_mtu self.old.end.path ≤ vec_capacity out.old }
+        ensures items { OnOk result (out.new.items ≡ out.old.items ++ (header_bytes self.old.end.ids.active.id (truncated (number_of self.old.end) (cut_against self.old.end.numbers)) ++ payload_of (draft_if held self.old.end))) }
         ensures four { OnOk result (vec_len out.old + 1 + length self.old.end.ids.active.id + 4 ≤ vec_len out.new) }
-        ensures within { OnOk result (vec_len out.new + 16 ≤ vec_len out.old + most_of (leaving_of leaving) self.old.end) }
+        ensures within { OnOk result (vec_len out.new + 16 ≤ vec_len out.old + current_mtu self.old.end.path) }
         ensures capacity { vec_capacity out.old ≤ vec_capacity out.new }
-        ensures end { OnOk result (self.new.end ≡ paid_if (asking (draft_left (leaving_of leaving) self.old.end).frames) (with_number_given (words_of R.stream self.old.random 0) (tracked (draft_left (leaving_of leaving) self.old.end))) (datagram_size (draft_left (leaving_of leaving) self.old.end))) }
-        ensures control { OnOk result (self.new.control ≡ after_calls C.steps self.old.control (told_draft (draft_left (leaving_of leaving) self.old.end))) }
+        ensures end { OnOk result (self.new.end ≡ paid_if (asking (draft_if held self.old.end).frames) (with_number_given (words_of R.stream self.old.random 0) (tracked (draft_if held self.old.end))) (datagram_size (draft_if held self.old.end))) }
+        ensures control { OnOk result (self.new.control ≡ after_calls C.steps self.old.control (told_draft (draft_if held self.old.end))) }
         ensures random { OnOk result (R.stream self.new.random ≡ after_words (self.new.end.filter.drawn - self.old.end.filter.drawn) (R.stream self.old.random)) }
         ensures ids { OnOk result (self.new.end.ids ≡ self.old.end.ids) }
         ensures keys { self.new.keys ≡ self.old.keys }
@@ -472,7 +387,7 @@ impl<H: HeaderKey + Drop, K: PacketKey + Drop, R: Rng + Drop, C: Controller> Con
         let start = out.len();
         // The proof reads that the size has 16 bits.
         let _most = self.path.current_mtu();
-        let sent = self.put_plain(leaving, out)?;
+        let sent = self.put_plain(held, out)?;
         let size = (out.len() - start + TAG_LEN) as u16;
         self.track(size, sent)
     }
@@ -548,86 +463,58 @@ impl<H: HeaderKey + Drop, K: PacketKey + Drop, R: Rng + Drop, C: Controller> Con
     /// Appends the packet of what waits, for which there is room, unsealed; its frames are taken:
     /// what went. An error is want of memory; the end is of no more use then, and some of the
     /// packet may stand in `out`.
-    fn put_plain(&mut self, leaving: Leaving, out: &mut Vec<u8>) -> Result<SentFrames, AllocError>
+    fn put_plain(&mut self, held: bool, out: &mut Vec<u8>) -> Result<SentFrames, AllocError>
         requires number { can_number self.old.end.numbers ≡ true }
-        requires due { leaving_of leaving ≡ alone → can_send self.old.end.acknowledging ≡ true }
-        requires looked { IsLooked leaving self.old.end }
-        requires room { vec_len out.old + most_of (leaving_of leaving) self.old.end ≤ vec_capacity out.old }
-        ensures items { OnOk result (out.new.items ≡ out.old.items ++ (header_bytes self.old.end.ids.active.id (truncated (number_of self.old.end) (cut_against self.old.end.numbers)) ++ payload_of (draft_left (leaving_of leaving) self.old.end))) }
+        requires due { held ≡ true → can_send self.old.end.acknowledging ≡ true }
+        requires room { vec_len out.old + current_mtu self.old.end.path ≤ vec_capacity out.old }
+        ensures items { OnOk result (out.new.items ≡ out.old.items ++ (header_bytes self.old.end.ids.active.id (truncated (number_of self.old.end) (cut_against self.old.end.numbers)) ++ payload_of (draft_if held self.old.end))) }
         ensures four { OnOk result (vec_len out.old + 1 + length self.old.end.ids.active.id + 4 ≤ vec_len out.new) }
-        ensures within { OnOk result (vec_len out.new + 16 ≤ vec_len out.old + most_of (leaving_of leaving) self.old.end) }
+        ensures within { OnOk result (vec_len out.new + 16 ≤ vec_len out.old + current_mtu self.old.end.path) }
         ensures capacity { vec_capacity out.old ≤ vec_capacity out.new }
-        ensures end { OnOk result (self.new ≡ with_end self.old (draft_left (leaving_of leaving) self.old.end).end) }
-        ensures size { OnOk result (vec_len out.new + 16 ≡ vec_len out.old + datagram_size (draft_left (leaving_of leaving) self.old.end)) }
+        ensures end { OnOk result (self.new ≡ with_end self.old (draft_if held self.old.end).end) }
+        ensures size { OnOk result (vec_len out.new + 16 ≡ vec_len out.old + datagram_size (draft_if held self.old.end)) }
         ensures numbers { OnOk result (self.new.end.numbers ≡ self.old.end.numbers) }
         ensures filter { OnOk result (self.new.end.filter ≡ self.old.end.filter) }
         ensures ids { OnOk result (self.new.end.ids ≡ self.old.end.ids) }
         ensures keys { self.new.keys ≡ self.old.keys }
-        ensures asks { IfOk result (λ sent. sent.asks ≡ asking (draft_left (leaving_of leaving) self.old.end).frames) }
-        ensures carried { IfOk result (λ sent. sent.carried ≡ carried_in (draft_left (leaving_of leaving) self.old.end).frames) }
+        ensures asks { IfOk result (λ sent. sent.asks ≡ asking (draft_if held self.old.end).frames) }
+        ensures carried { IfOk result (λ sent. sent.carried ≡ carried_in (draft_if held self.old.end).frames) }
         ensures front { take (vec_len out.old) out.new.items ≡ out.old.items }
         ensures grows { vec_len out.old ≤ vec_len out.new }
         ensures others { self.new ≡ with_end self.old self.new.end }
     {
         // The proof reads that a datagram has 1200 bytes at least.
         let _ = &self.path;
-        let start = out.len();
         let width = self.put_header(out);
         let body = out.len();
-        let sent = self.put_leave(leaving, out)?;
-        let beside = body - start + TAG_LEN;
-        let least = self.least_size(leaving, sent.asks);
-        pad(out, width, body, least.saturating_sub(beside));
+        let sent = self.put_leave(held, out)?;
+        pad(out, width, body);
         Ok(sent)
     }
 
-    /// Appends the frames of what leaves as a payload, for which there is room: of all that waits,
-    /// a due ACK alone, or PING as a probe of a size. This answers what went. An error is want of
+    /// Appends the frames of what goes as a payload, for which there is room: of all that waits, or
+    /// where what asks is held back, a due ACK alone. This answers what went. An error is want of
     /// memory; the end is of no more use then, and some of the frames may stand in `out`.
-    fn put_leave(&mut self, leaving: Leaving, out: &mut Vec<u8>) -> Result<SentFrames, AllocError>
+    fn put_leave(&mut self, held: bool, out: &mut Vec<u8>) -> Result<SentFrames, AllocError>
         requires number { can_number self.old.end.numbers ≡ true }
-        requires due { leaving_of leaving ≡ alone → can_send self.old.end.acknowledging ≡ true }
-        requires looked { IsLooked leaving self.old.end }
+        requires due { held ≡ true → can_send self.old.end.acknowledging ≡ true }
         requires some { 1159 ≤ frame_room self.old.end }
         requires room { vec_len out.old + frame_room self.old.end ≤ vec_capacity out.old }
-        ensures items { OnOk result (out.new.items ≡ out.old.items ++ (draft_left (leaving_of leaving) self.old.end).bytes) }
+        ensures items { OnOk result (out.new.items ≡ out.old.items ++ (draft_if held self.old.end).bytes) }
         ensures within { vec_len out.new ≤ vec_len out.old + frame_room self.old.end }
         ensures grows { vec_len out.old ≤ vec_len out.new }
         ensures capacity { vec_capacity out.old ≤ vec_capacity out.new }
-        ensures end { OnOk result (self.new ≡ with_end self.old (draft_left (leaving_of leaving) self.old.end).end) }
-        ensures asks { IfOk result (λ sent. sent.asks ≡ asking (draft_left (leaving_of leaving) self.old.end).frames) }
-        ensures carried { IfOk result (λ sent. sent.carried ≡ carried_in (draft_left (leaving_of leaving) self.old.end).frames) }
+        ensures end { OnOk result (self.new ≡ with_end self.old (draft_if held self.old.end).end) }
+        ensures asks { IfOk result (λ sent. sent.asks ≡ asking (draft_if held self.old.end).frames) }
+        ensures carried { IfOk result (λ sent. sent.carried ≡ carried_in (draft_if held self.old.end).frames) }
         ensures front { take (vec_len out.old) out.new.items ≡ out.old.items }
         ensures others { self.new ≡ with_end self.old self.new.end }
     {
-        match leaving {
-            Leaving::Whole => self.put_frames(out),
-            Leaving::Alone => {
-                let largest = self.put_ack(out);
-                Ok(SentFrames::acks(self.alloc, largest))
-            }
-            Leaving::Probe(_) => {
-                put_ping(out);
-                self.count_ping();
-                self.count_probe();
-                Ok(SentFrames::probe(self.alloc))
-            }
-        }
-    }
-
-    /// How many bytes a datagram has at least: a probe has its size, and one that asks that of its
-    /// path, where `pad_to_mtu` is set.
-    fn least_size(&self, leaving: Leaving, asks: bool) -> usize
-        ensures { result ≡ least_of (leaving_of leaving) asks self.now.end }
-    {
-        let size = match leaving {
-            Leaving::Whole | Leaving::Alone => 0,
-            Leaving::Probe(size) => size,
-        };
-        if self.transport.get_pad_to_mtu() && asks {
-            usize::from(size.max(self.path.current_mtu()))
+        if held {
+            let largest = self.put_ack(out);
+            Ok(SentFrames::acks(self.alloc, largest))
         } else {
-            usize::from(size)
+            self.put_frames(out)
         }
     }
 
@@ -809,7 +696,7 @@ impl<H: HeaderKey + Drop, K: PacketKey + Drop, R: Rng + Drop, C: Controller> Con
     }
 
     /// The number of the next datagram.
-    pub(crate) fn number(&self) -> u64
+    fn number(&self) -> u64
         ensures value { result ≡ number_of self.now.end }
         ensures above { self.now.end.numbers.next ≤ result }
         ensures most { result ≤ self.now.end.numbers.next + 1 }
@@ -1014,16 +901,15 @@ fn put_ping(out: &mut Vec<u8>)
 }
 
 /// Pads the payload that begins there, so that it has four bytes with its number (RFC 9001, section
-/// 5.4.2), and so many by itself at least.
-fn pad(out: &mut Vec<u8>, width: usize, body: usize, least: usize)
+/// 5.4.2).
+fn pad(out: &mut Vec<u8>, width: usize, body: usize)
     requires width { width ≤ 4 }
     requires body { body ≤ vec_len out.old }
-    requires room { vec_len out.old + max (4 - (width + (vec_len out.old - body))) (least - (vec_len out.old - body)) ≤ vec_capacity out.old }
-    ensures items { out.new.items ≡ out.old.items ++ replicate (max (4 - (width + (vec_len out.old - body))) (least - (vec_len out.old - body))) 0 }
-    ensures len { vec_len out.new ≡ vec_len out.old + max (4 - (width + (vec_len out.old - body))) (least - (vec_len out.old - body)) }
+    requires room { vec_len out.old + (4 - (width + (vec_len out.old - body))) ≤ vec_capacity out.old }
+    ensures items { out.new.items ≡ out.old.items ++ replicate (4 - (width + (vec_len out.old - body))) 0 }
+    ensures len { vec_len out.new ≡ vec_len out.old + (4 - (width + (vec_len out.old - body))) }
     ensures capacity { vec_capacity out.old ≤ vec_capacity out.new }
 {
-    let used = out.len() - body;
-    let zeros = 4usize.saturating_sub(width + used);
-    append_zeros(out, zeros.max(least.saturating_sub(used)));
+    let zeros = 4usize.saturating_sub(width + (out.len() - body));
+    append_zeros(out, zeros);
 }

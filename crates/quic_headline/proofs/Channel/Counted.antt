@@ -216,7 +216,6 @@ module _ (K : Side → Counts → Counts → Events → Type 0) (more : (side : 
   composed_counts e i = by_writing (λ (d : Draft). Flagged d.end.streams) (record {
     ack = λ d filled may j. j;
     ping = λ d j. j;
-    probes = λ f size j. j;
     drops = λ d kind j. j;
     control = λ d kind f is j. by_tells Flagged d.end.streams j j (λ id. j) (λ dir. j) f;
     message = λ d m ms is fit j. j;
@@ -248,8 +247,6 @@ module _ (K : Side → Counts → Counts → Events → Type 0) (more : (side : 
     acked = λ m e i. acked_counts (sent_half e.streams m.id) e.streams e.waiting.frames m i;
     lost = λ m e i. lost_counts (sent_half e.streams m.id) e.streams m i;
     again = λ carried e i. i;
-    searched = λ discovery e i. i;
-    shortens = λ most e i. i;
     tracked = λ t e i. i;
     measured = λ r first e i. i;
     marked = λ m marking e i. i;

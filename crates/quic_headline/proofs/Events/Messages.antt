@@ -13,17 +13,17 @@ use Rattle.quic_machine.specs.Closing.{ticked}
 use Rattle.quic_machine.specs.Policy.{Policy}
 use Rattle.quic_machine.specs.End.{End, with_closing}
 use Rattle.quic_machine.specs.Receive.{is_above, names_ungiven, told_of_message, message_taken, message_judged, take_frame}
-use Rattle.quic_machine.specs.Poll.{Polled, Draft, polled, draft_as, Leaving}
+use Rattle.quic_machine.specs.Poll.{Polled, Draft, lazied, polled, draft_if}
 use Rattle.quic_machine.specs.MessageCalls.{is_on_messages, limits_of}
 use Rattle.quic_machine.specs.Machine.{after_call}
-use Rattle.quic_machine.specs.DraftLaws.{by_leave, MayLeave}
+use Rattle.quic_machine.specs.DraftLaws.{by_leave}
 use Rattle.quic_machine.specs.FrameCases.{Settling, losses_keep, named, ack_taken, acked_keeps, passed, frames_keep, frames_taken}
 use Rattle.quic_machine.specs.LeaveCases.{by_expired}
 use Rattle.quic_machine.specs.PollCases.{by_poll, at_poll}
 use Rattle.quic_machine.specs.CallCases.{is_delivery, asks_event, by_call}
 use Rattle.quic_headline.specs.Events.{messages_of}
 use Rattle.quic_headline.proofs.Messages.Counted.{sent_leaves}
-use Rattle.quic_headline.proofs.Packets.Probes.{may_leave}
+use Rattle.quic_headline.proofs.Packets.Probes.{MayLeave, may_leave}
 
 -- whether a call receives a message
 abbrev pub receives : Call → Bool
@@ -38,29 +38,28 @@ module _ (P : List (List ℕ) → ℕ → Type 0) where
   Of e = P e.messages.queues.incoming e.messages.to_tell
 
   settles : Settling (λ (e : End). Of e)
-  settles = record { known = λ n x p. p; reset = λ id x p. p; acked = λ m x p. p; lost = λ m x p. p; again = λ c x p. p; searched = λ discovery x p. p; shortens = λ most x p. p; tracked = λ t x p. p; measured = λ r first x p. p; marked = λ m marking x p. p }
+  settles = record { known = λ n x p. p; reset = λ id x p. p; acked = λ m x p. p; lost = λ m x p. p; again = λ c x p. p; tracked = λ t x p. p; measured = λ r first x p. p; marked = λ m marking x p. p }
 
   -- whichever frames go
-  drafted : (leaving : Leaving) (e : End) → MayLeave leaving e → Of e → Of (draft_as leaving e).end
-  drafted leaving e due here = by_leave (λ (d : Draft). Of d.end) (record {
+  drafted : (held : Bool) (e : End) → MayLeave held e → Of e → Of (draft_if held e).end
+  drafted held e alone here = by_leave (λ (d : Draft). Of d.end) (record {
     ack = λ d filled may i. i;
     ping = λ d i. i;
-    probes = λ f size i. i;
     drops = λ d kind i. i;
     control = λ d kind f is i. i;
     message = λ d x xs is fit i. i;
     stream = λ d id h room found first some is counts i. i;
-  }) leaving e due here
+  }) held e alone here
 
   polled_leaves : (p : Policy) (e : End) (now : ℕ) → Of e → Of (polled p e now).end
   polled_leaves p e now here = by_poll p e now (λ (q : Polled). Of q.end) (record {
     silent = here;
     failed = here;
-    nothing = λ c. here;
-    used_up = λ c. here;
-    gives = λ leaving c left is may ready some.
-        let x : End = at_poll e now c in
-        drafted leaving x (may_leave e now leaving x ready) here;
+    nothing = λ t w moment pacing limited. here;
+    used_up = λ t w moment pacing. here;
+    gives = λ held t w moment pacing paid tracking timers is may ready some.
+        let x : End = at_poll e now t w moment pacing e.path.app_limited in
+        drafted held (lazied x) (may_leave e now held x ready some) here;
   })
 
   -- a call that isn't on messages, and asks for no event

@@ -306,7 +306,7 @@ abbrev StaysOpen : End → Type 0
 StaysOpen e = e.closing.state ≡ states.Open
 
 open_settles : frame_cases.Settling StaysOpen
-open_settles = record { known = λ n e i. i; reset = λ q e i. i; acked = λ m e i. i; lost = λ m e i. i; again = λ carried e i. i; searched = λ discovery e i. i; shortens = λ most e i. i; tracked = λ t e i. i; measured = λ r first e i. i; marked = λ m marking e i. i }
+open_settles = record { known = λ n e i. i; reset = λ q e i. i; acked = λ m e i. i; lost = λ m e i. i; again = λ carried e i. i; tracked = λ t e i. i; measured = λ r first e i. i; marked = λ m marking e i. i }
 
 -- frames close none
 frames_open : (frames : List FrameValue) (e : End) → StaysOpen e → StaysOpen (frame_cases.passed frames e).end
