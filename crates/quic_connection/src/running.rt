@@ -23,9 +23,6 @@ ghost use Rattle.quic_headline.specs.Resets.{ResetsAreTold};
 ghost use Rattle.quic_headline.specs.Ids.{IdsAreNew, AcceptedWereOpened};
 ghost use Rattle.quic_headline.specs.Reasons.{ClosedHasAReason};
 ghost use Rattle.quic_headline.specs.Views.{ViewsTell};
-ghost use Rattle.quic_headline.specs.Events.{MessagesAreTold, OpeningsAreTold, ReadablesAreTold};
-ghost use Rattle.quic_headline.specs.Queue.{MessagesGo, MessagesGoInOrder};
-ghost use Rattle.quic_headline.specs.Allowed.{ReadsAreAllowed, ReadsAreOver, WritesAreAllowed, ResetsAreAllowed};
 ghost use Rattle.quic_headline.specs.Credit.{CreditIsBounded, CountsAreBounded};
 ghost use Rattle.quic_headline.specs.Undone.{NoneOpenedOnlyForUndone};
 ghost use Rattle.quic_headline.specs.Unread.{BlockedOnlyForUnread};
@@ -650,24 +647,6 @@ pub fn run<H: HeaderKey + Drop, K: PacketKey + Drop, R: Rng + Drop, C: Controlle
         CreditIsBounded }
     ensures counts_are_bounded { OnHonest H.protection K.aead R.stream (windows_of C.steps C.window_of) ends events.now result
         CountsAreBounded }
-    ensures reads_are_allowed { OnHonest H.protection K.aead R.stream (windows_of C.steps C.window_of) ends events.now result
-        ReadsAreAllowed }
-    ensures reads_are_over { OnHonest H.protection K.aead R.stream (windows_of C.steps C.window_of) ends events.now result
-        ReadsAreOver }
-    ensures writes_are_allowed { OnHonest H.protection K.aead R.stream (windows_of C.steps C.window_of) ends events.now result
-        WritesAreAllowed }
-    ensures resets_are_allowed { OnHonest H.protection K.aead R.stream (windows_of C.steps C.window_of) ends events.now result
-        ResetsAreAllowed }
-    ensures messages_go { OnHonest H.protection K.aead R.stream (windows_of C.steps C.window_of) ends events.now result
-        MessagesGo }
-    ensures messages_go_in_order { OnHonest H.protection K.aead R.stream (windows_of C.steps C.window_of) ends events.now result
-        MessagesGoInOrder }
-    ensures messages_are_told { OnHonest H.protection K.aead R.stream (windows_of C.steps C.window_of) ends events.now result
-        MessagesAreTold }
-    ensures openings_are_told { OnHonest H.protection K.aead R.stream (windows_of C.steps C.window_of) ends events.now result
-        OpeningsAreTold }
-    ensures readables_are_told { OnHonest H.protection K.aead R.stream (windows_of C.steps C.window_of) ends events.now result
-        ReadablesAreTold }
 {
     // What every run of the machine keeps: laws, which do nothing.
     headline::ordered_prefix();
@@ -718,15 +697,6 @@ pub fn run<H: HeaderKey + Drop, K: PacketKey + Drop, R: Rng + Drop, C: Controlle
     headline::none_opened_only_for_undone();
     headline::credit_is_bounded();
     headline::counts_are_bounded();
-    headline::reads_are_allowed();
-    headline::reads_are_over();
-    headline::writes_are_allowed();
-    headline::resets_are_allowed();
-    headline::messages_go();
-    headline::messages_go_in_order();
-    headline::messages_are_told();
-    headline::openings_are_told();
-    headline::readables_are_told();
     show_codes(events);
     run_events(alloc, ends, events)
 }

@@ -16,5 +16,3 @@ pub mod AcksDue
 pub mod Isolated
 pub mod Unread
 pub mod Credit
-pub mod Allowed
-pub mod Events

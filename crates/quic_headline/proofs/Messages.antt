@@ -5,5 +5,3 @@ pub mod Going
 pub mod Coming
 pub mod Group
 pub mod Clause
-pub mod Waiting
-pub mod Order

@@ -19,6 +19,3 @@ pub mod Isolated
 pub mod Unread
 pub mod Undone
 pub mod Credit
-pub mod Allowed
-pub mod Queue
-pub mod Events

@@ -16,13 +16,10 @@ ghost use Rattle.quic_headline.specs.Causes.{NoBlame, NumberLimit, TooManyPieces
 ghost use Rattle.quic_headline.specs.Moments.{LossMoments, LossTimerQuiet, AckMoments};
 ghost use Rattle.quic_headline.specs.Isolated.{Isolated, IsolatedByAnswers, IsolatedByLists};
 ghost use Rattle.quic_headline.specs.Polls.{PollsSendWhatWaits, PollsSendMessages, PacerSetsItsTimer, AskingGoesWhereLet, ProbesPass, WindowIsOfHistory};
-ghost use Rattle.quic_headline.specs.Queue.{MessagesGo, MessagesGoInOrder};
 ghost use Rattle.quic_headline.specs.Rest.{DeliveredAtRest, NothingOwedAtRest};
 ghost use Rattle.quic_headline.specs.Unread.{BlockedOnlyForUnread};
 ghost use Rattle.quic_headline.specs.Undone.{NoneOpenedOnlyForUndone};
-ghost use Rattle.quic_headline.specs.Allowed.{ReadsAreAllowed, ReadsAreOver, WritesAreAllowed, ResetsAreAllowed};
 ghost use Rattle.quic_headline.specs.AcksDue.{AcksAreDue};
-ghost use Rattle.quic_headline.specs.Events.{MessagesAreTold, OpeningsAreTold, ReadablesAreTold};
 ghost use Rattle.quic_headline.specs.Resets.{ResetsAreTold};
 ghost use Rattle.quic_headline.specs.Ids.{IdsAreNew, AcceptedWereOpened};
 ghost use Rattle.quic_headline.specs.Reasons.{ClosedHasAReason};
@@ -280,20 +277,6 @@ pub fn polls_send_messages()
     ensures { (r : Run) (end : World) → IsHonest r → IsRun r end → PollsSendMessages r }
 {}
 
-/// So it is of the messages that wait by the run's lists alone: those that the end sent, in their
-/// order, less as many of the oldest as each datagram that it gave has, and less those that were
-/// dropped for a later one whose call lets that be, the oldest first, until it fits in the buffer
-/// (RFC 9221, section 5.4).
-pub fn messages_go()
-    ensures { (r : Run) (end : World) → IsHonest r → IsRun r end → MessagesGo r }
-{}
-
-/// The messages of a datagram that a poll gives are the first of those that wait so, in their
-/// order, and all others wait behind the poll as before (RFC 9221, section 5).
-pub fn messages_go_in_order()
-    ensures { (r : Run) (end : World) → IsHonest r → IsRun r end → MessagesGoInOrder r }
-{}
-
 /// The timer of an open end's pacer is set only to the moment that the pacer named in the last
 /// poll.
 pub fn pacer_sets_its_timer()
@@ -354,35 +337,6 @@ pub fn none_opened_only_for_undone()
     ensures { (r : Run) (end : World) → IsHonest r → IsRun r end → NoneOpenedOnlyForUndone r }
 {}
 
-/// A call that reads a stream, stops it or asks for its reset is answered that the stream is closed
-/// only where by the lists nothing more is to be read: the application read its end, or was told of
-/// its reset, or stopped it before; or the end only sends on it. The application uses only streams
-/// that it opened or accepted (RFC 9000, sections 2.4 and 3.2).
-pub fn reads_are_allowed()
-    ensures { (r : Run) (end : World) → IsHonest r → IsRun r end → ReadsAreAllowed r }
-{}
-
-/// Where nothing more is to be read so, each such call is answered that the stream is closed, or
-/// finds no memory (RFC 9000, sections 2.4 and 3.2).
-pub fn reads_are_over()
-    ensures { (r : Run) (end : World) → IsHonest r → IsRun r end → ReadsAreOver r }
-{}
-
-/// A call that writes on a stream or finishes it is answered that the stream is closed only where
-/// the application finished or reset it before, or the end only receives on it (RFC 9000, sections
-/// 2.4 and 3.1).
-pub fn writes_are_allowed()
-    ensures { (r : Run) (end : World) → IsHonest r → IsRun r end → WritesAreAllowed r }
-{}
-
-/// A call that resets a stream or sets its priority is answered that the stream is closed only
-/// where the application reset it before, or finished it and all that was written on it, and its
-/// end, are in what the other end took; or the end only receives on it (RFC 9000, sections 2.4 and
-/// 3.1).
-pub fn resets_are_allowed()
-    ensures { (r : Run) (end : World) → IsHonest r → IsRun r end → ResetsAreAllowed r }
-{}
-
 /// Where an ACK frame is due at an end that owes an acknowledgement, a poll that leaves it open
 /// gives a datagram with one. It is due from any of these on, until one goes: a packet that asks
 /// came, with which two wait, or out of order, which is below one that asks, or above all of them
@@ -390,29 +344,6 @@ pub fn resets_are_allowed()
 /// or a timeout told that 25 ms have passed since one came (RFC 9000, sections 13.2.1 and 13.2.2).
 pub fn acks_are_due()
     ensures { (r : Run) (end : World) → IsHonest r → IsRun r end → AcksAreDue r }
-{}
-
-/// Where the application asks what is told next and nothing is, while messages wait to be received,
-/// it was told that messages came since the first of those came that wait. By the lists a message
-/// waits from the packet that brought it on until a call received it, or another received none
-/// (RFC 9221).
-pub fn messages_are_told()
-    ensures { (r : Run) (end : World) → IsHonest r → IsRun r end → MessagesAreTold r }
-{}
-
-/// Where the application asks what is told next and nothing is, each stream that a frame opened was
-/// opened when it was told last that the peer opened streams of its kind, whatever was accepted
-/// (RFC 9000, sections 2.1 and 3.2).
-pub fn openings_are_told()
-    ensures { (r : Run) (end : World) → IsHonest r → IsRun r end → OpeningsAreTold r }
-{}
-
-/// Where the application asks what is told next and nothing is, it was told that a stream may be
-/// read since the last STREAM frame came on it, of those that it is told of: on a stream that this
-/// end opened, or of which one came before, and of which the end wasn't read, which wasn't stopped,
-/// and whose reset didn't come (RFC 9000, section 2.2).
-pub fn readables_are_told()
-    ensures { (r : Run) (end : World) → IsHonest r → IsRun r end → ReadablesAreTold r }
 {}
 
 /// A run less any choice of its idle events, which are injections and deliveries that their end

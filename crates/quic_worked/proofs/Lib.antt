@@ -43,6 +43,4 @@ mod HastyRun
 mod IsolatedRuns
 mod BlockedRun
 mod UndoneRun
-mod ToldRuns
 mod BoundedRun
-pub mod AllowedRun

@@ -24,6 +24,4 @@ pub mod Paced
 pub mod Faults
 pub mod Blocked
 pub mod Undone
-pub mod Told
 pub mod Bounded
-pub mod Allowed

@@ -3,7 +3,6 @@
 #![tactic(auto)]
 
 pub mod acknowledged;
-pub mod allowed;
 pub mod blocked;
 pub mod bounded;
 pub mod broken;
@@ -27,6 +26,5 @@ pub mod raised;
 pub mod reordered;
 pub mod rested;
 pub mod timed;
-pub mod told;
 pub mod undone;
 pub mod worked;

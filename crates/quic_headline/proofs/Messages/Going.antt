@@ -39,7 +39,7 @@ use Rattle.quic_headline.proofs.Packets.Probes.{MayLeave, may_leave}
 -- ---- what a poll gives
 
 -- a frame of control has no message
-pub control_none : (f : FrameValue) → IsControl f → messages_in (f ∷ []) ≡ []
+control_none : (f : FrameValue) → IsControl f → messages_in (f ∷ []) ≡ []
 control_none (datagram m) is = absurd is
 control_none f is = refl
 
@@ -76,7 +76,7 @@ drafted m held e alone = by_leave (Same m e) (record {
 }) held e alone (let none = often_none m in omega arith)
 
 -- what comes leaves the messages that wait to go
-pub delivery_leaves : (p : Policy) (e : End) (delivery : Delivery) (o : Option (List ℕ)) → (after_delivered p e delivery o).messages.queues.outgoing ≡ e.messages.queues.outgoing
+delivery_leaves : (p : Policy) (e : End) (delivery : Delivery) (o : Option (List ℕ)) → (after_delivered p e delivery o).messages.queues.outgoing ≡ e.messages.queues.outgoing
 delivery_leaves p e delivery None = refl
 delivery_leaves p e delivery (Some d) = by_received (λ (f : End). f.messages.queues.outgoing ≡ e.messages.queues.outgoing) (record {
   notes = λ n x same. same;

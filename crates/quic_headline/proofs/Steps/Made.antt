@@ -46,7 +46,7 @@ served_before (b ∷ answers) (suc i) served =
 -- ---- what is told
 
 -- what one more answer tells
-pub told_next : (side : Side) (state : State) (i : ℕ) (events : List RunEvent) (answers : List Answer) (views : List View) (event : RunEvent) (a : Answer) → slice_get events i ≡ Some event → slice_get answers i ≡ Some a → length views ≡ length answers
+told_next : (side : Side) (state : State) (i : ℕ) (events : List RunEvent) (answers : List Answer) (views : List View) (event : RunEvent) (a : Answer) → slice_get events i ≡ Some event → slice_get answers i ≡ Some a → length views ≡ length answers
     → told_at side state events (take (suc i) answers) views ≡ told_at side state events (take i answers) views ++ told_by side (state_behind side state i views) event a
 told_next side state i [] answers views event a at_event at_answer many = cc
 told_next side state i (e ∷ events) [] views event a at_event at_answer many = cc
@@ -63,7 +63,7 @@ told_next side state (suc i) (e ∷ events) (b ∷ answers) (v ∷ views) event 
     ∙ sym (append_assoc (told_by side state e b) (told_at side (state_in v side) events (take i answers) views) (told_by side (state_behind side (state_in v side) i views) event a))
 
 -- a call at an end tells this there
-pub told_here : (side : Side) (state : State) (call : Call) (a : Answer) → told_by side state (record { side = side; call = call }) a ≡ told_of call a state ∷ []
+told_here : (side : Side) (state : State) (call : Call) (a : Answer) → told_by side state (record { side = side; call = call }) a ≡ told_of call a state ∷ []
 told_here Client state call a = refl
 told_here Server state call a = refl
 
