@@ -1,10 +1,12 @@
 -- What polls give, and what they hold back (RFC 9002, sections 7, 7.5 and 7.7): an open end gives what waits, unless the congestion window or the pacer holds it back;
 -- and the controller shows the window that comes of what it was told.
-use Rattle.std.specs.Prelude.{ℕ, suc, ◌+◌, ◌<◌, ◌≤◌, ◌≡◌, ◌⊎◌, true, List, [], ◌∷◌, ◌++◌, filter, length, sum_by, slice_get, take, Option, Some, None, Ok, if◌then◌else◌}
+use Rattle.std.specs.Prelude.{ℕ, suc, ◌+◌, ◌<◌, ◌≤◌, ◌≡◌, ◌⊎◌, true, false, List, [], ◌∷◌, ◌++◌, filter, length, replicate, sum_by, slice_get, take, Option, Some, None, Ok, if◌then◌else◌}
 use Rattle.quic_wire_core.specs.declared.stream_id.Side.{Side}
 use Rattle.quic_wire_core.specs.declared.stream_id.Side.TheVariants.{Client, Server}
 use Rattle.quic_wire_core.specs.StreamId.{other_side}
+use Rattle.quic_wire.specs.Value.{ping, padding}
 use Rattle.quic_congestion.specs.Congestion as congestion
+use Rattle.quic_congestion.specs.Search.{Discovery, search_bound, open_probe, poll_names}
 use Rattle.quic_machine.specs.declared.answers.Transmit.{Transmit}
 use Rattle.quic_machine.specs.declared.answers.State.TheVariants as states
 use Rattle.quic_machine.specs.declared.run.RunEvent.{RunEvent}
@@ -17,7 +19,7 @@ use Rattle.quic_machine.specs.Closing.{ticked}
 use Rattle.quic_machine.specs.Parts.{current_mtu}
 use Rattle.quic_machine.specs.End.{End, with_closing, with_window}
 use Rattle.quic_machine.specs.Control.{paced_until, with_pacing_timer}
-use Rattle.quic_machine.specs.Poll.{probed}
+use Rattle.quic_machine.specs.Poll.{probed, waits}
 use Rattle.quic_machine.specs.Machine.{World, Policies, IsStep, policy_at, end_at, end_met, control_at, given_by, tells}
 use Rattle.quic_headline.specs.Runs.{Run, In, same_side, state_in, until, AreServed, LeadsTo, written, ended, reset}
 use Rattle.quic_headline.specs.Observer.{Sent, HoldsOffset, HoldsEnd, asks_of, watch, sents_until, acked_until}
@@ -129,18 +131,43 @@ PacingBehind side call w next = (pacing_at side next ≡ None) ⊎ (pacing_at si
 abbrev pub PacerSetsItsTimer : Run → Type 0
 PacerSetsItsTimer r = (i : ℕ) (side : Side) (call : Call) (a : Answer) (w next : World) → IsMade r i side call a w next → (end_at side w).closing.state ≡ states.Open → PacingBehind side call w next
 
--- A poll gave a datagram that asks for an acknowledgement.
-pub record GaveAsking (r : Run) (side : Side) (i now : ℕ) (w next : World) : Type 0 where
+-- A poll gave a datagram.
+pub record GaveOne (r : Run) (side : Side) (i now : ℕ) (w next : World) : Type 0 where
   pub transmit : Transmit
   pub made : IsMade r i side (calls.Poll now) (answers.Poll (Ok (Some transmit))) w next
   pub sent : Sent
   pub went : sents_until r side (suc i) ≡ sents_until r side i ++ sent ∷ []
-  pub asks : asks_of sent ≡ true
 
--- one that is no probe goes only where the window has room for it beside those in flight, and the pacer names no later moment
+-- It asks for an acknowledgement.
+pub record GaveAsking (r : Run) (side : Side) (i now : ℕ) (w next : World) : Type 0 where
+  pub one : GaveOne r side i now w next
+  pub asks : asks_of one.sent ≡ true
+
+-- the search for the size of datagrams at an end
+abbrev pub search_at : Side → World → Discovery
+search_at side w = (end_at side w).path.discovery
+
+-- A datagram is a probe of a size (RFC 8899, section 5.3; RFC 9000, section 14.4): PING and zeros, alone; it has exactly the size that the search of its end names at the
+-- moment of the poll, under the number that is open behind it, where none was; no less than the current size, and no more than the greatest that is looked at. It went
+-- where nothing waited, to a validated address, and the window had room for the greatest size that is looked at.
+pub record IsSizeProbe (r : Run) (side : Side) (i : ℕ) (w next : World) (s : Sent) : Type 0 where
+  pub zeros : ℕ
+  pub alone : s.frames ≡ ping ∷ replicate zeros padding
+  pub named : poll_names (watch r side (suc i)).clock (search_at side w) ≡ Some s.size
+  pub none_open : open_probe (search_at side w) ≡ None
+  pub opened : open_probe (search_at side next) ≡ Some s.number
+  pub bound : ℕ
+  pub is_bound : search_bound (search_at side w) ≡ Some bound
+  pub between : ((search_at side w).size ≤ s.size) × (s.size ≤ bound)
+  pub idle : waits (end_at side w) ≡ false
+  pub validated : (end_at side w).path.validated ≡ true
+  pub room : bytes_flying r side i + bound < control_at side w []
+
+-- what asks goes, where no probe of losses waits, only where the window has room for one more datagram beside those in flight and the pacer names no later moment, or
+-- as a probe of a size
 abbrev pub AskingGoesWhereLet : Run → Type 0
-AskingGoesWhereLet r = (side : Side) (i now : ℕ) (w next : World) → GaveAsking r side i now w next → (end_at side w).tracking.probes ≡ 0
-    → (bytes_flying r side i + current_mtu (end_at side w).path < control_at side w []) × (pacer_names side w now ≡ None)
+AskingGoesWhereLet r = (side : Side) (i now : ℕ) (w next : World) (gave : GaveAsking r side i now w next) → (end_at side w).tracking.probes ≡ 0
+    → ((bytes_flying r side i + current_mtu (end_at side w).path < control_at side w []) × (pacer_names side w now ≡ None)) ⊎ IsSizeProbe r side i w next gave.one.sent
 
 -- where a probe waits, a poll that leaves its end open gives a datagram that asks, whatever window and pacer say; one probe fewer waits then (section 7.5)
 abbrev pub ProbesPass : Run → Type 0

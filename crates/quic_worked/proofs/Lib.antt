@@ -29,6 +29,7 @@ pub mod TimedRun
 mod MeasuredRun
 mod SkippedRun
 mod ProbedRun
+mod SearchedRun
 mod HeldRun
 mod PacedRun
 mod FaultRuns
@@ -42,5 +43,9 @@ mod RestedRun
 mod HastyRun
 mod IsolatedRuns
 mod BlockedRun
+mod BelowRun
+mod BelowShows
 mod UndoneRun
+mod ToldRuns
 mod BoundedRun
+pub mod AllowedRun

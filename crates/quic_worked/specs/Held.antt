@@ -4,7 +4,8 @@
 use Rattle.std.specs.Prelude.{ℕ, true, List, [], ◌∷◌, ◌++◌, replicate, take, Some, None, Ok}
 use Rattle.quic_wire_core.specs.declared.stream_id.Side.TheVariants.{Client, Server}
 use Rattle.quic_congestion.specs.Congestion.{Told}
-use Rattle.quic_config.specs.Transport.{default_settings, parameters_of}
+use Rattle.quic_config.specs.Transport.{parameters_of}
+use Rattle.quic_worked.specs.Settings.{plain_settings}
 use Rattle.quic_machine.specs.declared.run.RunEvent.{RunEvent}
 use Rattle.quic_machine.specs.declared.run.Answer.{Answer}
 use Rattle.quic_machine.specs.declared.run.Answer.TheVariants as answers
@@ -37,8 +38,8 @@ narrow_windows = record { initial = narrow_window; present = narrow_window }
 -- both ends, before anything was given
 abbrev pub held_start : World
 held_start = record {
-  client = new_end Client default_settings narrow_windows (parameters_of default_settings) client_id server_id 0 true 63;
-  server = new_end Server default_settings narrow_windows (parameters_of default_settings) server_id client_id 0 true 63;
+  client = new_end Client plain_settings narrow_windows (parameters_of plain_settings) client_id server_id 0 true 63;
+  server = new_end Server plain_settings narrow_windows (parameters_of plain_settings) server_id client_id 0 true 63;
   from_client = [];
   from_server = [];
   client_control = narrow_control;
@@ -145,3 +146,15 @@ shrunk_view = record { client = record open_view { window = 1 }; server = open_v
 -- so nothing seems to fit, and the same poll gives nothing
 abbrev pub shrunk_run : Run
 shrunk_run = record silent_run { views = replicate 3 shrunk_view }
+
+-- the client shows a larger size of datagrams, of which its controller was never told
+abbrev pub resized_view : View
+resized_view = record { client = record open_view { current_mtu = 1452 }; server = open_view }
+
+-- from its first answer on
+abbrev pub resized_run : Run
+resized_run = record silent_run { views = replicate 3 resized_view }
+
+-- or from its second on, though no datagram was acknowledged, nor sent
+abbrev pub grown_run : Run
+grown_run = record silent_run { views = record { client = open_view; server = open_view } ∷ replicate 2 resized_view }

@@ -15,6 +15,7 @@ pub mod Timed
 pub mod Limited
 pub mod Measured
 pub mod Probed
+pub mod Searched
 pub mod Messages
 pub mod Held
 pub mod Rested
@@ -22,6 +23,10 @@ pub mod Hasty
 pub mod Isolated
 pub mod Paced
 pub mod Faults
+pub mod Settings
 pub mod Blocked
+pub mod Below
 pub mod Undone
+pub mod Told
 pub mod Bounded
+pub mod Allowed

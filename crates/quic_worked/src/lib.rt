@@ -3,6 +3,7 @@
 #![tactic(auto)]
 
 pub mod acknowledged;
+pub mod allowed;
 pub mod blocked;
 pub mod bounded;
 pub mod broken;
@@ -25,6 +26,8 @@ pub mod probed;
 pub mod raised;
 pub mod reordered;
 pub mod rested;
+pub mod searched;
 pub mod timed;
+pub mod told;
 pub mod undone;
 pub mod worked;

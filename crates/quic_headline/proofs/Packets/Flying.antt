@@ -23,21 +23,24 @@ use Rattle.quic_machine.specs.Tracking.{Tracking, TrackedPacket, carried_in, wit
 use Rattle.quic_machine.specs.End.{End, number_of, with_messages, with_tracking, with_rtt, probe_timeout, with_told, with_marking}
 use Rattle.quic_machine.specs.Acked.{without_known, packet_acked, packets_acked, packets_lost, verdict, losses_detected, told_delay, measured, sampled, without_acked, after_named, losses_taken}
 use Rattle.quic_machine.specs.Receive.{is_above, names_ungiven, take_frame}
-use Rattle.quic_machine.specs.Poll.{Draft, asking, datagram_size, packet_of, after_given, draft_if}
+use Rattle.quic_machine.specs.Poll.{Draft, asking, datagram_size, packet_of, after_given, draft_as, Leaving}
 use Rattle.quic_machine.specs.Timeouts.{loss_judged, loss_expired}
 use Rattle.quic_machine.specs.FrameCases.{OnStreams, named, ack_taken, passed, streams_acked_keep, resets_acked_keep, packets_lost_keep, frame_leaves, frames_taken, by_marks}
 use Rattle.quic_machine.specs.PollCases.{ready_at, frames_padded, Composes, composes}
 use Rattle.quic_headline.specs.Runs.{In, names}
 use Rattle.quic_headline.specs.Observer.{Sent, Terms, terms_of, asks_of, Flight, latest, late_by, is_lost, after_losses, is_greatest, of_number, measures, rtt_behind, settled_by, after_ack, after_frames, is_behind_asked, unasked, without_oldest, kept_flying, and_sent, waited, probe_due, due_or, loss_due, expired_for, sent_as}
+use Rattle.quic_headline.proofs.Packets.Searches.{by_losses}
 use Rattle.quic_headline.proofs.Packets.Invariant.{IsGiven}
 use Rattle.quic_headline.proofs.Packets.Carried.{carried_padded}
 use Rattle.quic_headline.proofs.Packets.Named.{in_filter, IsNoAck, by_frame}
-use Rattle.quic_headline.proofs.Packets.Probes.{by_ready, MayLeave, after_going, by_going}
+use Rattle.quic_headline.proofs.Packets.Probes.{by_ready, after_going, by_going}
 use Rattle.quic_headline.proofs.Packets.Given.{draft_number}
 use Rattle.quic_headline.proofs.Packets.Delivered.{shown_if, expands, opened_given, frames_of_payload}
 use Rattle.quic_headline.proofs.Packets.Numbered.{Lies, lies_remove, one_key, added_last, is_at_same}
 use Rattle.quic_headline.proofs.Packets.Waited.{IsWaited, AreWaited, waited_filter, waited_length, waited_asks, waited_put, waited_push, waited_oldest, IsFound, waited_found, waited_staying, waited_lost, waited_late}
 use Rattle.quic_headline.proofs.Timers.LossTimers.{OpenStands}
+use Rattle.quic_machine.specs.Sizes.{search_acked, search_lost}
+use Rattle.quic_machine.specs.DraftLaws.{MayLeave}
 
 -- ---- what an end waits for
 
@@ -89,7 +92,8 @@ lost_held ps e = packets_lost_keep (λ (x : End). held x ≡ held e) (λ m x i. 
 
 -- losses leave all but what is tracked
 pub detected_held : (e : End) → held (losses_detected e) ≡ record (held e) { tracking = after_detection (verdict e) e.tracking }
-detected_held e = ap (λ (h : Held). record h { tracking = after_detection (verdict e) e.tracking }) (lost_held (lost_by (verdict e) e.tracking.packets) e)
+detected_held e = by_losses (λ (x : End). held x ≡ record (held e) { tracking = after_detection (verdict e) e.tracking }) e
+    (λ discovery queues. ap (λ (h : Held). record h { tracking = after_detection (verdict e) e.tracking }) (lost_held (lost_by (verdict e) e.tracking.packets) e))
 
 -- the observer judges as the end does
 abbrev judged : Terms → ℕ → Flight → Verdict
@@ -113,7 +117,7 @@ losses_tell t now f e w = (
     asked = asked f.asked w.asked;
     rtt = w.rtt;
   }),
-  waited_late (late_by t f.rtt) (unwrap_or f.named 0) (after_losses t now f).flying (kept_by (judged t now f) e.tracking.packets) kept ∙ ap (λ (v : Verdict). loss_time_of v (kept_by v e.tracking.packets)) same,
+  by_losses (λ (x : End). (after_losses t now f).loss_time ≡ x.tracking.loss_time) e (λ discovery queues. waited_late (late_by t f.rtt) (unwrap_or f.named 0) (after_losses t now f).flying (kept_by (judged t now f) e.tracking.packets) kept ∙ ap (λ (v : Verdict). loss_time_of v (kept_by v e.tracking.packets)) same),
 )
   where
     same : judged t now f ≡ verdict e
@@ -145,8 +149,8 @@ acked_held ps e = go ps e refl
     go : (qs : Table TrackedPacket) (x : End) → held x ≡ held e → held (packets_acked qs x) ≡ held e
     go [] x i = i
     go (q ∷ qs) x i =
-        go qs (packet_acked q.1 x) (streams_acked_keep (λ (y : End). held y ≡ held e) (λ m y j. j) q.1.carried.stream_frames _
-        (resets_acked_keep (λ (y : End). held y ≡ held e) (λ id y j. j) q.1.carried.retransmits.reset_stream (without_known q.1.carried.largest_acked x) (knows q.1.carried.largest_acked x i)))
+        go qs (packet_acked q x) (streams_acked_keep (λ (y : End). held y ≡ held e) (λ m y j. j) q.1.carried.stream_frames _
+        (resets_acked_keep (λ (y : End). held y ≡ held e) (λ id y j. j) q.1.carried.retransmits.reset_stream (without_known q.1.carried.largest_acked (search_acked q x)) (knows q.1.carried.largest_acked (search_acked q x) i)))
 
 -- whether a number lies above all that were named
 above_same : (o : Option ℕ) (n : ℕ) → is_above o n ≡ is_greatest o n
@@ -237,6 +241,8 @@ named_waits t now (s ∷ ss) others [] rises a f e is acked stay w = absurd acke
 pub record Loses (P : List Sent → List Sent → End → Type 0) : Type 0 where
   -- other packets are tracked
   pub tracked : (flying acked : List Sent) (t : Tracking) (e : End) → P flying acked e → P flying acked (with_tracking e t)
+  -- the search for a size learns of packets that are lost
+  pub searches : (flying acked : List Sent) (lost : Table TrackedPacket) (e : End) → P flying acked e → P flying acked (search_lost lost e)
   -- of the datagrams in flight some are lost, which are tracked as these packets, and others stay
   pub loses : (flying acked gone left : List Sent) (ps : Table TrackedPacket) (e : End) → ((s : Sent) → In s gone → In s flying) → ((s : Sent) → In s left → In s flying) → AreWaited gone ps → P flying acked e → P left acked (packets_lost ps e)
 
@@ -261,8 +267,9 @@ losses_fly P c t now f acked e w i =
     let greatest : ℕ = unwrap_or f.named 0 in
     let gone : List Sent = filter (λ s. is_lost t delay now greatest s) f.flying in
     let ps : Table TrackedPacket = lost_by (verdict e) e.tracking.packets in
-    c.tracked (after_losses t now f).flying acked (after_detection (verdict e) e.tracking) (packets_lost ps e)
-    (c.loses f.flying acked gone (after_losses t now f).flying ps e (λ s j. in_filter (λ s. is_lost t delay now greatest s) s f.flying j) (λ s j. in_filter (λ s. not (is_lost t delay now greatest s)) s f.flying j) (lost_waited t now f e w) i)
+    c.searches (after_losses t now f).flying acked ps (with_tracking (packets_lost ps e) (after_detection (verdict e) e.tracking))
+    (c.tracked (after_losses t now f).flying acked (after_detection (verdict e) e.tracking) (packets_lost ps e)
+    (c.loses f.flying acked gone (after_losses t now f).flying ps e (λ s j. in_filter (λ s. is_lost t delay now greatest s) s f.flying j) (λ s j. in_filter (λ s. not (is_lost t delay now greatest s)) s f.flying j) (lost_waited t now f e w) i))
 
 -- the first frame, and then the others
 first_flight : (t : Terms) (now : ℕ) (f : FrameValue) (fs : List FrameValue) (x : Flight) → after_frames t now (f ∷ fs) x ≡ after_frames t now fs (after_frames t now (f ∷ []) x)
@@ -365,7 +372,7 @@ module _ (t : Terms) (now : ℕ) (frames : List FrameValue) (P : List Sent → L
 -- so it waits for them, whatever else holds
 pub frames_wait : (t : Terms) (now : ℕ) (frames : List FrameValue) (x : Flight) (e : End) → (passed frames e).fault ≡ None → Waits t now x (held e) → Waits t now (after_frames t now frames x) (held (passed frames e).end)
 frames_wait t now frames x e none w = (frames_fly t now frames (λ flying acked g. Unit {0}) (record {
-  losing = record { tracked = λ flying acked u g i. tt; loses = λ flying acked gone left ps g inside stays lost i. tt };
+  losing = record { tracked = λ flying acked u g i. tt; searches = λ flying acked lost g i. tt; loses = λ flying acked gone left ps g inside stays lost i. tt };
   names = λ flying acked a g among i. tt;
   acks = λ flying acked ss left ps g inside stays all i. tt;
   measured = λ flying acked r first g i. tt;
@@ -495,15 +502,15 @@ given_waits t now tr n next p s f h is lies above w numbers same tracks =
     }
 
 -- what an end gives is in flight, and waited for
-pub draft_waits : (p : Policy) (t : Terms) (now : ℕ) (b : Bool) (e : End) (s : Sent) (f : Flight) → MayLeave b e → e.path.generation ≡ 0 → s.number ≡ number_of e → s.moment ≡ e.closing.clock → s.frames ≡ frames_padded (draft_if b e) → s.size ≡ datagram_size (draft_if b e)
-    → Lies 0 e.numbers.next e.tracking.packets → e.numbers.next ≤ number_of e → Waits t now f (held e) → Waits t now (and_sent s f) (held (after_given p (draft_if b e)))
+pub draft_waits : (p : Policy) (t : Terms) (now : ℕ) (b : Leaving) (e : End) (s : Sent) (f : Flight) → MayLeave b e → e.path.generation ≡ 0 → s.number ≡ number_of e → s.moment ≡ e.closing.clock → s.frames ≡ frames_padded (draft_as b e) → s.size ≡ datagram_size (draft_as b e)
+    → Lies 0 e.numbers.next e.tracking.packets → e.numbers.next ≤ number_of e → Waits t now f (held e) → Waits t now (and_sent s f) (held (after_given p (draft_as b e)))
 draft_waits p t now b e s f may path number moment frames size lies above w = by_going (λ (x : End). Waits t now (and_sent s f) (held x)) p d (λ pacing.
     let x : End = after_going p d pacing in
     given_waits t now x.tracking (number_of d.end) e.numbers.next (packet_of d) s f (held d.end) is (subst (λ (x : Tracking). Lies 0 e.numbers.next x.packets) (sym c.tracking) lies) (subst (λ (n : ℕ). e.numbers.next ≤ n) (sym given) above)
     (subst (λ (h : Held). Waits t now f h) same w) x.numbers refl refl)
   where
     d : Draft
-    d = draft_if b e
+    d = draft_as b e
 
     c : Composes e d.end
     c = composes b e may
@@ -556,7 +563,7 @@ ready_waits t before now f e lies i = by_ready (λ (x : End). Waits t (max befor
   };
   loss_time = w.loss_time;
   expiries = w.expiries;
-}) (λ moment pacing x j. j)
+}) (λ moment pacing discovery x j. j)
   where
     w : Waits t (max before now) f (record (held e) { closing = ticked e.closing now })
     w = ticked_waits t before now f (held e) i
@@ -578,7 +585,7 @@ judged_waits t now f e w None = record {
     asked : (o : Option Sent) → IsAsked o e.tracking → IsAsked o (after_loss_timeout e.tracking)
     asked None i = i
     asked (Some s) i = i
-judged_waits t now f e w (Some moment) = let found = losses_tell t now f e w.tells in record { tells = found.0; loss_time = found.1; expiries = w.expiries }
+judged_waits t now f e w (Some moment) = let found = losses_tell t now f e w.tells in record { tells = found.0; loss_time = found.1; expiries = by_losses (λ (x : End). min f.expiries 16 ≡ min x.tracking.timeouts 16) e (λ discovery queues. w.expiries) }
 
 -- where it expired
 pub expired_waits : (t : Terms) (now : ℕ) (f : Flight) (e : End) → Waits t now f (held e) → (b : Bool) → Waits t now (if b then expired_for f.loss_time t now f else f) (held (loss_expired b e))

@@ -15,19 +15,19 @@ use Rattle.quic_machine.specs.declared.run.Answer.TheVariants as answers
 use Rattle.quic_machine.specs.Policy.{Policy}
 use Rattle.quic_machine.specs.Closing.{ticked}
 use Rattle.quic_machine.specs.Tracking.{lost_by}
-use Rattle.quic_machine.specs.End.{End, with_closing, with_loss_timer}
 use Rattle.quic_machine.specs.Acked.{verdict}
-use Rattle.quic_machine.specs.Control.{Gated}
-use Rattle.quic_machine.specs.Poll.{Polled, Draft, lazied, polled, draft_if}
+use Rattle.quic_machine.specs.End.{End, with_closing, with_loss_timer}
+use Rattle.quic_machine.specs.Poll.{Polled, Draft, polled, draft_as, lazied_as, Leaving, whole, alone, probe, nothing, Ready}
 use Rattle.quic_machine.specs.Timeouts.{Expiry, loss_judged, acks_expired, loss_expired, pacing_expired}
 use Rattle.quic_machine.specs.Machine.{IsAnswer, after_call, fails, gave}
 use Rattle.quic_machine.specs.CallCases.{is_delivery, is_poll, by_plain_call}
 use Rattle.quic_machine.specs.LeaveCases.{at_expiry}
 use Rattle.quic_machine.specs.FrameCases.{Settling, named, passed, acked_keeps, frame_keeps, frame_leaves, frames_keep, packets_lost_keep}
-use Rattle.quic_machine.specs.PollCases.{ready_at, draft_at, frames_at, by_poll_to}
-use Rattle.quic_machine.specs.DraftLaws.{by_leave, due_alone}
+use Rattle.quic_machine.specs.PollCases.{ready_at, draft_at, frames_at, by_poll_to, may_leave_at}
+use Rattle.quic_machine.specs.DraftLaws.{by_leave, MayLeave}
 use Rattle.quic_headline.specs.Moments.{is_ack, acknowledges}
-use Rattle.quic_headline.proofs.Packets.Probes.{MayLeave, by_going, ready_acks}
+use Rattle.quic_headline.proofs.Packets.Searches.{losses_searched}
+use Rattle.quic_headline.proofs.Packets.Probes.{by_going, ready_acks}
 use Rattle.quic_headline.proofs.Places.Steps.{poll_answer}
 use Rattle.quic_headline.proofs.Places.Parties.{sent_by, sent_if, sents_by}
 
@@ -45,6 +45,8 @@ settling e = record {
   acked = λ m x i. i;
   lost = λ m x i. i;
   again = λ carried x i. i;
+  searched = λ discovery x i. i;
+  shortens = λ most x i. i;
   tracked = λ t x i. i;
   measured = λ r first x i. i;
   marked = λ m marking x i. i;
@@ -63,7 +65,8 @@ frames_acks fs e = frames_keep (OnlyRuns e) (frame_keeps (OnlyRuns e) (record {
 -- losses leave it
 judged_acks : (o : Option ℕ) (e : End) → (loss_judged o e).acknowledging ≡ e.acknowledging
 judged_acks None e = refl
-judged_acks (Some moment) e = packets_lost_keep (λ (x : End). x.acknowledging ≡ e.acknowledging) (λ m x i. i) (λ c x i. i) (lost_by (verdict e) e.tracking.packets) e refl
+judged_acks (Some moment) e = losses_searched (λ (x : End). x.acknowledging ≡ e.acknowledging) (λ d x i. i) (λ most x i. i) e
+    (packets_lost_keep (λ (x : End). x.acknowledging ≡ e.acknowledging) (λ m x i. i) (λ c x i. i) (lost_by (verdict e) e.tracking.packets) e refl)
 
 -- so timers change it only where that of acknowledgements expires
 pub expired_acks : (e : End) (now : ℕ) (expiry : Expiry) → (at_expiry e now expiry).acknowledging ≡ (if expiry.acks then after_timeout e.acknowledging else e.acknowledging)
@@ -92,6 +95,10 @@ Stands p q = (q.asking ≡ p.asking) × (0 < p.asking → p.due ≡ true → q.d
 stands_same : (p : Pending) → Stands p p
 stands_same p = (refl, λ some due. due)
 
+-- an acknowledgement became due
+more_stands : (b : Bool) (p : Pending) → Stands p (record p { due = p.due || b })
+more_stands b p = (refl, λ some due. or_left p.due b due)
+
 -- PADDING is no ACK
 pub none_padded : (fs : List FrameValue) (count : ℕ) → list_any is_ack (fs ++ replicate count padding) ≡ false → list_any is_ack fs ≡ false
 none_padded fs count none = (or_parts (list_any is_ack fs) (list_any is_ack (replicate count padding)) (sym (list_any-append is_ack fs (replicate count padding)) ∙ none)).0
@@ -106,15 +113,23 @@ parts fs f none =
     let both = or_parts (list_any is_ack fs) (is_ack f || false) (sym (list_any-append is_ack fs (f ∷ [])) ∙ none) in
     (both.0, (or_parts (is_ack f) false both.1).0)
 
-draft_stands : (held : Bool) (e : End) → MayLeave held (lazied e) → Leaves e (draft_if held (lazied e))
-draft_stands held e alone = by_leave (Leaves e) (record {
+-- where an acknowledgement became due, it stands
+lazied_stands : (leaving : Leaving) (e : End) → Stands e.acknowledging (lazied_as leaving e).acknowledging
+lazied_stands whole e = more_stands (nat_lt lazy_threshold e.acknowledging.silent) e.acknowledging
+lazied_stands alone e = more_stands (nat_lt lazy_threshold e.acknowledging.silent) e.acknowledging
+lazied_stands (probe size) e = stands_same e.acknowledging
+lazied_stands (nothing held) e = stands_same e.acknowledging
+
+draft_stands : (leaving : Leaving) (e : End) → MayLeave leaving e → Leaves e (draft_as leaving e)
+draft_stands leaving e due = by_leave (Leaves e) (record {
   ack = λ d filled may i none. absurd (let some = (parts d.frames _ none).1 in cc);
   ping = λ d i none. i (parts d.frames _ none).0;
+  probes = λ f size i none. i refl;
   drops = λ d kind i. i;
   control = λ d kind f is i none. i (parts d.frames f none).0;
   message = λ d m ms is fit i none. i (parts d.frames _ none).0;
   stream = λ d id h room found first some is counts i none. i (parts d.frames _ none).0;
-}) held (lazied e) alone (λ none. (refl, λ some due. or_left e.acknowledging.due (nat_lt lazy_threshold e.acknowledging.silent) due))
+}) leaving e due (λ none. lazied_stands leaving e)
 
 ready_stands : (e : End) (now : ℕ) → Stands e.acknowledging (ready_at e now).end.acknowledging
 ready_stands e now = subst (λ (p : Pending). Stands e.acknowledging p) (sym (ready_acks e now)) (stands_same e.acknowledging)
@@ -126,9 +141,9 @@ polled_stands p e now = by_poll_to p e now (λ (q : Polled). acknowledges (sent_
   nothing = λ is quiet none. ready_stands e now;
   used_up = λ none. ready_stands e now;
   gives = λ is may some none.
-      let g : Gated = ready_at e now in
+      let g : Ready = ready_at e now in
       by_going (λ (x : End). Stands e.acknowledging x.acknowledging) p (draft_at e now) (λ pacing.
-      subst (λ (q : Pending). Stands q (draft_at e now).end.acknowledging) (ready_acks e now) (draft_stands g.held g.end (due_alone g some) (none_padded (draft_at e now).frames _ (or_parts (list_any is_ack (frames_at e now)) false none).0)));
+      subst (λ (q : Pending). Stands q (draft_at e now).end.acknowledging) (ready_acks e now) (draft_stands g.leaving g.end (may_leave_at e now) (none_padded (draft_at e now).frames _ (or_parts (list_any is_ack (frames_at e now)) false none).0)));
 })
 
 -- a call that is neither a poll nor a delivery

@@ -73,7 +73,7 @@ history side k w (e ∷ events) (a ∷ answers) (v ∷ views) end f served =
     }
 
 -- the first so many events of a run lead to some ends
-first_lead : (i : ℕ) (k : Policies) (w : World) (events : List RunEvent) (answers : List Answer) (views : List View) (end : World) → Follows k w events answers views end → (mid : World) × Follows k w (take i events) (take i answers) (take i views) mid
+pub first_lead : (i : ℕ) (k : Policies) (w : World) (events : List RunEvent) (answers : List Answer) (views : List View) (end : World) → Follows k w events answers views end → (mid : World) × Follows k w (take i events) (take i answers) (take i views) mid
 first_lead zero k w events answers views end f = (w, refl)
 first_lead (suc i) k w [] [] [] end f = (w, refl)
 first_lead (suc i) k w (e ∷ events) [] [] end f = (w, refl)
