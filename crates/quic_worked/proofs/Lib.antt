@@ -29,7 +29,6 @@ pub mod TimedRun
 mod MeasuredRun
 mod SkippedRun
 mod ProbedRun
-mod SearchedRun
 mod HeldRun
 mod PacedRun
 mod FaultRuns
@@ -43,9 +42,8 @@ mod RestedRun
 mod HastyRun
 mod IsolatedRuns
 mod BlockedRun
-mod BelowRun
-mod BelowShows
 mod UndoneRun
 mod ToldRuns
 mod BoundedRun
 pub mod AllowedRun
+mod ShrunkRun

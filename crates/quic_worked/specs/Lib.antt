@@ -15,7 +15,6 @@ pub mod Timed
 pub mod Limited
 pub mod Measured
 pub mod Probed
-pub mod Searched
 pub mod Messages
 pub mod Held
 pub mod Rested
@@ -25,8 +24,8 @@ pub mod Paced
 pub mod Faults
 pub mod Settings
 pub mod Blocked
-pub mod Below
 pub mod Undone
 pub mod Told
 pub mod Bounded
 pub mod Allowed
+pub mod Shrunk

@@ -26,7 +26,6 @@ pub mod probed;
 pub mod raised;
 pub mod reordered;
 pub mod rested;
-pub mod searched;
 pub mod timed;
 pub mod told;
 pub mod undone;
