@@ -1,4 +1,4 @@
-//! How the size search is configured.
+//! How path MTU discovery is configured.
 ghost use Rattle.std.specs.Prelude.{◌≡◌, ◌≤◌, max, min};
 ghost use Rattle.quic_config.specs.Configs.{default_search, max_udp_payload};
 

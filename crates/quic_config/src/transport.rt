@@ -254,7 +254,7 @@ impl TransportConfig {
     }
 
     /// The bytes of the greatest datagram at first; fewer than 1200 count as 1200 (RFC 9000,
-    /// section 14).
+    /// section 14). Above 65527 no connection is made (`ConfigError::Size`).
     pub fn initial_mtu(&mut self, value: u16) -> &mut Self
         ensures same_reference { result.ghost_name ≡ self.entry.ghost_name }
         ensures value { result.now ≡ record self.old { initial_mtu = max value 1200 } }
@@ -264,7 +264,8 @@ impl TransportConfig {
     }
 
     /// The bytes of a datagram that every path carries; fewer than 1200 count as 1200 (RFC 9000,
-    /// section 14).
+    /// section 14). Above 65527, or above the peer's max_udp_payload_size, no connection is made
+    /// (`ConfigError::Size`).
     pub fn min_mtu(&mut self, value: u16) -> &mut Self
         ensures same_reference { result.ghost_name ≡ self.entry.ghost_name }
         ensures value { result.now ≡ record self.old { min_mtu = max value 1200 } }
@@ -273,8 +274,9 @@ impl TransportConfig {
         self
     }
 
-    /// How a greater size of datagrams is looked for; `None` looks for none (RFC 9000, section
-    /// 14.3).
+    /// How path MTU discovery looks for a larger size of datagrams; `None` looks for none (RFC
+    /// 9000, section 14.3). By default sizes of up to 1452 bytes are looked for; none above the
+    /// peer's max_udp_payload_size ever is.
     pub fn mtu_discovery_config(&mut self, value: Option<MtuDiscoveryConfig>) -> &mut Self
         ensures same_reference { result.ghost_name ≡ self.entry.ghost_name }
         ensures value { result.now ≡ record self.old { mtu_discovery_config = value } }

@@ -534,16 +534,18 @@ fn view<H: HeaderKey + Drop, K: PacketKey + Drop, R: Rng + Drop, C: Controller>(
 /// open end takes what the peer's limits and the send window leave; a message is received at most
 /// as often as the other end sent it; a poll of an open end gives what waits, of streams and of
 /// messages, unless the congestion window is full or the pacer names a later moment, to which its
-/// timer is set, and gives nothing that these hold back but probes; the window that a view shows is
-/// that of the controller behind all that it was told; and an open end tracks exactly the datagrams
-/// that it gave and that are neither acknowledged, nor lost by number or by time, nor forgotten,
-/// shows its loss timer set to the moment that is due for them and its own round trips, and not set
-/// once all that ask were named, and its timer of acknowledgements to one that is due for a packet
-/// that it took and hasn't acknowledged since. An end rests where its last call was a poll that
-/// gave nothing, and it is open, its path validated, and none of its timers of losses, of
-/// acknowledgements and of the pacer set: then all that it wrote, on streams that it didn't reset,
-/// has arrived, and it owes no acknowledgement, where the controllers keep their law and their
-/// windows hold two datagrams at first (`HaveRoom`), as those of [`Ends::new`] do.
+/// timer is set, and gives nothing that these hold back but probes; no datagram has more bytes than
+/// the current size but an MTU probe, and that size grows only by one that was acknowledged; the
+/// window that a view shows is that of the controller behind all that it was told; and an open end
+/// tracks exactly the datagrams that it gave and that are neither acknowledged, nor lost by number
+/// or by time, nor forgotten, shows its loss timer set to the moment that is due for them and its
+/// own round trips, and not set once all that ask were named, and its timer of acknowledgements to
+/// one that is due for a packet that it took and hasn't acknowledged since. An end rests where its
+/// last call was a poll that gave nothing, and it is open, its path validated, and none of its
+/// timers of losses, of acknowledgements and of the pacer set: then all that it wrote, on streams
+/// that it didn't reset, has arrived, and it owes no acknowledgement, where the controllers keep
+/// their law and their windows hold two datagrams at first (`HaveRoom`), as those of [`Ends::new`]
+/// do.
 ///
 /// Nor is a stream opened or accepted twice, or accepted where no frame opened it; a reset is told
 /// only with the code that the other end's application gave; each view shows why an end isn't open,

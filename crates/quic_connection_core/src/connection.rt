@@ -27,9 +27,11 @@ mod ids;
 mod leaving;
 mod losses;
 mod messages;
+mod packet;
+mod polling;
 mod receiving;
 mod searching;
-mod sending;
+mod sent;
 mod statistics;
 mod stream_frames;
 mod telling;
@@ -343,7 +345,7 @@ impl<H: HeaderKey + Drop, K: PacketKey + Drop, R: Rng + Drop, C: Controller> Con
         self.path.congestion.window()
     }
 
-    /// The bytes of the greatest datagram that the path to the peer takes (RFC 9000, section 14).
+    /// The bytes that a datagram has at most, but for an MTU probe (RFC 9000, section 14).
     pub fn current_mtu(&self) -> u16
         ensures { result ≡ current_mtu self.now.end.path }
     {

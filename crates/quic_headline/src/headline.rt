@@ -16,7 +16,6 @@ ghost use Rattle.quic_headline.specs.Causes.{NoBlame, NumberLimit, TooManyPieces
 ghost use Rattle.quic_headline.specs.Moments.{LossMoments, LossTimerQuiet, AckMoments};
 ghost use Rattle.quic_headline.specs.Isolated.{Isolated, IsolatedByAnswers, IsolatedByLists};
 ghost use Rattle.quic_headline.specs.Polls.{PollsSendWhatWaits, PollsSendMessages, PacerSetsItsTimer, AskingGoesWhereLet, ProbesPass, WindowIsOfHistory};
-ghost use Rattle.quic_headline.specs.Queue.{MessagesGo, MessagesGoInOrder};
 ghost use Rattle.quic_headline.specs.Rest.{DeliveredAtRest, NothingOwedAtRest};
 ghost use Rattle.quic_headline.specs.Unread.{BlockedOnlyForUnread};
 ghost use Rattle.quic_headline.specs.Undone.{NoneOpenedOnlyForUndone};
@@ -281,43 +280,28 @@ pub fn polls_send_messages()
     ensures { (r : Run) (end : World) → IsHonest r → IsRun r end → PollsSendMessages r }
 {}
 
-/// So it is of the messages that wait by the run's lists alone: those that the end sent, in their
-/// order, less as many of the oldest as each datagram that it gave has; less those that were
-/// dropped for a later one whose call lets that be, the oldest first, until it fits in the buffer
-/// (RFC 9221, section 5.4); and less those that are longer than fits its datagrams, where a view
-/// shows that these have fewer bytes since.
-pub fn messages_go()
-    ensures { (r : Run) (end : World) → IsHonest r → IsRun r end → MessagesGo r }
-{}
-
-/// The messages of a datagram that a poll gives are the first of those that wait so, in their
-/// order, and all others wait behind the poll as before (RFC 9221, section 5).
-pub fn messages_go_in_order()
-    ensures { (r : Run) (end : World) → IsHonest r → IsRun r end → MessagesGoInOrder r }
-{}
-
 /// The timer of an open end's pacer is set only to the moment that the pacer named in the last
 /// poll.
 pub fn pacer_sets_its_timer()
     ensures { (r : Run) (end : World) → IsHonest r → IsRun r end → PacerSetsItsTimer r }
 {}
 
-/// Where no probe of losses waits, an ack-eliciting datagram goes only where the congestion window
-/// has room for one more beside those in flight, and the pacer names no later moment (RFC 9002,
-/// sections 7 and 7.7), or as a probe of a size where nothing waits: PING and zeros alone, of the
-/// size that is looked for, where the window has room for the greatest one (RFC 8899, section 5.3).
+/// Where no PTO probe waits, an ack-eliciting datagram goes only where the congestion window has
+/// room for one more beside those in flight, and the pacer names no later moment (RFC 9002,
+/// sections 7 and 7.7), or as an MTU probe where nothing waits: PING and PADDING alone, of the size
+/// that is looked for, where the window has room for the greatest one (RFC 8899, section 5.3).
 pub fn asking_goes_where_let()
     ensures { (r : Run) (end : World) → IsHonest r → IsRun r end → AskingGoesWhereLet r }
 {}
 
-/// A datagram has as many bytes as the answer says: at most the current size, or it is a probe of a
-/// size, and has exactly the one that is looked for (RFC 9000, section 14).
+/// A datagram has as many bytes as the answer says: at most the current size, or it is an MTU
+/// probe, and has exactly the size that is looked for (RFC 9000, section 14).
 pub fn datagrams_are_sized()
     ensures { (r : Run) (end : World) → IsHonest r → IsRun r end → DatagramsAreSized r }
 {}
 
-/// Where a probe waits at an open end, a poll that leaves it open gives an ack-eliciting datagram,
-/// whatever window and pacer say, and one probe fewer waits (RFC 9002, sections 6.2.4 and 7.5).
+/// Where a PTO probe waits at an open end, a poll that leaves it open gives an ack-eliciting
+/// datagram, whatever window and pacer say, and one fewer waits (RFC 9002, sections 6.2.4 and 7.5).
 pub fn probes_pass()
     ensures { (r : Run) (end : World) → IsHonest r → IsRun r end → ProbesPass r }
 {}
@@ -335,7 +319,7 @@ pub fn size_is_of_history()
 {}
 
 /// From one view of an open end to the next its size of datagrams stays; or it grows to that of a
-/// datagram of PING and zeros alone that was in flight before and is acknowledged behind; or it
+/// datagram of PING and PADDING alone that was in flight before and is acknowledged behind; or it
 /// falls to the least that is configured for its path (RFC 8899, section 4.3).
 pub fn sizes_move()
     ensures { (r : Run) (end : World) → IsHonest r → IsRun r end → SizesMove r }

@@ -198,7 +198,7 @@ pub struct EndView {
     pub timers: [Option<Instant>; 9],
     /// The congestion window, in bytes.
     pub window: u64,
-    /// The bytes of the greatest datagram that the path takes (RFC 9000, section 14).
+    /// The bytes that a datagram has at most, but for an MTU probe (RFC 9000, section 14).
     pub current_mtu: u16,
 }
 

@@ -1,6 +1,5 @@
--- Calls that are answered that their stream is closed, where that is so and where it isn't; and
--- messages that wait by the lists.
-use Rattle.std.proofs.Common.{◌≡◌, [], ◌∷◌, take, true, false, Ok, Err, refl, sym, subst, inl, inr}
+-- Calls that are answered that their stream is closed, where that is so and where it isn't.
+use Rattle.std.proofs.Common.{◌≡◌, [], ◌∷◌, take, true, false, Ok, Err, refl, inl, inr}
 use Rattle.std.proofs.lemmas.Bool.{eq-eqb}
 use Rattle.quic_wire_core.specs.declared.stream_id.Side.TheVariants.{Client}
 use Rattle.quic_streams_parts.specs.declared.answers.ReadableError.TheVariants as readable_errors
@@ -10,21 +9,16 @@ use Rattle.quic_machine.specs.declared.run.ReadCall.{ReadCall}
 use Rattle.quic_machine.specs.declared.run.Call.TheVariants as calls
 use Rattle.quic_machine.specs.declared.run.Answer.TheVariants as answers
 use Rattle.quic_machine.specs.Machine.{World, IsStep}
-use Rattle.quic_headline.specs.Runs.{Run, In, until}
+use Rattle.quic_headline.specs.Runs.{Run, until}
 use Rattle.quic_headline.specs.Headline.{IsHonest}
 use Rattle.quic_headline.specs.Undone.{IsSentOff}
 use Rattle.quic_headline.specs.Allowed.{IsReadOff, ReadsAreAllowed, ReadsAreOver, WritesAreAllowed, ResetsAreAllowed}
-use Rattle.quic_headline.specs.Queue.{waiting_messages, MessagesGo}
 use Rattle.quic_worked.specs.Worked.{ran, worked_policies, started, ReadsBy, once_opened}
 use Rattle.quic_worked.specs.Broken.{IsNoRun}
-use Rattle.quic_worked.specs.Messages.{ping_message}
-use Rattle.quic_worked.specs.Held.{once_held}
-use Rattle.quic_worked.specs.Faults.{both_open, silent_message, message_waits}
 use Rattle.quic_worked.specs.Allowed.{opened_then, stops_stream, stopped_twice, stopped_again, finished_twice}
 use Rattle.quic_worked.proofs.OwnIds.{honest}
 use Rattle.quic_worked.proofs.BrokenRuns.{IsRefused, stops, behind, read_of}
 use Rattle.quic_worked.proofs.WorkedRun.{opens}
-use Rattle.quic_worked.proofs.FaultTimes.{kept_gave, kept_held}
 
 -- ---- where it is so
 
@@ -151,15 +145,3 @@ reset_no (inr e) = cc
 
 pub reset_is_none : IsNoRun reset_closed
 reset_is_none = behind refl opens (stops _ _ _ _ _ reset_no)
-
--- ---- messages
-
-pub one_waits : waiting_messages message_waits Client 5 ≡ ping_message ∷ []
-unfolding once_held
-one_waits = refl
-
-pub one_kept : waiting_messages silent_message Client 2 ≡ ping_message ∷ []
-one_kept = refl
-
-pub kept_shows : MessagesGo silent_message → ⊥
-kept_shows h = kept_held (h Client 1 0 ping_message both_open refl kept_gave (subst (In ping_message) (sym one_kept) (inl refl)))

@@ -3,12 +3,13 @@ use Rattle.std.proofs.Common.{◌≡◌, ◌+◌, ◌<◌, ◌≤◌, ℕ, List,
 use Rattle.quic_wire_core.specs.declared.stream_id.Side.{Side}
 use Rattle.quic_wire_core.specs.declared.stream_id.Side.TheVariants.{Client, Server}
 use Rattle.quic_wire.specs.Value.{FrameValue, StreamValue, stream}
-use Rattle.quic_congestion.specs.Congestion.{Sent}
+use Rattle.quic_congestion.specs.Congestion.{Sent, last_size}
 use Rattle.quic_worked.specs.Settings.{plain_settings}
 use Rattle.quic_machine.specs.declared.run.Answer.TheVariants as answers
 use Rattle.quic_machine.specs.End.{IsMade}
 use Rattle.quic_machine.specs.Control.{bytes_in_flight, is_window_full}
 use Rattle.quic_machine.specs.Start.{AreStarted}
+use Rattle.quic_machine.specs.declared.run.View.{View}
 use Rattle.quic_machine.specs.Machine.{World, IsStep, Follows, view_of}
 use Rattle.quic_headline.specs.Runs.{In}
 use Rattle.quic_headline.specs.Observer.{Sent as SentAs, HoldsOffset, acked_until}
@@ -18,7 +19,8 @@ use Rattle.quic_worked.specs.Worked.{worked_policies, told_in, client_id, server
 use Rattle.quic_worked.specs.Broken.{IsNoRun}
 use Rattle.quic_worked.specs.Reordered.{writes_bytes}
 use Rattle.quic_worked.specs.Timed.{serves, asks_at}
-use Rattle.quic_worked.specs.Held.{narrow_windows, held_start, held_events, held_answers, gives_nothing, once_held, held_view, full_view, held_run, silent_run, shrunk_view, shrunk_run}
+use Rattle.quic_worked.specs.Held.{narrow_windows, held_start, held_events, held_answers, gives_nothing, once_held, held_view, full_view, held_run, silent_run, shrunk_view, shrunk_run, resized_view, resized_run, grown_run}
+use Rattle.quic_headline.specs.Sizes.{SizeIsOfHistory, SizesMove}
 use Rattle.quic_worked.proofs.Codes.{no_codes}
 use Rattle.quic_worked.proofs.OwnIds.{AreOwn, BothOwn, own_ids, honest}
 use Rattle.quic_worked.proofs.BrokenRuns.{IsRefused, stops, behind}
@@ -272,3 +274,34 @@ shrunk_own = record { start = refl; keys = refl; client = (tt, (inl refl, (tt, t
 
 pub shrunk_is_honest : IsHonest shrunk_run
 shrunk_is_honest = honest shrunk_run shrunk_own
+
+-- ---- a client that shows another size of datagrams
+
+pub resized_size : SizeIsOfHistory resized_run → ⊥
+resized_size h =
+    let told = h Client 0 resized_view refl refl in
+    let step = told.2 in
+    let nothing : told.1 ≡ [] = step.3 ∙ step.4.1 in
+    let shows : ◌≡◌ {A = ℕ} 1452 1200 = told.3 ∙ ap (last_size 1200) nothing in
+    cc
+
+pub grown_size : SizesMove grown_run → ⊥
+grown_size h = elim (h Client 0 (record { client = open_view; server = open_view }) resized_view refl refl refl refl refl) [
+  | inl same ↦ (let never : ◌≡◌ {A = ℕ} 1452 1200 = same in cc)
+  | inr moved ↦ elim moved [ inl grew ↦ grew.1.flew | inr fell ↦ (let never : 1452 < 1200 = fell.0 in omega (arith, never)) ]
+]
+
+size_own : (views : List View) → BothOwn (record silent_run { views = views })
+size_own views = record { start = refl; keys = refl; client = (tt, (inl refl, (tt, tt))); server = (tt, (tt, (tt, tt))) }
+
+pub resized_is_honest : IsHonest resized_run
+resized_is_honest = honest resized_run (size_own resized_run.views)
+
+pub grown_is_honest : IsHonest grown_run
+grown_is_honest = honest grown_run (size_own grown_run.views)
+
+pub resized_is_none : IsNoRun resized_run
+resized_is_none = silent_is_none
+
+pub grown_is_none : IsNoRun grown_run
+grown_is_none = silent_is_none

@@ -46,4 +46,3 @@ mod UndoneRun
 mod ToldRuns
 mod BoundedRun
 pub mod AllowedRun
-mod ShrunkRun

@@ -146,3 +146,15 @@ shrunk_view = record { client = record open_view { window = 1 }; server = open_v
 -- so nothing seems to fit, and the same poll gives nothing
 abbrev pub shrunk_run : Run
 shrunk_run = record silent_run { views = replicate 3 shrunk_view }
+
+-- the client shows a larger size of datagrams, of which its controller was never told
+abbrev pub resized_view : View
+resized_view = record { client = record open_view { current_mtu = 1452 }; server = open_view }
+
+-- from its first answer on
+abbrev pub resized_run : Run
+resized_run = record silent_run { views = replicate 3 resized_view }
+
+-- or from its second on, though no datagram was acknowledged, nor sent
+abbrev pub grown_run : Run
+grown_run = record silent_run { views = record { client = open_view; server = open_view } ∷ replicate 2 resized_view }

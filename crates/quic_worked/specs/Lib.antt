@@ -28,4 +28,3 @@ pub mod Undone
 pub mod Told
 pub mod Bounded
 pub mod Allowed
-pub mod Shrunk

@@ -1,6 +1,6 @@
 //! Calls that are answered that their stream is closed, where the application stopped or finished
-//! it, and machines that say so of a stream that was just opened; and one that keeps a message that
-//! waits by the lists. Each function does nothing: its contract is the law.
+//! it, and machines that say so of a stream that was just opened. Each function does nothing: its
+//! contract is the law.
 ghost use Rattle.std.specs.Prelude.{◌≡◌, [], ◌∷◌, true, Err};
 ghost use Rattle.quic_wire_core.specs.declared.stream_id.Side.TheVariants.{Client};
 ghost use Rattle.quic_streams_parts.specs.declared.answers.ReadableError.TheVariants as readable_errors;
@@ -10,16 +10,12 @@ ghost use Rattle.quic_machine.specs.declared.run.ReadCall.{ReadCall};
 ghost use Rattle.quic_machine.specs.declared.run.Call.TheVariants as calls;
 ghost use Rattle.quic_machine.specs.declared.run.Answer.TheVariants as answers;
 ghost use Rattle.quic_headline.specs.Runs.{until};
-ghost use Rattle.quic_headline.specs.Headline.{IsHonest, IsRun};
+ghost use Rattle.quic_headline.specs.Headline.{IsHonest};
 ghost use Rattle.quic_headline.specs.Undone.{IsSentOff};
 ghost use Rattle.quic_headline.specs.Allowed.{IsReadOff, ReadsAreAllowed, ReadsAreOver, WritesAreAllowed, ResetsAreAllowed};
-ghost use Rattle.quic_headline.specs.Queue.{waiting_messages, MessagesGo};
 ghost use Rattle.quic_worked.specs.Broken.{IsNoRun};
 ghost use Rattle.quic_worked.specs.Worked.{ReadsBy};
-ghost use Rattle.quic_worked.specs.Messages.{ping_message};
-ghost use Rattle.quic_worked.specs.Faults.{silent_message, message_waits};
 ghost use Rattle.quic_worked.specs.Allowed.{opened_then, stopped_twice, stopped_again, finished_twice};
-ghost use Rattle.quic_worked.specs.Shrunk.{wide_message, once_shrunk, shrunk_run};
 
 /// A client that stopped a stream is kept from reading it, and one that finished a stream from
 /// writing on it.
@@ -61,26 +57,4 @@ pub fn closed_for_resets_shows()
     ensures resets { ResetsAreAllowed (opened_then (calls.Reset 0 7) (answers.Reset (Err update_errors.ClosedStream))) → ⊥ }
     ensures honest { IsHonest (opened_then (calls.Reset 0 7) (answers.Reset (Err update_errors.ClosedStream))) }
     ensures machine { IsNoRun (opened_then (calls.Reset 0 7) (answers.Reset (Err update_errors.ClosedStream))) }
-{}
-
-/// A message that was sent behind a full datagram in flight waits by the lists.
-pub fn message_is_waited_for()
-    ensures waits { waiting_messages message_waits Client 5 ≡ ping_message ∷ [] }
-{}
-
-/// Where the path is found to carry less than before, a message that is too long for it since waits
-/// no more by the lists, and a shorter one behind it does.
-pub fn wide_message_is_dropped()
-    ensures run { IsRun shrunk_run (once_shrunk 13) }
-    ensures before { waiting_messages shrunk_run Client 12 ≡ wide_message ∷ ping_message ∷ [] }
-    ensures behind { waiting_messages shrunk_run Client 13 ≡ ping_message ∷ [] }
-{}
-
-/// Sending: a poll gives nothing though by the lists a message waits, and neither window nor pacer
-/// hold it back.
-pub fn message_is_dropped_shows()
-    ensures waits { waiting_messages silent_message Client 2 ≡ ping_message ∷ [] }
-    ensures goes { MessagesGo silent_message → ⊥ }
-    ensures honest { IsHonest silent_message }
-    ensures machine { IsNoRun silent_message }
 {}

@@ -10,7 +10,8 @@ ghost use Rattle.quic_headline.specs.Polls.{GaveNothing, IsFull, IsByteToGo, Pol
 ghost use Rattle.quic_worked.specs.Broken.{IsNoRun};
 ghost use Rattle.quic_worked.specs.Worked.{worked_policies, told_in, client_gives, once_sent, gives_bytes};
 ghost use Rattle.quic_worked.specs.Timed.{asks_at};
-ghost use Rattle.quic_worked.specs.Held.{held_start, held_events, held_answers, gives_nothing, once_held, full_view, held_run, silent_run, shrunk_view, shrunk_run};
+ghost use Rattle.quic_worked.specs.Held.{held_start, held_events, held_answers, gives_nothing, once_held, full_view, held_run, silent_run, shrunk_view, shrunk_run, resized_run, grown_run};
+ghost use Rattle.quic_headline.specs.Sizes.{SizeIsOfHistory, SizesMove};
 
 /// A datagram goes only while the window has room for one more of its size beside the bytes in
 /// flight (RFC 9002, section 7). Of 4000 bytes that wait at a window of 2400, one datagram of 1200
@@ -63,4 +64,18 @@ pub fn shrunk_shows()
     ensures window { WindowIsOfHistory shrunk_run → ⊥ }
     ensures premises { IsHonest shrunk_run }
     ensures machine { IsNoRun shrunk_run }
+{}
+
+/// A client that shows a larger size of datagrams than its controller was told of.
+pub fn resized_shows()
+    ensures size { SizeIsOfHistory resized_run → ⊥ }
+    ensures premises { IsHonest resized_run }
+    ensures machine { IsNoRun resized_run }
+{}
+
+/// A client whose size of datagrams grows though no MTU probe was acknowledged.
+pub fn grown_shows()
+    ensures size { SizesMove grown_run → ⊥ }
+    ensures premises { IsHonest grown_run }
+    ensures machine { IsNoRun grown_run }
 {}

@@ -1,4 +1,4 @@
-//! What the size search promises over whole histories.
+//! What path MTU discovery promises over whole histories.
 ghost use Rattle.std.specs.Prelude.{◌≡◌, ℕ, ◌≤◌, eqb, List, ◌∷◌, length, Option, Some, None, IfSome, true};
 ghost use Rattle.std.specs.List.{count_by};
 ghost use Rattle.quic_congestion.specs.Bursts.{Sign, placed, no_bursts, bursts_over};

@@ -54,17 +54,17 @@ use Rattle.quic_headline.proofs.Sizes.Moving.{HasMoved, Moves, moving_flies}
 -- ---- a place of a run
 
 -- What a run did at a place.
-pub record Did (events : List RunEvent) (answers : List Answer) (i : ℕ) : Type 0 where
-  pub event : RunEvent
-  pub answer : Answer
-  pub at_event : slice_get events i ≡ Some event
-  pub at_answer : slice_get answers i ≡ Some answer
+record Did (events : List RunEvent) (answers : List Answer) (i : ℕ) : Type 0 where
+  event : RunEvent
+  answer : Answer
+  at_event : slice_get events i ≡ Some event
+  at_answer : slice_get answers i ≡ Some answer
 
 none_there : {X : Type 0} (x : X) → ◌≡◌ {A = Option X} None (Some x) → ⊥
 none_there x is = cc
 
 -- Where there is a view, something was done and answered.
-pub did_there : (i : ℕ) (k : Policies) (w end : World) (events : List RunEvent) (answers : List Answer) (views : List View) (v : View) → Follows k w events answers views end → slice_get views i ≡ Some v → Did events answers i
+did_there : (i : ℕ) (k : Policies) (w end : World) (events : List RunEvent) (answers : List Answer) (views : List View) (v : View) → Follows k w events answers views end → slice_get views i ≡ Some v → Did events answers i
 did_there i k w end events answers [] v f there = absurd (none_there v there)
 did_there i k w end [] [] (u ∷ views) v f there = absurd f
 did_there i k w end (e ∷ events) [] (u ∷ views) v f there = absurd f

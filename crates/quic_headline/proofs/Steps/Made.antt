@@ -121,7 +121,7 @@ reads_state control (calls.Poll now) e = refl
 reads_state control call e = refl
 
 -- what holds of an end, whichever window it read, holds where it is called
-pub reads_either : (P : End → Type 0) (control : Control) (call : Call) (e : End) → P e → P (with_window e (control [])) → P (reads_window control call e)
+reads_either : (P : End → Type 0) (control : Control) (call : Call) (e : End) → P e → P (with_window e (control [])) → P (reads_window control call e)
 reads_either P control (calls.Poll now) e bare shown = shown
 reads_either P control call e bare shown = bare
 

@@ -9,7 +9,7 @@ use Rattle.quic_streams_state.specs.Frames.{Sent, stream_frames_in}
 use Rattle.quic_messages.specs.Messages.{Messages}
 use Rattle.quic_connection_core.specs.Frames.{control_part, message_frames, stream_part}
 use Rattle.quic_connection_core.proofs.Content.{messages_are, messages_stay, stream_is, content_written, content_left, content_kept}
-use Rattle.quic_connection_core.proofs.connection.sending.put_content.Goals as goal
+use Rattle.quic_connection_core.proofs.connection.packet.put_content.Goals as goal
 
 -- the same messages, where these wait to be sent
 abbrev with_outgoing : Messages → List (List ℕ) → Messages

@@ -8,7 +8,7 @@ use Rattle.quic_machine.specs.Tracking.{retransmits_in}
 use Rattle.quic_connection_core.specs.Frames.{control_part}
 use Rattle.quic_connection_core.proofs.Shifted.{control_is, idle_part}
 use Rattle.quic_connection_core.proofs.Content.{control_carried, kept_carried, on_ok, none_carried}
-use Rattle.quic_connection_core.proofs.connection.sending.put_control_frames.Goals as goal
+use Rattle.quic_connection_core.proofs.connection.packet.put_control_frames.Goals as goal
 
 pub returns-then-is_idle-clause-items : goal.returns-then-is_idle-clause-items
 returns-then-is_idle-clause-items c =

@@ -1,5 +1,5 @@
-//! Giving a datagram (RFC 9000, sections 12.2, 13.2, 13.3 and 14.1).
-ghost use Rattle.std.specs.Prelude.{◌≡◌, ◌≢◌, ◌+◌, ◌-◌, ◌<◌, ◌≤◌, ◌^◌, ◌++◌, length, replicate, take, drop, IfOk, IfSome, OnOk, OnErr, Ok, Some, None, true, false, [], vec_len, vec_capacity, max, if◌then◌else◌};
+//! The packet of a datagram: header, frames, PADDING and seal.
+ghost use Rattle.std.specs.Prelude.{◌≡◌, ◌+◌, ◌-◌, ◌<◌, ◌≤◌, ◌^◌, ◌++◌, length, replicate, take, drop, IfOk, OnOk, OnErr, true, vec_len, vec_capacity, max};
 ghost use Rattle.quic_packet.specs.Number.{truncated};
 ghost use Rattle.quic_packet.specs.Header.{header_bytes};
 ghost use Rattle.quic_packet.specs.Datagram.{protected};
@@ -11,131 +11,35 @@ ghost use Rattle.quic_recovery_core.specs.PendingAcks.{can_send, is_filled};
 ghost use Rattle.quic_time.specs.Timers.{no_timers};
 ghost use Rattle.quic_retransmits.specs.Kept.{made};
 ghost use Rattle.quic_streams_state.specs.State.{streams_of};
-ghost use Rattle.quic_machine.specs.End.{with_end, with_tracking, with_number_given, number_of, policy_of, HasFailed};
+ghost use Rattle.quic_machine.specs.End.{with_end, with_number_given, number_of, policy_of, HasFailed};
 ghost use Rattle.quic_spaces.specs.Acknowledging.{most_ack_bytes};
 ghost use Rattle.quic_spaces.specs.Numbers.{can_number, cut_against};
-ghost use Rattle.quic_machine.specs.Tracking.{carried_in, retransmits_in, after_sent};
-ghost use Rattle.quic_machine.specs.Poll.{IsSilent, polled, told_polled, is_gated, gated, asks_to_go, waits, alone, leaves, leaves_if, draft_left, draft_as, lazied_as, most_of, composed, mark_of, frame_room, payload_of, datagram_of, datagram_size, paid_if, told_draft, after_given, asking, tracked, probed, ack_of, after_ack};
-ghost use Rattle.quic_machine.specs.PollCases.{ready_at};
-ghost use Rattle.quic_connection_core.specs.Leaving.{leaving_of, Leaves, rested, IsLooked, least_of};
+ghost use Rattle.quic_machine.specs.Tracking.{carried_in, retransmits_in};
+ghost use Rattle.quic_machine.specs.Poll.{alone, draft_left, draft_as, lazied_as, most_of, composed, frame_room, payload_of, datagram_of, datagram_size, paid_if, told_draft, after_given, asking, tracked, ack_of, after_ack};
+ghost use Rattle.quic_connection_core.specs.Leaving.{leaving_of, IsLooked, least_of};
 ghost use Rattle.quic_machine.specs.Parts.{current_mtu};
-ghost use Rattle.quic_machine.specs.Control.{is_window_full, by_window, told_sent};
-ghost use Rattle.quic_machine.specs.Lacking.{PollTakes, MovesRecord};
-ghost use Rattle.quic_connection_core.specs.Frames.{control_part, content, content_at, with_content, asked, ping_bytes, pinged, fits_behind, ack_bytes_if, acked_if, end_after_ack_if, tracked_as};
-ghost use Rattle.quic_connection_core.specs.Given.{given_bytes};
+ghost use Rattle.quic_connection_core.specs.Frames.{control_part, content, content_at, with_content, asked, ping_bytes, pinged, fits_behind, ack_bytes_if, acked_if, end_after_ack_if};
 ghost use Rattle.quic_connection_core.specs.Drawn.{words_of, after_words};
-ghost use Rattle.quic_connection_core.specs.Telling.{reading, telling, KeepsKeys};
-ghost use Rattle.quic_retransmits.specs.Retransmits.{nothing_waits};
+ghost use Rattle.quic_connection_core.specs.Telling.{KeepsKeys};
 ghost use Rattle.quic_congestion.specs.Congestion.{after_calls};
-ghost use Rattle.quic_congestion.specs.Pacer.{after_datagram, after_delay, delay_of};
-ghost use Rattle.quic_paths.specs.InFlight.{CanJoin, CanLeave};
-ghost use Rattle.quic_time.specs.Rtt.{best_rtt};
-ghost use Rattle.quic_connection_core.specs.Flying.{is_flying, flight_left_any, flight_joined};
 
 use crate::connection::Connection;
-use crate::connection::acked::leave_flight;
 use crate::connection::leaving::Leaving;
 use crate::connection::messages::put_messages;
+use crate::connection::sent::{Carried, SentFrames};
 use crate::connection::statistics::{count_frames, count_streams};
-use crate::connection::telling::tell_sent;
 use quic_congestion::Controller;
-use quic_machine::{Failed, Instant, LostReason, State, Timer, Transmit};
+use quic_machine::{Failed, Timer};
 use quic_messages::DatagramState;
 use quic_packet::crypto::{HeaderKey, PacketKey, TAG_LEN};
 use quic_packet::{PacketNumber, ShortHeader, seal_reserved};
-use quic_paths::PathData;
 use quic_retransmits::{Retransmits, ThinRetransmits};
-use quic_send_buffer::StreamMeta;
-use quic_sent_packets::SentPacket;
 use quic_stats::FrameStats;
 use quic_streams_handles::EndStreams;
-use quic_time::Duration;
 use quic_wire::frame::{Ack, Frame, Stream, put_frame};
-use quic_wire_core::EcnCodepoint;
 use quic_wire_core::reserved::append_zeros;
 use rand_core::Rng;
 use std::alloc::{AllocError, Global};
-use std::marker::Model;
-
-/// What a datagram carried that matters once it is acknowledged or lost.
-#[derive(Drop)]
-struct Carried {
-    // The greatest number that its ACK frame named, if it had one.
-    largest_acked: Option<u64>,
-    // The offsets and the ends of its STREAM frames.
-    stream_frames: Vec<StreamMeta>,
-    // What has to be sent again besides if it is lost (RFC 9000, section 13.3).
-    retransmits: ThinRetransmits,
-}
-
-impl Model for Carried {
-    ghost use Rattle.quic_machine.specs.Tracking as words;
-    ghost use Rattle.quic_retransmits.specs.Kept.{made};
-
-    ghost Value = { words.Carried };
-
-    ghost view = { λ c. record {
-      largest_acked = c.largest_acked;
-      stream_frames = c.stream_frames.items;
-      retransmits = made c.retransmits;
-    } };
-}
-
-/// What went into a datagram (quinn-proto's `SentFrames`).
-#[derive(Drop)]
-struct SentFrames {
-    // Whether it asks for an acknowledgement.
-    asks: bool,
-    carried: Carried,
-}
-
-impl SentFrames {
-    /// An ACK frame went alone that names numbers up to this one.
-    fn acks(alloc: Global, largest_acked: u64) -> Self
-        ensures asks { result.asks ≡ false }
-        ensures carried { result.carried ≡ record { largest_acked = Some largest_acked; stream_frames = []; retransmits = nothing_waits } }
-    {
-        SentFrames {
-            asks: false,
-            carried: Carried {
-                largest_acked: Some(largest_acked),
-                stream_frames: Vec::new(alloc),
-                retransmits: ThinRetransmits::new(),
-            },
-        }
-    }
-
-    /// PING went alone, as a probe of a size.
-    fn probe(alloc: Global) -> Self
-        ensures asks { result.asks ≡ true }
-        ensures carried { result.carried ≡ record { largest_acked = None; stream_frames = []; retransmits = nothing_waits } }
-    {
-        SentFrames {
-            asks: true,
-            carried: Carried {
-                largest_acked: None,
-                stream_frames: Vec::new(alloc),
-                retransmits: ThinRetransmits::new(),
-            },
-        }
-    }
-
-    /// An ACK frame that names numbers up to this one went besides, or none did.
-    fn with_ack(self, largest_acked: Option<u64>) -> Self
-        ensures asks { result.asks ≡ self.asks }
-        ensures carried { result.carried ≡ record self.carried { largest_acked = largest_acked } }
-    {
-        let SentFrames { asks, carried } = self;
-        SentFrames {
-            asks,
-            carried: Carried {
-                largest_acked,
-                stream_frames: carried.stream_frames,
-                retransmits: carried.retransmits,
-            },
-        }
-    }
-}
 
 impl<H: HeaderKey + Drop, K: PacketKey + Drop, R: Rng + Drop, C: Controller> Connection<
     H,
@@ -143,234 +47,6 @@ impl<H: HeaderKey + Drop, K: PacketKey + Drop, R: Rng + Drop, C: Controller> Con
     R,
     C,
 > {
-    /// Appends the next datagram to `out`, if there is something to send at this moment: a due
-    /// acknowledgement, PING, what has to be told of streams, messages, or bytes of streams (RFC
-    /// 9000, sections 13.2 and 13.3; RFC 9221, section 5). An acknowledgement that isn't due goes
-    /// along where it fits. Where a probe waits and nothing has to be told of streams, what a
-    /// tracked packet carried of it is told once more, or a PING goes (RFC 9002, section 6.2.4).
-    /// The datagram is tracked until it is acknowledged, lost or forgotten, and sets the loss timer
-    /// anew. Where its number is the one above one that is left out, a word of the random source
-    /// says which is left out next.
-    ///
-    /// What asks for an acknowledgement waits where the congestion window has no room for one more
-    /// datagram, or where the pacer names a later moment, to which the timer [`Timer::Pacing`] is
-    /// set; a due acknowledgement goes alone then, and a probe that waits passes both (RFC 9002,
-    /// sections 7, 7.5 and 7.7).
-    ///
-    /// Where nothing waits, a PING may go as a probe of a size greater than the current one: where
-    /// a search is configured, the peer's address is validated, and the congestion window has room
-    /// for the greatest size that is looked at (RFC 8899, section 5.3; RFC 9000, section 14.3).
-    ///
-    /// The datagram has at most [`Connection::current_mtu`] bytes, or is such a probe, which has
-    /// the size that is looked for. It is to be marked as the answer says: ECT(0), until an ACK
-    /// shows that marks don't come through (section 13.4.2). Where something goes and the packet
-    /// numbers are used up, the end closes, no timer of it is set any more, and nothing is given.
-    /// An end that gives nothing and is open has nothing left to send but what is held back.
-    ///
-    /// # Errors
-    ///
-    /// [`Failed`] where memory lacks now, and the end fails for good and has no timer, or where it
-    /// had failed before, and nothing changes; `out` is as it was.
-    pub fn poll_transmit(
-        &mut self,
-        now: Instant,
-        out: &mut Vec<u8>,
-    ) -> Result<Option<Transmit>, Failed>
-        ensures answer { OnOk result (result ≡ (polled (policy_of H.protection K.aead (words_of R.stream) self.old) (reading C.window_of self.old) now).answer) }
-        ensures end { OnOk result (self.new.end ≡ (polled (policy_of H.protection K.aead (words_of R.stream) self.old) (reading C.window_of self.old) now).end) }
-        ensures control { OnOk result (self.new.control ≡ after_calls C.steps self.old.control (told_polled (reading C.window_of self.old) now)) }
-        ensures keys { self.new.keys ≡ self.old.keys }
-        ensures random { OnOk result (R.stream self.new.random ≡ after_words (self.new.end.filter.drawn - self.old.end.filter.drawn) (R.stream self.old.random)) }
-        ensures datagram { OnOk result (out.new.items ≡ out.old.items ++ given_bytes (polled (policy_of H.protection K.aead (words_of R.stream) self.old) (reading C.window_of self.old) now).datagram) }
-        ensures failed { OnErr result (HasFailed self.old self.new) }
-        ensures stopped { self.old.end.closing.state ≢ State.Failed → OnErr result (self.new.end.timers ≡ no_timers) }
-        ensures nothing { OnErr result (out.new.items ≡ out.old.items) }
-        ensures lacking { OnErr result (PollTakes (policy_of H.protection K.aead (words_of R.stream) self.old) (reading C.window_of self.old) now) }
-        ensures still { self.old.end.closing.state ≡ State.Failed → self.new ≡ self.old }
-        ensures size { IfOk result (λ given. IfSome given (λ transmit. transmit.size ≤ 65527)) }
-        ensures silent { result ≡ Ok None → self.new.end.closing.state ≡ State.Open → IsSilent self.new.end }
-    {
-        match self.state() {
-            State::Failed => return Err(Failed),
-            State::Closing | State::Drained | State::Open => self.read_window(),
-        }
-        if !self.is_open() {
-            return Ok(None);
-        }
-        self.poll_open(now, out)
-    }
-
-    /// The same of an open end that has read the window.
-    fn poll_open(&mut self, now: Instant, out: &mut Vec<u8>) -> Result<Option<Transmit>, Failed>
-        requires { self.old.end.closing.state ≡ State.Open }
-        ensures answer { OnOk result (result ≡ (polled (policy_of H.protection K.aead (words_of R.stream) self.old) self.old.end now).answer) }
-        ensures end { OnOk result (self.new.end ≡ (polled (policy_of H.protection K.aead (words_of R.stream) self.old) self.old.end now).end) }
-        ensures control { OnOk result (self.new.control ≡ after_calls C.steps self.old.control (told_polled self.old.end now)) }
-        ensures keys { self.new.keys ≡ self.old.keys }
-        ensures random { OnOk result (R.stream self.new.random ≡ after_words (self.new.end.filter.drawn - self.old.end.filter.drawn) (R.stream self.old.random)) }
-        ensures datagram { OnOk result (out.new.items ≡ out.old.items ++ given_bytes (polled (policy_of H.protection K.aead (words_of R.stream) self.old) self.old.end now).datagram) }
-        ensures failed { OnErr result (HasFailed self.old self.new) }
-        ensures stopped { OnErr result (self.new.end.timers ≡ no_timers) }
-        ensures nothing { OnErr result (out.new.items ≡ out.old.items) }
-        ensures lacking { OnErr result (PollTakes (policy_of H.protection K.aead (words_of R.stream) self.old) self.old.end now) }
-        ensures size { IfOk result (λ given. IfSome given (λ transmit. transmit.size ≤ 65527)) }
-        ensures silent { result ≡ Ok None → self.new.end.closing.state ≡ State.Open → IsSilent self.new.end }
-    {
-        // The proof reads between which sizes the search stays.
-        let _ = &self.path;
-        let Some(leaving) = self.make_ready(now)? else {
-            return Ok(None);
-        };
-        if !self.can_number() {
-            self.close_by(LostReason::NumberLimit);
-            return Ok(None);
-        }
-        let size = self.give(leaving, out)?;
-        Ok(Some(Transmit {
-            size,
-            ecn: self.mark(),
-        }))
-    }
-
-    /// Takes a moment over, stops the timer of the pacer, and sees that something goes with a probe
-    /// that waits: what leaves then, if something does. Where memory lacks, the end fails for good.
-    fn make_ready(&mut self, now: Instant) -> Result<Option<Leaving>, Failed>
-        ensures leaving { IfOk result (λ leaving. Leaves leaving (ready_at self.old.end now).leaving) }
-        ensures end { OnOk result (self.new ≡ with_end self.old (rested (ready_at self.old.end now))) }
-        ensures failed { OnErr result (HasFailed self.old self.new) }
-        ensures stopped { OnErr result (self.new.end.timers ≡ no_timers) }
-        ensures lacking { OnErr result (MovesRecord self.old.end) }
-    {
-        self.tick(now);
-        self.timers.stop(Timer::Pacing);
-        self.queue_probe()?;
-        Ok(self.leaving())
-    }
-
-    /// The mark of a datagram: ECT(0), while the path is marked (RFC 9000, section 13.4).
-    fn mark(&self) -> Option<EcnCodepoint>
-        ensures { result ≡ mark_of self.now.end.path.marking }
-    {
-        if self.path.sending_ecn {
-            Some(EcnCodepoint::Ect0)
-        } else {
-            None
-        }
-    }
-
-    /// What leaves, if something does: all that waits, unless window or pacer hold back what asks;
-    /// a due acknowledgement goes alone then. Where nothing waits, the search for a greater size
-    /// may name one to probe (RFC 8899, section 5.3).
-    fn leaving(&mut self) -> Option<Leaving>
-        ensures leaving { Leaves result (leaves (gated self.old.end)).leaving }
-        ensures end { self.new ≡ with_end self.old (rested (leaves (gated self.old.end))) }
-    {
-        let asks = self.asks_to_go();
-        let goes = self.waits(asks);
-        if self.is_held_back(asks) {
-            return self.acks_alone();
-        }
-        if goes {
-            return Some(Leaving::Whole);
-        }
-        self.search()
-    }
-
-    /// Whether something waits to go: a due acknowledgement, or something that asks for one, which
-    /// `asks` says.
-    fn waits(&self, asks: bool) -> bool
-        requires { asks ≡ asks_to_go self.now.end }
-        ensures { result ≡ waits self.now.end }
-    {
-        self.is_ack_due() || asks
-    }
-
-    /// A due acknowledgement, which goes alone where what asks is held back.
-    fn acks_alone(&mut self) -> Option<Leaving>
-        ensures leaving { Leaves result (leaves_if true self.old.end).leaving }
-        ensures end { self.new ≡ with_end self.old (rested (leaves_if true self.old.end)) }
-    {
-        if self.is_ack_due() {
-            return Some(Leaving::Alone);
-        }
-        self.app_limited = false;
-        None
-    }
-
-    /// Sees that something goes with a probe that waits. Where memory lacks, the end fails for
-    /// good.
-    fn queue_probe(&mut self) -> Result<(), Failed>
-        ensures ok { OnOk result (self.new ≡ with_end self.old (probed self.old.end)) }
-        ensures failed { OnErr result (HasFailed self.old self.new) }
-        ensures stopped { OnErr result (self.new.end.timers ≡ no_timers) }
-        ensures lacking { OnErr result (MovesRecord self.old.end) }
-    {
-        if self.fill_probe().is_err() {
-            self.fail();
-            return Err(Failed);
-        }
-        Ok(())
-    }
-
-    /// Sees that something goes with a probe that waits. An error is want of memory.
-    fn fill_probe(&mut self) -> Result<(), AllocError>
-        ensures ok { OnOk result (self.new ≡ with_end self.old (probed self.old.end)) }
-        ensures err { OnErr result (self.new ≡ self.old) }
-        ensures lacking { OnErr result (MovesRecord self.old.end) }
-    {
-        // The proof reads that the numbers ascend.
-        let _packet = self.space.tracking.packets().get(0);
-        let EndStreams { state, pending } = &mut self.streams;
-        self.space.maybe_queue_probe(false, pending, state)
-    }
-
-    /// Whether what asks for an acknowledgement is held back: it would exceed the congestion
-    /// window, or the pacer names a later moment, to which its timer is set (RFC 9002, sections 7
-    /// and 7.7). A probe that waits passes both (section 7.5). `asks` says whether something waits
-    /// that asks.
-    fn is_held_back(&mut self, asks: bool) -> bool
-        requires { asks ≡ asks_to_go self.old.end }
-        ensures held { result ≡ (gated self.old.end).held }
-        ensures end { self.new ≡ with_end self.old (gated self.old.end).end }
-    {
-        if !self.is_gated(asks) {
-            return false;
-        }
-        self.is_window_full() || self.is_paced()
-    }
-
-    /// Whether window and pacer may hold something back: something waits that asks, and no probe.
-    #[tactic(auto, using(crate::proofs::Gates::none_waits))]
-    fn is_gated(&self, asks: bool) -> bool
-        requires { asks ≡ asks_to_go self.now.end }
-        ensures { result ≡ is_gated self.now.end }
-    {
-        asks && !self.space.tracking.has_probes()
-    }
-
-    /// Whether the congestion window has no room for one more datagram.
-    fn is_window_full(&self) -> bool
-        ensures { result ≡ is_window_full self.now.end }
-    {
-        let size = u128::from(self.path.current_mtu());
-        u128::from(self.window) <= self.bytes_in_flight().saturating_add(size)
-    }
-
-    /// Whether the pacer names a later moment, to which its timer is set then.
-    fn is_paced(&mut self) -> bool
-        ensures held { result ≡ (by_window false self.old.end).held }
-        ensures end { self.new ≡ with_end self.old (by_window false self.old.end).end }
-    {
-        let now = self.closing.clock();
-        match pacer_answer(&mut self.path, self.window, now) {
-            Some(moment) if now < moment => {
-                self.timers.set(Timer::Pacing, moment);
-                true
-            }
-            _ => false,
-        }
-    }
-
     /// A packet is made: an acknowledgement is due where many packets came that don't ask. A probe
     /// of a size carries none.
     fn lazy(&mut self, leaving: Leaving)
@@ -394,7 +70,7 @@ impl<H: HeaderKey + Drop, K: PacketKey + Drop, R: Rng + Drop, C: Controller> Con
 
     /// Appends the datagram of what leaves, tracks it, and counts it as given: its size. Where
     /// memory lacks, nothing is appended, and the end fails for good.
-    fn give(&mut self, leaving: Leaving, out: &mut Vec<u8>) -> Result<usize, Failed>
+    pub(crate) fn give(&mut self, leaving: Leaving, out: &mut Vec<u8>) -> Result<usize, Failed>
         requires number { can_number self.old.end.numbers ≡ true }
         requires due { leaving_of leaving ≡ alone → can_send (lazied_as (leaving_of leaving) self.old.end).acknowledging ≡ true }
         requires looked { IsLooked leaving self.old.end }
@@ -475,74 +151,6 @@ impl<H: HeaderKey + Drop, K: PacketKey + Drop, R: Rng + Drop, C: Controller> Con
         let sent = self.put_plain(leaving, out)?;
         let size = (out.len() - start + TAG_LEN) as u16;
         self.track(size, sent)
-    }
-
-    /// The next datagram has so many bytes and these frames: it is tracked, and its number counts
-    /// as given. Where it asks for an acknowledgement, it is in flight, takes tokens of the pacer,
-    /// and the congestion controller is told of it (RFC 9002, sections 2, 7 and 7.7). An error is
-    /// want of memory, and nothing has changed.
-    fn track(&mut self, size: u16, sent: SentFrames) -> Result<(), AllocError>
-        requires { can_number self.old.end.numbers ≡ true }
-        ensures end { OnOk result (self.new.end ≡ paid_if sent.asks (with_number_given (words_of R.stream self.old.random 0) (tracked_as sent.asks size sent.carried self.old.end)) size) }
-        ensures control { OnOk result (self.new.control ≡ after_calls C.steps self.old.control (told_sent sent.asks self.old.end size (number_of self.old.end))) }
-        ensures keys { self.new.keys ≡ self.old.keys }
-        ensures random { OnOk result (R.stream self.new.random ≡ after_words (self.new.end.filter.drawn - self.old.end.filter.drawn) (R.stream self.old.random)) }
-        ensures err { OnErr result (self.new ≡ self.old) }
-    {
-        let number = self.number();
-        let SentFrames { asks, carried } = sent;
-        let packet = SentPacket {
-            path_generation: self.path.generation(),
-            time_sent: self.closing.clock(),
-            size: if asks { size } else { 0 },
-            ack_eliciting: asks,
-            largest_acked: carried.largest_acked,
-            retransmits: carried.retransmits,
-            stream_frames: carried.stream_frames,
-        };
-        self.keep(packet)?;
-        if asks {
-            self.tell_sent(number, size);
-        }
-        self.count_sent(size);
-        Ok(())
-    }
-
-    /// A packet is tracked as the next that goes on the path, and is in flight where it asks. Its
-    /// number is given; where one is left out before it, a word of the random source says which is
-    /// left out next. An error is want of memory, and nothing has changed.
-    #[tactic(auto, unfolding(rand_core::specs::Stream::next_u64))]
-    fn keep(&mut self, packet: SentPacket) -> Result<(), AllocError>
-        requires number { can_number self.old.end.numbers ≡ true }
-        requires generation { packet.generation ≡ self.old.end.path.generation }
-        ensures end { OnOk result (self.new.end ≡ with_number_given (words_of R.stream self.old.random 0) (with_tracking self.old.end (after_sent self.old.end.tracking (number_of self.old.end) packet))) }
-        ensures control { self.new.control ≡ self.old.control }
-        ensures keys { self.new.keys ≡ self.old.keys }
-        ensures random { OnOk result (R.stream self.new.random ≡ after_words (self.new.end.filter.drawn - self.old.end.filter.drawn) (R.stream self.old.random)) }
-        ensures err { OnErr result (self.new ≡ self.old) }
-    {
-        let number = self.number();
-        // The proof reads that the numbers ascend.
-        let _packet = self.space.tracking.packets().get(number);
-        let asks = packet.ack_eliciting;
-        let size = packet.size;
-        let forgotten = self.space.tracking.sent(number, packet)?;
-        enter_flight(&mut self.path, size, asks);
-        leave_forgotten(&mut self.path, &forgotten);
-        let _number = self
-            .filter
-            .allocate(&mut self.random, &mut self.space.numbers);
-        Ok(())
-    }
-
-    /// A packet of this number and so many bytes, which asks, takes tokens of the pacer, and the
-    /// congestion controller is told of it.
-    fn tell_sent(&mut self, number: u64, size: u16)
-        ensures { self.new ≡ telling C.steps self.old (told_sent true self.old.end size number) (paid_if true self.old.end size) }
-    {
-        let now = self.closing.clock();
-        pay(&mut self.path, size);
-        tell_sent(&mut self.path, now, size, number);
     }
 
     /// Appends the packet of what waits, for which there is room, unsealed; its frames are taken:
@@ -662,7 +270,7 @@ impl<H: HeaderKey + Drop, K: PacketKey + Drop, R: Rng + Drop, C: Controller> Con
     }
 
     /// Whether an acknowledgement is due.
-    fn is_ack_due(&self) -> bool
+    pub(crate) fn is_ack_due(&self) -> bool
         ensures { result ≡ can_send self.now.end.acknowledging }
     {
         self.space.acknowledging.is_due()
@@ -879,46 +487,6 @@ impl<H: HeaderKey + Drop, K: PacketKey + Drop, R: Rng + Drop, C: Controller> Con
             &self.keys.header.local,
             &self.keys.packet.local,
         );
-    }
-}
-
-/// The moment until which one more datagram has to wait at this moment, if the pacer of a path
-/// holds it back, whose window this is.
-fn pacer_answer<C>(path: &mut PathData<C>, window: u64, now: Instant) -> Option<Instant>
-    requires { 0 < window }
-    ensures answer { result ≡ delay_of path.old.pacing (max (best_rtt path.old.rtt) 1) path.old.discovery.size path.old.discovery.size window now }
-    ensures path { path.new ≡ record path.old { pacing = after_delay path.old.pacing (max (best_rtt path.old.rtt) 1) path.old.discovery.size path.old.discovery.size window now } }
-{
-    let size = path.current_mtu();
-    let rtt = path.rtt.get().max(Duration::from_nanos(1));
-    path.pacing.delay(rtt, u64::from(size), size, window, now)
-}
-
-/// A datagram of so many bytes takes tokens of the pacer of a path.
-fn pay<C>(path: &mut PathData<C>, size: u16)
-    ensures { path.new ≡ record path.old { pacing = after_datagram path.old.pacing size } }
-{
-    path.pacing.on_transmit(size);
-}
-
-/// A packet of so many bytes is in flight, if it asks for an acknowledgement.
-fn enter_flight<C>(path: &mut PathData<C>, size: u16, asks: bool)
-    requires { asks ≡ true → size < 2 ^ 16 → CanJoin path.old.in_flight size true }
-    ensures path { path.new ≡ record path.old { in_flight = flight_joined path.old.in_flight size asks } }
-    ensures fits { size < 2 ^ 16 }
-{
-    if asks {
-        path.sent(size, true);
-    }
-}
-
-/// A packet that is forgotten, if one is, is no longer in flight.
-fn leave_forgotten<C>(path: &mut PathData<C>, forgotten: &Option<SentPacket>)
-    requires { IfSome forgotten.now (λ p. is_flying path.old.generation p ≡ true → CanLeave path.old.in_flight p.size true) }
-    ensures { path.new ≡ record path.old { in_flight = flight_left_any path.old.generation path.old.in_flight forgotten.now } }
-{
-    if let Some(packet) = forgotten {
-        leave_flight(path, packet);
     }
 }
 
