@@ -39,7 +39,7 @@ use Rattle.quic_machine.specs.FrameCases.{Settling, losses_keep, named, ack_take
 use Rattle.quic_machine.specs.LeaveCases.{by_expired}
 use Rattle.quic_machine.specs.PollCases.{ready_at, ready_leaves, draft_at, may_leave_at, composes, by_poll_to}
 use Rattle.quic_machine.specs.CallCases.{is_poll, by_plain_call}
-use Rattle.quic_machine.specs.Machine.{World, Policies, IsAnswer, IsDelivered, injected_if, IsLeft, IsTold, IsStep, after_call, after_delivered, after_injected_if, tells, told_delivered, gives, fails, changed, policy_at, end_at, end_met, reads_window, control_at, given_by}
+use Rattle.quic_machine.specs.Machine.{World, Policies, IsAnswer, IsDelivered, injected_if, IsLeft, IsTold, IsStep, after_call, after_delivered, after_injected_if, tells, told_delivered, gives, fails, changed, policy_at, end_at, end_met, reads_window, control_at, heard_at, given_by}
 use Rattle.quic_machine.specs.Lacking.{GivesOrHasFailed, TakesFrames, MovesRecord, DeliveryTakes, LacksWhere}
 use Rattle.quic_connection_core.specs.Drawn.{after_words}
 use Rattle.quic_connection_core.specs.Given.{given_bytes}
@@ -93,7 +93,6 @@ quiet_call p e theirs call a other = by_plain_call p e theirs (Quiet e) call a (
   on_streams = λ t. same;
   on_messages = λ m. same;
   pings = same;
-  heard = λ path is. same;
   times = λ now expiry is. by_expired e now (Quiet e) (λ pending tracking timers runs packets. same) (λ pending timers runs. losses_keep (Quiet e) (settling e) (with_closing e (ticked e.closing now)) same) expiry;
   polls = λ now is. cc;
   hears = λ arrival d is. (filter_received p e arrival d, failed_received p e arrival d);
@@ -370,7 +369,8 @@ step_as k p w event a next s step = record {
   answer = subst (λ (q : Policy). IsAnswer q met theirs event.call a) (sym s.keys) (answer_with one words met same theirs event.call a step.answer);
   end = subst (λ (q : Policy). IsLeft (fails a) q control e theirs event.call a (end_at event.side next)) (sym s.keys) (left_with one words control e theirs event.call same (fails a) a (end_at event.side next) step.end);
   control = subst (λ (q : Policy). IsTold (fails a) q control e theirs event.call (control_at event.side next)) (sym s.keys) (control_with one words control e theirs event.call same (fails a) (control_at event.side next) step.control);
-  others = step.others ∙ ap (λ (ds : List (List ℕ)). changed event.side w (end_at event.side next) ds (control_at event.side next)) (sym (ap (λ (q : Policy). gives q met event.call a) s.keys ∙ gives_with one words met same event.call a));
+  heard = step.heard;
+  others = step.others ∙ ap (λ (ds : List (List ℕ)). changed event.side w (end_at event.side next) ds (control_at event.side next) (heard_at event.side next)) (sym (ap (λ (q : Policy). gives q met event.call a) s.keys ∙ gives_with one words met same event.call a));
   lacking = subst (λ (q : Policy). LacksWhere q met theirs event.call a) (sym s.keys) (lacks_with one words met same theirs event.call a step.lacking);
 }
   where

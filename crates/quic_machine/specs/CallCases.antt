@@ -8,7 +8,7 @@ use Rattle.quic_machine.specs.declared.run.Delivery.{Delivery}
 use Rattle.quic_machine.specs.declared.run.Call.{Call}
 use Rattle.quic_machine.specs.declared.run.Call.TheVariants as calls
 use Rattle.quic_machine.specs.declared.run.Answer.{Answer}
-use Rattle.quic_machine.specs.Parts.{Path, IsSamePath, Messaging}
+use Rattle.quic_machine.specs.Parts.{Messaging}
 use Rattle.quic_machine.specs.Policy.{Policy}
 use Rattle.quic_machine.specs.End.{End, with_ping, with_streams, with_messages, with_window}
 use Rattle.quic_machine.specs.Control.{Control}
@@ -47,7 +47,7 @@ asks_event call = false
 
 -- what may come of a call
 pub record CallsTo (p : Policy) (e : End) (theirs : List (List ℕ)) (call : Call) (a : Answer) (P : End → Type 0) : Type 0 where
-  -- the call asks what is there, or there is no such datagram
+  -- the call asks what is there, there is no such datagram, or bytes are handed in that leave the end as it is
   pub same : P e
   -- calls on streams
   pub on_streams : is_on_streams call ≡ true → (IsAnswer p e theirs call a → AnswersOnStreams e call a) → P (end_on_streams e call a)
@@ -55,8 +55,6 @@ pub record CallsTo (p : Policy) (e : End) (theirs : List (List ℕ)) (call : Cal
   pub on_messages : is_on_messages call ≡ true → (IsAnswer p e theirs call a → IsMessageAnswer e call a) → P (end_on_messages e call a)
   -- PING is asked for
   pub pings : P (with_ping e true)
-  -- bytes that don't open are handed in: no more than what the path counts changes
-  pub heard : (path : Path) → IsSamePath e.path path → P (record e { path = path })
   -- a moment at which timers expire, a poll, a delivery, and what is told
   pub times : (now : ℕ) (expiry : Expiry) → is_timeout call ≡ true → P (at_expiry e now expiry)
   pub polls : (now : ℕ) → is_poll call ≡ true → P (polled p e now).end
@@ -69,7 +67,6 @@ pub record Plain (p : Policy) (e : End) (call : Call) (P : End → Type 0) : Typ
   pub on_streams : (t : Streams) → P (with_streams e t)
   pub on_messages : (m : Messaging) → P (with_messages e m)
   pub pings : P (with_ping e true)
-  pub heard : (path : Path) → IsSamePath e.path path → P (record e { path = path })
   pub times : (now : ℕ) (expiry : Expiry) → is_timeout call ≡ true → P (at_expiry e now expiry)
   pub polls : (now : ℕ) → is_poll call ≡ true → P (polled p e now).end
   pub hears : (arrival : Arrival) (d : List ℕ) → is_delivery call ≡ true → P (received p e arrival d).end
@@ -91,7 +88,7 @@ module _ (p : Policy) (e : End) (theirs : List (List ℕ)) (P : End → Type 0) 
   by_call (calls.Poll now) a c = c.polls now refl
   by_call (calls.Timeout now) a c = by_expiry e now P c.same (λ expiry. c.times now expiry refl)
   by_call (calls.Deliver delivery) a c = delivered_case (slice_get theirs delivery.index) delivery c.same (λ d. c.hears (delivered_by delivery) d refl)
-  by_call (calls.Inject injection) a c = by_injection p e injection P c.same c.heard
+  by_call (calls.Inject injection) a c = by_injection p e injection P c.same
   by_call calls.Event a c = c.tells refl
   by_call (calls.Timer timer) a c = c.same
   by_call calls.NextTimeout a c = c.same
@@ -104,7 +101,6 @@ module _ (p : Policy) (e : End) (theirs : List (List ℕ)) (P : End → Type 0) 
     on_streams = λ is answer. c.on_streams _;
     on_messages = λ is answer. c.on_messages _;
     pings = c.pings;
-    heard = c.heard;
     times = c.times;
     polls = c.polls;
     hears = c.hears;

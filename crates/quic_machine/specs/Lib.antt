@@ -5,6 +5,7 @@ pub mod Ids
 pub mod Parts
 pub mod PathLaws
 pub mod Tracking
+pub mod Heard
 pub mod End
 pub mod Opens
 pub mod Acked

@@ -138,16 +138,6 @@ pub(crate) fn event(side: Side, call: Call) -> RunEvent {
     RunEvent { side, call }
 }
 
-/// So many bytes, each an `a`. They are made one by one, since a proof takes longer where it meets
-/// a long array.
-pub(crate) fn letters(alloc: Global, count: usize) -> Result<Bytes, AllocError> {
-    let mut bytes = Vec::new(alloc);
-    for _ in 0..count {
-        bytes.push(b'a')?;
-    }
-    Bytes::copy_from_slice(alloc, &bytes)
-}
-
 /// A read of the stream by these bounds.
 pub(crate) fn read_call(alloc: Global, bounds: &[usize]) -> Result<Call, AllocError> {
     Ok(Call::Read(ReadCall {

@@ -1,7 +1,8 @@
 //! Datagrams that are filled up to the size of their path, where an end is set to do so.
-use crate::ends::{Pair, event, letters, stream, with_pair};
+use crate::ends::{Pair, event, stream, with_pair};
 use crate::messages::assert_arrives;
-use quic_connection::{Call, Datagram, Instant, TransportConfig};
+use bytes::Bytes;
+use quic_connection::{Call, Datagram, Instant, RunEvent, TransportConfig};
 use quic_wire_core::{Dir, Side, StreamId};
 use std::process::Abort;
 use std::test::Fail;
@@ -31,20 +32,23 @@ fn assert_filled<R: Abort>(
     Ok(())
 }
 
+/// The client writes these bytes.
+fn written(id: StreamId, bytes: &'static [u8]) -> RunEvent {
+    event(Side::Client, Call::Write(id, Bytes::from_static(bytes)))
+}
+
 /// PING; bytes of a stream that fill a datagram, and so have no length; one less of another stream,
 /// where eight bytes are kept for the length, which has two; and what is left of these. Then an ACK
 /// alone.
-fn assert_padded<R: Abort + AllocGlobal>(rt: &R, pair: &mut Pair) -> Result<(), Fail> {
+fn assert_padded<R: Abort>(rt: &R, pair: &mut Pair) -> Result<(), Fail> {
     let other = StreamId::new(Side::Client, Dir::Bi, 1);
     pair.make(&event(Side::Client, Call::Open(Dir::Bi)))?;
     pair.make(&event(Side::Client, Call::Open(Dir::Bi)))?;
     pair.make(&event(Side::Client, Call::Ping))?;
     assert_filled(rt, pair, &[0x01], 1)?;
-    let bytes = letters(rt.alloc(), 1172)?;
-    pair.make(&event(Side::Client, Call::Write(stream(), bytes)))?;
+    pair.make(&written(stream(), &[b'a'; 1172]))?;
     assert_filled(rt, pair, &[0x08, 0x00], 1173)?;
-    let bytes = letters(rt.alloc(), 1171)?;
-    pair.make(&event(Side::Client, Call::Write(other, bytes)))?;
+    pair.make(&written(other, &[b'a'; 1171]))?;
     assert_filled(rt, pair, &[0x0a, 0x04, 0x44, 0x8c], 1168)?;
     assert_filled(rt, pair, &[0x0e, 0x04, 0x44, 0x8c, 0x07], 12)?;
     pair.make(&event(Side::Server, Call::Poll(Instant::from_nanos(0))))?;

@@ -1,7 +1,7 @@
 //! What an end counts in the worked example: the client opens a stream, writes `hello`, finishes it
 //! and is polled; the server takes the datagram. Where frames of several kinds go both ways. And
 //! where a client looks for a larger size of datagrams, or finds that its path carries less.
-use crate::ends::{Pair, delivery, event, hello, letters, stream, with_pair};
+use crate::ends::{Pair, delivery, event, hello, stream, with_pair};
 use crate::frames::{End, answered_by, given, given_ping, sealed_under, with_end};
 use bytes::Bytes;
 use quic_connection::{
@@ -198,7 +198,7 @@ fn probes_are_counted(rt: HostRuntime) -> Result<(), Fail> {
 /// Four datagrams of 1279 bytes are lost, and a PING behind each is acknowledged; so are two more.
 fn assert_black_hole_counted<R: Abort + AllocGlobal>(rt: &R, pair: &mut Pair) -> Result<(), Fail> {
     for _ in 0..4u8 {
-        let message = letters(rt.alloc(), 1250)?;
+        let message = Bytes::from_static(&[0x61; 1250]);
         pair.make(&event(Side::Client, Call::Send(message, false)))?;
         given(rt.alloc(), &mut pair.ends.client)?;
         given_ping(rt.alloc(), &mut pair.ends.client)?;

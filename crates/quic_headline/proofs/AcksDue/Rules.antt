@@ -82,7 +82,6 @@ call_ruled taken p e theirs call a apart i = by_plain_call p e theirs (Keeps tak
   on_streams = λ t. i;
   on_messages = λ m. i;
   pings = i;
-  heard = λ path same. i;
   times = λ now expiry is. subst (λ (q : Pending). Ruled q taken) (sym (expired_acks e now expiry)) (expired_ruled taken expiry.acks e.acknowledging i);
   polls = λ now is. polled_ruled taken p e now i;
   hears = λ arrival d is. (let clash : true ≡ false = sym is ∙ apart in cc);

@@ -225,7 +225,6 @@ module _ (t : Tally) where
         on_streams = λ on answer. cc;
         on_messages = λ on answer. i;
         pings = i;
-        heard = λ path same. i;
         times = λ now expiry set. by_expired e now (λ (f : End). Tallies t f.streams) (λ pending tracking timers runs packets. i) (λ pending timers runs. expiry_stays (λ (s : Streams). Tallies t s.state) e now (losing e.tracking.packets) i pending timers) expiry;
         polls = λ now set. poll_tallies p e now i;
         hears = λ arrival d set. cc;

@@ -75,7 +75,6 @@ other_keeps p e theirs call a silent apart = by_plain_call p e theirs (Keeps e) 
   on_streams = λ t. record { reason = refl; state = refl };
   on_messages = λ m. record { reason = refl; state = refl };
   pings = record { reason = refl; state = refl };
-  heard = λ path same. record { reason = refl; state = refl };
   times = λ now expiry set. by_expired e now (Keeps e) (λ pending tracking timers runs packets. record { reason = refl; state = refl }) (λ pending timers runs. losses now pending timers) expiry;
   polls = λ now set. cc;
   hears = λ arrival d set. cc;

@@ -108,7 +108,6 @@ call_keeps p e theirs call a i = by_plain_call p e theirs IsExplained call a (re
   on_streams = λ t. i;
   on_messages = λ m. i;
   pings = i;
-  heard = λ path same. i;
   times = λ now expiry is. expired_keeps e now expiry i;
   polls = λ now is. polled_keeps p e now i;
   hears = λ arrival d is. by_received IsExplained receives p e arrival d i;

@@ -271,7 +271,6 @@ module _ (K : Side → Counts → Counts → Events → Type 0) (more : (side : 
         on_streams = λ on answer. cc;
         on_messages = λ on answer. i;
         pings = i;
-        heard = λ path same. i;
         times = λ now expiry set. by_expired e now (λ (f : End). Flagged f.streams) (λ pending tracking timers runs packets. i) (λ pending timers runs. losses_keep (λ (x : End). Flagged x.streams) settling (with_closing e (ticked e.closing now)) i) expiry;
         polls = λ now set. poll_counts p e now i;
         hears = λ arrival d set. cc;

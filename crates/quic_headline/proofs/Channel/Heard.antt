@@ -166,7 +166,6 @@ module _ (t : StreamsState) where
         on_streams = λ on answer. cc;
         on_messages = λ on answer. i;
         pings = i;
-        heard = λ path same. i;
         times = λ now expiry set. by_expired e now (λ (f : End). Heard t f.streams) (λ pending tracking timers runs packets. i) (λ pending timers runs. losses_keep (λ (x : End). Heard t x.streams) settles (with_closing e (ticked e.closing now)) i) expiry;
         polls = λ now set. poll_heard p e now i;
         hears = λ arrival d set. cc;

@@ -238,7 +238,6 @@ module _ (window : Option ℕ) where
     on_streams = λ on answer. i;
     on_messages = λ on answer. message_call_leaves window e sized i call a;
     pings = i;
-    heard = λ path same. i;
     times = λ now expiry set. by_expired e now (Waits window) (λ pending tracking timers runs packets. i) (λ pending timers runs. losses_keep (Waits window) settling (with_closing e (ticked e.closing now)) i) expiry;
     polls = λ now set. (poll_takes window p e now i).0;
     hears = λ arrival d set. by_received (Waits window) (record {

@@ -185,7 +185,6 @@ module _ (Q : ℕ → Type 0) where
     on_streams = λ on answer. calls_stops (is_open e.closing.state) (streams_at e) call a known i;
     on_messages = λ on answer. i;
     pings = i;
-    heard = λ path same. i;
     times = λ now expiry set. by_expired e now (λ (f : End). StopsOf Q f.waiting.frames) (λ pending tracking timers runs packets. i) (λ pending timers runs. expiry_stays (λ (t : Streams). StopsOf Q t.pending) e now (losing e.tracking.packets carried) i pending timers) expiry;
     polls = λ now set. poll_streams (λ (t : Streams). StopsOf Q t.pending) p e now composed_stops i (ready_stays (λ (t : Streams). StopsOf Q t.pending) e now (losing e.tracking.packets carried) i);
     hears = λ arrival d set. cc;

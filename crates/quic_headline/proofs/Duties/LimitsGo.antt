@@ -484,7 +484,6 @@ call_stated took own what value p e theirs call a within apart other is i = go i
       on_streams = λ on answer. elim more [ inl waits ↦ inr (inl (call_waits what (is_open e.closing.state) (streams_at e) call a waits)) | inr far ↦ inr (inr far) ];
       on_messages = λ on answer. inr more;
       pings = inr more;
-      heard = λ path same. inr more;
       times = λ now expiry set. by_expired e now (λ (f : End). LimitStands took own what value f) (λ pending tracking timers runs packets.
           inr (subst (λ (t : Table TrackedPacket). (limit_waits e.waiting.frames what ≡ true) ⊎ FliesFrom own t what value ⊎ LimitHasArrived took what value) (sym packets) more)) (λ pending timers runs. detected_more took own what value (with_closing e (ticked e.closing now)) more) expiry;
       polls = λ now set. cc;

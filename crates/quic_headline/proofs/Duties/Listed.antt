@@ -639,7 +639,6 @@ module _ (took : List Packet) (sents : List Sent) (what : Listed) where
     on_streams = λ on answer. elim i [ inl waits ↦ inl (call_waits what (is_open e.closing.state) (streams_at e) call a waits) | inr more ↦ inr more ];
     on_messages = λ on answer. i;
     pings = i;
-    heard = λ path same. i;
     times = λ now expiry set. by_expired e now (ListedStands took what) (λ pending tracking timers runs packets. rw packets i) (λ pending timers runs. detected_stands took what (with_closing e (ticked e.closing now)) i) expiry;
     polls = λ now set. polled_stands took sents what e now ascends were before new p (ready now) i;
     hears = λ arrival d set. cc;

@@ -118,7 +118,6 @@ other_stays p e theirs call a apart = by_plain_call p e theirs (Stays e.tracking
   on_streams = λ t. refl;
   on_messages = λ m. refl;
   pings = refl;
-  heard = λ path same. refl;
   times = λ now expiry is. expired_stays e now expiry;
   polls = λ now is. cc;
   hears = λ arrival d is. received_stays e.tracking.greatest_asking p e arrival d refl;

@@ -336,7 +336,6 @@ call_fly done sents p e theirs call a apart is ascends were before new ends i = 
       on_streams = λ on answer. cc;
       on_messages = λ on answer. i;
       pings = i;
-      heard = λ path same. i;
       times = λ now expiry set. by_expired e now (Fly done) (λ pending tracking timers runs packets. subst (λ (t : Table TrackedPacket). AllFly (InPackets t) done e.streams) (sym packets) i) (λ pending timers runs. detected_fly done (with_closing e (ticked e.closing now)) ends i) expiry;
       polls = λ now set. polled_fly done sents e now ascends were before new p i;
       hears = λ arrival d set. cc;

@@ -70,7 +70,6 @@ module _ (P : List (List ℕ) → ℕ → Type 0) where
     on_streams = λ on answer. here;
     on_messages = λ on answer. cc;
     pings = here;
-    heard = λ path is. here;
     times = λ now expiry set. by_expired e now (λ (f : End). Of f) (λ pending tracking timers runs packets. here) (λ pending timers runs. losses_keep (λ (f : End). Of f) settles (with_closing e (ticked e.closing now)) here) expiry;
     polls = λ now set. polled_leaves p e now here;
     hears = λ arrival d set. cc;

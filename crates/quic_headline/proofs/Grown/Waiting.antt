@@ -326,7 +326,6 @@ call_grown p e theirs call a within apart is w = by_call p e theirs (λ (f : End
   on_streams = λ on answer. call_waits e within (is_open e.closing.state) call a (answer is) w;
   on_messages = λ on answer. w;
   pings = w;
-  heard = λ path same. w;
   times = λ now expiry set. by_expired e now (λ (f : End). Waits (streams_at f)) (λ pending tracking timers runs packets. w) (λ pending timers runs. losses_keep (λ (f : End). Waits (streams_at f)) settles (with_closing e (ticked e.closing now)) w) expiry;
   polls = λ now set. poll_streams Waits p e now composed_waits w (ready_streams Waits e now w (λ n t among. settles.again t.carried e w));
   hears = λ arrival d set. cc;

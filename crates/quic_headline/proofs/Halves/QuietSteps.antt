@@ -138,7 +138,6 @@ module _ (P : StreamsState → Type 0) (q : IsQuiet P) where
     on_streams = λ on answer. on_streams_quiet e within i (is_open e.closing.state) call a (answer is) quiet;
     on_messages = λ on answer. i;
     pings = i;
-    heard = λ path same. i;
     times = λ now expiry set. by_expired e now (λ (f : End). P f.streams) (λ pending tracking timers runs packets. i) (λ pending timers runs. losses_keep (λ (x : End). P x.streams) settles (with_closing e (ticked e.closing now)) i) expiry;
     polls = λ now set. poll_quiet p e now i;
     hears = λ arrival d set. cc;

@@ -104,7 +104,6 @@ module _ (i : Intake) where
     on_streams = λ t. k;
     on_messages = λ m. k;
     pings = k;
-    heard = λ path same. k;
     times = λ now expiry is. by_expired e now Still (λ pending tracking timers runs packets. k) (λ pending timers runs. losses_keep Still settling (with_closing e (ticked e.closing now)) k) expiry;
     polls = λ now is. polled_still p e now k;
     hears = λ arrival d is. absurd cc;

@@ -41,7 +41,6 @@ module _ (P : Messages → Type 0) (drops : (most : ℕ) (q : Messages) → P q 
     on_streams = λ on answer. same;
     on_messages = λ on answer. cc;
     pings = same;
-    heard = λ path is. same;
     times = λ now expiry set. by_expired e now (λ (f : End). P f.messages.queues) (λ pending tracking timers runs packets. same) (λ pending timers runs. losses_keep (λ (f : End). P f.messages.queues) settles (with_closing e (ticked e.closing now)) same) expiry;
     polls = λ now set. cc;
     hears = λ arrival d set. cc;

@@ -153,7 +153,6 @@ runs_step q e theirs call a other = by_plain_call q e theirs (TellsAs e) call a 
   on_streams = λ t. (refl, refl);
   on_messages = λ m. (refl, refl);
   pings = (refl, refl);
-  heard = λ path same. (refl, refl);
   times = λ now expiry is. by_expired e now (TellsAs e) (λ pending tracking timers runs packets. (runs, refl)) (λ pending timers runs. (runs, (settles_losses (with_closing e (ticked e.closing now))).came)) expiry;
   polls = λ now is. polled_runs q e now;
   hears = λ arrival d is. cc;

@@ -190,7 +190,6 @@ ascends_call p e theirs call answer a = by_plain_call p e theirs Ascends call an
   on_streams = λ t. a;
   on_messages = λ m. a;
   pings = a;
-  heard = λ path same. a;
   times = λ now expiry is. by_expired e now Ascends (λ pending tracking timers runs packets. subst (λ (ps : Table TrackedPacket). Ascending 0 ps) (sym packets) a) (λ pending timers runs. ascends_losses (with_closing e (ticked e.closing now)) a) expiry;
   polls = λ now is. ascends_polled p e now a;
   hears = λ arrival d is. ascends_received p e arrival d a;

@@ -119,7 +119,6 @@ knows_step q e theirs call a i other k = by_plain_call q e theirs (λ (f : End).
   on_streams = λ t. k;
   on_messages = λ m. k;
   pings = k;
-  heard = λ path same. k;
   times = λ now expiry set. by_expired e now (λ (f : End). KnowsIn f.closing.state f.numbers i) (λ pending tracking timers runs packets. k) (λ pending timers runs. losses now pending timers) expiry;
   polls = λ now set. knows_poll q e now i k;
   hears = λ arrival d set. cc;

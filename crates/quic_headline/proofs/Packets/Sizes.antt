@@ -162,7 +162,6 @@ module _ (least most : ℕ) where
     on_streams = λ t. h;
     on_messages = λ m. h;
     pings = h;
-    heard = λ path same. subst (IsSized least most) (sym same.discovery) h;
     times = λ now expiry is. expired_size (λ s. IsSized least most s.discovery) searching e now expiry h;
     polls = λ now is. polled_search (IsSized least most) (sized_polled least most) p e now h;
     hears = λ arrival d is. received_size (λ s. IsSized least most s.discovery) searching p e arrival d h;

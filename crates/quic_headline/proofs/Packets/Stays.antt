@@ -285,7 +285,6 @@ stays_call p e theirs call a other = by_plain_call p e theirs (Stays e) call a (
   on_streams = λ t. stays_same e;
   on_messages = λ m. stays_same e;
   pings = stays_same e;
-  heard = λ path same. stays_like e e (record e { path = path }) refl same.generation refl refl refl refl (stays_same e);
   times = λ now expiry is. by_expired e now (Stays e) (λ pending tracking timers runs packets. stays_like e e (at_timeout e now pending tracking timers) refl refl refl refl refl refl (stays_same e)) (λ pending timers runs. stays_losses e now pending timers) expiry;
   polls = λ now is. cc;
   hears = λ arrival d is. stays_received p e arrival d;

@@ -123,7 +123,6 @@ tracked_other p e theirs call a sents more silent i = by_plain_call p e theirs (
   on_streams = λ t. same;
   on_messages = λ m. same;
   pings = same;
-  heard = λ path is. same;
   times = λ now expiry is. by_expired e now (λ (f : End). AreTracked (sents ++ more) f.tracking.packets) (λ pending tracking timers runs packets. subst (λ (x : Table TrackedPacket). AreTracked (sents ++ more) x) (sym packets) same) (λ pending timers runs n t i. same n t (losses_fewer (with_closing e (ticked e.closing now)) n t i)) expiry;
   polls = λ now is. cc;
   hears = λ arrival d is. tracked_more sents more (received p e arrival d).end.tracking.packets (tracked_received p e arrival d sents i);

@@ -162,7 +162,6 @@ call_awaited p e theirs call a i = by_plain_call p e theirs IsAwaited call a (re
   on_streams = λ t. i;
   on_messages = λ m. i;
   pings = i;
-  heard = λ path same. i;
   times = λ now expiry is. expired_awaited e now expiry i;
   polls = λ now is. polled_awaited p e now i;
   hears = λ arrival d is. by_received IsAwaited receives p e arrival d i;

@@ -118,7 +118,6 @@ module _ (arrived : ℕ → ℕ → Type 0) (end_arrived : ℕ → Type 0) (k : 
           on_streams = λ on answer. cc;
           on_messages = λ on answer. i;
           pings = i;
-          heard = λ path same. i;
           times = λ now expiry set. by_expired e now (λ (f : End). Settling arrived end_arrived k n w f.streams) (λ pending tracking timers runs packets. i)
               (λ pending timers runs. expiry_stays (λ (t : Streams). Settling arrived end_arrived k n w t.state) e now (losing e.tracking.packets ends) i pending timers) expiry;
           polls = λ now set. cc;

@@ -127,7 +127,6 @@ module _ (o : Option ℕ) where
     on_streams = λ t. i;
     on_messages = λ m. i;
     pings = i;
-    heard = λ path same. i;
     times = λ now expiry is. expired_paces expiry.pacing (acks_expired expiry.acks (loss_expired expiry.loss (with_closing e (ticked e.closing now)))) (acks_pace expiry.acks (loss_expired expiry.loss (with_closing e (ticked e.closing now))) (lost_paces expiry.loss (with_closing e (ticked e.closing now)) i));
     polls = λ now is. cc;
     hears = λ arrival d is. by_received (Paces o) receives p e arrival d i;

@@ -127,7 +127,6 @@ call_follows p e theirs call a i = by_plain_call p e theirs AckTimerFollows call
   on_streams = λ t. i;
   on_messages = λ m. i;
   pings = i;
-  heard = λ path same. i;
   times = λ now expiry is. expired_follows e now expiry i;
   polls = λ now is. polled_follows p e now i;
   hears = λ arrival d is. by_received AckTimerFollows receives p e arrival d i;

@@ -8,8 +8,6 @@ use Rattle.std.proofs.lemmas.Bool.{le-ltb}
 use Rattle.quic_wire_core.specs.declared.shared.EcnCodepoint.{EcnCodepoint}
 use Rattle.quic_recovery_core.specs.Duplicates.{is_duplicate}
 use Rattle.quic_time.specs.Clocks.{saturated}
-use Rattle.quic_time.specs.Rtt.{Rtt}
-use Rattle.quic_time.specs.Rtt.{probe_timeout as rtt_timeout}
 use Rattle.quic_packet.specs.Header.{key_phase, reserved_bits}
 use Rattle.quic_packet.specs.Destination.{decoded, fixed_length_id}
 use Rattle.quic_packet.specs.Datagram.{Opening}
@@ -34,7 +32,7 @@ use Rattle.quic_machine.specs.Opens.{own_id_length}
 use Rattle.quic_machine.specs.Closing.{Closing, ticked}
 use Rattle.quic_spaces.specs.Numbers.{Numbers, number_opened}
 use Rattle.quic_machine.specs.Tracking.{after_answered, Tracking, TrackedPacket, asks_any, without_record, is_behind, tail_of, forgets, forgotten, oldest, without_packet, asking_sent, after_sent, Verdict, is_lost, kept_by, loss_moment, moment_or, probe_moment, after_detection, acked_by, not_acked_by, names}
-use Rattle.quic_machine.specs.End.{End, with_closing, closed_by, with_numbers, number_of, with_ping, peer_delay, probe_timeout, with_loss_timer, with_window}
+use Rattle.quic_machine.specs.End.{End, with_closing, closed_by, with_numbers, number_of, with_ping, probe_timeout, with_loss_timer, with_window}
 use Rattle.quic_machine.specs.Acked.{verdict, losses_detected, measured, sampled, without_acked, after_named, after_acked, losses_taken}
 use Rattle.quic_machine.specs.Receive.{Fault, violation, reason_of, take_frame, take_items, take_payload, is_empty, asks_in, after_taken, dropped, ends_as, by_state, opened_to, opened_as, opening, headed, received_in, received}
 use Rattle.quic_machine.specs.Poll.{Polled, Draft, packet_of, after_given, record_moved, draft_as, polled, Leaving, Ready}
@@ -389,7 +387,6 @@ call_stands p e theirs call a i = by_plain_call p e theirs LossStands call a (re
   on_streams = λ t opened. (let s = i opened in record { stands = s.stands; set = s.set });
   on_messages = λ m opened. (let s = i opened in record { stands = s.stands; set = s.set });
   pings = λ opened. (let s = i opened in record { stands = s.stands; set = s.set });
-  heard = λ path same opened. (let s = i opened in record { stands = s.stands; set = s.set ∙ ap (λ (r : Rtt). loss_moment (saturated (rtt_timeout r + peer_delay e)) e.tracking) (sym same.rtt) });
   times = λ now expiry is. expired_stands e now expiry i;
   polls = λ now is. polled_stands p e now i;
   hears = λ arrival d is. by_hearing LossStands FrameStands hears p e arrival d i;

@@ -54,7 +54,6 @@ was_open p e theirs call a = by_plain_call p e theirs (WasOpen e) call a (record
   on_streams = λ t opened. opened;
   on_messages = λ m opened. opened;
   pings = λ opened. opened;
-  heard = λ path same opened. opened;
   times = λ now expiry is. opened_expired e now expiry;
   polls = λ now is. opened_polled p e now;
   hears = λ arrival d is. by_received (WasOpen e) (opened_receives e) p e arrival d (λ opened. opened);

@@ -277,7 +277,6 @@ module _ (own : Counts) where
     on_streams = λ on answer. on_streams_own (is_open e.closing.state) (streams_at e) call a quiet (answer is) i;
     on_messages = λ on answer. i;
     pings = i;
-    heard = λ path same. i;
     times = λ now expiry set. by_expired e now (λ (f : End). Own f.streams) (λ pending tracking timers runs packets. i) (λ pending timers runs. losses_keep (λ (x : End). Own x.streams) settling (with_closing e (ticked e.closing now)) i) expiry;
     polls = λ now set. poll_state Own p e now composed_own i;
     hears = λ arrival d set. cc;

@@ -223,7 +223,6 @@ module _ (K : Side → Receiving → Counts → Counts → Type 0) where
     on_streams = λ on answer. on_streams_left (is_open e.closing.state) (streams_at e) call a quiet (answer is) i;
     on_messages = λ on answer. i;
     pings = i;
-    heard = λ path same. i;
     times = λ now expiry set. by_expired e now (λ (f : End). Of f.streams) (λ pending tracking timers runs packets. i) (λ pending timers runs. losses_keep (λ (x : End). Of x.streams) settling (with_closing e (ticked e.closing now)) i) expiry;
     polls = polls;
     hears = λ arrival d set. cc;
