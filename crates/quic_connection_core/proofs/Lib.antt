@@ -23,4 +23,3 @@ mod Items
 mod Told
 mod Rooms
 pub mod Marks
-mod Counted
