@@ -8,7 +8,6 @@ pub mod Tracking
 pub mod End
 pub mod Opens
 pub mod Acked
-pub mod Steps
 pub mod Arrival
 pub mod Receive
 pub mod Poll
@@ -20,7 +19,6 @@ pub mod MessageCalls
 pub mod Lacking
 pub mod Machine
 pub mod Start
-pub mod Puts
 pub mod DraftLaws
 pub mod PollCases
 pub mod LeaveCases

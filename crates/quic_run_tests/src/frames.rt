@@ -1,7 +1,6 @@
 //! What an end makes of a payload that its peer sealed and that an honest peer doesn't send.
 use quic_connection::{
-    Config, ConfigError, Connection, Failed, Instant, NewReno, NewRenoConfig, Received, Transmit,
-    TransportConfig,
+    Config, ConfigError, Connection, Instant, NewReno, NewRenoConfig, Received, TransportConfig,
 };
 use quic_packet::seal_packet;
 use quic_run_core::Words;
@@ -100,21 +99,9 @@ pub(crate) fn with_end<T, F: FnOnce(&mut End) -> Result<T, Fail>>(
     act(end.as_mut())
 }
 
-/// The datagram that an end gives, if it gives one.
-pub(crate) fn given(alloc: Global, end: &mut End) -> Result<Option<Transmit>, Failed> {
-    let mut out = Vec::new(alloc);
-    end.poll_transmit(Instant::from_nanos(0), &mut out)
-}
-
-/// The same, where a PING waits.
-pub(crate) fn given_ping(alloc: Global, end: &mut End) -> Result<Option<Transmit>, Failed> {
-    end.ping();
-    given(alloc, end)
-}
-
 /// What an end answers to a datagram: none where it is taken, else the code and the reason that it
 /// closes with.
-pub(crate) fn answered_by<R: Abort>(
+fn answered_by<R: Abort>(
     rt: &R,
     end: &mut End,
     datagram: &mut [u8],

@@ -25,8 +25,6 @@ mod messages;
 #[cfg(test)]
 mod numbers;
 #[cfg(test)]
-mod padding;
-#[cfg(test)]
 mod runs;
 #[cfg(test)]
 mod scripts;

@@ -1,11 +1,16 @@
 //! What a client makes of counts of marks (RFC 9000, section 13.4.2.1), also of those that no
 //! honest peer tells. What a path does to marks is in cases of `quic_run`.
-use crate::frames::{End, given_ping, sealed_under, with_end};
+use crate::frames::{End, sealed_under, with_end};
 use quic_connection::{Failed, Instant, Received, TransportConfig};
 use quic_wire_core::{EcnCodepoint, Side};
 use std::alloc::{AllocError, Global};
 use std::process::Abort;
 use std::test::Fail;
+
+/// The moment of all that happens here.
+fn now() -> Instant {
+    Instant::from_nanos(0)
+}
 
 /// A datagram with an ACK of one number, and with counts of ECT(0), of ECT(1) and of CE. It has the
 /// number that it names.
@@ -17,7 +22,10 @@ fn told(alloc: Global, number: u8, counts: [u8; 3]) -> Result<Vec<u8>, AllocErro
 
 /// The mark of a datagram with a PING.
 fn mark_of_ping(alloc: Global, end: &mut End) -> Result<Option<EcnCodepoint>, Failed> {
-    Ok(given_ping(alloc, end)?.and_then(|transmit| transmit.ecn))
+    let mut out = Vec::new(alloc);
+    end.ping();
+    let given = end.poll_transmit(now(), &mut out)?;
+    Ok(given.and_then(|transmit| transmit.ecn))
 }
 
 /// The mark of the third datagram of a client, where the peer told these of the first two.
@@ -31,12 +39,7 @@ fn mark_behind<R: Abort + AllocGlobal>(
     }
     for (number, counts) in acks {
         let mut datagram = told(rt.alloc(), *number, *counts)?;
-        assert!(rt;
-            matches!(
-                end.receive(Instant::from_nanos(0), None, &mut datagram),
-                Received::Taken
-            )
-        );
+        assert!(rt; matches!(end.receive(now(), None, &mut datagram), Received::Taken));
     }
     Ok(mark_of_ping(rt.alloc(), end)?)
 }

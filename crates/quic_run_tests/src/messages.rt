@@ -17,7 +17,7 @@ fn sent(text: &'static [u8], makes_room: bool) -> RunEvent {
 }
 
 /// The client gives a datagram, of this index and this size, and it arrives.
-pub(crate) fn assert_arrives<R: Abort>(
+fn assert_arrives<R: Abort>(
     rt: &R,
     pair: &mut Pair,
     index: usize,

@@ -1,8 +1,6 @@
 //! What an end counts in the worked example: the client opens a stream, writes `hello`, finishes it
-//! and is polled; the server takes the datagram. Where frames of several kinds go both ways. And
-//! where a client looks for a larger size of datagrams, or finds that its path carries less.
+//! and is polled; the server takes the datagram. And where frames of several kinds go both ways.
 use crate::ends::{Pair, delivery, event, hello, stream, with_pair};
-use crate::frames::{End, answered_by, given, given_ping, sealed_under, with_end};
 use bytes::Bytes;
 use quic_connection::{
     Call, ConnectionStats, Delivery, Dir, Duration, FrameStats, Instant, PathStats, RunEvent, Side,
@@ -144,81 +142,4 @@ fn each_frame_is_counted(rt: HostRuntime) -> Result<(), Fail> {
     with_pair(rt.alloc(), TransportConfig::default(), |pair| {
         assert_each_counted(&rt, pair)
     })
-}
-
-/// What a client counts of its path once it took this ACK frame under this number: the packets and
-/// probes that it sent, the probes, packets and bytes that were lost, how often its controller was
-/// told of congestion, how often it found that the path carries less, and the bytes of a datagram.
-fn counted<R: Abort + AllocGlobal>(
-    rt: &R,
-    end: &mut End,
-    number: u8,
-    ack: &[u8],
-) -> Result<[u64; 8], Fail> {
-    let mut datagram = sealed_under(rt.alloc(), Side::Client, 0x43, number, ack)?;
-    assert!(rt; answered_by(rt, end, &mut datagram)?.is_none());
-    let path = end.stats().path;
-    Ok([
-        path.sent_packets,
-        path.sent_plpmtud_probes,
-        path.lost_plpmtud_probes,
-        path.lost_packets,
-        path.lost_bytes,
-        path.congestion_events,
-        path.black_holes_detected,
-        u64::from(path.current_mtu),
-    ])
-}
-
-/// A probe of 1326 bytes is acknowledged; the next one isn't, while three PINGs behind it are.
-fn assert_probes_counted<R: Abort + AllocGlobal>(rt: &R, end: &mut End) -> Result<(), Fail> {
-    given(rt.alloc(), end)?;
-    let acked = counted(rt, end, 0, &[0x02, 0x00, 0x00, 0x00, 0x00])?;
-    assert!(rt; acked == [1, 1, 0, 0, 0, 0, 0, 1326]);
-    given(rt.alloc(), end)?;
-    for _ in 0..3u8 {
-        given_ping(rt.alloc(), end)?;
-    }
-    let lost = counted(rt, end, 1, &[0x02, 0x04, 0x00, 0x00, 0x02])?;
-    assert!(rt; lost == [5, 2, 1, 0, 0, 0, 0, 1326]);
-    Ok(())
-}
-
-// RFC 9000, section 14.4.
-#[test]
-fn probes_are_counted(rt: HostRuntime) -> Result<(), Fail> {
-    with_end(
-        rt.alloc(),
-        Side::Client,
-        TransportConfig::default(),
-        |end| { assert_probes_counted(&rt, end) },
-    )
-}
-
-/// Four datagrams of 1279 bytes are lost, and a PING behind each is acknowledged; so are two more.
-fn assert_black_hole_counted<R: Abort + AllocGlobal>(rt: &R, pair: &mut Pair) -> Result<(), Fail> {
-    for _ in 0..4u8 {
-        let message = Bytes::from_static(&[0x61; 1250]);
-        pair.make(&event(Side::Client, Call::Send(message, false)))?;
-        given(rt.alloc(), &mut pair.ends.client)?;
-        given_ping(rt.alloc(), &mut pair.ends.client)?;
-    }
-    given_ping(rt.alloc(), &mut pair.ends.client)?;
-    given_ping(rt.alloc(), &mut pair.ends.client)?;
-    let ack = [0x02, 0x09, 0x00, 0x03, 0x02, 0, 0, 0, 0, 0, 0];
-    let fell = counted(rt, &mut pair.ends.client, 0, &ack)?;
-    assert!(rt; fell == [10, 0, 0, 4, 4 * 1279, 1, 1, 1200]);
-    Ok(())
-}
-
-// RFC 8899, section 4.3.
-#[test]
-fn a_black_hole_is_counted(rt: HostRuntime) -> Result<(), Fail> {
-    let mut large = TransportConfig::default();
-    large.initial_mtu(1300);
-    with_pair(
-        rt.alloc(),
-        large,
-        |pair| assert_black_hole_counted(&rt, pair),
-    )
 }

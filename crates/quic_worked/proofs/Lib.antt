@@ -27,10 +27,8 @@ mod RaisedRun
 mod ChunkedRun
 pub mod TimedRun
 mod MeasuredRun
-mod HalvedRun
 mod SkippedRun
 mod ProbedRun
-mod SearchedRun
 mod HeldRun
 mod PacedRun
 mod FaultRuns
@@ -48,4 +46,3 @@ mod UndoneRun
 mod ToldRuns
 mod BoundedRun
 pub mod AllowedRun
-pub mod RepeatedRuns

@@ -14,9 +14,7 @@ pub mod Raised
 pub mod Timed
 pub mod Limited
 pub mod Measured
-pub mod Halved
 pub mod Probed
-pub mod Searched
 pub mod Messages
 pub mod Held
 pub mod Rested
@@ -30,4 +28,3 @@ pub mod Undone
 pub mod Told
 pub mod Bounded
 pub mod Allowed
-pub mod Repeated

@@ -26,8 +26,7 @@ use Rattle.quic_machine.specs.End.{End, streams_at, with_ping}
 use Rattle.quic_machine.specs.Poll.{asking, overhead, number_width, with_least, zeros_behind, Draft, no_frames, with_frame, frame_room, fits, left, ping_if, with_ping_frame, with_control_frames, with_message, with_message_frames, with_asking, ack_of, with_ack, ack_fits, ack_if, composed_if, payload_of, lazied, asks_to_go, waits, draft_as, draft_of, probe, alone, whole, Leaving, Ready, nothing, probing, composed, behind_control, least_left}
 use Rattle.quic_machine.specs.Parts.{current_mtu}
 use Rattle.quic_machine.specs.PollCases.{frames_padded}
-use Rattle.quic_machine.specs.DraftLaws.{SendsHalf, by_messages, by_streams, MayLeave, HasRoom, room_most, entry_behind}
-use Rattle.quic_machine.specs.Puts.{stream_room, with_entry, with_half_frame}
+use Rattle.quic_machine.specs.DraftLaws.{SendsHalf, stream_room, with_entry, with_half_frame, by_messages, by_streams, MayLeave, HasRoom, room_most, entry_behind}
 use Rattle.quic_streams_state.specs.Control as control
 use Rattle.quic_headline.proofs.Packets.Invariant.{CountsFit, Acks}
 use Rattle.quic_wire.proofs.FrameRange.{size_most}
@@ -110,7 +109,7 @@ unsized_count b room e = go (writes_length b room) refl e
         omega arith
 
 -- how many bytes go
-pub bytes_count : (h : SendHalf) (id room : ℕ) → HasFrame h room → length (frame_of id h room).bytes ≡ sent_end h.buffer room - next_start h.buffer
+bytes_count : (h : SendHalf) (id room : ℕ) → HasFrame h room → length (frame_of id h room).bytes ≡ sent_end h.buffer room - next_start h.buffer
 bytes_count h id room f =
     let from : ℕ = next_start h.buffer - h.buffer.base in
     let to : ℕ = sent_end h.buffer room - h.buffer.base in

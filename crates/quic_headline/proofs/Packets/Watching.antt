@@ -29,8 +29,7 @@ use Rattle.quic_machine.specs.Timeouts.{acks_expired, loss_judged, loss_expired,
 use Rattle.quic_machine.specs.Receive.{asks_in, after_taken}
 use Rattle.quic_machine.specs.Poll.{Polled, Draft, payload_of, datagram_of, datagram_size, after_given, goes, rests, sends, polled_if, polled_in, polled, Ready}
 use Rattle.quic_machine.specs.Machine.{after_call, fails, gave}
-use Rattle.quic_machine.specs.CallCases.{Plain, is_delivery, is_poll, is_timeout, by_plain_call}
-use Rattle.quic_machine.specs.CallCases as cases
+use Rattle.quic_machine.specs.CallCases.{is_delivery, is_poll, is_timeout, by_plain_call}
 use Rattle.quic_machine.specs.PollCases.{ready_at, ready_leaves, draft_at, frames_at, given_as, Composes, composes, poll_left, may_leave_at}
 use Rattle.quic_machine.specs.FrameCases.{begun}
 use Rattle.quic_headline.specs.Runs.{Told, Packet, Intake, acknowledged, and_handed, and_told, folded}
@@ -89,7 +88,7 @@ watched_intake l (t ∷ told) w =
     ∙ ap (λ (i : Intake). folded (and_told l.own l.peer_gave) told i) (given_intake (gave t.answer) l (timed_with l t w) ∙ ap (λ (v : Watch). v.intake) (moment_leaves (is_timely t.state t.call) l.terms (came_with l t w)))
 
 -- between an intake and itself, no packet opened
-pub none_opened : (i : Intake) → has_opened i i ≡ false
+none_opened : (i : Intake) → has_opened i i ≡ false
 none_opened i = le-ltb (length i.opened) (length i.opened) (omega arith)
 
 -- and none was taken
@@ -97,7 +96,7 @@ pub none_new : (i : Intake) → news i i ≡ []
 none_new i = let none : length i.took - length i.took ≡ 0 = omega arith in ap (λ (n : ℕ). take n i.took) none
 
 -- where one packet more was taken, one opened
-pub one_opened : (i : Intake) (n : ℕ) (frames : List FrameValue) → has_opened i (with_taken i n frames) ≡ true
+one_opened : (i : Intake) (n : ℕ) (frames : List FrameValue) → has_opened i (with_taken i n frames) ≡ true
 one_opened i n frames = lt-ltb (length i.opened) (length (n ∷ i.opened)) (omega arith)
 
 -- and it alone was taken
@@ -355,7 +354,7 @@ expired_path true e = go e.tracking.loss_time
     go (Some moment) = ap (λ (h : Held). h.generation) (detected_held e)
 
 -- the observer says with the end whether its timer of losses expires
-pub timer_expires : (t : Terms) (w : Watch) (e : End) (now : ℕ) → OpenStands e → Waits t w.clock w.flight (held e) → has_come e.timers.loss_detection (max e.closing.clock now) ≡ is_past (loss_due t w.flight) (max w.clock now)
+timer_expires : (t : Terms) (w : Watch) (e : End) (now : ℕ) → OpenStands e → Waits t w.clock w.flight (held e) → has_come e.timers.loss_detection (max e.closing.clock now) ≡ is_past (loss_due t w.flight) (max w.clock now)
 timer_expires t w e now s i =
     past_same e.timers.loss_detection (max e.closing.clock now)
     ∙ ap (λ (o : Option ℕ). is_past o (max e.closing.clock now)) (timer_is t w.clock w.flight e s i)
@@ -459,14 +458,17 @@ pub record Leaves (e f : End) : Type 0 where
 
 -- a call at no moment leaves it
 pub leaves_call : (p : Policy) (e : End) (theirs : List (List ℕ)) (call : Call) (a : Answer) → is_delivery call ≡ false → is_poll call ≡ false → is_timeout call ≡ false → Leaves e (after_call p e theirs call a)
-leaves_call p e theirs call a apart silent other = by_plain_call p e theirs (Leaves e) call a cases_keep
-  where
-    cases_keep : Plain p e call (Leaves e)
-    cases_keep (cases.heard path) is = record { state = refl; clock = refl; numbers = refl; tracking = refl; transport = refl; peer = refl; path = is.generation; rtt = is.rtt }
-    cases_keep (cases.times now expiry) is = cc
-    cases_keep (cases.polls now) is = cc
-    cases_keep (cases.hears arrival d) is = cc
-    cases_keep c may = record { state = refl; clock = refl; numbers = refl; tracking = refl; transport = refl; peer = refl; path = refl; rtt = refl }
+leaves_call p e theirs call a apart silent other = by_plain_call p e theirs (Leaves e) call a (record {
+  same = record { state = refl; clock = refl; numbers = refl; tracking = refl; transport = refl; peer = refl; path = refl; rtt = refl };
+  on_streams = λ t. record { state = refl; clock = refl; numbers = refl; tracking = refl; transport = refl; peer = refl; path = refl; rtt = refl };
+  on_messages = λ m. record { state = refl; clock = refl; numbers = refl; tracking = refl; transport = refl; peer = refl; path = refl; rtt = refl };
+  pings = record { state = refl; clock = refl; numbers = refl; tracking = refl; transport = refl; peer = refl; path = refl; rtt = refl };
+  heard = λ path is. record { state = refl; clock = refl; numbers = refl; tracking = refl; transport = refl; peer = refl; path = is.generation; rtt = is.rtt };
+  times = λ now expiry is. cc;
+  polls = λ now is. cc;
+  hears = λ arrival d is. cc;
+  tells = λ told. record { state = refl; clock = refl; numbers = refl; tracking = refl; transport = refl; peer = refl; path = refl; rtt = refl };
+})
 
 -- an end that was left so is watched as it was
 pub leaves_watched : (t : Terms) (w : Watch) (e f : End) → Leaves e f → IsWatched t w e → IsWatched t w f
@@ -486,7 +488,6 @@ leaves_watched t w e f l i = record {
         };
         loss_time = before.loss_time ∙ ap (λ (x : Tracking). x.loss_time) (sym l.tracking);
         expiries = before.expiries ∙ ap (λ (x : Tracking). min x.timeouts 16) (sym l.tracking);
-        probes = before.probes ∙ ap (λ (x : Tracking). x.probes) (sym l.tracking);
       };
 }
 

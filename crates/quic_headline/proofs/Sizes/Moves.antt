@@ -23,8 +23,7 @@ use Rattle.quic_machine.specs.Receive.{Outcome}
 use Rattle.quic_machine.specs.Timeouts.{Expiry}
 use Rattle.quic_machine.specs.Machine.{World, Policies, after_call, reads_window, given_by, end_at, control_at, policy_at, Follows, view_of}
 use Rattle.quic_machine.specs.RunLaws.{one_run}
-use Rattle.quic_machine.specs.CallCases.{Plain, is_delivery, by_plain_call}
-use Rattle.quic_machine.specs.CallCases as cases
+use Rattle.quic_machine.specs.CallCases.{is_delivery, by_plain_call}
 use Rattle.quic_machine.specs.LeaveCases.{at_expiry, by_expired}
 use Rattle.quic_machine.specs.FrameCases.{begun}
 use Rattle.quic_headline.specs.Runs.{Run, Intake, In, state_in, LeadsTo, AreServed}
@@ -55,17 +54,17 @@ use Rattle.quic_headline.proofs.Sizes.Moving.{HasMoved, Moves, moving_flies}
 -- ---- a place of a run
 
 -- What a run did at a place.
-pub record Did (events : List RunEvent) (answers : List Answer) (i : ℕ) : Type 0 where
-  pub event : RunEvent
-  pub answer : Answer
-  pub at_event : slice_get events i ≡ Some event
-  pub at_answer : slice_get answers i ≡ Some answer
+record Did (events : List RunEvent) (answers : List Answer) (i : ℕ) : Type 0 where
+  event : RunEvent
+  answer : Answer
+  at_event : slice_get events i ≡ Some event
+  at_answer : slice_get answers i ≡ Some answer
 
 none_there : {X : Type 0} (x : X) → ◌≡◌ {A = Option X} None (Some x) → ⊥
 none_there x is = cc
 
 -- Where there is a view, something was done and answered.
-pub did_there : (i : ℕ) (k : Policies) (w end : World) (events : List RunEvent) (answers : List Answer) (views : List View) (v : View) → Follows k w events answers views end → slice_get views i ≡ Some v → Did events answers i
+did_there : (i : ℕ) (k : Policies) (w end : World) (events : List RunEvent) (answers : List Answer) (views : List View) (v : View) → Follows k w events answers views end → slice_get views i ≡ Some v → Did events answers i
 did_there i k w end events answers [] v f there = absurd (none_there v there)
 did_there i k w end [] [] (u ∷ views) v f there = absurd f
 did_there i k w end (e ∷ events) [] (u ∷ views) v f there = absurd f
@@ -74,14 +73,6 @@ did_there zero k w end (e ∷ events) (a ∷ answers) (u ∷ views) v f there = 
 did_there (suc i) k w end (e ∷ events) (a ∷ answers) (u ∷ views) v f there =
     let rest = did_there i k f.0 end events answers views v f.3 there in
     record { event = rest.event; answer = rest.answer; at_event = rest.at_event; at_answer = rest.at_answer }
-
--- at an open end the size hasn't moved yet, and what is in flight was given
-pub moves_first : (x y : Party) → Sight x y → KnowsSearch x y → Unnamed x y → x.end.closing.state ≡ states.Open
-    → let f = (watch_of x y).flight in Moves f.flying x.made.transport.min_mtu x.end.path.discovery.size f.flying f.acked x.end
-moves_first x y sight search quiet opened = record { inside = λ s among. among; sized = search.sized; floor = search.floor; probes = λ s among size is. (search.probe opened).probes s (own s among) size is; moved = inl refl }
-  where
-    own : (s : Sent) → In s (watch_of x y).flight.flying → In s x.sents
-    own s among = subst (λ (ss : List Sent). In s ss) sight.own (quiet.quiet.own s among)
 
 -- ---- calls that take no packet
 
@@ -102,14 +93,17 @@ expired_falls e now expiry = by_expired e now (Falls e) (λ pending tracking tim
     ]
 
 apart_falls : (p : Policy) (e : End) (theirs : List (List ℕ)) (call : Call) (a : Answer) → is_delivery call ≡ false → Falls e (after_call p e theirs call a)
-apart_falls p e theirs call a apart = by_plain_call p e theirs (Falls e) call a keep
-  where
-    keep : Plain p e call (Falls e)
-    keep (cases.heard path) same = inl (ap (λ (d : Discovery). d.size) same.discovery)
-    keep (cases.times now expiry) may = expired_falls e now expiry
-    keep (cases.polls now) may = inl (polled_search (λ (d : Discovery). d.size ≡ e.path.discovery.size) (λ moment number d same. same) p e now refl)
-    keep (cases.hears arrival d) is = (let clash : true ≡ false = sym is ∙ apart in cc)
-    keep c may = inl refl
+apart_falls p e theirs call a apart = by_plain_call p e theirs (Falls e) call a (record {
+  same = inl refl;
+  on_streams = λ t. inl refl;
+  on_messages = λ m. inl refl;
+  pings = inl refl;
+  heard = λ path same. inl (ap (λ (d : Discovery). d.size) same.discovery);
+  times = λ now expiry is. expired_falls e now expiry;
+  polls = λ now is. inl (polled_search (λ (d : Discovery). d.size ≡ e.path.discovery.size) (λ moment number d same. same) p e now refl);
+  hears = λ arrival d is. (let clash : true ≡ false = sym is ∙ apart in cc);
+  tells = λ told. inl refl;
+})
 
 -- ---- the clause
 
@@ -149,8 +143,14 @@ module _ (G : Way) (g : Group Nothing G) (packets : (x y : Party) → G x y → 
     abbrev pub flew : List Sent
     flew = seen.flight.flying
 
+    -- what was in flight was given
+    own : (s : Sent) → In s flew → In s x.sents
+    own s among = subst (λ (ss : List Sent). In s ss) (sight x y h.gives).own ((quiet x y h.gives).quiet.own s among)
+
     begins : Moves flew least x.end.path.discovery.size flew seen.flight.acked x.end
-    begins = moves_first x y (sight x y h.gives) (search x y h.gives) (quiet x y h.gives) opened
+    begins =
+        let k = search x y h.gives in
+        record { inside = λ s among. among; sized = k.sized; floor = k.floor; probes = λ s among size is. (k.probe opened).probes s (own s among) size is; moved = inl refl }
 
     -- of the end, once this came
     abbrev After : End → Intake → Type 0

@@ -55,7 +55,6 @@ use Rattle.quic_machine.specs.LeaveCases.{by_expired, by_event}
 use Rattle.quic_machine.specs.CallCases.{is_delivery, is_poll, by_call}
 use Rattle.quic_machine.specs.FrameCases.{Settling, named, ack_taken, acked_keeps, losses_keep, message_leaves, frames_leave}
 use Rattle.quic_machine.specs.FrameCases as frame_cases
-use Rattle.quic_machine.specs.Steps as steps
 use Rattle.quic_machine.specs.Machine.{IsAnswer, after_call}
 use Rattle.quic_headline.specs.Runs.{Next, In}
 use Rattle.quic_headline.proofs.Halves.QuietSteps.{is_reading}
@@ -202,10 +201,18 @@ module _ (K : Side → Receiving → Counts → Counts → Type 0) where
   reset_acked_left (Some h) s p id i = either_streams (is_some h.reset) (settled (send_done s id) p) (streams_of s p) (sent_left s id i) i
 
   settling : Settling (λ (e : End). Of e.streams)
-  settling (steps.reset id) e i = reset_acked_left (sent_half e.streams id) e.streams e.waiting.frames id i
-  settling (steps.acked m) e i = acked_left (sent_half e.streams m.id) e.streams e.waiting.frames m i
-  settling (steps.lost m) e i = lost_left (sent_half e.streams m.id) e.streams m i
-  settling s e i = i
+  settling = record {
+    known = λ n e i. i;
+    reset = λ id e i. reset_acked_left (sent_half e.streams id) e.streams e.waiting.frames id i;
+    acked = λ m e i. acked_left (sent_half e.streams m.id) e.streams e.waiting.frames m i;
+    lost = λ m e i. lost_left (sent_half e.streams m.id) e.streams m i;
+    again = λ carried e i. i;
+    searched = λ discovery e i. i;
+    shortens = λ most e i. i;
+    tracked = λ t e i. i;
+    measured = λ r first e i. i;
+    marked = λ m marking e i. i;
+  }
 
   -- ---- calls
 
