@@ -7,6 +7,9 @@ ghost use Rattle.quic_machine.specs.CallCases.{is_poll};
 ghost use Rattle.quic_machine.specs.Lacking.{LacksWhere, TakesOfItsOwn};
 ghost use Rattle.quic_machine.specs.Start.{AreStarted};
 ghost use Rattle.quic_time.specs.Timers.{each_timer};
+ghost use Rattle.quic_headline.specs.Waited.{EachWaited};
+ghost use Rattle.quic_headline.specs.Queue.{MessagesGo, MessagesGoInOrder};
+ghost use Rattle.quic_headline.specs.Telling.{ControllersAreTold};
 ghost use Rattle.quic_headline.specs.Causes.{NoBlame, TooManyPieces, NumberLimit, TakenOrTooMany};
 ghost use Rattle.quic_headline.specs.Headline.{CodeIsSmall, AreCodes, OrderedPrefix, Slices, Once, EndAfterAll, BlockedOnlyWithoutBytes, AcceptsAll, FinishedMeansArrived, FinishedIsTold, AcknowledgedWereTaken, NamesWereTaken, OpensExactly, NewestOpens, LossTimersFollow, AckTimersFollow, NumbersRise};
 ghost use Rattle.quic_headline.specs.Amounts.{WritesTakeWhatLimitsAllow};
@@ -665,6 +668,14 @@ pub fn run<H: HeaderKey + Drop, K: PacketKey + Drop, R: Rng + Drop, C: Controlle
         WritesAreAllowed }
     ensures resets_are_allowed { OnHonest H.protection K.aead R.stream (windows_of C.steps C.window_of) ends events.now result
         ResetsAreAllowed }
+    ensures controllers_are_told { OnHonest H.protection K.aead R.stream (windows_of C.steps C.window_of) ends events.now result
+        ControllersAreTold }
+    ensures messages_go { OnHonest H.protection K.aead R.stream (windows_of C.steps C.window_of) ends events.now result
+        MessagesGo }
+    ensures messages_go_in_order { OnHonest H.protection K.aead R.stream (windows_of C.steps C.window_of) ends events.now result
+        MessagesGoInOrder }
+    ensures each_waited { OnHonest H.protection K.aead R.stream (windows_of C.steps C.window_of) ends events.now result
+        EachWaited }
     ensures messages_are_told { OnHonest H.protection K.aead R.stream (windows_of C.steps C.window_of) ends events.now result
         MessagesAreTold }
     ensures openings_are_told { OnHonest H.protection K.aead R.stream (windows_of C.steps C.window_of) ends events.now result
@@ -728,6 +739,10 @@ pub fn run<H: HeaderKey + Drop, K: PacketKey + Drop, R: Rng + Drop, C: Controlle
     headline::reads_are_over();
     headline::writes_are_allowed();
     headline::resets_are_allowed();
+    headline::controllers_are_told();
+    headline::messages_go();
+    headline::messages_go_in_order();
+    headline::each_waited();
     headline::messages_are_told();
     headline::openings_are_told();
     headline::readables_are_told();

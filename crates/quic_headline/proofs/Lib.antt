@@ -19,3 +19,5 @@ pub mod Unread
 pub mod Credit
 pub mod Allowed
 pub mod Events
+pub mod Tellings
+pub mod Waited

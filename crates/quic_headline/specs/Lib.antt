@@ -21,4 +21,7 @@ pub mod Unread
 pub mod Undone
 pub mod Credit
 pub mod Allowed
+pub mod Queue
 pub mod Events
+pub mod Telling
+pub mod Waited

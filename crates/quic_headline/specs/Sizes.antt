@@ -6,16 +6,14 @@ use Rattle.quic_wire.specs.Value.{ping, padding}
 use Rattle.quic_congestion.specs.Congestion as congestion
 use Rattle.quic_machine.specs.declared.answers.State.TheVariants as states
 use Rattle.quic_machine.specs.declared.run.View.{View}
-use Rattle.quic_machine.specs.Parts.{current_mtu}
 use Rattle.quic_machine.specs.Machine.{World, end_at}
 use Rattle.quic_headline.specs.Runs.{Run, In, state_in, AreServed}
 use Rattle.quic_headline.specs.Observer.{Sent, acked_until}
-use Rattle.quic_headline.specs.Polls.{flying, mtu_in, search_at, GaveOne, IsHistory, IsSizeProbe}
+use Rattle.quic_headline.specs.Polls.{flying, mtu_in, seen_at, search_at, GaveOne, IsHistory, IsSizeProbe}
 
--- a datagram that an end gives has as many bytes as the answer says: at most the current size, or it is a probe of a size
+-- a datagram that an end gives has as many bytes as the answer says: at most the current size, as it is seen before, or it is a probe of a size
 abbrev pub DatagramsAreSized : Run → Type 0
-DatagramsAreSized r = (side : Side) (i now : ℕ) (w next : World) (gave : GaveOne r side i now w next)
-    → (gave.transmit.size ≡ gave.sent.size) × ((gave.sent.size ≤ current_mtu (end_at side w).path) ⊎ IsSizeProbe r side i w next gave.sent)
+DatagramsAreSized r = (side : Side) (i now : ℕ) (gave : GaveOne r side i now) → (gave.transmit.size ≡ gave.sent.size) × ((gave.sent.size ≤ (seen_at r side i).current_mtu) ⊎ IsSizeProbe r side i gave.sent)
 
 -- the size that a view shows is the last that the controller of its end was told of, or that with which the path began: so it is told each that changed
 abbrev pub SizeIsOfHistory : Run → Type 0

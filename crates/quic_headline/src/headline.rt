@@ -16,17 +16,20 @@ ghost use Rattle.quic_headline.specs.Causes.{NoBlame, NumberLimit, TooManyPieces
 ghost use Rattle.quic_headline.specs.Moments.{LossMoments, LossTimerQuiet, AckMoments};
 ghost use Rattle.quic_headline.specs.Isolated.{Isolated, IsolatedByAnswers, IsolatedByLists};
 ghost use Rattle.quic_headline.specs.Polls.{PollsSendWhatWaits, PollsSendMessages, PacerSetsItsTimer, AskingGoesWhereLet, ProbesPass, WindowIsOfHistory};
+ghost use Rattle.quic_headline.specs.Queue.{MessagesGo, MessagesGoInOrder};
 ghost use Rattle.quic_headline.specs.Rest.{DeliveredAtRest, NothingOwedAtRest};
 ghost use Rattle.quic_headline.specs.Unread.{BlockedOnlyForUnread};
 ghost use Rattle.quic_headline.specs.Undone.{NoneOpenedOnlyForUndone};
 ghost use Rattle.quic_headline.specs.Allowed.{ReadsAreAllowed, ReadsAreOver, WritesAreAllowed, ResetsAreAllowed};
 ghost use Rattle.quic_headline.specs.AcksDue.{AcksAreDue};
+ghost use Rattle.quic_headline.specs.Waited.{EachWaited};
 ghost use Rattle.quic_headline.specs.Events.{MessagesAreTold, OpeningsAreTold, ReadablesAreTold};
 ghost use Rattle.quic_headline.specs.Resets.{ResetsAreTold};
 ghost use Rattle.quic_headline.specs.Ids.{IdsAreNew, AcceptedWereOpened};
 ghost use Rattle.quic_headline.specs.Reasons.{ClosedHasAReason};
 ghost use Rattle.quic_headline.specs.Views.{ViewsTell};
 ghost use Rattle.quic_headline.specs.Sizes.{SizeIsOfHistory, SizesMove, DatagramsAreSized};
+ghost use Rattle.quic_headline.specs.Telling.{ControllersAreTold};
 ghost use Rattle.quic_machine.specs.Start.{AreStarted};
 ghost use Rattle.quic_headline.specs.Headline.{IsHonest, IsRun, OrderedPrefix, Slices, Once, EndAfterAll, BlockedOnlyWithoutBytes, AcceptsAll, FinishedMeansArrived, FinishedIsTold, AcknowledgedWereTaken, NamesWereTaken, OpensExactly, NewestOpens, LossTimersFollow, AckTimersFollow, NumbersRise};
 
@@ -280,28 +283,47 @@ pub fn polls_send_messages()
     ensures { (r : Run) (end : World) → IsHonest r → IsRun r end → PollsSendMessages r }
 {}
 
+/// So it is of the messages that wait by the run's lists alone: those that the end sent, in their
+/// order, less as many of the oldest as each datagram that it gave has; less those that were
+/// dropped for a later one whose call lets that be, the oldest first, until it fits in the buffer
+/// (RFC 9221, section 5.4); and less those that are longer than fits its datagrams, where a view
+/// shows that these have fewer bytes since.
+pub fn messages_go()
+    ensures { (r : Run) (end : World) → IsHonest r → IsRun r end → MessagesGo r }
+{}
+
+/// The messages of a datagram that a poll gives are the first of those that wait so, in their
+/// order, and all others wait behind the poll as before (RFC 9221, section 5).
+pub fn messages_go_in_order()
+    ensures { (r : Run) (end : World) → IsHonest r → IsRun r end → MessagesGoInOrder r }
+{}
+
 /// The timer of an open end's pacer is set only to the moment that the pacer named in the last
 /// poll.
 pub fn pacer_sets_its_timer()
     ensures { (r : Run) (end : World) → IsHonest r → IsRun r end → PacerSetsItsTimer r }
 {}
 
-/// Where no PTO probe waits, an ack-eliciting datagram goes only where the congestion window has
-/// room for one more beside those in flight, and the pacer names no later moment (RFC 9002,
-/// sections 7 and 7.7), or as an MTU probe where nothing waits: PING and PADDING alone, of the size
-/// that is looked for, where the window has room for the greatest one (RFC 8899, section 5.3).
+/// Where no PTO probe waits by the lists, an ack-eliciting datagram goes only where the congestion
+/// window, as the view before shows it, has room for one more beside those in flight, and the pacer
+/// names no later moment (RFC 9002, sections 7 and 7.7), or as an MTU probe where nothing waits:
+/// PING and PADDING alone, of the size that is looked for, where the window has room for the
+/// greatest one (RFC 8899, section 5.3).
 pub fn asking_goes_where_let()
     ensures { (r : Run) (end : World) → IsHonest r → IsRun r end → AskingGoesWhereLet r }
 {}
 
-/// A datagram has as many bytes as the answer says: at most the current size, or it is an MTU
-/// probe, and has exactly the size that is looked for (RFC 9000, section 14).
+/// A datagram has as many bytes as the answer says: at most the current size, as the view before
+/// shows it, or it is an MTU probe, and has exactly the size that is looked for (RFC 9000, section
+/// 14).
 pub fn datagrams_are_sized()
     ensures { (r : Run) (end : World) → IsHonest r → IsRun r end → DatagramsAreSized r }
 {}
 
-/// Where a PTO probe waits at an open end, a poll that leaves it open gives an ack-eliciting
-/// datagram, whatever window and pacer say, and one fewer waits (RFC 9002, sections 6.2.4 and 7.5).
+/// Where a PTO probe waits by the lists, a poll behind which the view shows its end open gives an
+/// ack-eliciting datagram, whatever window and pacer say, and one fewer waits (RFC 9002, section
+/// 7.5). Two more wait each time that the loss timer expires for no loss by time, and none once a
+/// datagram in flight is acknowledged (section 6.2.4).
 pub fn probes_pass()
     ensures { (r : Run) (end : World) → IsHonest r → IsRun r end → ProbesPass r }
 {}
@@ -310,6 +332,14 @@ pub fn probes_pass()
 /// shows once it was told what the calls up to there tell (RFC 9002, section 7).
 pub fn window_is_of_history()
     ensures { (r : Run) (end : World) → IsHonest r → IsRun r end → WindowIsOfHistory r }
+{}
+
+/// The window that a view shows is that which the end's controller, as it was when the run began,
+/// shows once it was told what the lists say: when which datagrams that ask went, were acknowledged
+/// and were lost, how many bytes are in flight behind each ACK frame, and that congestion persists
+/// where all between two such that went far apart are lost (RFC 9002, sections 6, 7 and 7.6).
+pub fn controllers_are_told()
+    ensures { (r : Run) (end : World) → IsHonest r → IsRun r end → ControllersAreTold r }
 {}
 
 /// The size of datagrams that a view shows is the last that the end's controller was told of, or
@@ -397,6 +427,16 @@ pub fn resets_are_allowed()
 /// or a timeout told that 25 ms have passed since one came (RFC 9000, sections 13.2.1 and 13.2.2).
 pub fn acks_are_due()
     ensures { (r : Run) (end : World) → IsHonest r → IsRun r end → AcksAreDue r }
+{}
+
+/// Each datagram that a poll gives carries something that waited: it is an MTU probe, or a PTO
+/// probe waited; or it isn't ack-eliciting, and has an ACK frame, and since the last one a packet
+/// came that is ack-eliciting or bore the mark CE, or more than ten that aren't ack-eliciting; or
+/// it is, and each PING in it was asked for since one went, each STREAM frame brings a byte or an
+/// end, and no byte that was acknowledged in flight, and MAX_DATA, MAX_STREAMS and DATA_BLOCKED go
+/// once behind what made them wait (RFC 9000, sections 12.2, 13.2 and 13.3).
+pub fn each_waited()
+    ensures { (r : Run) (end : World) → IsHonest r → IsRun r end → EachWaited r }
 {}
 
 /// Where the application asks what is told next and nothing is, while messages wait to be received,

@@ -1,24 +1,39 @@
--- Calls that are answered that their stream is closed, where that is so and where it isn't.
-use Rattle.std.proofs.Common.{◌≡◌, [], ◌∷◌, take, true, false, Ok, Err, refl, inl, inr}
+-- Calls that are answered that their stream is closed, where that is so and where it isn't; and
+-- messages that wait by the lists.
+use Rattle.std.proofs.Common.{◌≡◌, [], ◌∷◌, take, true, false, Ok, Err, refl, sym, subst, inl, inr, List, None, lit<}
+use Rattle.std.specs.Option.{IsSome}
 use Rattle.std.proofs.lemmas.Bool.{eq-eqb}
-use Rattle.quic_wire_core.specs.declared.stream_id.Side.TheVariants.{Client}
+use Rattle.quic_wire_core.specs.declared.stream_id.Side.{Side}
+use Rattle.quic_wire_core.specs.declared.stream_id.Side.TheVariants.{Client, Server}
 use Rattle.quic_streams_parts.specs.declared.answers.ReadableError.TheVariants as readable_errors
 use Rattle.quic_streams_parts.specs.declared.answers.UpdateError.TheVariants as update_errors
 use Rattle.quic_streams_parts.specs.declared.answers.FinishError.TheVariants as finish_errors
 use Rattle.quic_machine.specs.declared.run.ReadCall.{ReadCall}
 use Rattle.quic_machine.specs.declared.run.Call.TheVariants as calls
 use Rattle.quic_machine.specs.declared.run.Answer.TheVariants as answers
-use Rattle.quic_machine.specs.Machine.{World, IsStep}
-use Rattle.quic_headline.specs.Runs.{Run, until}
-use Rattle.quic_headline.specs.Headline.{IsHonest}
+use Rattle.quic_machine.specs.Machine.{World, IsStep, view_of}
+use Rattle.quic_headline.specs.Runs.{Run, In, until, Packet, reset}
+use Rattle.quic_headline.specs.Headline.{IsHonest, IsRun, AllArrived}
+use Rattle.quic_headline.specs.Observer.{took}
 use Rattle.quic_headline.specs.Undone.{IsSentOff}
 use Rattle.quic_headline.specs.Allowed.{IsReadOff, ReadsAreAllowed, ReadsAreOver, WritesAreAllowed, ResetsAreAllowed}
+use Rattle.quic_headline.specs.Queue.{waiting_messages, MessagesGo}
 use Rattle.quic_worked.specs.Worked.{ran, worked_policies, started, ReadsBy, once_opened}
 use Rattle.quic_worked.specs.Broken.{IsNoRun}
-use Rattle.quic_worked.specs.Allowed.{opened_then, stops_stream, stopped_twice, stopped_again, finished_twice}
-use Rattle.quic_worked.proofs.OwnIds.{honest}
+use Rattle.quic_worked.specs.Messages.{ping_message}
+use Rattle.quic_worked.specs.Held.{once_held}
+use Rattle.quic_worked.specs.Faults.{both_open, silent_message, message_waits}
+use Rattle.quic_worked.specs.Allowed.{opened_then, stops_stream, stopped_twice, stopped_again, finished_twice, reset_twice, reset_closed, reset_late, late_end}
+use Rattle.quic_worked.proofs.OwnIds.{honest, AreOwn, own_ids}
+use Rattle.quic_worked.specs.Acknowledged.{client_acked}
+use Rattle.quic_worked.specs.Paired.{resets_with}
+use Rattle.quic_worked.specs.Rested.{once_rested, still_view, hello_packet}
+use Rattle.quic_worked.proofs.Codes.{AllSmall, small_codes}
 use Rattle.quic_worked.proofs.BrokenRuns.{IsRefused, stops, behind, read_of}
+use Rattle.quic_worked.proofs.WorkedKeys.{are_keys}
 use Rattle.quic_worked.proofs.WorkedRun.{opens}
+use Rattle.quic_worked.proofs.FaultTimes.{kept_gave, kept_held}
+use Rattle.quic_worked.proofs.RestedRun.{rested_started, until_rested, end_in_hello, word_arrived}
 
 -- ---- where it is so
 
@@ -27,6 +42,59 @@ stopped_off = inr (inr (inr refl))
 
 pub finished_off : IsSentOff (until finished_twice Client 2) 0
 finished_off = inl refl
+
+pub twice_reset : IsSome (reset 0 (until reset_twice Client 2))
+twice_reset = refl
+
+-- ---- a reset of a stream of which all was acknowledged
+
+late_resets : IsStep worked_policies (once_rested 10) (resets_with 7) reset_closed late_end
+unfolding once_rested
+late_resets = record { answer = inl refl; end = refl; control = refl; others = refl; lacking = λ lacks. cc }
+
+late_seen : still_view ≡ view_of late_end
+unfolding once_rested
+late_seen = refl
+
+late_gave : reset_late.from_client ≡ late_end.from_client
+unfolding once_rested
+late_gave = refl
+
+late_answered : reset_late.from_server ≡ late_end.from_server
+unfolding once_rested
+late_answered = refl
+
+-- the code of the reset is the only one
+late_codes : AllSmall reset_late.events
+late_codes = (tt, (tt, (tt, (tt, (tt, (tt, (tt, (tt, (tt, (tt, (lit< tt, tt)))))))))))
+
+pub late_is_run : IsRun reset_late late_end
+late_is_run = record {
+  codes = small_codes reset_late.events late_codes;
+  follows = until_rested (resets_with 7 ∷ []) (reset_closed ∷ []) (still_view ∷ []) late_end (late_end, late_resets, late_seen, refl);
+  from_client = late_gave;
+  from_server = late_answered;
+}
+
+late_own : (side : Side) → AreOwn side [] reset_late.events reset_late.answers reset_late.views
+late_own Client = (tt, (inl refl, (inl refl, (tt, (tt, (tt, (tt, (tt, (tt, (tt, (inl refl, tt)))))))))))
+late_own Server = (tt, (tt, (tt, (tt, (tt, (tt, (tt, (tt, (tt, (tt, (tt, tt)))))))))))
+
+pub late_is_honest : IsHonest reset_late
+late_is_honest = record { start = rested_started; keys = are_keys; ids = own_ids reset_late late_own }
+
+late_took : took reset_late Server 10 ≡ hello_packet ∷ []
+unfolding client_acked
+late_took = refl
+
+all_in_hello : AllArrived (hello_packet ∷ []) 0 (until reset_late Client 10)
+all_in_hello = record { ended = refl; bytes = word_arrived; end = end_in_hello }
+
+pub late_arrived : AllArrived (took reset_late Server 10) 0 (until reset_late Client 10)
+late_arrived = subst (λ (ps : List Packet). AllArrived ps 0 (until reset_late Client 10)) (sym late_took) all_in_hello
+
+pub late_kept : reset 0 (until reset_late Client 10) ≡ None
+late_kept = refl
 
 -- ---- a read
 
@@ -127,21 +195,33 @@ finish_is_none = behind refl opens (stops _ _ _ _ _ finish_no)
 
 -- ---- a reset
 
-abbrev reset_closed : Run
-reset_closed = opened_then (calls.Reset 0 7) (answers.Reset (Err update_errors.ClosedStream))
+abbrev first_reset : Run
+first_reset = opened_then (calls.Reset 0 7) reset_closed
 
-pub reset_shows : ResetsAreAllowed reset_closed → ⊥
-reset_shows h = elim (h Client 1 0 (calls.Reset 0 7) (answers.Reset (Err update_errors.ClosedStream)) refl (record { event = refl; answer = refl }) refl) [
+pub reset_shows : ResetsAreAllowed first_reset → ⊥
+reset_shows h = elim (h Client 1 0 (calls.Reset 0 7) reset_closed refl (record { event = refl; answer = refl }) refl) [
   | inl some ↦ cc
   | inr rest ↦ elim rest [ inl all ↦ (let never : false ≡ true = all.ended in cc) | inr one_way ↦ cc ]
 ]
 
-pub reset_is_honest : IsHonest reset_closed
-reset_is_honest = honest reset_closed (record { start = refl; keys = refl; client = (tt, (inl refl, tt)); server = (tt, (tt, tt)) })
+pub reset_is_honest : IsHonest first_reset
+reset_is_honest = honest first_reset (record { start = refl; keys = refl; client = (tt, (inl refl, tt)); server = (tt, (tt, tt)) })
 
-reset_no : IsRefused once_opened (record { side = Client; call = calls.Reset 0 7 }) (answers.Reset (Err update_errors.ClosedStream))
+reset_no : IsRefused once_opened (record { side = Client; call = calls.Reset 0 7 }) reset_closed
 reset_no (inl e) = cc
 reset_no (inr e) = cc
 
-pub reset_is_none : IsNoRun reset_closed
+pub reset_is_none : IsNoRun first_reset
 reset_is_none = behind refl opens (stops _ _ _ _ _ reset_no)
+
+-- ---- messages
+
+pub one_waits : waiting_messages message_waits Client 5 ≡ ping_message ∷ []
+unfolding once_held
+one_waits = refl
+
+pub one_kept : waiting_messages silent_message Client 2 ≡ ping_message ∷ []
+one_kept = refl
+
+pub kept_shows : MessagesGo silent_message → ⊥
+kept_shows h = kept_held (h Client 1 0 ping_message both_open refl kept_gave (subst (In ping_message) (sym one_kept) (inl refl)))

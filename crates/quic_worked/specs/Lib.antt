@@ -14,7 +14,9 @@ pub mod Raised
 pub mod Timed
 pub mod Limited
 pub mod Measured
+pub mod Halved
 pub mod Probed
+pub mod Searched
 pub mod Messages
 pub mod Held
 pub mod Rested
@@ -28,3 +30,4 @@ pub mod Undone
 pub mod Told
 pub mod Bounded
 pub mod Allowed
+pub mod Repeated

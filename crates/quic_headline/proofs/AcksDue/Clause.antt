@@ -69,11 +69,11 @@ asking_acks = by_asking Acknowledges (record {
 })
 
 -- all goes, or an ACK alone
-abbrev Acks : Leaving → Type 0
+abbrev pub Acks : Leaving → Type 0
 Acks leaving = (leaving ≡ whole) ⊎ (leaving ≡ alone)
 
 -- where one is due, it goes: first, or alone
-draft_acks : (leaving : Leaving) (e : End) → Acks leaving → can_send (lazied e).acknowledging ≡ true → Acknowledges (draft_as leaving e)
+pub draft_acks : (leaving : Leaving) (e : End) → Acks leaving → can_send (lazied e).acknowledging ≡ true → Acknowledges (draft_as leaving e)
 draft_acks leaving e (inl all) due = subst (λ (l : Leaving). Acknowledges (draft_as l e)) (sym all) (subst (λ (b : Bool). Acknowledges (composed_if b (lazied e))) (sym due) (asking_acks (with_ack (no_frames (lazied e))) refl))
 draft_acks leaving e (inr only) due = subst (λ (l : Leaving). Acknowledges (draft_as l e)) (sym only) refl
 

@@ -33,6 +33,7 @@ use Rattle.quic_machine.specs.DraftLaws.{by_leave, MayLeave}
 use Rattle.quic_headline.specs.Runs.{Packet, Intake, In}
 use Rattle.quic_headline.specs.Observer.{Sent, Watch, first_watch, news}
 use Rattle.quic_headline.specs.Moments.{is_ack, acknowledges, arrivals_of, Debt, debt_told, first_debt}
+use Rattle.quic_headline.specs.Waited.{one_asks}
 use Rattle.quic_headline.proofs.Packets.Intakes.{folded_more}
 use Rattle.quic_headline.proofs.Packets.Delivered.{Arrivals, arrived}
 use Rattle.quic_headline.proofs.Packets.Watching.{none_new, one_new}
@@ -46,7 +47,7 @@ use Rattle.quic_headline.proofs.Places.Groups.{Calls, Group}
 use Rattle.quic_headline.proofs.Places.Coming.{by_coming}
 use Rattle.quic_headline.proofs.Timers.Still.{was_open}
 use Rattle.quic_headline.proofs.Timers.Watched.{Observed, watch_behind, went_behind, came_before, came_behind, watched_behind}
-use Rattle.quic_headline.proofs.Timers.AckMoments.{judged_none, one_asks, frames_timer, asks_same, debt_of, owed_watch}
+use Rattle.quic_headline.proofs.Timers.AckMoments.{judged_none, frames_timer, asks_same, debt_of, owed_watch}
 use Rattle.quic_headline.proofs.Rest.Awaited.{AckComes, IsAwaited, call_awaited, first_comes}
 use Rattle.quic_headline.proofs.Rest.Standing.{frames_acks, expired_acks, Stands, none_padded, parts, call_stands}
 use Rattle.quic_headline.proofs.Rest.Unanswered.{taken_counts}

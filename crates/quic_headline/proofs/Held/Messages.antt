@@ -45,7 +45,7 @@ abbrev pub longest : ℕ → ℕ
 longest size = size - own_id_length - 30
 
 -- how long a message may be at an end; where the peer takes none, none is longer than 0
-abbrev bound : Sizing → ℕ
+abbrev pub bound : Sizing → ℕ
 bound s = unwrap_or (max_size s.frame s.discovery.size (length s.id)) 0
 
 -- a longer one is refused
@@ -56,7 +56,7 @@ sized_bound (Some most) room m ok =
     le-leb (length m) most short
 
 -- it grows with the size
-bound_grows : (frame less more id : ℕ) → less ≤ more → unwrap_or (max_size frame less id) 0 ≤ unwrap_or (max_size frame more id) 0
+pub bound_grows : (frame less more id : ℕ) → less ≤ more → unwrap_or (max_size frame less id) 0 ≤ unwrap_or (max_size frame more id) 0
 bound_grows frame less more id l = go (frame == 0)
   where
     go : (b : Bool) → unwrap_or (if b then None else Some (min (frame - 9) (less - id - 30))) 0 ≤ unwrap_or (if b then None else Some (min (frame - 9) (more - id - 30))) 0
@@ -80,7 +80,7 @@ bound_short frame size id eight = go (frame == 0)
     go false = omega arith
 
 -- messages may be as long where they may be longer
-longer_taken : (less more : ℕ) (ms : List (List ℕ)) → less ≤ more → AreTaken (Some less) ms → AreTaken (Some more) ms
+pub longer_taken : (less more : ℕ) (ms : List (List ℕ)) → less ≤ more → AreTaken (Some less) ms → AreTaken (Some more) ms
 longer_taken less more [] l t = t
 longer_taken less more (m ∷ ms) l t = (le-leb (length m) more (let short = leb-true (length m) less t.0 in omega arith), longer_taken less more ms l t.1)
 

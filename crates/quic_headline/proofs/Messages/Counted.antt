@@ -10,6 +10,7 @@ use Rattle.quic_messages.specs.declared.limits.DatagramLimits.{DatagramLimits}
 use Rattle.quic_messages.specs.Messages.{Messages, bytes_of, oldest, left_for, with_message, after_received}
 use Rattle.quic_messages.specs.Sending.{send_answer, after_send}
 use Rattle.quic_messages.specs.History.{times}
+pub use Rattle.quic_headline.specs.Queue.{messages_in}
 use Rattle.quic_headline.specs.Runs.{In, is_again}
 use Rattle.quic_headline.specs.Observer.{Sent}
 use Rattle.std.specs.List.{filter}
@@ -108,12 +109,6 @@ sent_leaves limits makes_room x s = go (is_ok (send_answer limits makes_room x s
 
 -- ---- frames
 
--- the messages of DATAGRAM frames among frames
-abbrev pub messages_in : List FrameValue → List (List ℕ)
-messages_in [] = []
-messages_in (datagram m ∷ fs) = m ∷ messages_in fs
-messages_in (f ∷ fs) = messages_in fs
-
 -- those of frames, and of others behind them
 pub messages_append : (fs gs : List FrameValue) → messages_in (fs ++ gs) ≡ messages_in fs ++ messages_in gs
 messages_append [] gs = refl
@@ -121,7 +116,7 @@ messages_append (datagram m ∷ fs) gs = ap (λ (ms : List (List ℕ)). m ∷ ms
 messages_append (f ∷ fs) gs = messages_append fs gs
 
 -- PADDING has none
-padding_none : (count : ℕ) → messages_in (replicate count padding) ≡ []
+pub padding_none : (count : ℕ) → messages_in (replicate count padding) ≡ []
 padding_none zero = refl
 padding_none (suc count) = padding_none count
 

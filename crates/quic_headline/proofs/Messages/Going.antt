@@ -33,7 +33,7 @@ use Rattle.quic_headline.proofs.Packets.Probes.{may_leave}
 -- ---- what a poll gives
 
 -- a frame of control has no message
-control_none : (f : FrameValue) → IsControl f → messages_in (f ∷ []) ≡ []
+pub control_none : (f : FrameValue) → IsControl f → messages_in (f ∷ []) ≡ []
 control_none (datagram m) is = absurd is
 control_none f is = refl
 

@@ -109,7 +109,7 @@ unsized_count b room e = go (writes_length b room) refl e
         omega arith
 
 -- how many bytes go
-bytes_count : (h : SendHalf) (id room : ℕ) → HasFrame h room → length (frame_of id h room).bytes ≡ sent_end h.buffer room - next_start h.buffer
+pub bytes_count : (h : SendHalf) (id room : ℕ) → HasFrame h room → length (frame_of id h room).bytes ≡ sent_end h.buffer room - next_start h.buffer
 bytes_count h id room f =
     let from : ℕ = next_start h.buffer - h.buffer.base in
     let to : ℕ = sent_end h.buffer room - h.buffer.base in

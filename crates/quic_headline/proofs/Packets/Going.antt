@@ -119,7 +119,7 @@ first_goes (suc n) fair most t id h some room first found counts =
     rw (fits, first, found, counts) (halves_more n fair most (frame_sent fair most t id h) (omega arith))
 
 -- a draft has a frame
-abbrev HasFrames : Draft → Type 0
+abbrev pub HasFrames : Draft → Type 0
 HasFrames d = 0 < length d.frames
 
 -- so it is where one more goes
@@ -295,7 +295,7 @@ module _ (K : Streams → Type 0) (k : Spelling K) (c : Bringing K) where
       kinds_go (frame_room d.end) control_kinds (control.no_frames (length d.bytes) d.end.streams d.end.waiting.frames nothing_waits) kinds_apart (record { streams = i; room = room }) (any_waits (streams_at d.end) i waits)
 
   -- where something waits that asks, a frame goes
-  asking_goes : (e : End) → 1159 ≤ frame_room e → K (streams_at e) → asks_to_go e ≡ true → HasFrames (with_asking (no_frames e))
+  pub asking_goes : (e : End) → 1159 ≤ frame_room e → K (streams_at e) → asks_to_go e ≡ true → HasFrames (with_asking (no_frames e))
   asking_goes e room i asks = pinged e.waiting.ping asks
     where
       -- messages and frames of streams go behind others

@@ -51,7 +51,7 @@ sight_first x y = record { left = λ rest whole. sym whole; own = refl; watched 
     e = new_as x y
 
     first : Waits (terms_of e) x.making.moment (no_flight e.transport.initial_rtt) (held e)
-    first = record { tells = record { terms = refl; clock = refl; named = refl; waits = tt; asked = refl; rtt = refl }; loss_time = refl; expiries = refl }
+    first = record { tells = record { terms = refl; clock = refl; named = refl; waits = tt; asked = refl; rtt = refl }; loss_time = refl; expiries = refl; probes = refl }
 
 -- ---- what a poll gives
 

@@ -88,7 +88,7 @@ watched_intake l (t ∷ told) w =
     ∙ ap (λ (i : Intake). folded (and_told l.own l.peer_gave) told i) (given_intake (gave t.answer) l (timed_with l t w) ∙ ap (λ (v : Watch). v.intake) (moment_leaves (is_timely t.state t.call) l.terms (came_with l t w)))
 
 -- between an intake and itself, no packet opened
-none_opened : (i : Intake) → has_opened i i ≡ false
+pub none_opened : (i : Intake) → has_opened i i ≡ false
 none_opened i = le-ltb (length i.opened) (length i.opened) (omega arith)
 
 -- and none was taken
@@ -96,7 +96,7 @@ pub none_new : (i : Intake) → news i i ≡ []
 none_new i = let none : length i.took - length i.took ≡ 0 = omega arith in ap (λ (n : ℕ). take n i.took) none
 
 -- where one packet more was taken, one opened
-one_opened : (i : Intake) (n : ℕ) (frames : List FrameValue) → has_opened i (with_taken i n frames) ≡ true
+pub one_opened : (i : Intake) (n : ℕ) (frames : List FrameValue) → has_opened i (with_taken i n frames) ≡ true
 one_opened i n frames = lt-ltb (length i.opened) (length (n ∷ i.opened)) (omega arith)
 
 -- and it alone was taken
@@ -354,7 +354,7 @@ expired_path true e = go e.tracking.loss_time
     go (Some moment) = ap (λ (h : Held). h.generation) (detected_held e)
 
 -- the observer says with the end whether its timer of losses expires
-timer_expires : (t : Terms) (w : Watch) (e : End) (now : ℕ) → OpenStands e → Waits t w.clock w.flight (held e) → has_come e.timers.loss_detection (max e.closing.clock now) ≡ is_past (loss_due t w.flight) (max w.clock now)
+pub timer_expires : (t : Terms) (w : Watch) (e : End) (now : ℕ) → OpenStands e → Waits t w.clock w.flight (held e) → has_come e.timers.loss_detection (max e.closing.clock now) ≡ is_past (loss_due t w.flight) (max w.clock now)
 timer_expires t w e now s i =
     past_same e.timers.loss_detection (max e.closing.clock now)
     ∙ ap (λ (o : Option ℕ). is_past o (max e.closing.clock now)) (timer_is t w.clock w.flight e s i)
@@ -488,6 +488,7 @@ leaves_watched t w e f l i = record {
         };
         loss_time = before.loss_time ∙ ap (λ (x : Tracking). x.loss_time) (sym l.tracking);
         expiries = before.expiries ∙ ap (λ (x : Tracking). min x.timeouts 16) (sym l.tracking);
+        probes = before.probes ∙ ap (λ (x : Tracking). x.probes) (sym l.tracking);
       };
 }
 

@@ -23,7 +23,7 @@ use Rattle.quic_machine.specs.Policy.{Policy}
 use Rattle.quic_machine.specs.End.{End}
 use Rattle.quic_machine.specs.Poll.{Draft, Polled, polled, draft_as, draft_of, Leaving, Ready}
 use Rattle.quic_machine.specs.PollCases.{frames_padded, by_poll, at_poll}
-use Rattle.quic_machine.specs.DraftLaws.{by_leave, MayLeave}
+use Rattle.quic_machine.specs.DraftLaws.{Writing, by_leave, MayLeave}
 use Rattle.quic_machine.specs.Machine.{gave}
 use Rattle.quic_headline.specs.Runs.{In}
 use Rattle.quic_headline.specs.Observer.{Sent}
@@ -116,12 +116,12 @@ module _ (arrived : ℕ → ℕ → Type 0) (end_arrived : ℕ → Type 0) (n : 
   holds_less k l s more i = let t : Tells = telling n (is_reset w) s in (i.0, settles_follow k l t t more s (record { times = λ id. refl; reset = λ id. refl }) i.1)
 
   module _ (K : List FrameValue → Known) (g : GoesKnown K) where
-    abbrev Drafts : Draft → Type 0
+    abbrev pub Drafts : Draft → Type 0
     Drafts d = Settling arrived end_arrived (K d.frames) n w d.end.streams
 
     -- whichever frames go
-    pub draft_settles : (leaving : Leaving) (e : End) → MayLeave leaving e → Settling arrived end_arrived (K []) n w e.streams → Drafts (draft_as leaving e)
-    draft_settles leaving e alone i = by_leave Drafts (record {
+    pub drafts_write : Writing Drafts
+    drafts_write = record {
       ack = λ d filled may x. holds_less (K d.frames) (K (d.frames ++ _ ∷ [])) d.end.streams (g.apart d.frames _ tt) x;
       ping = λ d x. holds_less (K d.frames) (K (d.frames ++ _ ∷ [])) d.end.streams (g.apart d.frames _ tt) x;
       probes = λ f size x. holds_less (K []) (K ([] ++ _ ∷ [])) f.streams (g.apart [] _ tt) x;
@@ -139,7 +139,10 @@ module _ (arrived : ℕ → ℕ → Type 0) (end_arrived : ℕ → Type 0) (n : 
             (finished_words arrived end_arrived).sends d.end.transport.send_fairness w s id h room found x.0,
             settles_sent (K d.frames) (K (d.frames ++ stream (frame_of id h room) ∷ [])) (telling n (is_reset w) s) s d.end.transport.send_fairness id h room found lawful (g.stream d.frames (frame_of id h room)) x.1,
           );
-    }) leaving e alone i
+    }
+
+    pub draft_settles : (leaving : Leaving) (e : End) → MayLeave leaving e → Settling arrived end_arrived (K []) n w e.streams → Drafts (draft_as leaving e)
+    draft_settles leaving e alone i = by_leave Drafts drafts_write leaving e alone i
 
 -- ---- what a poll gives
 

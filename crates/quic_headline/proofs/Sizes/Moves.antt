@@ -54,17 +54,17 @@ use Rattle.quic_headline.proofs.Sizes.Moving.{HasMoved, Moves, moving_flies}
 -- ---- a place of a run
 
 -- What a run did at a place.
-record Did (events : List RunEvent) (answers : List Answer) (i : ℕ) : Type 0 where
-  event : RunEvent
-  answer : Answer
-  at_event : slice_get events i ≡ Some event
-  at_answer : slice_get answers i ≡ Some answer
+pub record Did (events : List RunEvent) (answers : List Answer) (i : ℕ) : Type 0 where
+  pub event : RunEvent
+  pub answer : Answer
+  pub at_event : slice_get events i ≡ Some event
+  pub at_answer : slice_get answers i ≡ Some answer
 
 none_there : {X : Type 0} (x : X) → ◌≡◌ {A = Option X} None (Some x) → ⊥
 none_there x is = cc
 
 -- Where there is a view, something was done and answered.
-did_there : (i : ℕ) (k : Policies) (w end : World) (events : List RunEvent) (answers : List Answer) (views : List View) (v : View) → Follows k w events answers views end → slice_get views i ≡ Some v → Did events answers i
+pub did_there : (i : ℕ) (k : Policies) (w end : World) (events : List RunEvent) (answers : List Answer) (views : List View) (v : View) → Follows k w events answers views end → slice_get views i ≡ Some v → Did events answers i
 did_there i k w end events answers [] v f there = absurd (none_there v there)
 did_there i k w end [] [] (u ∷ views) v f there = absurd f
 did_there i k w end (e ∷ events) [] (u ∷ views) v f there = absurd f
@@ -73,6 +73,14 @@ did_there zero k w end (e ∷ events) (a ∷ answers) (u ∷ views) v f there = 
 did_there (suc i) k w end (e ∷ events) (a ∷ answers) (u ∷ views) v f there =
     let rest = did_there i k f.0 end events answers views v f.3 there in
     record { event = rest.event; answer = rest.answer; at_event = rest.at_event; at_answer = rest.at_answer }
+
+-- at an open end the size hasn't moved yet, and what is in flight was given
+pub moves_first : (x y : Party) → Sight x y → KnowsSearch x y → Unnamed x y → x.end.closing.state ≡ states.Open
+    → let f = (watch_of x y).flight in Moves f.flying x.made.transport.min_mtu x.end.path.discovery.size f.flying f.acked x.end
+moves_first x y sight search quiet opened = record { inside = λ s among. among; sized = search.sized; floor = search.floor; probes = λ s among size is. (search.probe opened).probes s (own s among) size is; moved = inl refl }
+  where
+    own : (s : Sent) → In s (watch_of x y).flight.flying → In s x.sents
+    own s among = subst (λ (ss : List Sent). In s ss) sight.own (quiet.quiet.own s among)
 
 -- ---- calls that take no packet
 
@@ -143,14 +151,8 @@ module _ (G : Way) (g : Group Nothing G) (packets : (x y : Party) → G x y → 
     abbrev pub flew : List Sent
     flew = seen.flight.flying
 
-    -- what was in flight was given
-    own : (s : Sent) → In s flew → In s x.sents
-    own s among = subst (λ (ss : List Sent). In s ss) (sight x y h.gives).own ((quiet x y h.gives).quiet.own s among)
-
     begins : Moves flew least x.end.path.discovery.size flew seen.flight.acked x.end
-    begins =
-        let k = search x y h.gives in
-        record { inside = λ s among. among; sized = k.sized; floor = k.floor; probes = λ s among size is. (k.probe opened).probes s (own s among) size is; moved = inl refl }
+    begins = moves_first x y (sight x y h.gives) (search x y h.gives) (quiet x y h.gives) opened
 
     -- of the end, once this came
     abbrev After : End → Intake → Type 0

@@ -20,7 +20,8 @@ use Rattle.quic_headline.proofs.Packets.Flying.{Loses, Flies}
 use Rattle.quic_headline.proofs.Packets.Sizes.{Sizing, sized_lost, carried_same}
 use Rattle.quic_headline.proofs.Places.Told.{in_left, in_right}
 use Rattle.quic_headline.proofs.Sizes.Search.{Fewer, IsShut, Falls, acked_fewer, acked_least, acked_size, lost_fewer, lost_least_stays, lost_falls}
-use Rattle.quic_headline.proofs.Sizes.Probed.{IsPinged, Probes}
+use Rattle.quic_headline.specs.Telling.{IsPinged}
+use Rattle.quic_headline.proofs.Sizes.Probed.{Probes}
 
 -- One of these was acknowledged: PING and zeros alone, of this size.
 pub record CameBy (flew acked : List Sent) (size : ℕ) : Type 0 where

@@ -1,6 +1,5 @@
 -- The probe that is open at an end was sent as PING and zeros alone, of the size that datagrams have once it is acknowledged.
-use Rattle.std.proofs.Common.{◌≡◌, ◌⊎◌, ℕ, ◌<◌, Bool, true, false, List, [], ◌∷◌, ◌++◌, replicate, Option, Some, None, inl, inr, refl, sym, ap, ◌∙◌, subst, arith, append-nil}
-use Rattle.quic_wire.specs.Value.{ping, padding}
+use Rattle.std.proofs.Common.{◌≡◌, ◌⊎◌, ℕ, ◌<◌, Bool, true, false, List, [], ◌∷◌, ◌++◌, Option, Some, None, inl, inr, refl, sym, ap, ◌∙◌, subst, arith, append-nil}
 use Rattle.quic_config.specs.Configs.{SearchSettings}
 use Rattle.quic_config.specs.Transport.{TransportSettings, transport_of, first_mtu}
 use Rattle.quic_config.specs.declared.mtu_discovery.TheConstants.{MAX_UDP_PAYLOAD}
@@ -27,6 +26,7 @@ use Rattle.quic_machine.specs.CallCases.{is_poll, by_plain_call}
 use Rattle.quic_machine.specs.PollCases.{ready_at, draft_at, frames_padded, gate_leaves, probe_leaves, ready_leaves, composes, may_leave_at, by_poll_to}
 use Rattle.quic_headline.specs.Runs.{In}
 use Rattle.quic_headline.specs.Observer.{Sent}
+use Rattle.quic_headline.specs.Telling.{IsPinged}
 use Rattle.quic_headline.proofs.Packets.Growth.{in_more}
 use Rattle.quic_headline.proofs.Packets.Given.{allocated_near}
 use Rattle.quic_headline.proofs.Packets.Probes.{by_going}
@@ -41,11 +41,6 @@ use Rattle.quic_headline.proofs.Timers.Still.{was_open}
 use Rattle.quic_headline.proofs.Steps.Probes.{begun}
 use Rattle.quic_headline.proofs.Steps.Probing.{IsProbing, probe_goes, probe_size}
 use Rattle.quic_headline.proofs.Sizes.Search.{Fewer, acked_fewer, lost_fewer, polled_fewer, acked_least, lost_least_stays}
-
--- PING and zeros, alone
-pub record IsPinged (s : Sent) : Type 0 where
-  pub zeros : ℕ
-  pub alone : s.frames ≡ ping ∷ replicate zeros padding
 
 -- each of these that is the open probe is such, and has its size
 abbrev pub Probes : List Sent → Discovery → Type 0

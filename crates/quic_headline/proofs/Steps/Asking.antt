@@ -1,9 +1,12 @@
 -- What asks for an acknowledgement goes, where no probe of losses waits, only where the window has room for it and the pacer names no later moment (RFC 9002, sections 7 and
 -- 7.7), or as a probe of a size.
-use Rattle.std.proofs.Common.{◌≡◌, ℕ, ◌+◌, ◌<◌, [], Bool, true, false, Some, None, refl, sym, ap, ◌∙◌, subst, ◌⊎◌, inl, inr}
+use Rattle.std.proofs.Common.{◌≡◌, ℕ, ◌+◌, ◌<◌, [], Bool, true, false, Some, None, Ok, refl, sym, ap, ◌∙◌, subst, ◌⊎◌, inl, inr}
 use Rattle.std.specs.Prelude.{◌==◌}
 use Rattle.std.proofs.lemmas.Bool.{leb-false, eq-eqb, and_cases, or_cases, both_ways}
 use Rattle.quic_recovery_core.specs.PendingAcks.{can_send}
+use Rattle.quic_machine.specs.declared.run.Call.TheVariants as calls
+use Rattle.quic_machine.specs.declared.run.Answer.TheVariants as answers
+use Rattle.quic_machine.specs.declared.run.EndView.{EndView}
 use Rattle.quic_machine.specs.Parts.{current_mtu}
 use Rattle.quic_machine.specs.End.{End, with_window}
 use Rattle.quic_machine.specs.Control.{bytes_in_flight, paced_until, pacer_asked, with_pacing_timer, Gated, lets, holds}
@@ -12,14 +15,15 @@ use Rattle.quic_machine.specs.Machine.{World, end_at, control_at}
 use Rattle.quic_machine.specs.DraftLaws.{lazy_due}
 use Rattle.quic_machine.specs.PollCases.{ready_at, draft_at, by_gate, by_leaves}
 use Rattle.quic_headline.specs.Runs.{Run}
-use Rattle.quic_headline.specs.Observer.{Sent, asks_of}
+use Rattle.quic_headline.specs.Observer.{Sent, asks_of, watch}
 use Rattle.quic_headline.specs.Headline.{IsHonest, IsRun}
-use Rattle.quic_headline.specs.Polls.{pacer_names, GaveAsking, AskingGoesWhereLet}
+use Rattle.quic_headline.specs.Polls.{bytes_flying, pacer_names, IsMade, GaveAsking, AreLetting, AskingGoesWhereLet}
 use Rattle.quic_headline.proofs.Packets.Invariant.{Acks}
 use Rattle.quic_headline.proofs.Packets.Flying.{asking_padded}
 use Rattle.quic_headline.proofs.Packets.Group.{PacketsHold}
 use Rattle.quic_headline.proofs.Packets.Sight.{Sight}
 use Rattle.quic_headline.proofs.Places.Groups.{Way, Nothing, And, Group}
+use Rattle.quic_headline.proofs.Steps.Made.{one_behind, served_before, made_at}
 use Rattle.quic_headline.proofs.Steps.Probes.{begun}
 use Rattle.quic_headline.proofs.Steps.Idle.{mute_composed}
 use Rattle.quic_headline.proofs.Steps.Probing.{IsProbing, unprobed}
@@ -85,32 +89,41 @@ let_go e acks none = by_gate e (λ (g : Gated). Goes (leaves g)) (record {
 -- ---- the clause
 
 module _ (H : Way) (g : Group Nothing (And (And PacketsHold H) Sight)) (r : Run) (end : World) (honest : IsHonest r) (run : IsRun r end) where
-  module _ (side : Side) (i now : ℕ) (w next : World) (gave : GaveAsking r side i now w next) (none : (end_at side w).tracking.probes ≡ 0) where
+  module _ (side : Side) (i now : ℕ) (gave : GaveAsking r side i now) (w next : World) (m : IsMade r i side (calls.Poll now) (answers.Poll (Ok (Some gave.one.transmit))) w next) (none : (watch r side i).flight.probes ≡ 0) where
     abbrev e : End
     e = with_window (end_at side w) (control_at side w [])
 
     asks : asking (draft_at e now).frames ≡ true
-    asks = sym (asking_padded (draft_at e now).frames _) ∙ ap (λ (s : Sent). asks_of s) (probing.same H g r end honest run side i now w next gave.one) ∙ gave.asks
+    asks = sym (asking_padded (draft_at e now).frames _) ∙ ap (λ (s : Sent). asks_of s) (probing.same H g r end honest run side i now gave.one w next m) ∙ gave.asks
 
-    -- nothing changes for a probe of losses
+    -- the end has no probe of losses that waits, so that nothing changes for one
+    no_probe : e.tracking.probes ≡ 0
+    no_probe = sym (probing.probes H g r end honest run side i now gave.one w next m) ∙ none
+
     quiet : probed (begun e now) ≡ begun e now
-    quiet = unprobed (begun e now) none
+    quiet = unprobed (begun e now) no_probe
 
     acks : Acks e.acknowledging e.marks.came
-    acks = (probing.h H g r end honest run side i now w next gave.one).takes.0.0.acks
+    acks = (probing.h H g r end honest run side i now gave.one w next m).takes.0.0.acks
 
     free : IsLet (begun e now) ⊎ IsProbing (begun e now) (ready_at e now)
     free = subst (λ (z : End). IsLet z ⊎ IsProbing z (ready_at e now)) quiet
-        (let_go (probed (begun e now)) (subst (λ (z : End). Acks z.acknowledging z.marks.came) (sym quiet) (record { runs = acks.runs; small = acks.small; counts = acks.counts })) (ap (λ (z : End). z.tracking.probes) quiet ∙ none) (probing.gives H g r end honest run side i now w next gave.one).some asks)
+        (let_go (probed (begun e now)) (subst (λ (z : End). Acks z.acknowledging z.marks.came) (sym quiet) (record { runs = acks.runs; small = acks.small; counts = acks.counts })) (ap (λ (z : End). z.tracking.probes) quiet ∙ no_probe) (probing.gives H g r end honest run side i now gave.one w next m).some asks)
 
-    -- the pacer is asked by the end as it is
-    unpaced : paced_until (begun e now) ≡ None → pacer_names side w now ≡ None
-    unpaced is = ap (λ (z : End). paced_until z) quiet ∙ is
+    -- what lets the end give it, is seen before
+    lets_it : IsLet (begun e now) → AreLetting r side i now
+    lets_it is = record {
+      room = subst (λ (u : EndView). bytes_flying r side i + u.current_mtu < u.window) (sym (probing.seen H g r end honest run side i now gave.one w next m))
+          (subst (λ (n : ℕ). n + current_mtu (end_at side w).path < control_at side w []) (probing.flight H g r end honest run side i now gave.one w next m) is.room);
+      unpaced = λ v leads. subst (λ (x : World). pacer_names side x now ≡ None) (one_behind r i w v (served_before r.answers i gave.one.served) m.leads leads) (ap (λ (z : End). paced_until z) quiet ∙ is.unpaced);
+    }
 
   -- where no probe of losses waits, what asks goes only where the window has room for it beside what is in flight and the pacer names no later moment, or as a probe of a
   -- size
   pub asking_goes_where_let : AskingGoesWhereLet r
-  asking_goes_where_let side i now w next gave none = elim (free side i now w next gave none) [
-    | inl is ↦ inl (subst (λ (n : ℕ). n + current_mtu (end_at side w).path < control_at side w []) (probing.flight H g r end honest run side i now w next gave.one) is.room, unpaced side i now w next gave none is.unpaced)
-    | inr is ↦ inr (probing.is_probe H g r end honest run side i now w next gave.one is)
-  ]
+  asking_goes_where_let side i now gave none =
+      let at = made_at (And (And PacketsHold H) Sight) g r end honest run i side (calls.Poll now) (answers.Poll (Ok (Some gave.one.transmit))) gave.one.poll gave.one.served in
+      elim (free side i now gave at.before at.behind at.made none) [
+        | inl is ↦ inl (lets_it side i now gave at.before at.behind at.made none is)
+        | inr is ↦ inr (probing.is_probe H g r end honest run side i now gave.one at.before at.behind at.made is at.leads)
+      ]

@@ -17,9 +17,9 @@ use Rattle.quic_machine.specs.End.{End, with_window}
 use Rattle.quic_machine.specs.Control.{Control}
 use Rattle.quic_machine.specs.Machine.{World, Policies, IsLeft, IsStep, after_call, reads_window, gives, end_at, control_at, given_by, policy_at, changed, fails, Follows}
 use Rattle.quic_machine.specs.RunLaws.{one_world, one_run, as_many_views}
-use Rattle.quic_headline.specs.Runs.{Run, Told, given_of, told_by, told_at, until, state_in, state_behind, state_at, folded}
+use Rattle.quic_headline.specs.Runs.{Run, Told, given_of, told_by, told_at, until, state_in, state_behind, state_at, AreServed, LeadsTo, folded}
 use Rattle.quic_headline.specs.Observer.{Sent, Watch, first_watch, watch_told, watch, sents_until}
-use Rattle.quic_headline.specs.Headline.{IsHonest, IsRun, used, CodeIsSmall}
+use Rattle.quic_headline.specs.Headline.{IsHonest, IsRun, IsAt, used, CodeIsSmall}
 use Rattle.quic_headline.specs.Polls.{IsMade}
 use Rattle.quic_headline.proofs.Packets.Group.{PacketsHold}
 use Rattle.quic_headline.proofs.Packets.Sight.{Sight}
@@ -28,6 +28,7 @@ use Rattle.quic_headline.proofs.Places.Groups.{Way, Nothing, And, Calls, Group}
 use Rattle.quic_headline.proofs.Places.Moments.{Grown, grown, told_none}
 use Rattle.quic_headline.proofs.Places.Placed.{party_at, Placed, placed, first_left, watch_is}
 use Rattle.quic_headline.proofs.Timers.Watched.{Observed}
+use Rattle.quic_headline.proofs.Held.Behind.{last_step}
 
 -- ---- the answers of a run
 
@@ -121,7 +122,7 @@ reads_state control (calls.Poll now) e = refl
 reads_state control call e = refl
 
 -- what holds of an end, whichever window it read, holds where it is called
-reads_either : (P : End → Type 0) (control : Control) (call : Call) (e : End) → P e → P (with_window e (control [])) → P (reads_window control call e)
+pub reads_either : (P : End → Type 0) (control : Control) (call : Call) (e : End) → P e → P (with_window e (control [])) → P (reads_window control call e)
 reads_either P control (calls.Poll now) e bare shown = shown
 reads_either P control call e bare shown = bare
 
@@ -147,6 +148,17 @@ observed_poll H r i side now a w h = record {
   seen = h.seen;
   seen_behind = h.seen_behind;
 }
+
+-- The worlds before and behind a call.
+pub record MadeAt (r : Run) (i : ℕ) (side : Side) (call : Call) (a : Answer) : Type 0 where
+  pub before : World
+  pub behind : World
+  pub made : IsMade r i side call a before behind
+  pub leads : LeadsTo r (suc i) behind
+
+-- there is one world behind the first so many answers
+pub one_behind : (r : Run) (i : ℕ) (w v : World) → AreServed r i → LeadsTo r i w → LeadsTo r i v → w ≡ v
+one_behind r i w v served leads also = (one_run r.keys (take i r.answers) r.start (take i r.events) (take i r.views) (take i r.views) w v served leads also).1
 
 -- a run that goes on with an event and its answer
 record GoesOn (k : Policies) (w end : World) (event : RunEvent) (a : Answer) (events : List RunEvent) (answers : List Answer) : Type 0 where
@@ -184,7 +196,7 @@ module _ (G : Way) (g : Group Nothing G) (r : Run) (end : World) (honest : IsHon
       at = placed G g r end honest run side i before
 
       same : at.world ≡ w
-      same = (one_run r.keys (take i r.answers) r.start (take i r.events) (take i r.views) (take i r.views) at.world w before at.leads m.leads).1
+      same = one_behind r i at.world w before at.leads m.leads
 
       bare : Party
       bare = party_at r i w side at.sents
@@ -277,6 +289,13 @@ module _ (G : Way) (g : Group Nothing G) (r : Run) (end : World) (honest : IsHon
   -- so at each such poll
   pub poll_holds : (i : ℕ) (side : Side) (now : ℕ) (a : Answer) (w next : World) → IsMade r i side (calls.Poll now) a w next → PollHolds G r i side now a w
   poll_holds i side now a w next m = call_holds i side (calls.Poll now) a w next (λ id is. cc) tt m
+
+  -- a call that was answered and served is made between two worlds
+  pub made_at : (i : ℕ) (side : Side) (call : Call) (a : Answer) → IsAt r i side call a → AreServed r (suc i) → MadeAt r i side call a
+  made_at i side call a at served =
+      let behind = placed G g r end honest run side (suc i) served in
+      let last = last_step r.keys i r.start behind.world r.events r.answers r.views (record { side = side; call = call }) a at.event at.answer behind.leads in
+      record { before = last.before; behind = behind.world; made = record { at = at; leads = last.leads; step = last.step; served = served }; leads = behind.leads }
 
 -- what an end sent behind a poll is what it sent before, and what the poll gave
 pub sents_more : (r : Run) (i : ℕ) (side : Side) (now : ℕ) (a : Answer) (w : World) → PollHolds Observed r i side now a w → sents_until r side (suc i) ≡ sents_until r side i ++ sents_by (reads_window (control_at side w) (calls.Poll now) (end_at side w)) (calls.Poll now) a

@@ -1,5 +1,5 @@
 -- Where a probe waits, a poll that leaves its end open gives a datagram that asks for an acknowledgement (RFC 9002, sections 6.2.4 and 7.5).
-use Rattle.std.proofs.Common.{◌≡◌, ℕ, ◌+◌, ◌-◌, ◌<◌, ◌≤◌, ◌^◌, [], ◌∷◌, ◌++◌, length, Bool, true, false, Some, None, Ok, refl, sym, ap, ◌∙◌, subst, ◌⊎◌, inl, inr, arith}
+use Rattle.std.proofs.Common.{◌≡◌, ℕ, suc, ◌+◌, ◌-◌, ◌<◌, ◌≤◌, ◌^◌, [], ◌∷◌, ◌++◌, length, Bool, true, false, Some, None, Ok, refl, sym, ap, ◌∙◌, subst, ◌⊎◌, inl, inr, arith}
 use Rattle.std.specs.Prelude.{not, ◌||◌, ◌==◌}
 use Rattle.std.proofs.lemmas.Bool.{lt-ltb, or_left, or_right, and_right, and_parts, not-true, ne_eqb}
 use Rattle.std.proofs.lemmas.List.{length-append}
@@ -32,8 +32,8 @@ use Rattle.quic_machine.specs.Machine.{World, end_at, control_at, policy_at}
 use Rattle.quic_machine.specs.DraftLaws.{Writing, HasRoom, room_most, by_entries, by_messages, by_streams}
 use Rattle.quic_machine.specs.PollCases.{ready_at, frames_padded, frames_at, by_probed, composes}
 use Rattle.quic_headline.specs.Runs.{Run}
-use Rattle.quic_headline.specs.Headline.{IsHonest, IsRun}
-use Rattle.quic_headline.specs.Observer.{sents_until}
+use Rattle.quic_headline.specs.Headline.{IsHonest, IsRun, IsAt}
+use Rattle.quic_headline.specs.Observer.{Watch, watch, sents_until}
 use Rattle.quic_headline.specs.Polls.{IsMade, ProbesPass}
 use Rattle.quic_headline.proofs.Packets.Invariant.{CountsFit, Acks}
 use Rattle.quic_headline.proofs.Packets.Entries.{IsControl, control_of}
@@ -48,7 +48,9 @@ use Rattle.quic_headline.proofs.Places.Groups.{Way, Nothing, And, Group}
 use Rattle.quic_headline.proofs.Places.Placed.{party_at}
 use Rattle.quic_headline.proofs.Places.Steps.{poll_answer}
 use Rattle.quic_headline.proofs.Places.Together.{Spells}
-use Rattle.quic_headline.proofs.Steps.Made.{made_served, made_end, polling, PollHolds, poll_holds, observed_poll, sents_more}
+use Rattle.quic_headline.proofs.Timers.Watched.{open_behind}
+use Rattle.quic_headline.proofs.Timers.Still.{was_open}
+use Rattle.quic_headline.proofs.Steps.Made.{made_served, made_end, MadeAt, made_at, polling, PollHolds, poll_holds, observed_poll, sents_more}
 use Rattle.quic_headline.proofs.Steps.Moved.{has_probe, probe_has}
 
 -- ---- drafts that ask
@@ -58,11 +60,11 @@ abbrev pub Asks : Draft → Type 0
 Asks d = asking d.frames ≡ true
 
 -- it does still where a frame goes behind
-still_asks : (d : Draft) (f : FrameValue) → Asks d → asking (d.frames ++ f ∷ []) ≡ true
+pub still_asks : (d : Draft) (f : FrameValue) → Asks d → asking (d.frames ++ f ∷ []) ≡ true
 still_asks d f is = list_any-append asks d.frames (f ∷ []) ∙ or_left (asking d.frames) (asking (f ∷ [])) is
 
 -- or where that frame asks
-last_asks : (d : Draft) (f : FrameValue) → asks f ≡ true → asking (d.frames ++ f ∷ []) ≡ true
+pub last_asks : (d : Draft) (f : FrameValue) → asks f ≡ true → asking (d.frames ++ f ∷ []) ≡ true
 last_asks d f is = list_any-append asks d.frames (f ∷ []) ∙ or_right (asking d.frames) (asking (f ∷ [])) (or_left (asks f) false is)
 
 -- whichever frames go behind
@@ -78,7 +80,7 @@ asks_stay = record {
 }
 
 -- a frame of control asks
-control_asks : (f : FrameValue) → IsControl f → asks f ≡ true
+pub control_asks : (f : FrameValue) → IsControl f → asks f ≡ true
 control_asks padding is = absurd is
 control_asks (ack a) is = absurd is
 control_asks (connection_close c) is = absurd is
@@ -137,6 +139,34 @@ one_fewer t n p is = ap (λ (b : Bool). (asking_sent b n p.time_sent (record t {
 abbrev pub begun : End → ℕ → End
 begun e now = with_pacing_timer (with_closing e (ticked e.closing now)) None
 
+module _ (e : End) (now : ℕ) (probes : 0 < e.tracking.probes) where
+  -- the end where something waits for each probe
+  abbrev readied : End
+  readied = probed (begun e now)
+
+  readied_has : has_probe readied ≡ true
+  readied_has = probe_has (begun e now) (lt-ltb 0 e.tracking.probes probes)
+
+  -- as many probes wait
+  readied_probes : readied.tracking.probes ≡ e.tracking.probes
+  readied_probes = by_probed (begun e now) (λ (z : End). z.tracking.probes ≡ e.tracking.probes) refl refl (λ q probes is. refl)
+
+  readied_waits : waits readied ≡ true
+  readied_waits =
+      or_right (can_send readied.acknowledging) (asks_to_go readied) (asks_more readied.waiting.ping (not (is_empty readied.waiting.frames readied.streams)) (message_waits readied || can_send_stream_data readied.streams) readied_has)
+    where
+      asks_more : (a b d : Bool) → (a || b) ≡ true → (a || (b || d)) ≡ true
+      asks_more true b d is = refl
+      asks_more false b d is = or_left b d is
+
+  -- window and pacer aren't asked
+  ungated : gated readied ≡ lets readied
+  ungated = ap (λ (b : Bool). gated_if b readied) (and_right (asks_to_go readied) (readied.tracking.probes == 0) (ne_eqb readied.tracking.probes 0 (λ none. (let same = readied_probes in omega arith))))
+
+  -- nor is the search for a size: all goes that waits
+  pub ready_whole : ready_at e now ≡ record { leaving = whole; end = readied }
+  ready_whole = ap (λ (g : Gated). leaves g) ungated ∙ ap (λ (b : Bool). free_if b readied) readied_waits
+
 -- What a poll gives where a probe waits: a datagram that asks, and one probe fewer waits.
 record GivesProbe (p : Policy) (e : End) (now : ℕ) : Type 0 where
   transmit : Transmit
@@ -148,10 +178,6 @@ module _ (K : Streams → Type 0) (k : Spelling K) (c : Bringing K) (p : Policy)
   -- the end where something waits for each probe
   abbrev x : End
   x = probed (begun e now)
-
-  -- as many probes wait
-  same_probes : x.tracking.probes ≡ e.tracking.probes
-  same_probes = by_probed (begun e now) (λ (z : End). z.tracking.probes ≡ e.tracking.probes) refl refl (λ q probes is. refl)
 
   -- what is to be acknowledged stays
   same_acks : x.acknowledging ≡ e.acknowledging
@@ -169,33 +195,17 @@ module _ (K : Streams → Type 0) (k : Spelling K) (c : Bringing K) (p : Policy)
   same_size : current_mtu x.path ≡ current_mtu e.path
   same_size = by_probed (begun e now) (λ (z : End). current_mtu z.path ≡ current_mtu e.path) refl refl (λ q probes is. refl)
 
-  -- something waits for them
-  something : has_probe x ≡ true
-  something = probe_has (begun e now) (lt-ltb 0 e.tracking.probes probes)
-
   -- all that waits goes of it
   abbrev all_goes : Ready
   all_goes = record { leaving = whole; end = x }
 
-  some : waits x ≡ true
-  some = or_right (can_send x.acknowledging) (asks_to_go x) (asks_more x.waiting.ping (not (is_empty x.waiting.frames x.streams)) (message_waits x || can_send_stream_data x.streams) something)
-    where
-      asks_more : (a b d : Bool) → (a || b) ≡ true → (a || (b || d)) ≡ true
-      asks_more true b d is = refl
-      asks_more false b d is = or_left b d is
-
-  -- window and pacer aren't asked
-  ungated : gated x ≡ lets x
-  ungated = ap (λ (b : Bool). gated_if b x) (and_right (asks_to_go x) (x.tracking.probes == 0) (ne_eqb x.tracking.probes 0 (λ none. (let same = same_probes in omega arith))))
-
-  -- nor is the search for a size
   let_so : ready_at e now ≡ all_goes
-  let_so = ap (λ (g : Gated). leaves g) ungated ∙ ap (λ (b : Bool). free_if b x) some
+  let_so = ready_whole e now probes
 
   -- which asks
   goes_asks : Asks (composed (lazied x))
   goes_asks = composed_asks K k c (lazied x) (let there = subst (λ (p : Pending). Acks p e.marks.came) (sym same_acks) acks in record { runs = there.runs; small = there.small; counts = subst CountsFit (sym same_came) there.counts })
-      (subst (λ (ids : Ids). length ids.active.id ≤ 20) (sym same_ids) short.0, subst (λ (n : ℕ). 1200 ≤ n) (sym same_size) short.1, subst (λ (n : ℕ). n < 2 ^ 16) (sym same_size) short.2) (subst (λ (g : Ready). K (streams_at g.end)) let_so streams) something
+      (subst (λ (ids : Ids). length ids.active.id ≤ 20) (sym same_ids) short.0, subst (λ (n : ℕ). 1200 ≤ n) (sym same_size) short.1, subst (λ (n : ℕ). n < 2 ^ 16) (sym same_size) short.2) (subst (λ (g : Ready). K (streams_at g.end)) let_so streams) (readied_has e now probes)
 
   -- and so do the frames of its datagram
   frames_ask : asking (frames_at e now) ≡ true
@@ -213,7 +223,7 @@ module _ (K : Streams → Type 0) (k : Spelling K) (c : Bringing K) (p : Policy)
       let d : Draft = composed (lazied x) in
       let tracking : d.end.tracking ≡ x.tracking = (composes whole x (λ alone. cc)).tracking in
       let there : d.end.tracking.probes ≡ x.tracking.probes = ap (λ (t : Tracking). t.probes) tracking in
-      let same = same_probes in
+      let same = readied_probes e now probes in
       by_going (λ (z : End). z.tracking.probes + 1 ≡ e.tracking.probes) p d (λ pacing. (let one = one_fewer d.end.tracking (number_of d.end) (packet_of d) goes_asks in omega arith))
 
   -- so a poll that leaves an open end open gives it
@@ -234,19 +244,32 @@ module _ (K : Streams → Type 0) (k : Spelling K) (c : Bringing K) (p : Policy)
 module _ (H : Way) (s : Spells H) (g : Group Nothing (And (And PacketsHold H) Sight)) (r : Run) (end : World) (honest : IsHonest r) (run : IsRun r end) where
   -- where a probe waits, a poll that leaves its end open gives a datagram that asks, and one probe fewer waits then
   pub probes_pass : ProbesPass r
-  probes_pass side i now a w next m opened still waits = (
+  probes_pass side i now a v served at there opened_behind waits = (
     record {
       one = record {
         transmit = gives.transmit;
-        made = subst (λ (b : Answer). IsMade r i side (calls.Poll now) b w next) said m;
+        poll = subst (λ (b : Answer). IsAt r i side (calls.Poll now) b) said at;
+        served = served;
         sent = sent_by e now;
         went = sents_more r i side now a w (observed_poll H r i side now a w h) ∙ ap (λ (b : Answer). sents_until r side i ++ sents_by e (calls.Poll now) b) said;
       };
       asks = gives.asks;
     },
-    ap (λ (z : End). z.tracking.probes + 1) left ∙ gives.fewer,
+    ap (λ (n : ℕ). n + 1) probes_behind ∙ gives.fewer ∙ sym probes_before,
   )
     where
+      called_there : MadeAt r i side (calls.Poll now) a
+      called_there = made_at (And (And PacketsHold H) Sight) g r end honest run i side (calls.Poll now) a at served
+
+      w : World
+      w = called_there.before
+
+      next : World
+      next = called_there.behind
+
+      m : IsMade r i side (calls.Poll now) a w next
+      m = called_there.made
+
       h : PollHolds (And (And PacketsHold H) Sight) r i side now a w
       h = poll_holds (And (And PacketsHold H) Sight) g r end honest run i side now a w next m
 
@@ -265,8 +288,22 @@ module _ (H : Way) (s : Spells H) (g : Group Nothing (And (And PacketsHold H) Si
       left : end_at side next ≡ (polled p e now).end
       left = made_end r i side (calls.Poll now) a w next m
 
+      -- it is open behind the poll, and was before
+      still : (polled p e now).end.closing.state ≡ states.Open
+      still = sym (ap (λ (z : End). z.closing.state) left) ∙ open_behind r next i v side called_there.leads there opened_behind
+
+      opened : e.closing.state ≡ states.Open
+      opened = was_open p e y.given (calls.Poll now) a still
+
+      -- the observer counts the probes that wait as the end does
+      probes_before : (watch r side i).flight.probes ≡ e.tracking.probes
+      probes_before = ap (λ (u : Watch). u.flight.probes) h.seen ∙ (h.gives.1.watched.flight opened).probes
+
+      probes_behind : (watch r side (suc i)).flight.probes ≡ (polled p e now).end.tracking.probes
+      probes_behind = ap (λ (u : Watch). u.flight.probes) h.seen_behind ∙ (h.behind.1.watched.flight still).probes
+
       gives : GivesProbe p e now
-      gives = gives_probe s.known s.spelling s.bringing p e now waits h.takes.0.0.acks (has_room x y h.gives.0.0 h.joined.y_long) (s.holds x y h.gives.0.0 h.gives.0.1 now) opened (sym (ap (λ (z : End). z.closing.state) left) ∙ still)
+      gives = gives_probe s.known s.spelling s.bringing p e now (subst (λ (n : ℕ). 0 < n) probes_before waits) h.takes.0.0.acks (has_room x y h.gives.0.0 h.joined.y_long) (s.holds x y h.gives.0.0 h.gives.0.1 now) opened still
 
       said : a ≡ answers.Poll (Ok (Some gives.transmit))
       said = poll_answer p e now a m.step.answer (made_served r i side (calls.Poll now) a w next m) ∙ ap answers.Poll gives.answer

@@ -18,6 +18,7 @@ use Rattle.quic_machine.specs.declared.answers.Transmit.{Transmit}
 use Rattle.quic_machine.specs.declared.run.Call.TheVariants as calls
 use Rattle.quic_machine.specs.declared.run.Answer.{Answer}
 use Rattle.quic_machine.specs.declared.run.Answer.TheVariants as answers
+use Rattle.quic_machine.specs.declared.run.EndView.{EndView}
 use Rattle.quic_machine.specs.Policy.{Policy}
 use Rattle.quic_machine.specs.Parts.{current_mtu}
 use Rattle.quic_machine.specs.Closing.{Closing, ticked}
@@ -28,19 +29,21 @@ use Rattle.quic_machine.specs.Poll.{waits, Polled, Draft, probing, asking, numbe
 use Rattle.quic_machine.specs.Machine.{World, end_at, control_at, given_by, policy_at}
 use Rattle.quic_machine.specs.DraftLaws.{HasRoom, width_few}
 use Rattle.quic_machine.specs.PollCases.{ready_at, draft_at, frames_padded, ready_leaves, may_leave_at, composes, by_gate, by_leaves, by_poll_to}
-use Rattle.quic_headline.specs.Runs.{Run}
+use Rattle.quic_headline.specs.Runs.{Run, LeadsTo}
 use Rattle.quic_headline.specs.Observer.{Sent, Watch, watch, sents_until}
 use Rattle.quic_headline.specs.Headline.{IsHonest, IsRun}
-use Rattle.quic_headline.specs.Polls.{bytes_flying, search_at, GaveOne, IsSizeProbe}
+use Rattle.quic_headline.specs.Polls.{bytes_flying, search_at, seen_of, seen_at, IsMade, GaveOne, IsSearched, IsSizeProbe}
 use Rattle.quic_headline.proofs.Packets.Probes.{by_going}
 use Rattle.quic_headline.proofs.Packets.Group.{PacketsHold, has_room}
 use Rattle.quic_headline.proofs.Packets.Sight.{Sight}
 use Rattle.quic_headline.proofs.Places.Parties.{sent_by, Party, watch_of, called}
 use Rattle.quic_headline.proofs.Places.Groups.{Way, Nothing, And, Group}
+use Rattle.quic_headline.proofs.Places.Moments.{last_seen}
 use Rattle.quic_headline.proofs.Places.Placed.{party_at}
 use Rattle.quic_headline.proofs.Places.Steps.{poll_answer}
-use Rattle.quic_headline.proofs.Held.Flight.{bytes_asking, bytes_of_end}
-use Rattle.quic_headline.proofs.Steps.Made.{made_served, made_end, polling, PollHolds, poll_holds, observed_poll, sents_more}
+use Rattle.quic_headline.specs.Telling.{bytes_asking}
+use Rattle.quic_headline.proofs.Held.Flight.{bytes_of_end}
+use Rattle.quic_headline.proofs.Steps.Made.{made_served, made_end, one_behind, served_before, polling, PollHolds, poll_holds, observed_poll, sents_more}
 use Rattle.quic_headline.proofs.Steps.Probes.{begun}
 use Rattle.quic_streams_state.specs.Waiting.{is_empty, can_send_stream_data}
 use Rattle.quic_headline.proofs.Steps.Moved.{probe_has}
@@ -163,12 +166,12 @@ probe_size size e room above =
 -- ---- what a poll gave
 
 module _ (H : Way) (g : Group Nothing (And (And PacketsHold H) Sight)) (r : Run) (end : World) (honest : IsHonest r) (run : IsRun r end) where
-  module _ (side : Side) (i now : ℕ) (w next : World) (gave : GaveOne r side i now w next) where
+  module _ (side : Side) (i now : ℕ) (gave : GaveOne r side i now) (w next : World) (m : IsMade r i side (calls.Poll now) (answers.Poll (Ok (Some gave.transmit))) w next) where
     abbrev pub answer : Answer
     answer = answers.Poll (Ok (Some gave.transmit))
 
     pub h : PollHolds (And (And PacketsHold H) Sight) r i side now answer w
-    h = poll_holds (And (And PacketsHold H) Sight) g r end honest run i side now answer w next gave.made
+    h = poll_holds (And (And PacketsHold H) Sight) g r end honest run i side now answer w next m
 
     abbrev pub x : Party
     x = polling r i w side h.sents
@@ -183,7 +186,7 @@ module _ (H : Way) (g : Group Nothing (And (And PacketsHold H) Sight)) (r : Run)
     e = with_window (end_at side w) (control_at side w [])
 
     pub said : answer ≡ answers.Poll (polled p e now).answer
-    said = poll_answer p e now answer gave.made.step.answer (made_served r i side (calls.Poll now) answer w next gave.made)
+    said = poll_answer p e now answer m.step.answer (made_served r i side (calls.Poll now) answer w next m)
 
     pub gives : IsGiving p e now gave.transmit (polled p e now).end
     gives = giving p e now gave.transmit (same_answer (Ok (Some gave.transmit)) (polled p e now).answer said)
@@ -201,10 +204,18 @@ module _ (H : Way) (g : Group Nothing (And (And PacketsHold H) Sight)) (r : Run)
         bytes_of_end e (watch_of x y).flight.flying h.gives.1.watched.path (h.gives.1.watched.flight gives.opened).tells.waits
         ∙ ap (λ (v : Watch). bytes_asking v.flight.flying) (sym h.seen)
 
+    -- and the probes that wait
+    pub probes : (watch r side i).flight.probes ≡ e.tracking.probes
+    probes = ap (λ (v : Watch). v.flight.probes) h.seen ∙ (h.gives.1.watched.flight gives.opened).probes
+
+    -- what is seen of the end is what it is
+    pub seen : seen_at r side i ≡ seen_of side w
+    seen = last_seen side r.keys i r.start w r.events r.answers r.views m.leads
+
     -- ---- a probe of a size
 
     pub left : end_at side next ≡ (polled p e now).end
-    left = made_end r i side (calls.Poll now) answer w next gave.made
+    left = made_end r i side (calls.Poll now) answer w next m
 
     -- the clock of the observer behind the poll is that of the end
     pub clock : (watch r side (suc i)).clock ≡ max e.closing.clock now
@@ -225,40 +236,58 @@ module _ (H : Way) (g : Group Nothing (And (And PacketsHold H) Sight)) (r : Run)
     pub sized : IsSized 1200 MAX_UDP_PAYLOAD e.path.discovery
     sized = h.gives.0.0.sized
 
-    pub is_probe : IsProbing (begun e now) (ready_at e now) → IsSizeProbe r side i w next gave.sent
-    is_probe q = record {
-      zeros = zeros_behind d;
-      alone = ap (λ (s : Sent). s.frames) (sym same) ∙ ap (λ (g : Ready). frames_padded (draft_of g)) q.is;
-      named = ap (λ (n : ℕ). poll_names n e.path.discovery) clock ∙ q.named ∙ ap (λ (n : ℕ). Some n) (sym size);
-      none_open = named_alone (begun e now).closing.clock q.size e.path.discovery q.named;
-      opened =
-          ap (λ (z : End). open_probe z.path.discovery) (left ∙ gives.left)
-          ∙ ap (λ (g : Ready). open_probe (after_given p (draft_of g)).path.discovery) q.is
-          ∙ by_going (λ (z : End). open_probe z.path.discovery ≡ Some (number_of e)) p d (λ pacing. named_opens (begun e now).closing.clock (number_of e) q.size e.path.discovery q.named)
-          ∙ ap (λ (s : Sent). Some s.number) same;
-      bound = looked.0;
-      is_bound = looked.1;
-      between = (let size_is = size in let above = names.0 in (omega arith), subst (λ (n : ℕ). n ≤ looked.0) (sym size) (named_bounded 1200 MAX_UDP_PAYLOAD e.path.discovery (begun e now).closing.clock q.size looked.0 sized q.named looked.1));
-      idle = q.idle;
-      validated = parts.0;
-      room = subst (λ (n : ℕ). n + looked.0 < control_at side w []) flight looked.2;
-    }
-      where
-        d : Draft
-        d = probing q.size (search_asked (begun e now))
+    module _ (q : IsProbing (begun e now) (ready_at e now)) (leads : LeadsTo r (suc i) next) where
+      abbrev d : Draft
+      d = probing q.size (search_asked (begun e now))
 
-        names : ((search_at side w).size ≤ q.size) × (q.size ≤ MAX_UDP_PAYLOAD)
-        names = named_sized 1200 MAX_UDP_PAYLOAD e.path.discovery (begun e now).closing.clock q.size sized q.named
+      names : ((search_at side w).size ≤ q.size) × (q.size ≤ MAX_UDP_PAYLOAD)
+      names = named_sized 1200 MAX_UDP_PAYLOAD e.path.discovery (begun e now).closing.clock q.size sized q.named
 
-        parts : (e.path.validated ≡ true) × (has_window (search_bound e.path.discovery) (begun e now) ≡ true)
-        parts = and_parts e.path.validated (has_window (search_bound e.path.discovery) (begun e now)) q.may
+      parts : (e.path.validated ≡ true) × (has_window (search_bound e.path.discovery) (begun e now) ≡ true)
+      parts = and_parts e.path.validated (has_window (search_bound e.path.discovery) (begun e now)) q.may
 
-        looks : (o : Option ℕ) → search_bound e.path.discovery ≡ o → has_window o (begun e now) ≡ true → (bound : ℕ) × (search_bound e.path.discovery ≡ Some bound) × (bytes_in_flight e + bound < e.path.window)
-        looks None is has = cc
-        looks (Some bound) is has = (bound, is, ltb-true (bytes_in_flight e + bound) e.path.window has)
+      looks : (o : Option ℕ) → search_bound e.path.discovery ≡ o → has_window o (begun e now) ≡ true → (bound : ℕ) × (search_bound e.path.discovery ≡ Some bound) × (bytes_in_flight e + bound < e.path.window)
+      looks None is has = cc
+      looks (Some bound) is has = (bound, is, ltb-true (bytes_in_flight e + bound) e.path.window has)
 
-        looked : (bound : ℕ) × (search_bound e.path.discovery ≡ Some bound) × (bytes_in_flight e + bound < e.path.window)
-        looked = looks (search_bound e.path.discovery) refl parts.1
+      looked : (bound : ℕ) × (search_bound e.path.discovery ≡ Some bound) × (bytes_in_flight e + bound < e.path.window)
+      looked = looks (search_bound e.path.discovery) refl parts.1
 
-        size : gave.sent.size ≡ q.size
-        size = ap (λ (s : Sent). s.size) (sym same) ∙ ap (λ (g : Ready). datagram_size (draft_of g)) q.is ∙ probe_size q.size (search_asked (begun e now)) room names.0
+      size : gave.sent.size ≡ q.size
+      size = ap (λ (s : Sent). s.size) (sym same) ∙ ap (λ (g : Ready). datagram_size (draft_of g)) q.is ∙ probe_size q.size (search_asked (begun e now)) room names.0
+
+      below : gave.sent.size ≤ looked.0
+      below = subst (λ (n : ℕ). n ≤ looked.0) (sym size) (named_bounded 1200 MAX_UDP_PAYLOAD e.path.discovery (begun e now).closing.clock q.size looked.0 sized q.named looked.1)
+
+      roomy : bytes_flying r side i + looked.0 < control_at side w []
+      roomy = subst (λ (n : ℕ). n + looked.0 < control_at side w []) flight looked.2
+
+      -- the search looks for it
+      searched : IsSearched r side i w next gave.sent
+      searched = record {
+        named = ap (λ (n : ℕ). poll_names n e.path.discovery) clock ∙ q.named ∙ ap (λ (n : ℕ). Some n) (sym size);
+        none_open = named_alone (begun e now).closing.clock q.size e.path.discovery q.named;
+        opened =
+            ap (λ (z : End). open_probe z.path.discovery) (left ∙ gives.left)
+            ∙ ap (λ (g : Ready). open_probe (after_given p (draft_of g)).path.discovery) q.is
+            ∙ by_going (λ (z : End). open_probe z.path.discovery ≡ Some (number_of e)) p d (λ pacing. named_opens (begun e now).closing.clock (number_of e) q.size e.path.discovery q.named)
+            ∙ ap (λ (s : Sent). Some s.number) same;
+        bound = looked.0;
+        is_bound = looked.1;
+        below = below;
+        idle = q.idle;
+        room = roomy;
+      }
+
+      -- and so it is wherever the run leads there
+      pub is_probe : IsSizeProbe r side i gave.sent
+      is_probe = record {
+        zeros = zeros_behind d;
+        alone = ap (λ (s : Sent). s.frames) (sym same) ∙ ap (λ (g : Ready). frames_padded (draft_of g)) q.is;
+        above = subst (λ (u : EndView). u.current_mtu ≤ gave.sent.size) (sym seen) (let size_is = size in let above = names.0 in omega arith);
+        validated = ap (λ (u : EndView). u.validated) seen ∙ parts.0;
+        room = subst (λ (u : EndView). bytes_flying r side i + gave.sent.size < u.window) (sym seen) (let few = below in let left_over = roomy in omega arith);
+        searched = λ v n before behind.
+            subst (λ (x : World). IsSearched r side i x n gave.sent) (one_behind r i w v (served_before r.answers i gave.served) m.leads before)
+            (subst (λ (x : World). IsSearched r side i w x gave.sent) (one_behind r (suc i) next n gave.served leads behind) searched);
+      }

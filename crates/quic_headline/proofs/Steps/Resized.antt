@@ -173,11 +173,11 @@ quiet : (d f : Discovery) (ts : List Told) → (bounds.IsSized 1200 MAX_UDP_PAYL
 quiet d f ts stays same none = record { stays = stays; sized = λ h. (unsized ts 0 none).0; size = same ∙ sym (unsized ts d.size none).1 }
 
 -- what says no size, where the search stays
-still : (d : Discovery) (ts : List Told) → SayNoSize ts → Tells d ts d
+pub still : (d : Discovery) (ts : List Told) → SayNoSize ts → Tells d ts d
 still d ts none = quiet d d ts (λ h. h) refl none
 
 -- one behind another
-both : (d f g : Discovery) (ts us : List Told) → Tells d ts f → Tells f us g → Tells d (ts ++ us) g
+pub both : (d f g : Discovery) (ts us : List Told) → Tells d ts f → Tells f us g → Tells d (ts ++ us) g
 both d f g ts us one two = record {
   stays = λ h. two.stays (one.stays h);
   sized = λ h. sized_both ts us (one.sized h) (two.sized (one.stays h));
@@ -384,7 +384,7 @@ reads_search control (calls.Poll now) e = refl
 reads_search control call e = refl
 
 -- so does a step, whichever end it is made at
-step_tells : (side : Side) (k : Policies) (w next : World) (event : RunEvent) (a : Answer) → fails a ≡ false → IsStep k w event a next → Tells (search_at side w) (told_by_step side k w event) (search_at side next)
+pub step_tells : (side : Side) (k : Policies) (w next : World) (event : RunEvent) (a : Answer) → fails a ≡ false → IsStep k w event a next → Tells (search_at side w) (told_by_step side k w event) (search_at side next)
 step_tells side k w next event a served s = go side event.side event.call s
   where
     -- the end that is called

@@ -31,7 +31,7 @@ told_control k w next event a served s =
     subst (λ (b : Bool). IsTold b (policy_at event.side k) (control_at event.side w) (end_at event.side w) (given_by (other_side event.side) w) event.call (control_at event.side next)) served s.control
 
 -- and that of the other end nothing
-step_shows : (side : Side) (k : Policies) (w next : World) (event : RunEvent) (a : Answer) → fails a ≡ false → IsStep k w event a next → ShowsAfter side w next (told_by_step side k w event)
+pub step_shows : (side : Side) (k : Policies) (w next : World) (event : RunEvent) (a : Answer) → fails a ≡ false → IsStep k w event a next → ShowsAfter side w next (told_by_step side k w event)
 step_shows side k w next event a served s more = go side event.side event.call s
   where
     go : (side by : Side) (call : Call) → IsStep k w (record { side = by; call = call }) a next → control_at side next more ≡ control_at side w (told_by_step side k w (record { side = by; call = call }) ++ more)

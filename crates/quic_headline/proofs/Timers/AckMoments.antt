@@ -7,7 +7,7 @@ use Rattle.quic_wire_core.specs.declared.shared.EcnCodepoint.{EcnCodepoint}
 use Rattle.quic_spaces.specs.Marks.{is_congested}
 use Rattle.quic_wire_core.specs.declared.stream_id.Side.{Side}
 use Rattle.quic_wire.specs.Value.{FrameValue, ack, ping, asks, padding, datagram}
-use Rattle.quic_recovery_core.specs.PendingAcks.{after_insert, starts_wait, asking_counted}
+use Rattle.quic_recovery_core.specs.PendingAcks.{Pending, after_insert, starts_wait, asking_counted, after_acks_sent}
 use Rattle.quic_machine.specs.declared.answers.State.TheVariants as states
 use Rattle.quic_machine.specs.declared.run.Call.{Call}
 use Rattle.quic_machine.specs.declared.run.Call.TheVariants as calls
@@ -31,6 +31,7 @@ use Rattle.quic_headline.specs.Runs.{Run, Told, Packet, Intake, In, given_of, un
 use Rattle.quic_headline.specs.Observer.{Watch, first_watch, news, Lens, watch_told, lens_of}
 use Rattle.quic_headline.specs.Headline.{IsHonest}
 use Rattle.quic_headline.specs.Moments.{is_ack, acknowledges, went, arrivals_of, Debt, arrivals_behind, debt_told, first_debt, IsDueFor, AckMoments}
+use Rattle.quic_headline.specs.Waited.{one_asks}
 use Rattle.quic_headline.proofs.Packets.Entries.{IsControl, control_of}
 use Rattle.quic_headline.proofs.Packets.Intakes.{folded_more}
 use Rattle.quic_headline.proofs.Packets.Delivered.{Arrivals, arrived, with_taken}
@@ -75,34 +76,41 @@ control_not : (f : FrameValue) → IsControl f → is_ack f ≡ false
 control_not (ack a) is = absurd is
 control_not f is = refl
 
--- an ACK that goes stops the timer
-abbrev Stopped : Draft → Type 0
-Stopped d = list_any is_ack d.frames ≡ true → d.end.timers.max_ack_delay ≡ None
+-- what holds once an ACK frame went, of what is to be acknowledged and of the timer, which it stops
+module _ (Q : Pending → Option ℕ → Type 0) (acked : (p : Pending) → Q (after_acks_sent p) None) where
+  -- it holds where one of the frames of a draft is an ACK
+  abbrev Answered : Draft → Type 0
+  Answered d = list_any is_ack d.frames ≡ true → Q d.end.acknowledging d.end.timers.max_ack_delay
 
-draft_stopped : (leaving : Leaving) (e : End) → MayLeave leaving e → Stopped (draft_as leaving e)
-draft_stopped leaving e alone = by_leave Stopped (record {
-  ack = λ d filled may i is. refl;
-  ping = λ d i some. i (any_more d.frames _ refl some);
-  probes = λ f size i some. i (any_more [] ping refl some);
-  drops = λ d kind i. i;
-  control = λ d kind f is i some. i (any_more d.frames f (control_not f (control_of f kind is.of_kind)) some);
-  message = λ d m ms is fit i acks. i (any_more d.frames (datagram m) refl acks);
-  stream = λ d id h room found first some is counts i acks. i (any_more d.frames _ refl acks);
-}) leaving e alone (λ is. cc)
+  draft_answered : (leaving : Leaving) (e : End) → MayLeave leaving e → Answered (draft_as leaving e)
+  draft_answered leaving e alone = by_leave Answered (record {
+    ack = λ d filled may i is. acked d.end.acknowledging;
+    ping = λ d i some. i (any_more d.frames _ refl some);
+    probes = λ f size i some. i (any_more [] ping refl some);
+    drops = λ d kind i. i;
+    control = λ d kind f is i some. i (any_more d.frames f (control_not f (control_of f kind is.of_kind)) some);
+    message = λ d m ms is fit i acks. i (any_more d.frames (datagram m) refl acks);
+    stream = λ d id h room found first some is counts i acks. i (any_more d.frames _ refl acks);
+  }) leaving e alone (λ is. cc)
 
--- so it is behind a poll that gives one
-polled_stopped : (p : Policy) (e : End) (now : ℕ) → acknowledges (sent_if (gave (answers.Poll (polled p e now).answer)) (sent_by e now)) ≡ true → (polled p e now).end.timers.max_ack_delay ≡ None
-polled_stopped p e now = by_poll_to p e now (λ (q : Polled). acknowledges (sent_if (gave (answers.Poll q.answer)) (sent_by e now)) ≡ true → q.end.timers.max_ack_delay ≡ None) (record {
-  silent = λ some. cc;
-  failed = λ some. cc;
-  nothing = λ is none some. cc;
-  used_up = λ some. refl;
-  gives = λ is may some acks. by_going (λ (x : End). x.timers.max_ack_delay ≡ None) p (draft_at e now) (λ pacing. draft_stopped (ready_at e now).leaving (ready_at e now).end (may_leave_at e now) (sym (any_padded (draft_at e now).frames _) ∙ first_only (list_any is_ack (frames_at e now)) acks));
-})
-  where
-    first_only : (b : Bool) → (b || false) ≡ true → b ≡ true
-    first_only true is = refl
-    first_only false is = is
+  -- so it is behind a poll that gives one
+  polled_answered : (p : Policy) (e : End) (now : ℕ) → acknowledges (sent_if (gave (answers.Poll (polled p e now).answer)) (sent_by e now)) ≡ true → Q (polled p e now).end.acknowledging (polled p e now).end.timers.max_ack_delay
+  polled_answered p e now = by_poll_to p e now (λ (q : Polled). acknowledges (sent_if (gave (answers.Poll q.answer)) (sent_by e now)) ≡ true → Q q.end.acknowledging q.end.timers.max_ack_delay) (record {
+    silent = λ some. cc;
+    failed = λ some. cc;
+    nothing = λ is none some. cc;
+    used_up = λ some. cc;
+    gives = λ is may some acks. by_going (λ (x : End). Q x.acknowledging x.timers.max_ack_delay) p (draft_at e now) (λ pacing. draft_answered (ready_at e now).leaving (ready_at e now).end (may_leave_at e now) (sym (any_padded (draft_at e now).frames _) ∙ first_only (list_any is_ack (frames_at e now)) acks));
+  })
+    where
+      first_only : (b : Bool) → (b || false) ≡ true → b ≡ true
+      first_only true is = refl
+      first_only false is = is
+
+  -- and behind any call that does
+  pub call_answered : (p : Policy) (e : End) (theirs : List (List ℕ)) (call : Call) (a : Answer) → IsAnswer p e theirs call a → fails a ≡ false → acknowledges (sents_by e call a) ≡ true → Q (after_call p e theirs call a).acknowledging (after_call p e theirs call a).timers.max_ack_delay
+  call_answered p e theirs (calls.Poll now) a is served some = polled_answered p e now (ap (λ (b : Answer). acknowledges (sent_if (gave b) (sent_by e now))) (sym (poll_answer p e now a is served)) ∙ some)
+  call_answered p e theirs call a is served some = cc
 
 -- ---- a call that isn't a delivery sets no timer of acknowledgements
 
@@ -168,10 +176,6 @@ call_none p e theirs call a apart = by_plain_call p e theirs (SetsNone e) call a
 })
 
 -- ---- a delivery
-
--- whether one of some packets asks for an acknowledgement
-abbrev pub one_asks : List Packet → Bool
-one_asks ps = list_any (λ (p : Packet). list_any asks p.frames) ps
 
 -- the timer was set, or it is set to 25 ms behind the clock for a packet that came and asks
 abbrev SetBy : End → Intake → End → Intake → Type 0
@@ -252,13 +256,6 @@ comes_due d after moment none due some =
     subst (λ (b : Bool). IsDueFor (if b then [] else arrivals_of (news d.watch.intake after.intake) after.clock ++ d.arrivals) moment) (sym none)
     (record { arrival = after.clock; among = in_left after.clock (arrivals_of (news d.watch.intake after.intake) after.clock) d.arrivals (came_then (news d.watch.intake after.intake) after.clock some); due = due })
 
--- ---- what a call gives
-
--- a call that gives an ACK stops the timer
-acks_stop : (p : Policy) (e : End) (theirs : List (List ℕ)) (call : Call) (a : Answer) → IsAnswer p e theirs call a → fails a ≡ false → acknowledges (sents_by e call a) ≡ true → (after_call p e theirs call a).timers.max_ack_delay ≡ None
-acks_stop p e theirs (calls.Poll now) a is served some = polled_stopped p e now (ap (λ (b : Answer). acknowledges (sent_if (gave b) (sent_by e now))) (sym (poll_answer p e now a is served)) ∙ some)
-acks_stop p e theirs call a is served some = cc
-
 -- ---- the group
 
 -- nothing came to an end that is known by an id, gives these datagrams in all, and was made at a moment
@@ -306,7 +303,7 @@ debt_step x y call a c i = record { owes = owes }
 
     by_acks : (b : Bool) → acknowledges (sents_by x.end call a) ≡ b → (called x y.given call a).end.closing.state ≡ states.Open → Owes (debt_told (lens x y) t d) (called x y.given call a).end
     by_acks true some still moment set =
-        let stopped = acks_stop x.policy x.end y.given call a c.answer c.served some in
+        let stopped = call_answered (λ (q : Pending) (o : Option ℕ). o ≡ None) (λ q. refl) x.policy x.end y.given call a c.answer c.served some in
         let clash : ◌≡◌ {A = Option ℕ} None (Some moment) = sym stopped ∙ set in
         cc
     by_acks false none still moment set = go (call_set x y call a c moment set)
