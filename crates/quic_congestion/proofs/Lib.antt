@@ -12,4 +12,3 @@ pub mod NamedSizes
 pub mod NoProbes
 pub mod KeptBursts
 pub mod SearchBetween
-pub mod SizedSearch

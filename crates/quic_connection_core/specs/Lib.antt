@@ -8,4 +8,3 @@ pub mod Given
 pub mod Handed
 pub mod Tracked
 pub mod Drawn
-pub mod Leaving

@@ -1,11 +1,7 @@
--- That each message is received at most as often as it was sent, and which messages wait to go.
+-- That each message is received at most as often as it was sent.
 pub mod Counted
 pub mod Kept
 pub mod Going
 pub mod Coming
 pub mod Group
 pub mod Clause
-pub mod Dropped
-pub mod Waiting
-pub mod Lists
-pub mod Order

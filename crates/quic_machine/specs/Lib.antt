@@ -13,7 +13,6 @@ pub mod Receive
 pub mod Poll
 pub mod Timeouts
 pub mod Calls
-pub mod Sizes
 pub mod StreamCalls
 pub mod MessageCalls
 pub mod Lacking

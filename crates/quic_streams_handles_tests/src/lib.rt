@@ -1,5 +1,4 @@
-//! Tests of what an application holds of all streams: each call made, also where an allocation
-//! fails.
+//! Tests of what an application holds of all streams: each call made, also where an allocation fails.
 #![tactic(auto)]
 
 #[cfg(test)]

@@ -85,22 +85,22 @@ reads_only = refl
 -- ---- what is seen
 
 -- the client waits for an acknowledgement, and the server for nothing yet
-abbrev pub one_waits : View
+abbrev one_waits : View
 one_waits = record { client = sent_view; server = open_view }
 
 -- or the server waits to give one
-abbrev pub both_wait : View
+abbrev both_wait : View
 both_wait = record { client = sent_view; server = waiting_view }
 
-pub sees_first : one_waits ≡ view_of first_sent
+sees_first : one_waits ≡ view_of first_sent
 unfolding first_sent
 sees_first = refl
 
-pub sees_second : one_waits ≡ view_of second_written
+sees_second : one_waits ≡ view_of second_written
 unfolding first_sent
 sees_second = refl
 
-pub sees_both : one_waits ≡ view_of both_sent
+sees_both : one_waits ≡ view_of both_sent
 unfolding both_sent
 sees_both = refl
 

@@ -1,6 +1,0 @@
-pub mod Marks
-pub mod Flags
-pub mod Pings
-pub mod Drafts
-pub mod Group
-pub mod Clause
