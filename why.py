@@ -43,6 +43,10 @@ def priority(word):
     number(word, (1 << 31) - 1, "2^31 - 1")
 
 
+def switch(word):
+    number(word, 1, "1")
+
+
 def octets(word):
     """Takes bytes in lower-case hexadecimal, or `-` for none."""
     if word == "-":
@@ -74,7 +78,7 @@ def one_of(*names):
 
 OPTIONS = {
     "receive_window": varint, "stream_window": varint, "send_window": natural, "bidi": varint,
-    "uni": varint, "messages": natural, "word": natural, "pcg": natural,
+    "uni": varint, "messages": natural, "search": switch, "word": natural, "pcg": natural,
 }  # fmt: skip
 DIR = one_of("bi", "uni")
 MARK = one_of(*MARKS)

@@ -1,5 +1,5 @@
 -- The settings of an end's transport, and what its peer is told of them.
-use Rattle.std.specs.Prelude.{ℕ, ◌/◌, ◌^◌, ◌<◌, ◌≤◌, Bool, true, false, min, max, Option, Some, None, if◌then◌else◌}
+use Rattle.std.specs.Prelude.{ℕ, ◌/◌, ◌^◌, ◌<◌, ◌≤◌, ◌≡◌, Bool, true, false, min, max, Option, Some, None, IfSome, if◌then◌else◌}
 use Rattle.quic_parameters.specs.Parameters.{ParameterValues}
 use Rattle.quic_config.specs.Configs.{SearchSettings, FrequencySettings, default_search, max_udp_payload, ids_kept}
 
@@ -191,8 +191,10 @@ parameters_of s = record {
   min_ack_delay = if s.ack_frequency_support then Some 1000 else None;
 }
 
--- the settings of an end as it can be configured: windows are variable-length integers, and a datagram has 1200 bytes at least (RFC 9000, section 14)
+-- the settings of an end as it can be configured: windows are variable-length integers, and the others keep their bounds
 pub record IsInRange (s : Settings) : Type 0 where
   pub receive_window : s.receive_window < 2 ^ 62
   pub stream_receive_window : s.stream_receive_window < 2 ^ 62
-  pub initial_mtu : 1200 ≤ s.initial_mtu
+  pub bounds : AreInBounds s.max_bidi s.max_uni s.time_threshold.1 s.initial_mtu s.min_mtu
+  -- a search goes in steps of two bytes at least
+  pub search : IfSome s.mtu_discovery_config (λ search. 2 ≤ search.least_change)

@@ -6,7 +6,8 @@ use quic_time::Duration;
 use quic_wire_core::VarInt;
 use std::marker::Model;
 
-/// How an end asks its peer to acknowledge (the ACK frequency extension; quinn-proto's `AckFrequencyConfig`).
+/// How an end asks its peer to acknowledge (the ACK frequency extension; quinn-proto's
+/// `AckFrequencyConfig`).
 #[derive(Clone, Copy, Debug)]
 pub struct AckFrequencyConfig {
     ack_eliciting_threshold: VarInt,

@@ -1,4 +1,4 @@
-//! How the size search is configured.
+//! How path MTU discovery is configured.
 ghost use Rattle.std.specs.Prelude.{◌≡◌, ◌≤◌, max, min};
 ghost use Rattle.quic_config.specs.Configs.{default_search, max_udp_payload};
 
@@ -8,7 +8,8 @@ use std::marker::Model;
 /// The greatest size that a UDP payload may have here, in bytes.
 pub const MAX_UDP_PAYLOAD: u16 = 65527;
 
-/// How an end looks for the greatest size of a datagram that its path carries (RFC 8899; quinn-proto's `MtuDiscoveryConfig`).
+/// How an end looks for the greatest size of a datagram that its path carries (RFC 8899;
+/// quinn-proto's `MtuDiscoveryConfig`).
 #[derive(Clone, Copy, Debug)]
 pub struct MtuDiscoveryConfig {
     interval: Duration,
@@ -71,6 +72,14 @@ impl MtuDiscoveryConfig {
         self.minimum_change
     }
 
+    /// The same, of which the steps are seen.
+    pub(crate) fn stepped(self) -> Self
+        ensures same { result ≡ self }
+        ensures steps { 2 ≤ self.least_change }
+    {
+        self
+    }
+
     /// How long after the end of a search the next one begins.
     pub fn interval(&mut self, value: Duration) -> &mut Self
         ensures same_reference { result.ghost_name ≡ self.entry.ghost_name }
@@ -111,7 +120,8 @@ impl MtuDiscoveryConfig {
 impl Default for MtuDiscoveryConfig {
     ghost is_default = { λ c. c ≡ default_search };
 
-    /// Every 600 seconds up to 1452 bytes, 60 seconds after a black hole, in steps of 20 bytes at least.
+    /// Every 600 seconds up to 1452 bytes, 60 seconds after a black hole, in steps of 20 bytes at
+    /// least.
     fn default() -> MtuDiscoveryConfig {
         MtuDiscoveryConfig {
             interval: Duration::from_nanos(600000000000),

@@ -1,5 +1,6 @@
-//! What an end offers its peer, how much it buffers, and how it sends (quinn-proto's `config::transport`).
-ghost use Rattle.std.specs.Prelude.{◌≡◌, ◌<◌, ◌≤◌, min, max, ◌^◌, true};
+//! What an end offers its peer, how much it buffers, and how it sends (quinn-proto's
+//! `config::transport`).
+ghost use Rattle.std.specs.Prelude.{◌≡◌, ◌<◌, ◌≤◌, min, max, ◌^◌, true, IfSome};
 ghost use Rattle.quic_config.specs.Transport.{default_transport, told_timeout, told_frame_size, first_mtu};
 
 use crate::ack_frequency::AckFrequencyConfig;
@@ -12,11 +13,12 @@ use std::marker::Model;
 /// The bytes of a datagram that each path carries (RFC 9000, section 14).
 const INITIAL_MTU: u16 = 1200;
 
-/// How many ids an end keeps of its peer: as many as it allows it (RFC 9000, section 18.2, active_connection_id_limit).
+/// How many ids an end keeps of its peer: as many as it allows it (RFC 9000, section 18.2,
+/// active_connection_id_limit).
 pub const IDS_KEPT: u32 = 5;
 
-/// How long a connection may be without a packet, in milliseconds (RFC 9000, section 10.1; quinn-proto's `IdleTimeout`).
-/// Contracts see the number.
+/// How long a connection may be without a packet, in milliseconds (RFC 9000, section 10.1;
+/// quinn-proto's `IdleTimeout`). Contracts see the number.
 #[derive(Clone, Copy, Debug, Default, PartialEq, Eq, PartialOrd, Ord, Hash)]
 pub struct IdleTimeout(VarInt);
 
@@ -54,7 +56,8 @@ impl TryFrom<Duration> for IdleTimeout {
     }
 }
 
-/// The settings of an end's transport (quinn-proto's `TransportConfig`). Contracts see the record of the settings.
+/// The settings of an end's transport (quinn-proto's `TransportConfig`). Contracts see the record
+/// of the settings.
 #[derive(Clone, Copy, Debug)]
 pub struct TransportConfig {
     receive_window: VarInt,
@@ -79,7 +82,7 @@ pub struct TransportConfig {
 }
 
 impl Model for TransportConfig {
-    ghost use Rattle.std.specs.Prelude.{◌≤◌, ◌<◌, ◌^◌};
+    ghost use Rattle.std.specs.Prelude.{◌≤◌, ◌<◌, ◌^◌, IfSome};
     ghost use Rattle.quic_config.specs.Transport.{TransportSettings, AreInBounds};
 
     ghost Value = { TransportSettings };
@@ -107,7 +110,8 @@ impl Model for TransportConfig {
     } };
 
     ghost invariant = { λ c.
-        AreInBounds c.max_concurrent_bidi_streams c.max_concurrent_uni_streams c.time_threshold.1 c.initial_mtu c.min_mtu };
+        AreInBounds c.max_concurrent_bidi_streams c.max_concurrent_uni_streams c.time_threshold.1 c.initial_mtu c.min_mtu
+        × IfSome c.mtu_discovery_config (λ search. 2 ≤ search.least_change) };
 
     ghost inverse = { λ s. record {
       receive_window = s.receive_window;
@@ -133,8 +137,8 @@ impl Model for TransportConfig {
 }
 
 impl TransportConfig {
-    /// How many bytes the peer may send on all streams before any is read (RFC 9000, section 4.1). An end that never raises its
-    /// limits takes no more in all.
+    /// How many bytes the peer may send on all streams before any is read (RFC 9000, section 4.1).
+    /// An end that never raises its limits takes no more in all.
     pub fn receive_window(&mut self, value: VarInt) -> &mut Self
         ensures same_reference { result.ghost_name ≡ self.entry.ghost_name }
         ensures value { result.now ≡ record self.old { receive_window = value } }
@@ -143,8 +147,8 @@ impl TransportConfig {
         self
     }
 
-    /// How many bytes the peer may send on one stream before any is read (RFC 9000, section 4.1). An end that never raises its
-    /// limits takes no more on it in all.
+    /// How many bytes the peer may send on one stream before any is read (RFC 9000, section 4.1).
+    /// An end that never raises its limits takes no more on it in all.
     pub fn stream_receive_window(&mut self, value: VarInt) -> &mut Self
         ensures same_reference { result.ghost_name ≡ self.entry.ghost_name }
         ensures value { result.now ≡ record self.old { stream_receive_window = value } }
@@ -162,7 +166,8 @@ impl TransportConfig {
         self
     }
 
-    /// How many two-way streams the peer may have open at a time; more than 2^60 count as 2^60 (RFC 9000, section 4.6).
+    /// How many two-way streams the peer may have open at a time; more than 2^60 count as 2^60 (RFC
+    /// 9000, section 4.6).
     pub fn max_concurrent_bidi_streams(&mut self, value: VarInt) -> &mut Self
         ensures same_reference { result.ghost_name ≡ self.entry.ghost_name }
         ensures value { result.now ≡ record self.old { max_bidi = min value (2 ^ 60) } }
@@ -171,7 +176,8 @@ impl TransportConfig {
         self
     }
 
-    /// How many one-way streams the peer may have open at a time; more than 2^60 count as 2^60 (RFC 9000, section 4.6).
+    /// How many one-way streams the peer may have open at a time; more than 2^60 count as 2^60 (RFC
+    /// 9000, section 4.6).
     pub fn max_concurrent_uni_streams(&mut self, value: VarInt) -> &mut Self
         ensures same_reference { result.ghost_name ≡ self.entry.ghost_name }
         ensures value { result.now ≡ record self.old { max_uni = min value (2 ^ 60) } }
@@ -180,8 +186,8 @@ impl TransportConfig {
         self
     }
 
-    /// How long the connection may be without a packet before the end drops it; `None` is without end (RFC 9000, section
-    /// 10.1).
+    /// How long the connection may be without a packet before the end drops it; `None` is without
+    /// end (RFC 9000, section 10.1).
     pub fn max_idle_timeout(&mut self, value: Option<IdleTimeout>) -> &mut Self
         ensures same_reference { result.ghost_name ≡ self.entry.ghost_name }
         ensures value { result.now ≡ record self.old { max_idle_timeout = value } }
@@ -208,7 +214,8 @@ impl TransportConfig {
         self
     }
 
-    /// Whether streams of one priority take turns with each datagram; else the one that began is sent to its end.
+    /// Whether streams of one priority take turns with each datagram; else the one that began is
+    /// sent to its end.
     pub fn send_fairness(&mut self, value: bool) -> &mut Self
         ensures same_reference { result.ghost_name ≡ self.entry.ghost_name }
         ensures value { result.now ≡ record self.old { send_fairness = value } }
@@ -226,8 +233,8 @@ impl TransportConfig {
         self
     }
 
-    /// After what part of a round trip a packet is lost, where a later one was acknowledged: `numerator / denominator`
-    /// (RFC 9002, section 6.1.2). The denominator has to be above 0.
+    /// After what part of a round trip a packet is lost, where a later one was acknowledged:
+    /// `numerator / denominator` (RFC 9002, section 6.1.2). The denominator has to be above 0.
     pub fn time_threshold(&mut self, numerator: u32, denominator: u32) -> &mut Self
         requires { 0 < denominator }
         ensures same_reference { result.ghost_name ≡ self.entry.ghost_name }
@@ -246,7 +253,8 @@ impl TransportConfig {
         self
     }
 
-    /// The bytes of the greatest datagram at first; fewer than 1200 count as 1200 (RFC 9000, section 14).
+    /// The bytes of the greatest datagram at first; fewer than 1200 count as 1200 (RFC 9000,
+    /// section 14). Above 65527 no connection is made (`ConfigError::Size`).
     pub fn initial_mtu(&mut self, value: u16) -> &mut Self
         ensures same_reference { result.ghost_name ≡ self.entry.ghost_name }
         ensures value { result.now ≡ record self.old { initial_mtu = max value 1200 } }
@@ -255,7 +263,9 @@ impl TransportConfig {
         self
     }
 
-    /// The bytes of a datagram that every path carries; fewer than 1200 count as 1200 (RFC 9000, section 14).
+    /// The bytes of a datagram that every path carries; fewer than 1200 count as 1200 (RFC 9000,
+    /// section 14). Above 65527, or above the peer's max_udp_payload_size, no connection is made
+    /// (`ConfigError::Size`).
     pub fn min_mtu(&mut self, value: u16) -> &mut Self
         ensures same_reference { result.ghost_name ≡ self.entry.ghost_name }
         ensures value { result.now ≡ record self.old { min_mtu = max value 1200 } }
@@ -264,12 +274,14 @@ impl TransportConfig {
         self
     }
 
-    /// How a greater size of datagrams is looked for; `None` looks for none (RFC 9000, section 14.3).
+    /// How path MTU discovery looks for a larger size of datagrams; `None` looks for none (RFC
+    /// 9000, section 14.3). By default sizes of up to 1452 bytes are looked for; none above the
+    /// peer's max_udp_payload_size ever is.
     pub fn mtu_discovery_config(&mut self, value: Option<MtuDiscoveryConfig>) -> &mut Self
         ensures same_reference { result.ghost_name ≡ self.entry.ghost_name }
         ensures value { result.now ≡ record self.old { mtu_discovery_config = value } }
     {
-        self.mtu_discovery_config = value;
+        self.mtu_discovery_config = value.map(MtuDiscoveryConfig::stepped);
         self
     }
 
@@ -291,7 +303,8 @@ impl TransportConfig {
         self
     }
 
-    /// How many probe timeouts losses last where the congestion is persistent (RFC 9002, section 7.6.1).
+    /// How many probe timeouts losses last where the congestion is persistent (RFC 9002, section
+    /// 7.6.1).
     pub fn persistent_congestion_threshold(&mut self, value: u32) -> &mut Self
         ensures same_reference { result.ghost_name ≡ self.entry.ghost_name }
         ensures value { result.now ≡ record self.old { persistent_congestion_threshold = value } }
@@ -300,7 +313,8 @@ impl TransportConfig {
         self
     }
 
-    /// After what time without a packet one is sent so that the connection stays; `None` sends none.
+    /// After what time without a packet one is sent so that the connection stays; `None` sends
+    /// none.
     pub fn keep_alive_interval(&mut self, value: Option<Duration>) -> &mut Self
         ensures same_reference { result.ghost_name ≡ self.entry.ghost_name }
         ensures value { result.now ≡ record self.old { keep_alive_interval = value } }
@@ -348,7 +362,8 @@ impl TransportConfig {
         self.max_concurrent_uni_streams
     }
 
-    /// How long the connection may be without a packet before the end drops it; `None` is without end.
+    /// How long the connection may be without a packet before the end drops it; `None` is without
+    /// end.
     pub fn get_max_idle_timeout(&self) -> Option<IdleTimeout>
         ensures { result ≡ self.now.max_idle_timeout }
     {
@@ -416,7 +431,8 @@ impl TransportConfig {
 
     /// How a greater size of datagrams is looked for; `None` looks for none.
     pub fn get_mtu_discovery_config(&self) -> Option<MtuDiscoveryConfig>
-        ensures { result ≡ self.now.mtu_discovery_config }
+        ensures value { result ≡ self.now.mtu_discovery_config }
+        ensures steps { IfSome result (λ search. 2 ≤ search.least_change) }
     {
         self.mtu_discovery_config
     }
@@ -452,14 +468,14 @@ impl TransportConfig {
 
 impl TransportConfig {
     ghost use Rattle.quic_parameters.specs.Parameters.{AreInRange};
-    ghost use Rattle.quic_config.specs.Transport.{settings_with, parameters_of};
+    ghost use Rattle.quic_config.specs.Transport.{settings_with, parameters_of, IsInRange};
 
-    /// What the peer is told of these settings by an end that can be asked when to acknowledge (RFC 9000, section 18.2).
-    /// A path begins with 1200 bytes at least, of which the peer is told nothing.
+    /// What the peer is told of these settings by an end that can be asked when to acknowledge (RFC
+    /// 9000, section 18.2).
     pub fn transport_parameters(&self) -> TransportParameters
         ensures value { result ≡ parameters_of (settings_with self.now true) }
         ensures in_range { AreInRange (parameters_of (settings_with self.now true)) }
-        ensures size { 1200 ≤ self.now.initial_mtu }
+        ensures range { IsInRange (settings_with self.now true) }
     {
         let stream_window = bounded(self.stream_receive_window);
         TransportParameters {
@@ -520,11 +536,13 @@ fn at_most_streams(value: VarInt) -> VarInt
 impl Default for TransportConfig {
     ghost is_default = { λ c. c ≡ default_transport };
 
-    /// 100 streams of each kind, windows of 2^62 - 1 bytes a connection and 1250000 a stream, 10000000 bytes to send,
-    /// 1250000 bytes of unread messages and 1048576 to send, and 30 seconds without a packet. Streams take turns. A packet
-    /// is lost 3 numbers below an acknowledged one or after 9/8 of a round trip, which is 333 ms at first, and congestion
-    /// is persistent after 3 probe timeouts. Datagrams have 1200 bytes at first and aren't filled, and a greater size is
-    /// looked for. The peer isn't asked when to acknowledge, and nothing keeps the connection alive.
+    /// 100 streams of each kind, windows of 2^62 - 1 bytes a connection and 1250000 a stream,
+    /// 10000000 bytes to send, 1250000 bytes of unread messages and 1048576 to send, and 30 seconds
+    /// without a packet. Streams take turns. A packet is lost 3 numbers below an acknowledged one
+    /// or after 9/8 of a round trip, which is 333 ms at first, and congestion is persistent after 3
+    /// probe timeouts. Datagrams have 1200 bytes at first and aren't filled, and a greater size is
+    /// looked for. The peer isn't asked when to acknowledge, and nothing keeps the connection
+    /// alive.
     fn default() -> TransportConfig {
         TransportConfig {
             receive_window: VarInt::MAX,

@@ -12,3 +12,4 @@ pub mod NamedSizes
 pub mod NoProbes
 pub mod KeptBursts
 pub mod SearchBetween
+pub mod SizedSearch

@@ -39,7 +39,7 @@ begun_between k size bound limit l h = record {
   high_within = more_below limit (within limit size) (within limit bound) (within_below limit size) (within_below limit bound);
 }
 
-narrowed_between : (k : ℕ) (limit : Option ℕ) (s : Search) → IsSearch k limit s → IsSearch k limit (narrowed s)
+pub narrowed_between : (k : ℕ) (limit : Option ℕ) (s : Search) → IsSearch k limit s → IsSearch k limit (narrowed s)
 narrowed_between k limit s h = go (s.lost == 0) (ltb s.lost 3)
   where
     go : (t u : Bool) → IsSearch k limit (cond t (record s { low = s.last }) (cond u s (record s { high = s.last - 1; lost = 0 })))
@@ -57,12 +57,12 @@ narrowed_between k limit s h = go (s.lost == 0) (ltb s.lost 3)
     }
 
 -- what holds of the next size
-record IsNext (limit : Option ℕ) (s : Search) (n : ℕ) : Type 0 where
-  low : s.low ≤ n
-  high : n ≤ s.high + 1
-  cut : IsBelow limit n
+pub record IsNext (limit : Option ℕ) (s : Search) (n : ℕ) : Type 0 where
+  pub low : s.low ≤ n
+  pub high : n ≤ s.high + 1
+  pub cut : IsBelow limit n
 
-middle_next : (low high last change : ℕ) → low ≤ last → last ≤ high + 1 → 2 ≤ change → change ≤ abs_diff ((low + high) / 2) last → (low ≤ (low + high) / 2) × ((low + high) / 2 ≤ high)
+pub middle_next : (low high last change : ℕ) → low ≤ last → last ≤ high + 1 → 2 ≤ change → change ≤ abs_diff ((low + high) / 2) last → (low ≤ (low + high) / 2) × ((low + high) / 2 ≤ high)
 middle_next low high last change a b c d = (omega arith, omega arith)
 
 halved_next : (k change : ℕ) (limit : Option ℕ) (s : Search) (n : ℕ) → IsSearch k limit s → 2 ≤ change → halved change s ≡ Some n → IsNext limit s n
@@ -80,7 +80,7 @@ halved_next k change limit s n h two e = go (leb change (abs_diff (middle s) s.l
         subst (IsNext limit s) same (record { low = omega arith; high = omega arith; cut = h.high_within })
     go false false f g e = cc
 
-next_between : (k change : ℕ) (limit : Option ℕ) (s : Search) (n : ℕ) → IsSearch k limit s → 2 ≤ change → next_size change s ≡ Some n → IsNext limit s n
+pub next_between : (k change : ℕ) (limit : Option ℕ) (s : Search) (n : ℕ) → IsSearch k limit s → 2 ≤ change → next_size change s ≡ Some n → IsNext limit s n
 next_between k change limit s n h two e = go (s.lost == 0) e
   where
     go : (t : Bool) → cond t (halved change s) (Some s.last) ≡ Some n → IsNext limit s n
@@ -95,7 +95,7 @@ failed_between k limit s (Some number) h = record { low = h.low; last = h.last; 
 
 -- ---- a poll
 
-due_between : (k now size : ℕ) (limit : Option ℕ) (plan : Plan) (o : Option Search) → k ≤ size → IsAbove k limit → IsSearchIf k limit o → IsSearchIf k limit (due_if o now size limit plan)
+pub due_between : (k now size : ℕ) (limit : Option ℕ) (plan : Plan) (o : Option Search) → k ≤ size → IsAbove k limit → IsSearchIf k limit o → IsSearchIf k limit (due_if o now size limit plan)
 due_between k now size limit plan None l h i = go (ltb now plan.next)
   where
     go : (t : Bool) → IsSearchIf k limit (cond t None (Some (begun size limit plan.settings.upper_bound)))

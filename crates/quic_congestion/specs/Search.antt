@@ -220,6 +220,10 @@ open_probe d = open_of (search_of d)
 abbrev pub after_limit : ℕ → Discovery → Discovery
 after_limit limit d = record d { size = min d.size limit; limit = Some limit }
 
+-- the greatest size that is looked at, where the search isn't disabled
+abbrev pub search_bound : Discovery → Option ℕ
+search_bound d = option_map (λ plan. within d.limit plan.settings.upper_bound) d.plan
+
 -- the size that a poll names, and none where the search is disabled
 abbrev pub poll_names : ℕ → Discovery → Option ℕ
 poll_names now d = option_and_then (plan_names now d.size d.limit) d.plan

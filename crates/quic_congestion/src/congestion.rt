@@ -21,8 +21,9 @@ pub struct ControllerMetrics {
 
 /// Says how many bytes may be in flight, as quinn-proto's `Controller`.
 ///
-/// Contracts see what each call makes of the controller as a function of it. A controller keeps the size of a datagram that
-/// was handed in last, and once two such datagrams fit the window, each call leaves it so.
+/// Contracts see what each call makes of the controller as a function of it. A controller keeps the
+/// size of a datagram that was handed in last, and once two such datagrams fit the window, each
+/// call leaves it so.
 pub trait Controller: Drop {
     // The window, the window at the beginning, and the size handed in last.
     ghost window_of: { Self → ℕ };
@@ -36,7 +37,8 @@ pub trait Controller: Drop {
 
     ghost pacing_rate_of: { Self → Option ℕ } = { λ c. None };
 
-    // What each call makes of the controller; by default it is left as it is by what is sent and acknowledged.
+    // What each call makes of the controller; by default it is left as it is by what is sent and
+    // acknowledged.
     ghost after_sent: { Self → ℕ → ℕ → ℕ → Self } = { λ c now bytes last. c };
 
     ghost after_ack: { Self → ℕ → ℕ → ℕ → Bool → Rtt → Self } = { λ c now sent bytes app_limited rtt. c };
@@ -50,16 +52,16 @@ pub trait Controller: Drop {
     // All of these.
     ghost steps: { Steps Self };
 
-    /// So many bytes were just sent in packets that ask for an acknowledgement, up to this packet number. A controller that
-    /// has no use of it does nothing here.
+    /// So many bytes were just sent in packets that ask for an acknowledgement, up to this packet
+    /// number. A controller that has no use of it does nothing here.
     fn on_sent(&mut self, now: Instant, bytes: u64, last_packet_number: u64)
         ensures { self.new ≡ after_sent self.old now bytes last_packet_number };
 
-    /// A packet of so many bytes, sent at that moment, is acknowledged now. A controller that has no use of it does nothing
-    /// here.
+    /// A packet of so many bytes, sent at that moment, is acknowledged now. A controller that has
+    /// no use of it does nothing here.
     ///
-    /// `app_limited`: what there was to send, and not the window, bounded what was in flight. `rtt`: the estimate of the
-    /// round-trip time, this acknowledgement's sample not taken in yet.
+    /// `app_limited`: what there was to send, and not the window, bounded what was in flight.
+    /// `rtt`: the estimate of the round-trip time, this acknowledgement's sample not taken in yet.
     fn on_ack(
         &mut self,
         now: Instant,
@@ -70,15 +72,17 @@ pub trait Controller: Drop {
     )
         ensures { self.new ≡ after_ack self.old now sent bytes app_limited rtt.now };
 
-    /// The acknowledgements that came at this moment were all told, `in_flight` bytes are left in flight, and `largest` is
-    /// the greatest number acknowledged, if there is one. A controller that has no use of it does nothing here.
+    /// The acknowledgements that came at this moment were all told, `in_flight` bytes are left in
+    /// flight, and `largest` is the greatest number acknowledged, if there is one. A controller
+    /// that has no use of it does nothing here.
     fn on_end_acks(&mut self, now: Instant, in_flight: u64, app_limited: bool, largest: Option<u64>)
         ensures { self.new ≡ after_end_acks self.old now in_flight app_limited largest };
 
-    /// Packets were lost or marked as having met congestion; the newest of them was sent at that moment.
+    /// Packets were lost or marked as having met congestion; the newest of them was sent at that
+    /// moment.
     ///
-    /// `persistent`: all that was sent in a whole period is lost (RFC 9002, section 7.6). `lost_bytes`: how many bytes are
-    /// lost, 0 where packets were marked.
+    /// `persistent`: all that was sent in a whole period is lost (RFC 9002, section 7.6).
+    /// `lost_bytes`: how many bytes are lost, 0 where packets were marked.
     fn on_congestion_event(
         &mut self,
         now: Instant,
@@ -115,7 +119,8 @@ pub trait Controller: Drop {
     // The steps are these.
     ghost steps_are: { steps ≡ steps_of after_sent after_ack after_end_acks after_congestion_event after_mtu_update };
 
-    // Each call keeps the size, or takes the one that is handed in, and the room for two datagrams of it.
+    // Each call keeps the size, or takes the one that is handed in, and the room for two datagrams
+    // of it.
     ghost sent_keeps_room: { (c : Self) (now bytes last : ℕ)
         → KeepsRoom size_of window_of c (after_sent c now bytes last) };
 

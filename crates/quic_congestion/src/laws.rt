@@ -1,4 +1,5 @@
-//! What the definitions of this crate say together. Each function does nothing: its contract is the law.
+//! What the definitions of this crate say together. Each function does nothing: its contract is the
+//! law.
 
 pub mod congestion;
 pub mod mtud;

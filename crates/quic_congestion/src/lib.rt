@@ -1,5 +1,5 @@
 //! How much an endpoint may have in flight, how fast it sends, and how large its datagrams are: the
-//! congestion window and what controls it, pacing, and the size search (RFC 9002, section 7; RFC
+//! congestion window and what controls it, pacing, and path MTU discovery (RFC 9002, section 7; RFC
 //! 8899).
 #![tactic(auto)]
 

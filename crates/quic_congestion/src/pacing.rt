@@ -5,17 +5,19 @@ ghost use Rattle.quic_congestion.specs.Pacer.{capacity_of, new_pacing, after_dat
 use quic_time::{Duration, Instant};
 use std::marker::Model;
 
-/// A full pacer lets go what the window gives in this time. Timers of the caller may be no finer than 1 ms.
+/// A full pacer lets go what the window gives in this time. Timers of the caller may be no finer
+/// than 1 ms.
 const BURST_INTERVAL_NANOS: u128 = 2_000_000;
 
-/// The fewest datagrams that a full pacer lets go: bursts that are too short cost more than they spread.
+/// The fewest datagrams that a full pacer lets go: bursts that are too short cost more than they
+/// spread.
 const MIN_BURST_SIZE: u128 = 10;
 
 /// The most datagrams that a full pacer lets go.
 const MAX_BURST_SIZE: u128 = 256;
 
-/// Spreads what the window allows over the round trip (quinn-proto's `Pacer`). It holds tokens, one for each byte that
-/// may go at once, and five quarters of a window come in each round trip.
+/// Spreads what the window allows over the round trip (quinn-proto's `Pacer`). It holds tokens, one
+/// for each byte that may go at once, and five quarters of a window come in each round trip.
 #[derive(Debug, Drop)]
 pub struct Pacer {
     capacity: u64,
@@ -54,15 +56,16 @@ impl Pacer {
         }
     }
 
-    /// Takes the tokens of a datagram that goes, of so many bytes; all of them where there are fewer.
+    /// Takes the tokens of a datagram that goes, of so many bytes; all of them where there are
+    /// fewer.
     pub fn on_transmit(&mut self, packet_length: u16)
         ensures { self.new ≡ after_datagram self.old packet_length }
     {
         self.tokens = self.tokens.saturating_sub(u64::from(packet_length));
     }
 
-    /// The moment until which so many bytes have to wait, or `None` where they may go now. Windows above 2^32 - 1 bytes
-    /// and a round trip of 0 aren't paced. No moment is earlier than `now`.
+    /// The moment until which so many bytes have to wait, or `None` where they may go now. Windows
+    /// above 2^32 - 1 bytes and a round trip of 0 aren't paced. No moment is earlier than `now`.
     ///
     /// The window has to be above 0.
     pub fn delay(

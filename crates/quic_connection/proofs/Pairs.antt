@@ -1,14 +1,14 @@
 -- What it takes to make an end of a peer's parameters.
-use Rattle.std.proofs.Common.{◌≡◌, ◌==◌, ℕ, List, length, Bool, true, false, cond, not, ◌||◌, Option, Some, None, refl, sym, ap, subst}
+use Rattle.std.proofs.Common.{◌≡◌, ◌==◌, ◌≤◌, ℕ, nat_lt, List, length, Bool, true, false, cond, not, ◌||◌, Option, Some, None, refl, sym, ap, subst}
 use Rattle.std.specs.Prelude.{Result, Ok, Err, OnOk, IfOk, IfErr}
-use Rattle.std.proofs.lemmas.Bool.{eqb-true}
+use Rattle.std.proofs.lemmas.Bool.{eqb-true, ltb-false}
 use Rattle.quic_wire_core.specs.declared.stream_id.Side.{Side}
 use Rattle.quic_parameters.specs.Parameters.{ParameterValues}
 use Rattle.quic_congestion.specs.Congestion.{Told, Steps, HasRoom, AreSized, last_size, after_calls}
 use Rattle.quic_machine.specs.declared.answers.ConfigError.{ConfigError}
 use Rattle.quic_machine.specs.declared.answers.ConfigError.TheVariants as config_errors
 use Rattle.quic_config.specs.Transport.{Settings, parameters_of}
-use Rattle.quic_machine.specs.End.{End, IsMade, are_sizes_wrong, is_window_small, refusal_of}
+use Rattle.quic_machine.specs.End.{End, IsMade, are_sizes_wrong, is_window_small, refusal_of, most_payload}
 use Rattle.quic_machine.specs.Parts.{Windows}
 use Rattle.quic_machine.specs.Start.{IsController}
 use Rattle.quic_connection_core.specs.Telling.{IsRoomy, windows_of}
@@ -39,6 +39,17 @@ id_length settings window r theirs own peer is none = go (length own == 8) (leng
     go : (a b : Bool) → (length own == 8) ≡ a → cond (not a || b) (Some config_errors.IdLength) (cond (are_sizes_wrong settings theirs) (Some config_errors.Size) (cond (is_window_small settings window) (Some config_errors.Window) None)) ≡ None → length own ≡ 8
     go true b q h = eqb-true (length own) 8 q
     go false b q h = cc
+
+-- no path has to carry more than a UDP payload may have, where the sizes aren't refused
+pub fits_payload : {E : Type 0} (settings : Settings) (window : ℕ) (r : Result ParameterValues E) (theirs : ParameterValues) (own peer : List ℕ) → r ≡ Ok theirs → refusal_of settings window r own peer ≡ None → settings.min_mtu ≤ most_payload
+fits_payload settings window r theirs own peer is none = go (not (length own == 8) || (length peer == 0)) (nat_lt most_payload settings.initial_mtu) (nat_lt most_payload settings.min_mtu) refl (rw is at none)
+  where
+    go : (a b c : Bool) → nat_lt most_payload settings.min_mtu ≡ c
+        → cond a (Some config_errors.IdLength) (cond ((b || c) || nat_lt theirs.max_udp_payload_size settings.min_mtu) (Some config_errors.Size) (cond (is_window_small settings window) (Some config_errors.Window) None)) ≡ None → settings.min_mtu ≤ most_payload
+    go true b c q h = cc
+    go false true c q h = cc
+    go false false true q h = cc
+    go false false false q h = ltb-false most_payload settings.min_mtu q
 
 -- a refusal behind parameters that can be read
 pub refused_for : {E : Type 0} (own_settings : Settings) (window : ℕ) (peer_settings : Settings) (r : Result ParameterValues E) (own peer : List ℕ) (o : Option ConfigError) → r ≡ Ok (parameters_of peer_settings) → o ≡ refusal_of own_settings window r own peer → refusal_for own_settings window peer_settings own peer ≡ o

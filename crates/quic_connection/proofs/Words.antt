@@ -33,12 +33,11 @@ use Rattle.quic_machine.specs.End.{End, ConnectionValue, HasFailed, with_window,
 use Rattle.quic_machine.specs.Receive.{Outcome, is_above, names_ungiven, take_frame, headed, received_in, received, told_headed, told_received_in, told_received}
 use Rattle.quic_machine.specs.Opens.{opens_behind, would_open, own_id_length}
 use Rattle.quic_machine.specs.Control.{with_app_limited}
-use Rattle.quic_machine.specs.Poll.{Polled, gives_datagram, datagram_of, datagram_size, asking, paid_if, tracked, lazied, goes, sends, polled_if, polled_in, polled}
+use Rattle.quic_machine.specs.Poll.{Polled, gives_datagram, datagram_of, datagram_size, asking, paid_if, tracked, goes, sends, polled_if, polled_in, polled}
 use Rattle.quic_machine.specs.Control.{Control, after_told}
-use Rattle.quic_machine.specs.DraftLaws.{due_alone}
 use Rattle.quic_machine.specs.FrameCases.{Settling, losses_keep, named, ack_taken, acked_keeps, message_leaves, by_received}
 use Rattle.quic_machine.specs.LeaveCases.{by_expired}
-use Rattle.quic_machine.specs.PollCases.{ready_at, ready_leaves, draft_at, composes, by_poll_to}
+use Rattle.quic_machine.specs.PollCases.{ready_at, ready_leaves, draft_at, may_leave_at, composes, by_poll_to}
 use Rattle.quic_machine.specs.CallCases.{is_poll, by_plain_call}
 use Rattle.quic_machine.specs.Machine.{World, Policies, IsAnswer, IsDelivered, injected_if, IsLeft, IsTold, IsStep, after_call, after_delivered, after_injected_if, tells, told_delivered, gives, fails, changed, policy_at, end_at, end_met, reads_window, control_at, given_by}
 use Rattle.quic_machine.specs.Lacking.{GivesOrHasFailed, TakesFrames, MovesRecord, DeliveryTakes, LacksWhere}
@@ -56,10 +55,10 @@ abbrev Quiet : End → End → Type 0
 Quiet e f = (f.filter ≡ e.filter) × (f.closing.state ≢ states.Failed → e.closing.state ≢ states.Failed)
 
 settling : (e : End) → Settling (Quiet e)
-settling e = record { known = λ n x q. q; reset = λ id x q. q; acked = λ m x q. q; lost = λ m x q. q; again = λ c x q. q; tracked = λ t x q. q; measured = λ r first x q. q; marked = λ m marking x q. q }
+settling e = record { known = λ n x q. q; reset = λ id x q. q; acked = λ m x q. q; lost = λ m x q. q; again = λ c x q. q; searched = λ d x q. q; shortens = λ most x q. q; tracked = λ t x q. q; measured = λ r first x q. q; marked = λ m marking x q. q }
 
 filter_settling : (e : End) → Settling (λ (f : End). f.filter ≡ e.filter)
-filter_settling e = record { known = λ n x q. q; reset = λ id x q. q; acked = λ m x q. q; lost = λ m x q. q; again = λ c x q. q; tracked = λ t x q. q; measured = λ r first x q. q; marked = λ m marking x q. q }
+filter_settling e = record { known = λ n x q. q; reset = λ id x q. q; acked = λ m x q. q; lost = λ m x q. q; again = λ c x q. q; searched = λ d x q. q; shortens = λ most x q. q; tracked = λ t x q. q; measured = λ r first x q. q; marked = λ m marking x q. q }
 
 filter_ack : (b : Bool) (a : AckValue) (e x : End) → x.filter ≡ e.filter → (ack_taken b a x).end.filter ≡ e.filter
 filter_ack true a e x q = q
@@ -137,10 +136,8 @@ given_drawn false f word = omega arith
 ready_filter : (e : End) (now : ℕ) → (ready_at e now).end.filter ≡ e.filter
 ready_filter e now = ap (λ (x : End). x.filter) (ready_leaves e now)
 
-draft_filter : (e : End) (now : ℕ) → goes (ready_at e now) ≡ true → (draft_at e now).end.filter ≡ e.filter
-draft_filter e now some =
-    let g = ready_at e now in
-    (composes g.held (lazied g.end) (due_alone g some)).filter ∙ ready_filter e now
+draft_filter : (e : End) (now : ℕ) → (draft_at e now).end.filter ≡ e.filter
+draft_filter e now = (composes (ready_at e now).leaving (ready_at e now).end (may_leave_at e now)).filter ∙ ready_filter e now
 
 paid_filter : (b : Bool) (x : End) (size : ℕ) → (paid_if b x size).filter ≡ x.filter
 paid_filter true x size = refl
@@ -153,7 +150,7 @@ poll_draws p e now = by_poll_to p e now (λ x. e.filter.drawn ≤ x.end.filter.d
   nothing = λ is_open none. (let same = ap (λ (f : Filter). f.drawn) (ready_filter e now) in omega arith);
   used_up = let same = ap (λ (f : Filter). f.drawn) (ready_filter e now) in omega arith;
   gives = λ is_open can some. (let d = draft_at e now in
-      let same = ap (λ (f : Filter). f.drawn) (draft_filter e now some) in
+      let same = ap (λ (f : Filter). f.drawn) (draft_filter e now) in
       let paid = ap (λ (f : Filter). f.drawn) (paid_filter (asking d.frames) (with_number_given (p.words d.end.filter.drawn) (tracked d)) (datagram_size d)) in
       let more = given_drawn (is_skipped d.end.filter d.end.numbers.next) d.end.filter (p.words d.end.filter.drawn) in omega arith);
 })
@@ -265,7 +262,7 @@ polled_with p words e now same = state e.closing.state refl
     q = record p { words = words }
 
     word : e.closing.state ≡ states.Open → goes (ready_at e now) ≡ true → words (draft_at e now).end.filter.drawn ≡ p.words (draft_at e now).end.filter.drawn
-    word o some = ap (λ (f : Filter). words f.drawn) (draft_filter e now some) ∙ same (λ failed. (let no : states.Open ≡ states.Failed = sym o ∙ failed in cc)) ∙ sym (ap (λ (f : Filter). p.words f.drawn) (draft_filter e now some))
+    word o some = ap (λ (f : Filter). words f.drawn) (draft_filter e now) ∙ same (λ failed. (let no : states.Open ≡ states.Failed = sym o ∙ failed in cc)) ∙ sym (ap (λ (f : Filter). p.words f.drawn) (draft_filter e now))
 
     number : e.closing.state ≡ states.Open → goes (ready_at e now) ≡ true → (b : Bool) → sends b q (ready_at e now) ≡ sends b p (ready_at e now)
     number o some true =

@@ -7,6 +7,9 @@ ghost use Rattle.quic_machine.specs.CallCases.{is_poll};
 ghost use Rattle.quic_machine.specs.Lacking.{LacksWhere, TakesOfItsOwn};
 ghost use Rattle.quic_machine.specs.Start.{AreStarted};
 ghost use Rattle.quic_time.specs.Timers.{each_timer};
+ghost use Rattle.quic_headline.specs.Waited.{EachWaited};
+ghost use Rattle.quic_headline.specs.Queue.{MessagesGo, MessagesGoInOrder};
+ghost use Rattle.quic_headline.specs.Telling.{ControllersAreTold};
 ghost use Rattle.quic_headline.specs.Causes.{NoBlame, TooManyPieces, NumberLimit, TakenOrTooMany};
 ghost use Rattle.quic_headline.specs.Headline.{CodeIsSmall, AreCodes, OrderedPrefix, Slices, Once, EndAfterAll, BlockedOnlyWithoutBytes, AcceptsAll, FinishedMeansArrived, FinishedIsTold, AcknowledgedWereTaken, NamesWereTaken, OpensExactly, NewestOpens, LossTimersFollow, AckTimersFollow, NumbersRise};
 ghost use Rattle.quic_headline.specs.Amounts.{WritesTakeWhatLimitsAllow};
@@ -23,6 +26,9 @@ ghost use Rattle.quic_headline.specs.Resets.{ResetsAreTold};
 ghost use Rattle.quic_headline.specs.Ids.{IdsAreNew, AcceptedWereOpened};
 ghost use Rattle.quic_headline.specs.Reasons.{ClosedHasAReason};
 ghost use Rattle.quic_headline.specs.Views.{ViewsTell};
+ghost use Rattle.quic_headline.specs.Events.{MessagesAreTold, OpeningsAreTold, ReadablesAreTold};
+ghost use Rattle.quic_headline.specs.Sizes.{SizeIsOfHistory, SizesMove, DatagramsAreSized};
+ghost use Rattle.quic_headline.specs.Allowed.{ReadsAreAllowed, ReadsAreOver, WritesAreAllowed, ResetsAreAllowed};
 ghost use Rattle.quic_headline.specs.Credit.{CreditIsBounded, CountsAreBounded};
 ghost use Rattle.quic_headline.specs.Undone.{NoneOpenedOnlyForUndone};
 ghost use Rattle.quic_headline.specs.Unread.{BlockedOnlyForUnread};
@@ -531,16 +537,18 @@ fn view<H: HeaderKey + Drop, K: PacketKey + Drop, R: Rng + Drop, C: Controller>(
 /// open end takes what the peer's limits and the send window leave; a message is received at most
 /// as often as the other end sent it; a poll of an open end gives what waits, of streams and of
 /// messages, unless the congestion window is full or the pacer names a later moment, to which its
-/// timer is set, and gives nothing that these hold back but probes; the window that a view shows is
-/// that of the controller behind all that it was told; and an open end tracks exactly the datagrams
-/// that it gave and that are neither acknowledged, nor lost by number or by time, nor forgotten,
-/// shows its loss timer set to the moment that is due for them and its own round trips, and not set
-/// once all that ask were named, and its timer of acknowledgements to one that is due for a packet
-/// that it took and hasn't acknowledged since. An end rests where its last call was a poll that
-/// gave nothing, and it is open, its path validated, and none of its timers of losses, of
-/// acknowledgements and of the pacer set: then all that it wrote, on streams that it didn't reset,
-/// has arrived, and it owes no acknowledgement, where the controllers keep their law and their
-/// windows hold two datagrams at first (`HaveRoom`), as those of [`Ends::new`] do.
+/// timer is set, and gives nothing that these hold back but probes; no datagram has more bytes than
+/// the current size but an MTU probe, and that size grows only by one that was acknowledged; the
+/// window that a view shows is that of the controller behind all that it was told; and an open end
+/// tracks exactly the datagrams that it gave and that are neither acknowledged, nor lost by number
+/// or by time, nor forgotten, shows its loss timer set to the moment that is due for them and its
+/// own round trips, and not set once all that ask were named, and its timer of acknowledgements to
+/// one that is due for a packet that it took and hasn't acknowledged since. An end rests where its
+/// last call was a poll that gave nothing, and it is open, its path validated, and none of its
+/// timers of losses, of acknowledgements and of the pacer set: then all that it wrote, on streams
+/// that it didn't reset, has arrived, and it owes no acknowledgement, where the controllers keep
+/// their law and their windows hold two datagrams at first (`HaveRoom`), as those of [`Ends::new`]
+/// do.
 ///
 /// Nor is a stream opened or accepted twice, or accepted where no frame opened it; a reset is told
 /// only with the code that the other end's application gave; each view shows why an end isn't open,
@@ -598,10 +606,15 @@ pub fn run<H: HeaderKey + Drop, K: PacketKey + Drop, R: Rng + Drop, C: Controlle
         PacerSetsItsTimer }
     ensures asking_goes_where_let { OnHonest H.protection K.aead R.stream (windows_of C.steps C.window_of) ends events.now result
         AskingGoesWhereLet }
+    ensures datagrams_are_sized { OnHonest H.protection K.aead R.stream (windows_of C.steps C.window_of) ends events.now result
+        DatagramsAreSized }
     ensures probes_pass { OnHonest H.protection K.aead R.stream (windows_of C.steps C.window_of) ends events.now result
         ProbesPass }
     ensures window_is_of_history { OnHonest H.protection K.aead R.stream (windows_of C.steps C.window_of) ends events.now result
         WindowIsOfHistory }
+    ensures size_is_of_history { OnHonest H.protection K.aead R.stream (windows_of C.steps C.window_of) ends events.now result
+        SizeIsOfHistory }
+    ensures sizes_move { OnHonest H.protection K.aead R.stream (windows_of C.steps C.window_of) ends events.now result SizesMove }
     ensures tracks_in_flight { OnHonest H.protection K.aead R.stream (windows_of C.steps C.window_of) ends events.now result
         TracksInFlight }
     ensures loss_moments { OnHonest H.protection K.aead R.stream (windows_of C.steps C.window_of) ends events.now result LossMoments }
@@ -647,6 +660,28 @@ pub fn run<H: HeaderKey + Drop, K: PacketKey + Drop, R: Rng + Drop, C: Controlle
         CreditIsBounded }
     ensures counts_are_bounded { OnHonest H.protection K.aead R.stream (windows_of C.steps C.window_of) ends events.now result
         CountsAreBounded }
+    ensures reads_are_allowed { OnHonest H.protection K.aead R.stream (windows_of C.steps C.window_of) ends events.now result
+        ReadsAreAllowed }
+    ensures reads_are_over { OnHonest H.protection K.aead R.stream (windows_of C.steps C.window_of) ends events.now result
+        ReadsAreOver }
+    ensures writes_are_allowed { OnHonest H.protection K.aead R.stream (windows_of C.steps C.window_of) ends events.now result
+        WritesAreAllowed }
+    ensures resets_are_allowed { OnHonest H.protection K.aead R.stream (windows_of C.steps C.window_of) ends events.now result
+        ResetsAreAllowed }
+    ensures controllers_are_told { OnHonest H.protection K.aead R.stream (windows_of C.steps C.window_of) ends events.now result
+        ControllersAreTold }
+    ensures messages_go { OnHonest H.protection K.aead R.stream (windows_of C.steps C.window_of) ends events.now result
+        MessagesGo }
+    ensures messages_go_in_order { OnHonest H.protection K.aead R.stream (windows_of C.steps C.window_of) ends events.now result
+        MessagesGoInOrder }
+    ensures each_waited { OnHonest H.protection K.aead R.stream (windows_of C.steps C.window_of) ends events.now result
+        EachWaited }
+    ensures messages_are_told { OnHonest H.protection K.aead R.stream (windows_of C.steps C.window_of) ends events.now result
+        MessagesAreTold }
+    ensures openings_are_told { OnHonest H.protection K.aead R.stream (windows_of C.steps C.window_of) ends events.now result
+        OpeningsAreTold }
+    ensures readables_are_told { OnHonest H.protection K.aead R.stream (windows_of C.steps C.window_of) ends events.now result
+        ReadablesAreTold }
 {
     // What every run of the machine keeps: laws, which do nothing.
     headline::ordered_prefix();
@@ -668,8 +703,11 @@ pub fn run<H: HeaderKey + Drop, K: PacketKey + Drop, R: Rng + Drop, C: Controlle
     headline::polls_send_messages();
     headline::pacer_sets_its_timer();
     headline::asking_goes_where_let();
+    headline::datagrams_are_sized();
     headline::probes_pass();
     headline::window_is_of_history();
+    headline::size_is_of_history();
+    headline::sizes_move();
     headline::tracks_in_flight();
     headline::loss_moments();
     headline::ack_moments();
@@ -697,6 +735,17 @@ pub fn run<H: HeaderKey + Drop, K: PacketKey + Drop, R: Rng + Drop, C: Controlle
     headline::none_opened_only_for_undone();
     headline::credit_is_bounded();
     headline::counts_are_bounded();
+    headline::reads_are_allowed();
+    headline::reads_are_over();
+    headline::writes_are_allowed();
+    headline::resets_are_allowed();
+    headline::controllers_are_told();
+    headline::messages_go();
+    headline::messages_go_in_order();
+    headline::each_waited();
+    headline::messages_are_told();
+    headline::openings_are_told();
+    headline::readables_are_told();
     show_codes(events);
     run_events(alloc, ends, events)
 }

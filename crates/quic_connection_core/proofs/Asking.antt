@@ -17,13 +17,13 @@ use Rattle.quic_connection_core.proofs.Content.{Marked, marked_both, marked_asks
 
 -- what goes behind the frames of a draft
 abbrev pub behind : Draft → Draft → Draft
-behind d x = record { frames = d.frames ++ x.frames; bytes = d.bytes ++ x.bytes; end = x.end }
+behind d x = record { frames = d.frames ++ x.frames; bytes = d.bytes ++ x.bytes; least = d.least; end = x.end }
 
 -- ---- messages
 
 -- messages behind a draft, which leave these to be sent
 abbrev with_messages_behind : Draft → List (List ℕ) → List (List ℕ) → Draft
-with_messages_behind d sent left = record { frames = d.frames ++ map datagram sent; bytes = d.bytes ++ spelled_all (map datagram sent); end = with_queued d.end (record d.end.messages.queues { outgoing = left }) }
+with_messages_behind d sent left = record { frames = d.frames ++ map datagram sent; bytes = d.bytes ++ spelled_all (map datagram sent); least = d.least; end = with_queued d.end (record d.end.messages.queues { outgoing = left }) }
 
 -- one more before them
 message_first : (d : Draft) (m : List ℕ) (ms sent left : List (List ℕ)) → with_messages_behind (with_message d m ms) sent left ≡ with_messages_behind d (m ∷ sent) left
@@ -59,6 +59,7 @@ abbrev joined : Draft → control.Draft → List (List ℕ) → List (List ℕ) 
 joined d c sent left t = record {
   frames = d.frames ++ (c.frames ++ (map datagram sent ++ map stream t.frames));
   bytes = d.bytes ++ (spelled_all c.frames ++ (spelled_all (map datagram sent) ++ t.bytes));
+  least = d.least;
   end = with_queued (with_streams d.end (streams_of t.state c.pending)) (record d.end.messages.queues { outgoing = left });
 }
 
@@ -94,7 +95,7 @@ all_go d c =
 
 -- behind the frames of a draft
 unfoldable content_behind : Draft → Content → Draft
-content_behind d a = record { frames = d.frames ++ a.frames; bytes = d.bytes ++ a.bytes; end = with_content d.end a }
+content_behind d a = record { frames = d.frames ++ a.frames; bytes = d.bytes ++ a.bytes; least = d.least; end = with_content d.end a }
 
 content_goes : (d : Draft) → with_stream_frames (with_message_frames (with_control_frames d)) ≡ content_behind d (content_at d.end (length d.bytes))
 unfolding content_behind content stream_part message_frames control_part
@@ -103,7 +104,7 @@ content_goes d = all_go d (control.control_frames (frame_room d.end) (length d.b
 -- ---- PING, and the others behind it
 
 unfoldable pinged_draft : Bool → Draft → Draft
-pinged_draft b d = record { frames = d.frames ++ ping_list b; bytes = d.bytes ++ ping_bytes b; end = end_after_ping_if b d.end }
+pinged_draft b d = record { frames = d.frames ++ ping_list b; bytes = d.bytes ++ ping_bytes b; least = d.least; end = end_after_ping_if b d.end }
 
 ping_goes : (b : Bool) (d : Draft) → ping_if b d ≡ pinged_draft b d
 unfolding pinged_draft
@@ -122,7 +123,7 @@ asked_behind d =
     ∙ together (content_at (end_after_ping_if b d.end) (length d.bytes + length (ping_bytes b)))
   where
     together : (a : Content) → content_behind (pinged_draft d.end.waiting.ping d) a
-        ≡ behind d (record { frames = ping_list d.end.waiting.ping ++ a.frames; bytes = ping_bytes d.end.waiting.ping ++ a.bytes; end = with_content (end_after_ping_if d.end.waiting.ping d.end) a })
+        ≡ behind d (record { frames = ping_list d.end.waiting.ping ++ a.frames; bytes = ping_bytes d.end.waiting.ping ++ a.bytes; least = 0; end = with_content (end_after_ping_if d.end.waiting.ping d.end) a })
     together a =
         let fs = append_assoc d.frames (ping_list d.end.waiting.ping) a.frames in
         let bs = append_assoc d.bytes (ping_bytes d.end.waiting.ping) a.bytes in

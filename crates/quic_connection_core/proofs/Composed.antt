@@ -32,6 +32,7 @@ due e is = ap (λ (b : Bool). composed_if b e) is ∙ asked_behind (with_ack (no
 
 -- another goes last, where it fits
 late : (e : End) → can_send e.acknowledging ≡ false → composed e ≡ ack_if (ack_fits (first_asked e)) (first_asked e)
+unfolding asked
 late e is = ap (λ (b : Bool). composed_if b e) is ∙ ap (λ (d : Draft). ack_if (ack_fits d) d) (asked_behind (no_frames e))
 
 -- what it leaves and writes

@@ -7,9 +7,12 @@ use Rattle.quic_wire.specs.AckGrammar.{GoDown}
 use Rattle.quic_send_buffer.specs.declared.stream_meta.StreamMeta.{StreamMeta}
 use Rattle.quic_streams_parts.specs.Table.{Table, at}
 use Rattle.quic_sent_packets.specs.Packets.{from}
-use Rattle.quic_machine.specs.Tracking.{TrackedPacket, Carried, Tracking, asks_any, Verdict, lost_by, kept_by, acked_by, not_acked_by}
-use Rattle.quic_machine.specs.End.{End, with_tracking}
-use Rattle.quic_machine.specs.Acked.{without_known, reset_acked, resets_acked, streams_acked, stream_acked, packet_acked, packets_acked, stream_lost, streams_lost, again, carried_lost, packets_lost, verdict, losses_detected, measured, sampled, answered, without_acked, losses_taken}
+use Rattle.quic_machine.specs.Tracking.{TrackedPacket, Carried, Tracking, asks_any, Verdict, lost_by, kept_by, acked_by, not_acked_by, after_detection}
+use Rattle.quic_congestion.specs.Search.{Discovery, is_number}
+use Rattle.quic_machine.specs.End.{End, with_tracking, with_discovery}
+use Rattle.quic_machine.specs.Sizes.{search_acked, with_one_lost, with_all_lost, after_lost}
+use Rattle.quic_machine.specs.FrameCases.{by_searched}
+use Rattle.quic_machine.specs.Acked.{without_known, reset_acked, resets_acked, streams_acked, stream_acked, carried_acked, packet_acked, packets_acked, stream_lost, streams_lost, again, carried_lost, packets_lost, verdict, losses_detected, measured, sampled, answered, without_acked}
 use Rattle.quic_machine.specs.Timeouts.{loss_judged, loss_expired}
 use Rattle.quic_connection_core.specs.Losses.{Lost, one_lost, all_lost}
 use Rattle.quic_connection_core.specs.Tracked.{TakesLost, after_losses, acked_taken, sampled_at}
@@ -42,57 +45,77 @@ streams_acked_beside : (ms : List StreamMeta) (e : End) (t : Tracking) → strea
 streams_acked_beside [] e t = refl
 streams_acked_beside (m ∷ ms) e t = streams_acked_beside ms (stream_acked m e) t
 
-packet_acked_beside : (p : TrackedPacket) (e : End) (t : Tracking) → packet_acked p (with_tracking e t) ≡ with_tracking (packet_acked p e) t
-packet_acked_beside p e t =
-    let resets : List (ℕ × ℕ) = p.carried.retransmits.reset_stream in
-    let known : End = without_known p.carried.largest_acked e in
-    ap (λ (x : End). streams_acked p.carried.stream_frames (resets_acked resets x)) (known_beside p.carried.largest_acked e t)
-    ∙ ap (streams_acked p.carried.stream_frames) (resets_acked_beside resets known t)
-    ∙ streams_acked_beside p.carried.stream_frames (resets_acked resets known) t
+carried_acked_beside : (c : Carried) (e : End) (t : Tracking) → carried_acked c (with_tracking e t) ≡ with_tracking (carried_acked c e) t
+carried_acked_beside c e t =
+    let resets : List (ℕ × ℕ) = c.retransmits.reset_stream in
+    let known : End = without_known c.largest_acked e in
+    ap (λ (x : End). streams_acked c.stream_frames (resets_acked resets x)) (known_beside c.largest_acked e t)
+    ∙ ap (streams_acked c.stream_frames) (resets_acked_beside resets known t)
+    ∙ streams_acked_beside c.stream_frames (resets_acked resets known) t
 
 pub packets_acked_beside : (ps : Table TrackedPacket) (e : End) (t : Tracking) → packets_acked ps (with_tracking e t) ≡ with_tracking (packets_acked ps e) t
 packets_acked_beside [] e t = refl
-packets_acked_beside (p ∷ ps) e t = ap (packets_acked ps) (packet_acked_beside p.1 e t) ∙ packets_acked_beside ps (packet_acked p.1 e) t
+packets_acked_beside (p ∷ ps) e t = ap (packets_acked ps) (carried_acked_beside p.1.carried (search_acked p e) t) ∙ packets_acked_beside ps (packet_acked p e) t
+
+-- ---- nor does what is lost look at the search for a size
+
+streams_lost_searched : (ms : List StreamMeta) (e : End) (d : Discovery) → streams_lost ms (with_discovery e d) ≡ with_discovery (streams_lost ms e) d
+streams_lost_searched [] e d = refl
+streams_lost_searched (m ∷ ms) e d = streams_lost_searched ms (stream_lost m e) d
+
+carried_lost_searched : (c : Carried) (e : End) (d : Discovery) → carried_lost c (with_discovery e d) ≡ with_discovery (carried_lost c e) d
+carried_lost_searched c e d = ap (again c) (streams_lost_searched c.stream_frames e d)
+
+packets_lost_searched : (ps : Table TrackedPacket) (e : End) (d : Discovery) → packets_lost ps (with_discovery e d) ≡ with_discovery (packets_lost ps e) d
+packets_lost_searched [] e d = refl
+packets_lost_searched (p ∷ ps) e d = ap (packets_lost ps) (carried_lost_searched p.1.carried e d) ∙ packets_lost_searched ps (carried_lost p.1.carried e) d
 
 -- ---- the first packet that is lost, and then the others
 
--- what is tracked, once the first that was lost is out and what it carried waits
-left_after : (v : Verdict) (p : ℕ × TrackedPacket) (e f : End) (new : Tracking) → f ≡ carried_lost p.1.carried (with_tracking e new) → f ≡ with_tracking (carried_lost p.1.carried e) new
-left_after v p e f new is = is ∙ carried_lost_beside p.1.carried e new
+-- the end once the first that was lost is out, what it carried waits, and the search for a size has learned of it
+abbrev pub IsBehind : Option ℕ → ℕ × TrackedPacket → End → Tracking → End → Type 0
+IsBehind probe p e new f = f ≡ with_discovery (carried_lost p.1.carried (with_tracking e new)) (with_one_lost (is_number p.0 probe) p e.path.discovery)
+
+-- what is tracked then
+left_after : (probe : Option ℕ) (p : ℕ × TrackedPacket) (e f : End) (new : Tracking) → IsBehind probe p e new f → f ≡ with_discovery (with_tracking (carried_lost p.1.carried e) new) (with_one_lost (is_number p.0 probe) p e.path.discovery)
+left_after probe p e f new is = is ∙ ap (λ (x : End). with_discovery x (with_one_lost (is_number p.0 probe) p e.path.discovery)) (carried_lost_beside p.1.carried e new)
 
 -- an end that loses its first packet and then the others loses all of them
-pub lost_step : (v : Verdict) (p : ℕ × TrackedPacket) (e f : End) (new : Tracking) → TakesLost v p e.tracking new → f ≡ carried_lost p.1.carried (with_tracking e new) → after_losses v f ≡ after_losses v e
-lost_step v p e f new takes is =
+pub lost_step : (probe : Option ℕ) (v : Verdict) (p : ℕ × TrackedPacket) (e f : End) (new : Tracking) → TakesLost v p e.tracking new → IsBehind probe p e new f → after_losses probe v f ≡ after_losses probe v e
+lost_step probe v p e f new takes is =
     let behind : End = carried_lost p.1.carried e in
+    let d : Discovery = with_one_lost (is_number p.0 probe) p e.path.discovery in
+    let rest : Table TrackedPacket = lost_by v new.packets in
     let stay : record new { packets = kept_by v new.packets } ≡ record e.tracking { packets = kept_by v e.tracking.packets } =
     ap (λ (t : Tracking). record t { packets = kept_by v new.packets }) takes.others ∙ ap (λ (ps : Table TrackedPacket). record e.tracking { packets = ps }) takes.kept in
-    ap (after_losses v) (left_after v p e f new is)
-    ∙ ap (λ (x : End). with_tracking x (record new { packets = kept_by v new.packets })) (packets_lost_beside (lost_by v new.packets) behind new)
-    ∙ ap (λ (t : Tracking). with_tracking (packets_lost (lost_by v new.packets) behind) t) stay
-    ∙ ap (λ (ps : Table TrackedPacket). with_tracking (packets_lost ps e) (record e.tracking { packets = kept_by v e.tracking.packets })) (sym takes.first)
+    ap (after_losses probe v) (left_after probe p e f new is)
+    ∙ ap (λ (x : End). with_discovery (with_tracking x (record new { packets = kept_by v new.packets })) (with_all_lost probe rest d)) (packets_lost_searched rest (with_tracking behind new) d)
+    ∙ ap (λ (x : End). with_discovery (with_tracking x (record new { packets = kept_by v new.packets })) (with_all_lost probe rest d)) (packets_lost_beside rest behind new)
+    ∙ ap (λ (t : Tracking). with_discovery (with_tracking (packets_lost rest behind) t) (with_all_lost probe rest d)) stay
+    ∙ ap (λ (ps : Table TrackedPacket). with_discovery (with_tracking (packets_lost ps e) (record e.tracking { packets = kept_by v e.tracking.packets })) (with_all_lost probe ps e.path.discovery)) (sym takes.first)
 
 -- it is gone, whatever its streams send again
-tracked_then : (v : Verdict) (p : ℕ × TrackedPacket) (e f : End) (new : Tracking) → f ≡ carried_lost p.1.carried (with_tracking e new) → f.tracking ≡ new
-tracked_then v p e f new is = ap (λ (x : End). x.tracking) (left_after v p e f new is)
+tracked_then : (probe : Option ℕ) (p : ℕ × TrackedPacket) (e f : End) (new : Tracking) → IsBehind probe p e new f → f.tracking ≡ new
+tracked_then probe p e f new is = ap (λ (x : End). x.tracking) (left_after probe p e f new is)
 
-pub lost_smaller : (v : Verdict) (p : ℕ × TrackedPacket) (e f : End) (new : Tracking) → TakesLost v p e.tracking new → f ≡ carried_lost p.1.carried (with_tracking e new) → suc (length (lost_by v f.tracking.packets)) ≤ length (lost_by v e.tracking.packets)
-lost_smaller v p e f new takes is =
-    let left : length (lost_by v f.tracking.packets) ≡ length (lost_by v new.packets) = ap (λ (t : Tracking). length (lost_by v t.packets)) (tracked_then v p e f new is) in
+pub lost_smaller : (probe : Option ℕ) (v : Verdict) (p : ℕ × TrackedPacket) (e f : End) (new : Tracking) → TakesLost v p e.tracking new → IsBehind probe p e new f → suc (length (lost_by v f.tracking.packets)) ≤ length (lost_by v e.tracking.packets)
+lost_smaller probe v p e f new takes is =
+    let left : length (lost_by v f.tracking.packets) ≡ length (lost_by v new.packets) = ap (λ (t : Tracking). length (lost_by v t.packets)) (tracked_then probe p e f new is) in
     let first : length (lost_by v e.tracking.packets) ≡ suc (length (lost_by v new.packets)) = ap length takes.first in
     omega (arith, left, first)
 
 -- so it is of what the losses come to
-pub losses_step : (v : Verdict) (p : ℕ × TrackedPacket) (e f : End) (new : Tracking) (g : ℕ) (l m : Lost) → TakesLost v p e.tracking new → f ≡ carried_lost p.1.carried (with_tracking e new) → m ≡ one_lost g l p
-    → all_lost g m (lost_by v f.tracking.packets) ≡ all_lost g l (lost_by v e.tracking.packets)
-losses_step v p e f new g l m takes is more =
-    ap (λ (x : Lost). all_lost g x (lost_by v f.tracking.packets)) more
-    ∙ ap (λ (t : Tracking). all_lost g (one_lost g l p) (lost_by v t.packets)) (tracked_then v p e f new is)
-    ∙ ap (all_lost g l) (sym takes.first)
+pub losses_step : (probe : Option ℕ) (v : Verdict) (p : ℕ × TrackedPacket) (e f : End) (new : Tracking) (g : ℕ) (l m : Lost) → TakesLost v p e.tracking new → IsBehind probe p e new f → m ≡ one_lost g (is_number p.0 probe) l p
+    → all_lost g probe m (lost_by v f.tracking.packets) ≡ all_lost g probe l (lost_by v e.tracking.packets)
+losses_step probe v p e f new g l m takes is more =
+    ap (λ (x : Lost). all_lost g probe x (lost_by v f.tracking.packets)) more
+    ∙ ap (λ (t : Tracking). all_lost g probe (one_lost g (is_number p.0 probe) l p) (lost_by v t.packets)) (tracked_then probe p e f new is)
+    ∙ ap (all_lost g probe l) (sym takes.first)
 
 -- below the number behind it none is lost
-pub lost_behind : (v : Verdict) (p : ℕ × TrackedPacket) (e f : End) (new : Tracking) → TakesLost v p e.tracking new → f ≡ carried_lost p.1.carried (with_tracking e new) → lost_by v (from p.0 f.tracking.packets) ≡ lost_by v f.tracking.packets
-lost_behind v p e f new takes is =
-    let tracked = tracked_then v p e f new is in
+pub lost_behind : (probe : Option ℕ) (v : Verdict) (p : ℕ × TrackedPacket) (e f : End) (new : Tracking) → TakesLost v p e.tracking new → IsBehind probe p e new f → lost_by v (from p.0 f.tracking.packets) ≡ lost_by v f.tracking.packets
+lost_behind probe v p e f new takes is =
+    let tracked = tracked_then probe p e f new is in
     ap (λ (t : Tracking). lost_by v (from p.0 t.packets)) tracked ∙ takes.behind ∙ ap (λ (t : Tracking). lost_by v t.packets) (sym tracked)
 
 -- where one is lost now, one was at first
@@ -100,9 +123,9 @@ pub lost_some : (v : Verdict) (p : ℕ × TrackedPacket) (old new : Tracking) �
 lost_some v p old new takes none = let e = sym takes.first ∙ none in cc
 
 -- where none is lost, nothing changes
-pub none_lost : (v : Verdict) (e : End) → lost_by v e.tracking.packets ≡ [] → after_losses v e ≡ e
-none_lost v e none =
-    ap (λ (ps : Table TrackedPacket). with_tracking (packets_lost ps e) (record e.tracking { packets = kept_by v e.tracking.packets })) none
+pub none_lost : (probe : Option ℕ) (v : Verdict) (e : End) → lost_by v e.tracking.packets ≡ [] → after_losses probe v e ≡ e
+none_lost probe v e none =
+    ap (λ (ps : Table TrackedPacket). with_discovery (with_tracking (packets_lost ps e) (record e.tracking { packets = kept_by v e.tracking.packets })) (with_all_lost probe ps e.path.discovery)) none
     ∙ ap (λ (ps : Table TrackedPacket). with_tracking e (record e.tracking { packets = ps })) (all_kept v e.tracking.packets none)
 
 -- ---- what is lost leaves timers and clock
@@ -130,8 +153,10 @@ loss_expired_keeps true e = judged e.tracking.loss_time
     judged : (o : Option ℕ) → KeepsTime e (loss_judged o e)
     judged None = record { timers = refl; closing = refl }
     judged (Some moment) =
-        let k = packets_lost_keep (lost_by (verdict e) e.tracking.packets) e in
-        record { timers = k.timers; closing = k.closing }
+        let lost = lost_by (verdict e) e.tracking.packets in
+        let left : End = with_tracking (packets_lost lost e) (after_detection (verdict e) e.tracking) in
+        let k = packets_lost_keep lost e in
+        by_searched (after_lost left.closing.clock lost left.path.discovery) left (KeepsTime e) (record { timers = k.timers; closing = k.closing }) (λ most. record { timers = k.timers; closing = k.closing })
 
 -- ---- an ACK frame
 

@@ -1,5 +1,5 @@
 -- What the parts of a packet say of the frames that it carries.
-use Rattle.std.proofs.Common.{◌≡◌, ℕ, ◌+◌, ◌-◌, ◌<◌, ◌^◌, ◌++◌, ◌≤◌, Bool, true, false, List, length, replicate, take, drop, sym, ap, ◌∙◌, arith}
+use Rattle.std.proofs.Common.{◌≡◌, ℕ, ◌+◌, ◌-◌, ◌<◌, ◌^◌, ◌++◌, ◌≤◌, max, ◌&&◌, Bool, true, false, List, length, replicate, take, drop, sym, ap, ◌∙◌, arith}
 use Rattle.std.specs.Prelude.{nat_lt, if◌then◌else◌}
 use Rattle.std.proofs.lemmas.Bool.{and_parts, ltb-true}
 use Rattle.std.proofs.lemmas.List.{length-append, length-replicate, append_assoc, take-take, take_at}
@@ -15,31 +15,35 @@ use Rattle.quic_spaces.specs.Filter.{Filter, allocated, is_skipped}
 use Rattle.quic_machine.specs.Policy.{Policy}
 use Rattle.quic_machine.specs.End.{End, number_of}
 use Rattle.quic_machine.specs.Tracking.{Carried, carried_in}
-use Rattle.quic_machine.specs.Poll.{Draft, draft_if, payload_of, datagram_of, datagram_size, asking, tracked}
+use Rattle.quic_config.specs.Transport.{TransportSettings}
+use Rattle.quic_machine.specs.Parts.{Path, current_mtu}
+use Rattle.quic_machine.specs.Poll.{Draft, Leaving, whole, alone, probe, nothing, draft_left, least_left, most_of, number_width, overhead, least_size, zeros_behind, payload_of, datagram_of, datagram_size, asking, tracked}
+use Rattle.quic_machine.specs.DraftLaws.{left_least}
+use Rattle.quic_connection_core.specs.Leaving.{least_of, beside, zeros_of}
 use Rattle.quic_connection_core.specs.Frames.{tracked_as}
-use Rattle.quic_machine.specs.PollCases.{composes}
+use Rattle.quic_machine.specs.PollCases.{composes_left}
 
-module _ (held : Bool) (e : End) (due : held ≡ true → can_send e.acknowledging ≡ true) where
+module _ (leaving : Leaving) (e : End) (due : leaving ≡ alone → can_send e.acknowledging ≡ true) where
   -- what goes
   abbrev went : Draft
-  went = draft_if held e
+  went = draft_left leaving e
 
   -- it leaves numbers, those that are left out, and ids
   pub same_numbers : went.end.numbers ≡ e.numbers
-  same_numbers = (composes held e due).numbers
+  same_numbers = (composes_left leaving e due).numbers
 
   pub same_filter : went.end.filter ≡ e.filter
-  same_filter = (composes held e due).filter
+  same_filter = (composes_left leaving e due).filter
 
   pub same_ids : went.end.ids ≡ e.ids
-  same_ids = (composes held e due).ids
+  same_ids = (composes_left leaving e due).ids
 
   -- its number is that of the end
   pub same_number : number_of went.end ≡ number_of e
   same_number = ap (λ (f : Filter). allocated f went.end.numbers.next) same_filter ∙ ap (λ (n : Numbers). allocated e.filter n.next) same_numbers
 
   -- and is cut as that is
-  pub same_width : (truncated (number_of went.end) (cut_against went.end.numbers)).width ≡ (truncated (number_of e) (cut_against e.numbers)).width
+  pub same_width : number_width went ≡ (truncated (number_of e) (cut_against e.numbers)).width
   same_width =
       ap (λ (k : ℕ). (truncated k (cut_against went.end.numbers)).width) same_number
       ∙ ap (λ (n : Numbers). (truncated (number_of e) (cut_against n)).width) same_numbers
@@ -52,21 +56,61 @@ module _ (held : Bool) (e : End) (due : held ≡ true → can_send e.acknowledgi
       ∙ ap (λ (n : Numbers). sent p.header p.packet (number_of went.end) (cut_against n) e.ids.active.id payload) (sym same_numbers)
       ∙ ap (λ (i : Ids). sent p.header p.packet (number_of went.end) (cut_against went.end.numbers) i.active.id payload) (sym same_ids)
 
-  -- its payload is padded for the number of the end
-  pub payload_is : payload_of went ≡ went.bytes ++ replicate (4 - ((truncated (number_of e) (cut_against e.numbers)).width + length went.bytes)) 0
-  payload_is = ap (λ (k : ℕ). went.bytes ++ replicate (4 - (k + length went.bytes)) 0) same_width
+  -- as many bytes stand beside its payload as the end says, and it has as many at least
+  pub same_overhead : overhead went ≡ beside e
+  same_overhead = ap (λ (i : Ids). 1 + length i.active.id + number_width went + 16) same_ids ∙ ap (λ (k : ℕ). 1 + length e.ids.active.id + k + 16) same_width
+
+  pub same_least : least_size went ≡ least_of leaving (asking went.frames) e
+  same_least =
+      ap (λ (t : TransportSettings). if t.pad_to_mtu && asking went.frames then max went.least (current_mtu went.end.path) else went.least) (composes_left leaving e due).transport
+      ∙ ap (λ (p : Path). if e.transport.pad_to_mtu && asking went.frames then max went.least (current_mtu p) else went.least) (composes_left leaving e due).path
+      ∙ ap (λ (n : ℕ). if e.transport.pad_to_mtu && asking went.frames then max n (current_mtu e.path) else n) (left_least leaving e)
+
+  -- so it has where its frames are taken already
+  pub same_least_of : (asks : Bool) → least_of leaving asks went.end ≡ least_of leaving asks e
+  same_least_of asks =
+      ap (λ (t : TransportSettings). if t.pad_to_mtu && asks then max (least_left leaving) (current_mtu went.end.path) else least_left leaving) (composes_left leaving e due).transport
+      ∙ ap (λ (p : Path). if e.transport.pad_to_mtu && asks then max (least_left leaving) (current_mtu p) else least_left leaving) (composes_left leaving e due).path
+
+  -- so it is padded
+  pub zeros_are : zeros_behind went ≡ zeros_of e (length went.bytes) (least_of leaving (asking went.frames) e)
+  zeros_are =
+      ap (λ (k : ℕ). max (4 - (k + length went.bytes)) (least_size went - (overhead went + length went.bytes))) same_width
+      ∙ ap (λ (k : ℕ). max (4 - ((truncated (number_of e) (cut_against e.numbers)).width + length went.bytes)) (k - (overhead went + length went.bytes))) same_least
+      ∙ ap (λ (k : ℕ). max (4 - ((truncated (number_of e) (cut_against e.numbers)).width + length went.bytes)) (least_of leaving (asking went.frames) e - (k + length went.bytes))) same_overhead
+
+  pub payload_is : payload_of went ≡ went.bytes ++ replicate (zeros_of e (length went.bytes) (least_of leaving (asking went.frames) e)) 0
+  payload_is = ap (λ (k : ℕ). went.bytes ++ replicate k 0) zeros_are
 
   -- how many bytes it has
   pub size_is : datagram_size went ≡ 1 + length e.ids.active.id + (truncated (number_of e) (cut_against e.numbers)).width + length (payload_of went) + 16
-  size_is =
-      ap (λ (i : Ids). 1 + length i.active.id + (truncated (number_of went.end) (cut_against went.end.numbers)).width + length (payload_of went) + 16) same_ids
-      ∙ ap (λ (k : ℕ). 1 + length e.ids.active.id + k + length (payload_of went) + 16) same_width
+  size_is = let same = same_overhead in omega arith
 
   -- how many bytes its payload has
-  pub payload_long : length (payload_of went) ≡ length went.bytes + (4 - ((truncated (number_of e) (cut_against e.numbers)).width + length went.bytes))
+  pub payload_long : length (payload_of went) ≡ length went.bytes + zeros_of e (length went.bytes) (least_of leaving (asking went.frames) e)
   payload_long =
-      let pad : ℕ = 4 - ((truncated (number_of e) (cut_against e.numbers)).width + length went.bytes) in
+      let pad : ℕ = zeros_of e (length went.bytes) (least_of leaving (asking went.frames) e) in
       ap length payload_is ∙ length-append went.bytes (replicate pad 0) ∙ ap (λ (k : ℕ). length went.bytes + k) (length-replicate pad 0)
+
+-- it has no more at least than at most
+pub least_within : (leaving : Leaving) (asks : Bool) (e : End) → least_of leaving asks e ≤ most_of leaving e
+least_within leaving asks e = by (e.transport.pad_to_mtu && asks) leaving
+  where
+    by : (b : Bool) (l : Leaving) → (if b then max (least_left l) (current_mtu e.path) else least_left l) ≤ most_of l e
+    by true whole = omega arith
+    by true alone = omega arith
+    by true (probe size) = omega arith
+    by true (nothing held) = omega arith
+    by false whole = omega arith
+    by false alone = omega arith
+    by false (probe size) = omega arith
+    by false (nothing held) = omega arith
+
+pub mtu_within : (leaving : Leaving) (e : End) → current_mtu e.path ≤ most_of leaving e
+mtu_within whole e = omega arith
+mtu_within alone e = omega arith
+mtu_within (probe size) e = omega arith
+mtu_within (nothing held) e = omega arith
 
 -- it is tracked as its parts say
 pub tracked_is : (d : Draft) (asks : Bool) (size : ℕ) (carried : Carried) → asks ≡ asking d.frames → size ≡ datagram_size d → carried ≡ carried_in d.frames → tracked_as asks size carried d.end ≡ tracked d
@@ -96,19 +140,11 @@ front_of front before all added n m long few put same =
     sym (take-take n m all few) ∙ ap (λ (z : List ℕ). take n z) (same ∙ put) ∙ take_at front added n (sym long)
 
 -- header, frames and padding are a packet with their payload
-pub plain_of : (front before header whole padded bytes : List ℕ) (width wide len body : ℕ)
-    → before ≡ front ++ header → body ≡ length before → wide ≡ width → len ≡ length whole → whole ≡ before ++ bytes → padded ≡ whole ++ replicate (4 - (wide + (len - body))) 0
-    → padded ≡ front ++ (header ++ (bytes ++ replicate (4 - (width + length bytes)) 0))
-plain_of front before header whole padded bytes width wide len body b l s n w p =
-    let long : wide + (len - body) ≡ width + length bytes = omega (arith, ap length w, length-append before bytes) in
-    let zeros : ℕ → List ℕ = λ (k : ℕ). replicate (4 - k) 0 in
-    let pad = zeros (width + length bytes) in
-    p ∙ ap (λ (k : ℕ). whole ++ zeros k) long ∙ ap (λ (z : List ℕ). z ++ pad) w ∙ append_assoc before bytes pad ∙ ap (λ (z : List ℕ). z ++ (bytes ++ pad)) b ∙ append_assoc front header (bytes ++ pad)
-
--- it has as many bytes as its datagram, but for the tag
-pub size_of : (size id width wide payload bytes old header frames whole body : ℕ) → size ≡ 1 + id + width + payload + 16 → payload ≡ bytes + (4 - (width + bytes)) → wide ≡ width
-    → header ≡ old + (1 + id + wide) → body ≡ header → frames ≡ header + bytes → whole ≡ frames + (4 - (wide + (frames - body))) → whole + 16 ≡ old + size
-size_of size id width wide payload bytes old header frames whole body s p w h b f z = omega (arith, s, p, w, h, b, f, z)
+pub plain_of : (front before header body padded bytes : List ℕ) (pad zeros : ℕ) → before ≡ front ++ header → body ≡ before ++ bytes → padded ≡ body ++ replicate pad 0 → pad ≡ zeros
+    → padded ≡ front ++ (header ++ (bytes ++ replicate zeros 0))
+plain_of front before header body padded bytes pad zeros b w p same =
+    let zeros_bytes : List ℕ = replicate zeros 0 in
+    p ∙ ap (λ (k : ℕ). body ++ replicate k 0) same ∙ ap (λ (z : List ℕ). z ++ zeros_bytes) w ∙ append_assoc before bytes zeros_bytes ∙ ap (λ (z : List ℕ). z ++ (bytes ++ zeros_bytes)) b ∙ append_assoc front header (bytes ++ zeros_bytes)
 
 -- sealed, it is the datagram of its payload
 pub sealed_of : (protection : Protection) (aead : Aead) → KeepsLength protection.hide

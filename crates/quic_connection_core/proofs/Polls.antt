@@ -1,6 +1,6 @@
 -- What a poll comes to, case by case, and what an end draws from its random source where it gives a datagram.
-use Rattle.std.proofs.Common.{◌≡◌, ℕ, ◌-◌, Bool, true, false, Some, None, inl, inr, refl, sym, ap, subst, ◌∙◌, arith}
-use Rattle.std.specs.Prelude.{◌==◌}
+use Rattle.std.proofs.Common.{◌≡◌, ◌⊎◌, ℕ, ◌-◌, ◌≤◌, ◌<◌, ◌^◌, ◌&&◌, [], Bool, true, false, Some, None, inl, inr, refl, sym, ap, subst, ◌∙◌, arith}
+use Rattle.std.specs.Prelude.{◌==◌, IsSome}
 use Rattle.std.proofs.lemmas.Bool.{or_parts, and_parts, eqb-true}
 use Rattle.quic_packet.specs.Keys.{Protection, Aead}
 use Rattle.quic_recovery_core.specs.PendingAcks.{can_send}
@@ -10,11 +10,21 @@ use Rattle.quic_machine.specs.declared.answers.LostReason.TheVariants as reasons
 use Rattle.quic_spaces.specs.Numbers.{can_number}
 use Rattle.quic_spaces.specs.Filter.{Filter}
 use Rattle.quic_machine.specs.Policy.{Policy}
+use Rattle.quic_machine.specs.Parts.{current_mtu}
+use Rattle.quic_machine.specs.Tracking.{Tracking}
 use Rattle.quic_machine.specs.Closing.{ticked}
-use Rattle.quic_machine.specs.End.{End, ConnectionValue, with_end, with_closing, policy_of, closed_by}
-use Rattle.quic_machine.specs.Control.{is_window_full, paced_until, pacer_asked, Gated, lets, holds, with_pacing_timer}
-use Rattle.quic_machine.specs.Poll.{Polled, gives_nothing, gives_datagram, datagram_of, after_given, probed, asks_to_go, is_gated, gated, ready, goes, draft_if, draft_of, rests, sends, polled_if, polled_in, polled, IsSilent}
-use Rattle.quic_machine.specs.PollCases.{ready_at, draft_at, probe_leaves, gate_leaves, by_gate}
+use Rattle.quic_machine.specs.End.{End, ConnectionValue, with_end, with_closing, most_payload, policy_of, closed_by}
+use Rattle.quic_machine.specs.Control.{is_window_full, pacer_asked, Gated, lets, holds, with_pacing_timer}
+use Rattle.quic_machine.specs.Poll.{Polled, gives_nothing, gives_datagram, datagram_of, after_given, probed, asks_to_go, is_gated, gated, alone, probe, lazied_as, most_of, Ready, leaves, ready, goes, goes_as, draft_left, draft_of, rests, sends, polled_if, polled_in, polled, told_polled_in, told_polled, told_if, told_draft, waits, IsSilent}
+use Rattle.quic_machine.specs.Poll as poll
+use Rattle.quic_machine.specs.DraftLaws.{MayLeave}
+use Rattle.quic_connection_core.specs.declared.connection.leaving.Leaving.{Leaving}
+use Rattle.quic_connection_core.specs.declared.connection.leaving.Leaving.TheVariants.{Whole, Alone, Probe}
+use Rattle.quic_connection_core.specs.Leaving.{leaving_of, Leaves, rested_if, rested, IsLooked}
+use Rattle.quic_congestion.specs.Search.{Discovery}
+use Rattle.quic_congestion.specs.SearchBounds.{IsSized}
+use Rattle.quic_congestion.proofs.SizedSearch.{named_sized}
+use Rattle.quic_machine.specs.PollCases.{ready_at, draft_at, ready_leaves, may_leave_at, probe_leaves, gate_leaves, by_gate, by_leaves}
 use Rattle.quic_machine.specs.Lacking.{GivesOrHasFailed, PollTakes}
 use Rattle.quic_connection_core.proofs.Plain.{same_filter}
 use Rattle.quic_connection_core.proofs.Moved.{silent_probes}
@@ -44,48 +54,127 @@ failed_takes p e now failed = inl (subst (λ (s : State). GivesOrHasFailed (poll
 
 -- ---- words of the random source
 
--- a probe leaves the numbers that are left out, and so do window and pacer
+-- an end that is made ready leaves the numbers that are left out
 pub ready_filter_is : (e : End) (now : ℕ) → (ready_at e now).end.filter ≡ e.filter
-ready_filter_is e now =
-    let x = with_pacing_timer (with_closing e (ticked e.closing now)) None in
-    ap (λ (y : End). y.filter) (gate_leaves (probed x)) ∙ ap (λ (y : End). y.filter) (probe_leaves x)
+ready_filter_is e now = ap (λ (y : End). y.filter) (ready_leaves e now)
 
 -- an end that drew as many words has the same policy
 pub same_policy : {H K R C : Type 0} (protection : H → Protection) (aead : K → Aead) (words : R → ℕ → ℕ) (w : ConnectionValue H K R C) (e : End) → e.filter ≡ w.end.filter → policy_of protection aead words (with_end w e) ≡ policy_of protection aead words w
 same_policy protection aead words w e same = ap (λ (f : Filter). policy_of protection aead words (with_end w (record e { filter = f }))) same
 
 -- the next word is the first that it answers
-pub word_is : {R : Type 0} (words : R → ℕ → ℕ) (r : R) (held : Bool) (e : End) → (held ≡ true → can_send e.acknowledging ≡ true) → words r ((draft_if held e).end.filter.drawn - e.filter.drawn) ≡ words r 0
-word_is words r held e due = ap (λ (k : ℕ). words r k) (let same = ap (λ (f : Filter). f.drawn) (same_filter held e due) in let none : (draft_if held e).end.filter.drawn - e.filter.drawn ≡ 0 = omega (arith, same) in none)
+pub word_is : {R : Type 0} (words : R → ℕ → ℕ) (r : R) (l : poll.Leaving) (e : End) → (l ≡ alone → can_send e.acknowledging ≡ true) → words r ((draft_left l e).end.filter.drawn - e.filter.drawn) ≡ words r 0
+word_is words r l e due = ap (λ (k : ℕ). words r k) (let same = ap (λ (f : Filter). f.drawn) (same_filter l e due) in let none : (draft_left l e).end.filter.drawn - e.filter.drawn ≡ 0 = omega (arith, same) in none)
 
 -- ---- an open end that is ready to give
 
--- it took a moment over, stopped the timer of its pacer, filled a probe, and asked window and pacer
-pub made_ready : {H K R C : Type 0} (w w1 w3 z : ConnectionValue H K R C) (now : ℕ) → w1 ≡ with_end w (with_closing w.end (ticked w.end.closing now)) → w3 ≡ with_end w1 (probed (with_pacing_timer w1.end None)) → z ≡ with_end w3 (gated w3.end).end
-    → z ≡ with_end w (ready_at w.end now).end
-made_ready {H} {K} {R} {C} w w1 w3 z now ticks probes gates =
-    gates
-    ∙ ap (λ (x : ConnectionValue H K R C). with_end x (gated x.end).end) probes
-    ∙ ap (λ (x : ConnectionValue H K R C). with_end x (ready x.end).end) ticks
+-- something that leaves goes
+goes_on : (l : Leaving) → goes_as (leaving_of l) ≡ true
+goes_on Whole = refl
+goes_on Alone = refl
+goes_on (Probe size) = refl
 
-pub made_held : {H K R C : Type 0} (w w1 w3 : ConnectionValue H K R C) (now : ℕ) (held : Bool) → w1 ≡ with_end w (with_closing w.end (ticked w.end.closing now)) → w3 ≡ with_end w1 (probed (with_pacing_timer w1.end None)) → held ≡ (gated w3.end).held
-    → held ≡ (ready_at w.end now).held
-made_held {H} {K} {R} {C} w w1 w3 now held ticks probes holds_back =
-    holds_back
-    ∙ ap (λ (x : ConnectionValue H K R C). (gated x.end).held) probes
-    ∙ ap (λ (x : ConnectionValue H K R C). (ready x.end).held) ticks
+due_as : (l : Leaving) (e : End) → MayLeave (leaving_of l) e → leaving_of l ≡ alone → can_send (lazied_as (leaving_of l) e).acknowledging ≡ true
+due_as Whole e may is = cc
+due_as Alone e may is = may is
+due_as (Probe size) e may is = cc
 
--- so it is what was asked of
-pub made_gated : {H K R C : Type 0} (w z : ConnectionValue H K R C) (now : ℕ) (held : Bool) → z ≡ with_end w (ready_at w.end now).end → held ≡ (ready_at w.end now).held → record { held = held; end = z.end } ≡ ready_at w.end now
-made_gated {H} {K} {R} {C} w z now held is h =
-    let g : Gated = ready_at w.end now in
-    ap (λ (b : Bool). record g { held = b; end = z.end }) h ∙ ap (λ (x : ConnectionValue H K R C). record g { end = x.end }) is
+-- a probe that goes has no less than the size of the path, and no more than a bound of the search
+ready_looked : (least most : ℕ) (e : End) (now size : ℕ) → IsSized least most e.path.discovery → (ready_at e now).leaving ≡ probe size → (current_mtu (ready_at e now).end.path ≤ size) × (size ≤ most)
+ready_looked least most e now size sized = by_leaves (gated (probed x)) (λ (r : Ready). r.leaving ≡ probe size → (current_mtu r.end.path ≤ size) × (size ≤ most)) (record {
+  acks = λ held due is. cc;
+  held = λ held none is. cc;
+  all = λ free some is. cc;
+  idle = λ free none is. cc;
+  asked = λ free none is. cc;
+  probes = λ n free none may named is. (let same : n ≡ size = cc in let both = named_sized least most g.end.path.discovery g.end.closing.clock n stays named in let low = both.0 in let high = both.1 in (omega (arith, low, same), omega (arith, high, same)));
+})
+  where
+    x : End
+    x = with_pacing_timer (with_closing e (ticked e.closing now)) None
+
+    g : Gated
+    g = gated (probed x)
+
+    stays : IsSized least most g.end.path.discovery
+    stays = subst (λ (d : Discovery). IsSized least most d) (sym (ap (λ (y : End). y.path.discovery) (gate_leaves (probed x)) ∙ ap (λ (y : End). y.path.discovery) (probe_leaves x))) sized
+
+-- an end that is made ready has the size of its path
+ready_sized : (least most : ℕ) (e : End) (now : ℕ) → IsSized least most e.path.discovery → current_mtu (ready_at e now).end.path ≤ most
+ready_sized least most e now sized = by_leaves (gated (probed x)) (λ (r : Ready). current_mtu r.end.path ≤ most) (record {
+  acks = λ held due. stays;
+  held = λ held none. stays;
+  all = λ free some. stays;
+  idle = λ free none. stays;
+  asked = λ free none. stays;
+  probes = λ n free none may named. stays;
+})
+  where
+    x : End
+    x = with_pacing_timer (with_closing e (ticked e.closing now)) None
+
+    stays : current_mtu (gated (probed x)).end.path ≤ most
+    stays = subst (λ (d : Discovery). d.size ≤ most) (sym (ap (λ (y : End). y.path.discovery) (gate_leaves (probed x)) ∙ ap (λ (y : End). y.path.discovery) (probe_leaves x))) sized.size
+
+-- a datagram has fewer bytes than 16 bits count
+pub few_bytes : (l : Leaving) (e : End) → current_mtu e.path < 2 ^ 16 → IsLooked l e → most_of (leaving_of l) e < 2 ^ 16
+few_bytes Whole e few looked = few
+few_bytes Alone e few looked = few
+few_bytes (Probe n) e few looked = let most = (looked n refl).1 in omega (arith, few, most)
+
+within_payload : (l : Leaving) (e : End) (size : ℕ) → current_mtu e.path ≤ most_payload → IsLooked l e → size ≤ most_of (leaving_of l) e → size ≤ most_payload
+within_payload Whole e size few looked within = omega (arith, few, within)
+within_payload Alone e size few looked within = omega (arith, few, within)
+within_payload (Probe n) e size few looked within = let most = (looked n refl).1 in omega (arith, few, within, most)
+
+module _ {H K R C : Type 0} (w z : ConnectionValue H K R C) (now : ℕ) (left : z ≡ with_end w (rested (ready_at w.end now))) where
+  abbrev G : Ready
+  G = ready_at w.end now
+
+  -- nothing leaves
+  pub none_left : goes G ≡ false → z ≡ with_end w (rests G)
+  none_left none = left ∙ ap (λ (b : Bool). with_end w (rested_if b G)) none
+
+  module _ (l : Leaving) (leaves_so : Leaves (Some l) G.leaving) where
+    pub some_goes : goes G ≡ true
+    some_goes = ap goes_as leaves_so ∙ goes_on l
+
+    pub some_left : z ≡ with_end w G.end
+    some_left = left ∙ ap (λ (b : Bool). with_end w (rested_if b G)) some_goes
+
+    pub some_is : ◌≡◌ {A = Ready} (record { leaving = leaving_of l; end = z.end }) G
+    some_is = ap (λ (x : ConnectionValue H K R C). record { leaving = leaving_of l; end = x.end }) some_left ∙ ap (λ (k : poll.Leaving). record G { leaving = k }) (sym leaves_so)
+
+    -- where an ACK goes alone, it is due
+    pub some_due : leaving_of l ≡ alone → can_send (lazied_as (leaving_of l) z.end).acknowledging ≡ true
+    some_due = due_as l z.end (subst (λ (r : Ready). MayLeave r.leaving r.end) (sym some_is) (may_leave_at w.end now))
+
+    -- a probe has a size that a datagram may have
+    pub some_looked : (most : ℕ) → most ≤ most_payload → IsSized 1200 most w.end.path.discovery → IsLooked l z.end
+    some_looked most few sized size is =
+        let looked = ready_looked 1200 most w.end now size sized (leaves_so ∙ is) in
+        let same : current_mtu z.end.path ≡ current_mtu G.end.path = ap (λ (x : ConnectionValue H K R C). current_mtu x.end.path) some_left in
+        let low = looked.0 in
+        let high = looked.1 in
+        (omega (arith, same, low), omega (arith, high, few))
+
+    -- no datagram of it has more bytes than a UDP payload may have
+    pub some_within : (most : ℕ) → most ≤ most_payload → IsSized 1200 most w.end.path.discovery → (size : ℕ) → size ≤ most_of (leaving_of l) z.end → size ≤ most_payload
+    some_within most few sized size within =
+        let sizes = ready_sized 1200 most w.end now sized in
+        let same : current_mtu z.end.path ≡ current_mtu G.end.path = ap (λ (x : ConnectionValue H K R C). current_mtu x.end.path) some_left in
+        within_payload l z.end size (omega (arith, sizes, same, few)) (some_looked most few sized) within
 
 -- ---- where nothing goes
 
 -- an end that gives nothing has nothing to send but what is held back
 pub silent_rests : (e : End) (now : ℕ) → goes (ready_at e now) ≡ false → IsSilent (rests (ready_at e now))
-silent_rests e now = by_gate y (λ (g : Gated). goes g ≡ false → IsSilent (rests g)) (record { free = free; full = full; lets = let_go; holds = held_back })
+silent_rests e now = by_gate y (λ (g : Gated). Rests (leaves g)) (record {
+  free = λ is. free_rests y (λ none. silent_probes x none);
+  full = λ gate is. held_rests y gate y refl refl (λ asks. inl is);
+  lets = λ gate room until. free_rests (pacer_asked y) (λ none. no_probe gate);
+  holds = λ moment gate room until. held_rests y gate (with_pacing_timer (pacer_asked y) (Some moment)) refl refl (λ asks. inr refl);
+})
   where
     x : End
     x = with_pacing_timer (with_closing e (ticked e.closing now)) None
@@ -93,24 +182,37 @@ silent_rests e now = by_gate y (λ (g : Gated). goes g ≡ false → IsSilent (r
     y : End
     y = probed x
 
+    Rests : Ready → Type 0
+    Rests r = goes r ≡ false → IsSilent (rests r)
+
     no_probe : is_gated y ≡ true → y.tracking.probes ≡ 0
     no_probe asks = eqb-true y.tracking.probes 0 (and_parts (asks_to_go y) (y.tracking.probes == 0) asks).1
 
-    free : is_gated y ≡ false → goes (lets y) ≡ false → IsSilent (rests (lets y))
-    free is none =
-        let parts = or_parts (can_send y.acknowledging) (asks_to_go y) none in
-        record { no_ack = parts.0; no_probe = silent_probes x none; held = λ asks. absurd (let both : true ≡ false = sym asks ∙ parts.1 in cc) }
+    -- nothing waits
+    silent : (z : End) → waits z ≡ false → z.tracking.probes ≡ 0 → IsSilent z
+    silent z none probes =
+        let parts = or_parts (can_send z.acknowledging) (asks_to_go z) none in
+        record { no_ack = parts.0; no_probe = probes; held = λ asks. absurd (let both : true ≡ false = sym asks ∙ parts.1 in cc) }
 
-    full : is_gated y ≡ true → is_window_full y ≡ true → goes (holds y) ≡ false → IsSilent (rests (holds y))
-    full asks is none = record { no_ack = (or_parts (can_send y.acknowledging) false none).0; no_probe = no_probe asks; held = λ waits. inl is }
+    free_rests : (z : End) → (waits z ≡ false → z.tracking.probes ≡ 0) → Rests (leaves (lets z))
+    free_rests z probes = by_leaves (lets z) Rests (record {
+      acks = λ held. cc;
+      held = λ held. cc;
+      all = λ free some none. cc;
+      idle = λ free none went. (let s = silent z none (probes none) in record { no_ack = s.no_ack; no_probe = s.no_probe; held = s.held });
+      asked = λ free none went. (let s = silent z none (probes none) in record { no_ack = s.no_ack; no_probe = s.no_probe; held = s.held });
+      probes = λ size free none may named went. cc;
+    })
 
-    let_go : is_gated y ≡ true → is_window_full y ≡ false → paced_until y ≡ None → goes (lets (pacer_asked y)) ≡ false → IsSilent (rests (lets (pacer_asked y)))
-    let_go asks room until none =
-        let parts = or_parts (can_send y.acknowledging) (asks_to_go y) none in
-        absurd (let both : true ≡ false = sym (and_parts (asks_to_go y) (y.tracking.probes == 0) asks).0 ∙ parts.1 in cc)
-
-    held_back : (moment : ℕ) → is_gated y ≡ true → is_window_full y ≡ false → paced_until y ≡ Some moment → goes (holds (with_pacing_timer (pacer_asked y) (Some moment))) ≡ false → IsSilent (rests (holds (with_pacing_timer (pacer_asked y) (Some moment))))
-    held_back moment asks room until none = record { no_ack = (or_parts (can_send y.acknowledging) false none).0; no_probe = no_probe asks; held = λ waits. inr refl }
+    held_rests : (y : End) → is_gated y ≡ true → (z : End) → z.tracking ≡ y.tracking → z.acknowledging ≡ y.acknowledging → (asks_to_go z ≡ true → (is_window_full z ≡ true) ⊎ IsSome z.timers.pacing) → Rests (leaves (holds z))
+    held_rests y gate z same acks held = by_leaves (holds z) Rests (record {
+      acks = λ h due none. cc;
+      held = λ h none went. record { no_ack = none; no_probe = ap (λ (t : Tracking). t.probes) same ∙ eqb-true y.tracking.probes 0 (and_parts (asks_to_go y) (y.tracking.probes == 0) gate).1; held = held };
+      all = λ free. cc;
+      idle = λ free. cc;
+      asked = λ free. cc;
+      probes = λ size free. cc;
+    })
 
 -- ---- its policy
 
@@ -126,15 +228,28 @@ module _ {H K R C : Type 0} (protection : H → Protection) (aead : K → Aead) 
   none_drawn = let same = ap (λ (f : Filter). f.drawn) ready_filter in omega (arith, same)
 
   -- what it comes to where something goes and numbers are left
-  abbrev given : Policy → Gated → Polled
+  abbrev given : Policy → Ready → Polled
   given p g = gives_datagram (datagram_of p (draft_of g)) (after_given p (draft_of g))
 
-  module _ (held : Bool) (h : held ≡ (ready_at w.end now).held) (opened : w.end.closing.state ≡ states.Open) (some : goes (record { held = held; end = z.end }) ≡ true) (can : can_number z.end.numbers ≡ true) where
-    same_gate : record { held = held; end = z.end } ≡ ready_at w.end now
-    same_gate = made_gated w z now held is h
+  module _ (l : Leaving) (same : ◌≡◌ {A = Ready} (record { leaving = leaving_of l; end = z.end }) (ready_at w.end now)) (opened : w.end.closing.state ≡ states.Open) (some : goes (ready_at w.end now) ≡ true) (can : can_number z.end.numbers ≡ true) where
+    -- numbers are left
+    can_still : can_number (ready_at w.end now).end.numbers ≡ true
+    can_still = ap (λ (g : Ready). can_number g.end.numbers) (sym same) ∙ can
 
-    pub ready_gives : polled (policy_of protection aead words w) w.end now ≡ given (policy_of protection aead words z) (record { held = held; end = z.end })
+    pub ready_gives : polled (policy_of protection aead words w) w.end now ≡ given (policy_of protection aead words z) (record { leaving = leaving_of l; end = z.end })
     ready_gives =
-        polled_gives (policy_of protection aead words w) w.end now opened (ap goes (sym same_gate) ∙ some) (ap (λ (g : Gated). can_number g.end.numbers) (sym same_gate) ∙ can)
+        polled_gives (policy_of protection aead words w) w.end now opened some can_still
         ∙ ap (λ (p : Policy). given p (ready_at w.end now)) (sym ready_policy)
-        ∙ ap (given (policy_of protection aead words z)) (sym same_gate)
+        ∙ ap (given (policy_of protection aead words z)) (sym same)
+
+    -- and the controller is told of it
+    pub ready_tells : told_polled w.end now ≡ told_draft (draft_of (record { leaving = leaving_of l; end = z.end }))
+    ready_tells =
+        ap (λ (s : State). told_polled_in s w.end now) opened
+        ∙ ap (λ (b : Bool). told_if (b && can_number (ready_at w.end now).end.numbers) (ready_at w.end now)) some
+        ∙ ap (λ (b : Bool). told_if b (ready_at w.end now)) can_still
+        ∙ ap (λ (g : Ready). told_draft (draft_of g)) (sym same)
+
+-- of a poll that gives nothing it is told nothing
+pub none_told : (e : End) (now : ℕ) → e.closing.state ≡ states.Open → goes (ready_at e now) && can_number (ready_at e now).end.numbers ≡ false → told_polled e now ≡ []
+none_told e now opened none = ap (λ (s : State). told_polled_in s e now) opened ∙ ap (λ (b : Bool). told_if b (ready_at e now)) none

@@ -13,8 +13,9 @@ use Rattle.quic_machine.specs.Parts.{Path}
 use Rattle.quic_machine.specs.Tracking.{TrackedPacket, Carried, Tracking, asks_any, acked_by, not_acked_by}
 use Rattle.quic_machine.specs.End.{End, ConnectionValue, with_end, with_tracking, number_of}
 use Rattle.quic_machine.specs.Poll.{Draft, asking, datagram_size, told_draft}
-use Rattle.quic_machine.specs.Control.{last_sent, told_sent, told_packet, told_packets, told_acks_ended}
-use Rattle.quic_machine.specs.Acked.{without_known, reset_acked, resets_acked, stream_acked, streams_acked, carried_acked, packets_acked, stream_lost, streams_lost, carried_lost, packets_lost, measured, sampled, without_acked, told_detected, told_of_losses, told_named, told_seen, told_marks, losses_taken, marks_seen, after_named}
+use Rattle.quic_machine.specs.Control.{last_sent, told_sent, told_packet, told_acks_ended}
+use Rattle.quic_machine.specs.Sizes.{search_acked, told_probe, told_packets}
+use Rattle.quic_machine.specs.Acked.{without_known, reset_acked, resets_acked, stream_acked, streams_acked, carried_acked, packet_acked, packets_acked, stream_lost, streams_lost, carried_lost, packets_lost, measured, sampled, without_acked, told_detected, told_of_losses, told_named, told_seen, told_marks, losses_taken, marks_seen, after_named}
 use Rattle.quic_connection_core.specs.Telling.{telling, KeepsKeys}
 use Rattle.quic_connection_core.specs.Tracked.{sampled_at, acked_taken, acked_told, acked_count}
 use Rattle.quic_connection_core.proofs.Tracked.{moment_measured}
@@ -62,11 +63,7 @@ lost_keep (m ∷ ms) e = let k = lost_keep ms (stream_lost m e) in record { clos
 pub carried_lost_keep : (c : Carried) (e : End) → KeepsPath e (carried_lost c e)
 carried_lost_keep c e = let k = lost_keep c.stream_frames e in record { closing = k.closing; path = k.path }
 
--- or those of packets
-pub packets_acked_keep : (ps : Packets) (e : End) → KeepsPath e (packets_acked ps e)
-packets_acked_keep [] e = same_path e
-packets_acked_keep (p ∷ ps) e = both_keep e (carried_acked p.1.carried e) (packets_acked ps (carried_acked p.1.carried e)) (acked_keep p.1.carried e) (packets_acked_keep ps (carried_acked p.1.carried e))
-
+-- or that of packets
 pub packets_lost_keep : (ps : Packets) (e : End) → KeepsPath e (packets_lost ps e)
 packets_lost_keep [] e = same_path e
 packets_lost_keep (p ∷ ps) e = both_keep e (carried_lost p.1.carried e) (packets_lost ps (carried_lost p.1.carried e)) (carried_lost_keep p.1.carried e) (packets_lost_keep ps (carried_lost p.1.carried e))
@@ -107,40 +104,54 @@ popped all rest x is = ap reverse is ∙ reverse-append rest (x ∷ [])
 told_same : (e f : End) (p : ℕ × TrackedPacket) → KeepsPath e f → told_packet f p ≡ told_packet e p
 told_same e f p k = ap (λ (c : Closing). told_packet (record f { closing = c }) p) k.closing ∙ ap (λ (x : Path). told_packet (record f { closing = e.closing; path = x }) p) k.path
 
+-- the search learns the same
+search_same : (e f : End) (p : ℕ × TrackedPacket) → KeepsPath e f → KeepsPath (search_acked p e) (search_acked p f)
+search_same e f p k = record { closing = k.closing; path = ap (λ (x : Path). (search_acked p (record e { path = x })).path) k.path }
+
+told_all_same : (ps : Packets) (e f : End) → KeepsPath e f → told_packets f ps ≡ told_packets e ps
+told_all_same [] e f k = refl
+told_all_same (p ∷ ps) e f k =
+    ap (λ (t : List Told). t ++ told_probe p f.path.discovery ++ told_packets (search_acked p f) ps) (told_same e f p k)
+    ∙ ap (λ (x : Path). told_packet e p ++ told_probe p x.discovery ++ told_packets (search_acked p f) ps) k.path
+    ∙ ap (λ (t : List Told). told_packet e p ++ told_probe p e.path.discovery ++ t) (told_all_same ps (search_acked p e) (search_acked p f) (search_same e f p k))
+
 -- the end and its controller once one is
 pub record Acks {H K R C : Type 0} (steps : Steps C) (first : ConnectionValue H K R C) (all : Packets) (w : ConnectionValue H K R C) (left : Packets) : Type 0 where
   pub takes : packets_acked (reverse left) w.end ≡ packets_acked (reverse all) first.end
-  pub told : after_calls steps w.control (told_packets first.end (reverse left)) ≡ after_calls steps first.control (told_packets first.end (reverse all))
-  pub keeps : KeepsPath first.end w.end
+  pub told : after_calls steps w.control (told_packets w.end (reverse left)) ≡ after_calls steps first.control (told_packets first.end (reverse all))
   pub others : KeepsKeys first w
 
 pub acks_begin : {H K R C : Type 0} (steps : Steps C) (w : ConnectionValue H K R C) (all : Packets) → Acks steps w all w all
-acks_begin steps w all = record { takes = refl; told = refl; keeps = same_path w.end; others = refl }
+acks_begin steps w all = record { takes = refl; told = refl; others = refl }
 
 pub acks_go_on : {H K R C : Type 0} (steps : Steps C) (first w next : ConnectionValue H K R C) (all left rest : Packets) (x : ℕ × TrackedPacket) → Acks steps first all w left → left ≡ rest ++ x ∷ []
-    → next ≡ record w { control = after_calls steps w.control (told_packet w.end x); end = carried_acked x.1.carried w.end } → Acks steps first all next rest
+    → next ≡ record w { control = after_calls steps (after_calls steps w.control (told_packet w.end x)) (told_probe x w.end.path.discovery); end = packet_acked x w.end } → Acks steps first all next rest
 acks_go_on {H} {K} {R} {C} steps first w next all left rest x a is goes =
     let turned = popped left rest x is in
-    let end : next.end ≡ carried_acked x.1.carried w.end = ap (λ (z : ConnectionValue H K R C). z.end) goes in
-    let control : next.control ≡ after_calls steps w.control (told_packet w.end x) = ap (λ (z : ConnectionValue H K R C). z.control) goes in
-    let same : told_packet w.end x ≡ told_packet first.end x = told_same first.end w.end x a.keeps in
-    let step : KeepsPath w.end (carried_acked x.1.carried w.end) = acked_keep x.1.carried w.end in
+    let end : next.end ≡ packet_acked x w.end = ap (λ (z : ConnectionValue H K R C). z.end) goes in
+    let one : List Told = told_packet w.end x in
+    let size : List Told = told_probe x w.end.path.discovery in
+    let others : List Told = told_packets (search_acked x w.end) (reverse rest) in
+    let control : next.control ≡ after_calls steps (after_calls steps w.control one) size = ap (λ (z : ConnectionValue H K R C). z.control) goes in
+    let same : told_packets next.end (reverse rest) ≡ others =
+    ap (λ (z : End). told_packets z (reverse rest)) end ∙ told_all_same (reverse rest) (search_acked x w.end) (packet_acked x w.end) (acked_keep x.1.carried (search_acked x w.end)) in
     record {
       takes = ap (packets_acked (reverse rest)) end ∙ ap (λ (ps : Packets). packets_acked ps w.end) (sym turned) ∙ a.takes;
-      told = ap (λ (c : C). after_calls steps c (told_packets first.end (reverse rest))) control
-          ∙ ap (λ (t : List Told). after_calls steps (after_calls steps w.control t) (told_packets first.end (reverse rest))) same
-          ∙ told_parts steps w.control (told_packet first.end x) (told_packets first.end (reverse rest))
-          ∙ ap (λ (ps : Packets). after_calls steps w.control (told_packets first.end ps)) (sym turned)
+      told = ap (λ (t : List Told). after_calls steps next.control t) same
+          ∙ ap (λ (c : C). after_calls steps c others) control
+          ∙ told_parts steps (after_calls steps w.control one) size others
+          ∙ told_parts steps w.control one (size ++ others)
+          ∙ ap (λ (t : List Told). after_calls steps w.control t) (sym (append_assoc one size others))
+          ∙ ap (λ (ps : Packets). after_calls steps w.control (told_packets w.end ps)) (sym turned)
           ∙ a.told;
-      keeps = record { closing = ap (λ (z : End). z.closing) end ∙ step.closing ∙ a.keeps.closing; path = ap (λ (z : End). z.path) end ∙ step.path ∙ a.keeps.path };
-      others = goes ∙ ap (λ (z : ConnectionValue H K R C). record z { control = after_calls steps w.control (told_packet w.end x); end = carried_acked x.1.carried w.end }) a.others
+      others = goes ∙ ap (λ (z : ConnectionValue H K R C). record z { control = after_calls steps (after_calls steps w.control one) size; end = packet_acked x w.end }) a.others
           ∙ ap (λ (z : ConnectionValue H K R C). record first { control = z.control; end = z.end }) (sym goes);
     }
 
 pub acks_end : {H K R C : Type 0} (steps : Steps C) (first w : ConnectionValue H K R C) (all left : Packets) → Acks steps first all w left → left ≡ [] → w ≡ telling steps first (told_packets first.end (reverse all)) (packets_acked (reverse all) first.end)
 acks_end {H} {K} {R} {C} steps first w all left a none =
     let end : w.end ≡ packets_acked (reverse all) first.end = ap (λ (ps : Packets). packets_acked (reverse ps) w.end) (sym none) ∙ a.takes in
-    let control : w.control ≡ after_calls steps first.control (told_packets first.end (reverse all)) = ap (λ (ps : Packets). after_calls steps w.control (told_packets first.end (reverse ps))) (sym none) ∙ a.told in
+    let control : w.control ≡ after_calls steps first.control (told_packets first.end (reverse all)) = ap (λ (ps : Packets). after_calls steps w.control (told_packets w.end (reverse ps))) (sym none) ∙ a.told in
     a.others ∙ ap (λ (c : C). record first { control = c; end = w.end }) control ∙ ap (λ (x : End). record first { control = after_calls steps first.control (told_packets first.end (reverse all)); end = x }) end
 
 -- ---- keys and random source stay
@@ -160,7 +171,7 @@ keys_step {H} {K} {R} {C} w t left k l = l ∙ ap (λ (z : ConnectionValue H K R
 
 told_beside : (ps : Packets) (e : End) (t : Tracking) → told_packets (with_tracking e t) ps ≡ told_packets e ps
 told_beside [] e t = refl
-told_beside (p ∷ ps) e t = ap (λ (l : List Told). told_packet e p ++ l) (told_beside ps e t)
+told_beside (p ∷ ps) e t = ap (λ (l : List Told). told_packet e p ++ told_probe p e.path.discovery ++ l) (told_beside ps (search_acked p e) t)
 
 -- what a controller is told of one that names tracked packets
 pub named_told : (rises : Bool) (a : AckValue) (e f : End) (acked : Packets) (sent : Option ℕ) → GoDown a.largest a.ranges → acked_by a e.tracking.packets ≡ reverse acked → (acked ≡ [] → ⊥)

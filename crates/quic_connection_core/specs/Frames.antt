@@ -93,6 +93,7 @@ unfoldable pub asked : End → ℕ → Draft
 asked e used = record {
   frames = ping_list e.waiting.ping ++ (content_at (pinged e) (used + length (ping_bytes e.waiting.ping))).frames;
   bytes = ping_bytes e.waiting.ping ++ (content_at (pinged e) (used + length (ping_bytes e.waiting.ping))).bytes;
+  least = 0;
   end = with_content (pinged e) (content_at (pinged e) (used + length (ping_bytes e.waiting.ping)));
 }
 

@@ -8,3 +8,4 @@ pub mod Given
 pub mod Handed
 pub mod Tracked
 pub mod Drawn
+pub mod Leaving

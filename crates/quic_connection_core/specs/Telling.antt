@@ -1,8 +1,8 @@
 -- What a congestion controller is told in a call, and the window that it shows behind it (RFC 9002, section 7).
 use Rattle.std.specs.Prelude.{◌≡◌, ℕ, ◌≤◌, List}
 use Rattle.quic_congestion.specs.Congestion.{Told, Steps, HasRoom, after_calls}
-use Rattle.quic_config.specs.Transport.{TransportSettings, first_mtu}
 use Rattle.quic_congestion.specs.Search.{Discovery, after_limit}
+use Rattle.quic_congestion.specs.SearchBounds.{IsSized}
 use Rattle.quic_paths.specs.Paths.{PathValue}
 use Rattle.quic_machine.specs.Parts.{Windows}
 use Rattle.quic_machine.specs.End.{End, ConnectionValue, with_window}
@@ -32,10 +32,17 @@ pub record IsRoomy {C : Type 0} (size_of window_of : C → ℕ) (c : C) (bytes :
   pub size : size_of c ≡ bytes
   pub room : HasRoom bytes (window_of c)
 
--- datagrams have 1200 bytes at least (RFC 9000, section 14): those with which a path begins by its settings, and the greatest that it takes
-pub record AreSizes (settings : TransportSettings) (d : Discovery) : Type 0 where
-  pub first : 1200 ≤ first_mtu settings
-  pub current : 1200 ≤ d.size
+-- a controller was told no less than a size of datagrams, and two of the size that it was told fit its window
+pub record IsTold {C : Type 0} (size_of window_of : C → ℕ) (bytes : ℕ) (c : C) : Type 0 where
+  pub size : bytes ≤ size_of c
+  pub room : HasRoom (size_of c) (window_of c)
+
+-- What holds of the size of datagrams at an end, whatever the search for a greater one comes to: it has 1200 bytes at least (RFC 9000, section 14), and its peer takes
+-- it; the controller was told no less, and two of what it was told fit its window; and two datagrams fitted the window that was read last.
+pub record AreSizes {C : Type 0} (size_of window_of : C → ℕ) (limit : ℕ) (d : Discovery) (c : C) (shown : ℕ) : Type 0 where
+  pub sized : IsSized 1200 limit d
+  pub told : IsTold size_of window_of d.size c
+  pub window : 2400 ≤ shown
 
 -- a path to a peer that takes so many bytes in a datagram
 abbrev pub path_limited : {C : Type 0} → ℕ → PathValue C → PathValue C

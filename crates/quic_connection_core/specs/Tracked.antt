@@ -10,7 +10,8 @@ use Rattle.quic_sent_packets.specs.Packets.{from}
 use Rattle.quic_time.specs.Rtt.{with_sample}
 use Rattle.quic_time.specs.Timers.{has_come}
 use Rattle.quic_machine.specs.Tracking.{TrackedPacket, Carried, Tracking, Verdict, lost_by, kept_by}
-use Rattle.quic_machine.specs.End.{End, with_tracking, with_rtt}
+use Rattle.quic_machine.specs.Sizes.{with_all_lost}
+use Rattle.quic_machine.specs.End.{End, with_tracking, with_discovery, with_rtt}
 use Rattle.quic_congestion.specs.Congestion.{Told}
 use Rattle.quic_streams_parts.specs.Table.{Table}
 use Rattle.quic_machine.specs.Control.{last_sent}
@@ -25,9 +26,12 @@ pub record TakesLost (v : Verdict) (p : ℕ × TrackedPacket) (old new : Trackin
   pub behind : lost_by v (from p.0 new.packets) ≡ lost_by v new.packets
   pub others : new ≡ record old { packets = new.packets }
 
--- the end once the packets are lost that a verdict finds so: the others stay tracked
-abbrev pub after_losses : Verdict → End → End
-after_losses v e = with_tracking (packets_lost (lost_by v e.tracking.packets) e) (record e.tracking { packets = kept_by v e.tracking.packets })
+-- the end once the packets are lost that a verdict finds so: the others stay tracked, and the search for a size has learned of each, where this was the number of its open
+-- probe
+abbrev pub after_losses : Option ℕ → Verdict → End → End
+after_losses probe v e =
+    let lost = lost_by v e.tracking.packets in
+    with_discovery (with_tracking (packets_lost lost e) (record e.tracking { packets = kept_by v e.tracking.packets })) (with_all_lost probe lost e.path.discovery)
 
 -- the loss timer has come at the moment of an end, was set for a packet that may be lost by time, and a packet is lost
 pub record LosesByTime (e : End) : Type 0 where

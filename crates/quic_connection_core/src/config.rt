@@ -17,10 +17,11 @@ use std::marker::Model;
 /// that the peer may have open at once, on whether streams of one priority take turns, on how many
 /// bytes of messages may wait to be read and to be sent, on the thresholds by which packets count
 /// as lost, on the round trip that is assumed at first, on how many probe timeouts of losses are
-/// persistent congestion, and on the sizes of datagrams: they have as many bytes as a path begins
-/// with, or as the peer takes where that is less. It looks for no greater size yet. It tells the
-/// peer of the other settings that have a transport parameter, and doesn't act on them: it has no
-/// idle timeout, and an ACK_FREQUENCY frame changes nothing.
+/// persistent congestion, and on the sizes of datagrams: they have at most as many bytes as a path
+/// begins with, or as the peer takes where that is less, until a larger size is found where one is
+/// looked for; and those that are ack-eliciting are filled up to that size where `pad_to_mtu` says
+/// so. It tells the peer of the other settings that have a transport parameter, and doesn't
+/// act on them: it has no idle timeout, and an ACK_FREQUENCY frame changes nothing.
 #[derive(Clone, Copy, Debug, Drop)]
 pub struct Config<F> {
     transport: TransportConfig,
@@ -88,7 +89,7 @@ impl<F> Config<F> {
     fn parameters(&self) -> TransportParameters
         ensures value { result ≡ parameters_of self.now.settings }
         ensures in_range { AreInRange (parameters_of self.now.settings) }
-        ensures size { 1200 ≤ self.now.settings.initial_mtu }
+        ensures range { IsInRange self.now.settings }
     {
         let told = self.transport.transport_parameters();
         if self.ack_frequency_support {

@@ -24,10 +24,14 @@ ghost use Rattle.quic_time.specs.Timers.{no_timers};
 mod acked;
 mod closing;
 mod ids;
+mod leaving;
 mod losses;
 mod messages;
+mod packet;
+mod polling;
 mod receiving;
-mod sending;
+mod searching;
+mod sent;
 mod statistics;
 mod stream_frames;
 mod telling;
@@ -177,9 +181,7 @@ impl<H, K, R, C: Controller> Model for Connection<H, K, R, C> {
     ghost use Rattle.quic_parameters.specs.Parameters.{AreInRange};
     ghost use Rattle.quic_wire.specs.AckView.{counts_view};
     ghost use Rattle.quic_machine.specs.End.{ConnectionValue};
-    ghost use Rattle.quic_congestion.specs.Congestion.{HasRoom};
-    ghost use Rattle.quic_config.specs.Transport.{first_mtu};
-    ghost use Rattle.quic_connection_core.specs.Telling.{IsRoomy, AreSizes};
+    ghost use Rattle.quic_connection_core.specs.Telling.{AreSizes};
     ghost use Rattle.quic_connection_core.specs.Flying.{IsInFlight};
 
     ghost Value = { ConnectionValue H K R C };
@@ -216,14 +218,12 @@ impl<H, K, R, C: Controller> Model for Connection<H, K, R, C> {
       };
     } };
 
-    // Nothing asks for IMMEDIATE_ACK yet. Two datagrams of the size that the path began with, which
-    // is what the controller was told, fit the window. In flight is what is tracked, asks, and went
-    // on the path.
+    // Nothing asks for IMMEDIATE_ACK yet. The size of datagrams lies between 1200 bytes and what
+    // the peer takes, the controller was told no less, and two datagrams fit the window. In flight
+    // is what is tracked, asks, and went on the path.
     ghost invariant = { λ c. (c.space.immediate_ack_pending ≡ false)
         × AreInRange c.peer_params
-        × AreSizes c.transport c.path.discovery
-        × IsRoomy C.size_of C.window_of c.path.congestion (first_mtu c.transport)
-        × HasRoom (first_mtu c.transport) c.window
+        × AreSizes C.size_of C.window_of c.peer_params.max_udp_payload_size c.path.discovery c.path.congestion c.window
         × IsInFlight c.path.generation c.space.numbers.next c.space.tracking.packets c.path.in_flight };
 }
 
@@ -276,6 +276,9 @@ impl<H: HeaderKey + Drop, K: PacketKey + Drop, R: Rng + Drop, C: Controller> Con
         if are_sizes_wrong(&transport, &theirs) {
             return Err(ConfigError::Size);
         }
+        // The proof reads between which sizes the search stays.
+        let _least = transport.get_min_mtu();
+        let _search = transport.get_mtu_discovery_config();
         let mut path = first_path(now, &transport, config.factory(), &theirs);
         let window = path.congestion.window();
         let mtu = transport.get_initial_mtu();
@@ -342,7 +345,7 @@ impl<H: HeaderKey + Drop, K: PacketKey + Drop, R: Rng + Drop, C: Controller> Con
         self.path.congestion.window()
     }
 
-    /// The bytes of the greatest datagram that the path to the peer takes (RFC 9000, section 14).
+    /// The bytes that a datagram has at most, but for an MTU probe (RFC 9000, section 14).
     pub fn current_mtu(&self) -> u16
         ensures { result ≡ current_mtu self.now.end.path }
     {
@@ -382,8 +385,8 @@ impl<H: HeaderKey + Drop, K: PacketKey + Drop, R: Rng + Drop, C: Controller> Con
     }
 
     /// The whole payload of a packet of this number was taken, which asks for an acknowledgement or
-    /// doesn't, and came with this mark: its number is to be acknowledged. An error is want of memory, and nothing has
-    /// changed.
+    /// doesn't, and came with this mark: its number is to be acknowledged. An error is want of
+    /// memory, and nothing has changed.
     fn take_number(
         &mut self,
         number: u64,

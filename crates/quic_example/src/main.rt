@@ -26,6 +26,8 @@ fn config() -> Config<NewRenoConfig> {
     // The peer may have one stream open, and send 32 bytes on it before any are read.
     transport.max_concurrent_bidi_streams(VarInt::from_u32(1));
     transport.stream_receive_window(VarInt::from_u32(32));
+    // No greater size of datagrams is looked for: only the request and the answer go.
+    transport.mtu_discovery_config(None);
     Config::new(transport, NewRenoConfig::default())
 }
 

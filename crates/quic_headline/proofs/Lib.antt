@@ -14,5 +14,10 @@ pub mod Steps
 pub mod Rest
 pub mod AcksDue
 pub mod Isolated
+pub mod Sizes
 pub mod Unread
 pub mod Credit
+pub mod Allowed
+pub mod Events
+pub mod Tellings
+pub mod Waited

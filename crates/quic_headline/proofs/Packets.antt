@@ -19,6 +19,8 @@ pub mod Probes
 pub mod TrackedSteps
 pub mod Ascending
 pub mod Losses
+pub mod Searches
+pub mod Sizes
 pub mod Numbered
 pub mod Waited
 pub mod Flying

@@ -5,4 +5,7 @@ pub mod Windows
 pub mod Moved
 pub mod Probes
 pub mod Idle
+pub mod Probing
 pub mod Asking
+pub mod Sized
+pub mod Resized

@@ -16,6 +16,12 @@ pub mod Ids
 pub mod Reasons
 pub mod Views
 pub mod Isolated
+pub mod Sizes
 pub mod Unread
 pub mod Undone
 pub mod Credit
+pub mod Allowed
+pub mod Queue
+pub mod Events
+pub mod Telling
+pub mod Waited

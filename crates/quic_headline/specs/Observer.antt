@@ -75,8 +75,8 @@ terms_of e = record {
 }
 
 -- the greatest number that was acknowledged so far, if one was; the datagrams that are neither acknowledged nor lost, nor forgotten; those that were acknowledged
--- in flight; the last that went and asks; how long a round trip takes; when one below the greatest acknowledged is lost by time, if one may be; and how often
--- the timer of losses expired for no such one since an acknowledgement came
+-- in flight; the last that went and asks; how long a round trip takes; when one below the greatest acknowledged is lost by time, if one may be; how often the
+-- timer of losses expired for no such one since an acknowledgement came; and how many probes of losses wait since then
 pub record Flight : Type 0 where
   pub named : Option ℕ
   pub flying : List Sent
@@ -85,10 +85,11 @@ pub record Flight : Type 0 where
   pub rtt : Rtt
   pub loss_time : Option ℕ
   pub expiries : ℕ
+  pub probes : ℕ
 
 -- nothing was sent, and a round trip is taken to last so long
 abbrev pub no_flight : ℕ → Flight
-no_flight initial_rtt = record { named = None; flying = []; acked = []; asked = None; rtt = assumed_rtt initial_rtt; loss_time = None; expiries = 0 }
+no_flight initial_rtt = record { named = None; flying = []; acked = []; asked = None; rtt = assumed_rtt initial_rtt; loss_time = None; expiries = 0; probes = 0 }
 
 -- no moment and no time lies above this
 abbrev pub latest : ℕ
@@ -152,8 +153,8 @@ abbrev pub rtt_behind : Terms → ℕ → AckValue → Option Sent → Rtt → R
 rtt_behind t clock a None rtt = rtt
 rtt_behind t clock a (Some s) rtt = with_sample rtt (min (min (a.delay * 2 ^ t.exponent * 1000) latest) t.delay) (clock - s.moment)
 
--- An ACK frame that names datagrams in flight, which are these: they are acknowledged, the others stay but for those that are lost. One that names none leaves all
--- in flight.
+-- An ACK frame that names datagrams in flight, which are these: they are acknowledged, the others stay but for those that are lost, and no probe waits. One that
+-- names none leaves all in flight.
 abbrev pub settled_by : Terms → ℕ → AckValue → List Sent → List Sent → Flight → Flight
 settled_by t clock a [] others f = record f { named = Some (greatest_of f.named a.largest) }
 settled_by t clock a (s ∷ ss) others f = after_losses t clock (record f {
@@ -162,6 +163,7 @@ settled_by t clock a (s ∷ ss) others f = after_losses t clock (record f {
   acked = f.acked ++ s ∷ ss;
   rtt = rtt_behind t clock a (measures f.named a (s ∷ ss)) f.rtt;
   expiries = 0;
+  probes = 0;
 })
 
 -- what an ACK frame that comes at a moment leaves in flight
@@ -205,9 +207,9 @@ without_oldest (oldest ∷ others) ss = without_number oldest.number ss
 abbrev pub kept_flying : Bool → Flight → List Sent
 kept_flying asks f = if not asks && nat_lt 1000 (length (unasked f)) then without_oldest (unasked f) f.flying else f.flying
 
--- a datagram is in flight from when it goes
+-- a datagram is in flight from when it goes; one that asks takes away a probe that waits
 abbrev pub and_sent : Sent → Flight → Flight
-and_sent s f = record f { flying = kept_flying (asks_of s) f ++ s ∷ []; asked = if asks_of s then Some s else f.asked }
+and_sent s f = record f { flying = kept_flying (asks_of s) f ++ s ∷ []; asked = if asks_of s then Some s else f.asked; probes = if asks_of s then f.probes - 1 else f.probes }
 
 -- ---- the timer of losses (RFC 9002, section 6.2.1)
 
@@ -235,9 +237,13 @@ abbrev pub is_past : Option ℕ → ℕ → Bool
 is_past None clock = false
 is_past (Some moment) clock = nat_le moment clock
 
--- the timer expires: for one that may be lost by time, or once more for none
+-- as many probes as are counted wait at most
+abbrev pub most_probes : ℕ
+most_probes = 2 ^ 64 - 1
+
+-- the timer expires: for one that may be lost by time, or once more for none, and two more probes wait then (section 6.2.4, which lets one or two go)
 abbrev pub expired_for : Option ℕ → Terms → ℕ → Flight → Flight
-expired_for None t clock f = record f { expiries = f.expiries + 1 }
+expired_for None t clock f = record f { expiries = f.expiries + 1; probes = min (f.probes + 2) most_probes }
 expired_for (Some moment) t clock f = after_losses t clock f
 
 -- the clock of an end comes to a moment

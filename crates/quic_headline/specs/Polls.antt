@@ -1,10 +1,12 @@
 -- What polls give, and what they hold back (RFC 9002, sections 7, 7.5 and 7.7): an open end gives what waits, unless the congestion window or the pacer holds it back;
 -- and the controller shows the window that comes of what it was told.
-use Rattle.std.specs.Prelude.{ℕ, suc, ◌+◌, ◌<◌, ◌≤◌, ◌≡◌, ◌⊎◌, true, List, [], ◌∷◌, ◌++◌, filter, length, sum_by, slice_get, take, Option, Some, None, Ok, if◌then◌else◌}
+use Rattle.std.specs.Prelude.{ℕ, zero, suc, ◌+◌, ◌<◌, ◌≤◌, ◌≡◌, ◌⊎◌, true, false, List, [], ◌∷◌, ◌++◌, filter, length, replicate, sum_by, slice_get, take, Option, Some, None, Ok, if◌then◌else◌}
 use Rattle.quic_wire_core.specs.declared.stream_id.Side.{Side}
 use Rattle.quic_wire_core.specs.declared.stream_id.Side.TheVariants.{Client, Server}
 use Rattle.quic_wire_core.specs.StreamId.{other_side}
+use Rattle.quic_wire.specs.Value.{ping, padding}
 use Rattle.quic_congestion.specs.Congestion as congestion
+use Rattle.quic_congestion.specs.Search.{Discovery, search_bound, open_probe, poll_names}
 use Rattle.quic_machine.specs.declared.answers.Transmit.{Transmit}
 use Rattle.quic_machine.specs.declared.answers.State.TheVariants as states
 use Rattle.quic_machine.specs.declared.run.RunEvent.{RunEvent}
@@ -12,13 +14,13 @@ use Rattle.quic_machine.specs.declared.run.Call.{Call}
 use Rattle.quic_machine.specs.declared.run.Call.TheVariants as calls
 use Rattle.quic_machine.specs.declared.run.Answer.{Answer}
 use Rattle.quic_machine.specs.declared.run.Answer.TheVariants as answers
+use Rattle.quic_machine.specs.declared.run.EndView.{EndView}
 use Rattle.quic_machine.specs.declared.run.View.{View}
 use Rattle.quic_machine.specs.Closing.{ticked}
-use Rattle.quic_machine.specs.Parts.{current_mtu}
 use Rattle.quic_machine.specs.End.{End, with_closing, with_window}
 use Rattle.quic_machine.specs.Control.{paced_until, with_pacing_timer}
-use Rattle.quic_machine.specs.Poll.{probed}
-use Rattle.quic_machine.specs.Machine.{World, Policies, IsStep, policy_at, end_at, end_met, control_at, given_by, tells}
+use Rattle.quic_machine.specs.Poll.{probed, waits}
+use Rattle.quic_machine.specs.Machine.{World, Policies, IsStep, policy_at, end_at, end_met, control_at, given_by, tells, end_view}
 use Rattle.quic_headline.specs.Runs.{Run, In, same_side, state_in, until, AreServed, LeadsTo, written, ended, reset}
 use Rattle.quic_headline.specs.Observer.{Sent, HoldsOffset, HoldsEnd, asks_of, watch, sents_until, acked_until}
 use Rattle.quic_headline.specs.Headline.{IsAt}
@@ -35,6 +37,25 @@ window_in v Server = v.server.window
 abbrev pub mtu_in : View → Side → ℕ
 mtu_in v Client = v.client.current_mtu
 mtu_in v Server = v.server.current_mtu
+
+-- one of the ends in a view
+abbrev pub end_in : View → Side → EndView
+end_in v Client = v.client
+end_in v Server = v.server
+
+-- what is to be seen of an end
+abbrev pub seen_of : Side → World → EndView
+seen_of side w = end_view (control_at side w) (end_at side w)
+
+-- what is seen of an end behind so many views; it began so
+abbrev pub seen_behind : Side → EndView → ℕ → List View → EndView
+seen_behind side seen zero views = seen
+seen_behind side seen (suc i) [] = seen
+seen_behind side seen (suc i) (v ∷ views) = seen_behind side (end_in v side) i views
+
+-- what is seen of an end behind the first so many events
+abbrev pub seen_at : Run → Side → ℕ → EndView
+seen_at r side i = seen_behind side (seen_of side r.start) i r.views
 
 -- the timer of the pacer in a view: the seventh of the nine
 abbrev pub pacing_timer : View → Side → Option (Option ℕ)
@@ -129,23 +150,59 @@ PacingBehind side call w next = (pacing_at side next ≡ None) ⊎ (pacing_at si
 abbrev pub PacerSetsItsTimer : Run → Type 0
 PacerSetsItsTimer r = (i : ℕ) (side : Side) (call : Call) (a : Answer) (w next : World) → IsMade r i side call a w next → (end_at side w).closing.state ≡ states.Open → PacingBehind side call w next
 
--- A poll gave a datagram that asks for an acknowledgement.
-pub record GaveAsking (r : Run) (side : Side) (i now : ℕ) (w next : World) : Type 0 where
+-- A poll that was served gave a datagram.
+pub record GaveOne (r : Run) (side : Side) (i now : ℕ) : Type 0 where
   pub transmit : Transmit
-  pub made : IsMade r i side (calls.Poll now) (answers.Poll (Ok (Some transmit))) w next
+  pub poll : IsAt r i side (calls.Poll now) (answers.Poll (Ok (Some transmit)))
+  pub served : AreServed r (suc i)
   pub sent : Sent
   pub went : sents_until r side (suc i) ≡ sents_until r side i ++ sent ∷ []
-  pub asks : asks_of sent ≡ true
 
--- one that is no probe goes only where the window has room for it beside those in flight, and the pacer names no later moment
+-- It asks for an acknowledgement.
+pub record GaveAsking (r : Run) (side : Side) (i now : ℕ) : Type 0 where
+  pub one : GaveOne r side i now
+  pub asks : asks_of one.sent ≡ true
+
+-- the search for the size of datagrams at an end
+abbrev pub search_at : Side → World → Discovery
+search_at side w = (end_at side w).path.discovery
+
+-- A datagram is what the search of its end looks for: it has exactly the size that the search names at the moment of the poll, under the number that is open behind it,
+-- where none was. It has no more than the greatest size that is looked at, for which the window had room, and it went where nothing waited.
+pub record IsSearched (r : Run) (side : Side) (i : ℕ) (w next : World) (s : Sent) : Type 0 where
+  pub named : poll_names (watch r side (suc i)).clock (search_at side w) ≡ Some s.size
+  pub none_open : open_probe (search_at side w) ≡ None
+  pub opened : open_probe (search_at side next) ≡ Some s.number
+  pub bound : ℕ
+  pub is_bound : search_bound (search_at side w) ≡ Some bound
+  pub below : s.size ≤ bound
+  pub idle : waits (end_at side w) ≡ false
+  pub room : bytes_flying r side i + bound < control_at side w []
+
+-- A datagram is a probe of a size (RFC 8899, section 5.3; RFC 9000, section 14.4): PING and zeros, alone, no less than the current size, to a validated address, where
+-- the window has room for it beside those in flight; and it is what the search of its end looks for.
+pub record IsSizeProbe (r : Run) (side : Side) (i : ℕ) (s : Sent) : Type 0 where
+  pub zeros : ℕ
+  pub alone : s.frames ≡ ping ∷ replicate zeros padding
+  pub above : (seen_at r side i).current_mtu ≤ s.size
+  pub validated : (seen_at r side i).validated ≡ true
+  pub room : bytes_flying r side i + s.size < (seen_at r side i).window
+  pub searched : (w next : World) → LeadsTo r i w → LeadsTo r (suc i) next → IsSearched r side i w next s
+
+-- Window and pacer let a poll give what asks: the window has room for one more datagram beside those in flight, both as they are seen before the poll; and the pacer
+-- names no later moment.
+pub record AreLetting (r : Run) (side : Side) (i now : ℕ) : Type 0 where
+  pub room : bytes_flying r side i + (seen_at r side i).current_mtu < (seen_at r side i).window
+  pub unpaced : (w : World) → LeadsTo r i w → pacer_names side w now ≡ None
+
+-- what asks goes, where no probe of losses waits, only where window and pacer let it, or as a probe of a size
 abbrev pub AskingGoesWhereLet : Run → Type 0
-AskingGoesWhereLet r = (side : Side) (i now : ℕ) (w next : World) → GaveAsking r side i now w next → (end_at side w).tracking.probes ≡ 0
-    → (bytes_flying r side i + current_mtu (end_at side w).path < control_at side w []) × (pacer_names side w now ≡ None)
+AskingGoesWhereLet r = (side : Side) (i now : ℕ) (gave : GaveAsking r side i now) → (watch r side i).flight.probes ≡ 0 → AreLetting r side i now ⊎ IsSizeProbe r side i gave.one.sent
 
 -- where a probe waits, a poll that leaves its end open gives a datagram that asks, whatever window and pacer say; one probe fewer waits then (section 7.5)
 abbrev pub ProbesPass : Run → Type 0
-ProbesPass r = (side : Side) (i now : ℕ) (a : Answer) (w next : World) → IsMade r i side (calls.Poll now) a w next → (end_at side w).closing.state ≡ states.Open → (end_at side next).closing.state ≡ states.Open → 0 < (end_at side w).tracking.probes
-    → GaveAsking r side i now w next × ((end_at side next).tracking.probes + 1 ≡ (end_at side w).tracking.probes)
+ProbesPass r = (side : Side) (i now : ℕ) (a : Answer) (v : View) → AreServed r (suc i) → IsAt r i side (calls.Poll now) a → slice_get r.views i ≡ Some v → state_in v side ≡ states.Open → 0 < (watch r side i).flight.probes
+    → GaveAsking r side i now × ((watch r side (suc i)).flight.probes + 1 ≡ (watch r side i).flight.probes)
 
 -- ---- the window
 

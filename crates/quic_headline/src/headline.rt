@@ -16,14 +16,20 @@ ghost use Rattle.quic_headline.specs.Causes.{NoBlame, NumberLimit, TooManyPieces
 ghost use Rattle.quic_headline.specs.Moments.{LossMoments, LossTimerQuiet, AckMoments};
 ghost use Rattle.quic_headline.specs.Isolated.{Isolated, IsolatedByAnswers, IsolatedByLists};
 ghost use Rattle.quic_headline.specs.Polls.{PollsSendWhatWaits, PollsSendMessages, PacerSetsItsTimer, AskingGoesWhereLet, ProbesPass, WindowIsOfHistory};
+ghost use Rattle.quic_headline.specs.Queue.{MessagesGo, MessagesGoInOrder};
 ghost use Rattle.quic_headline.specs.Rest.{DeliveredAtRest, NothingOwedAtRest};
 ghost use Rattle.quic_headline.specs.Unread.{BlockedOnlyForUnread};
 ghost use Rattle.quic_headline.specs.Undone.{NoneOpenedOnlyForUndone};
+ghost use Rattle.quic_headline.specs.Allowed.{ReadsAreAllowed, ReadsAreOver, WritesAreAllowed, ResetsAreAllowed};
 ghost use Rattle.quic_headline.specs.AcksDue.{AcksAreDue};
+ghost use Rattle.quic_headline.specs.Waited.{EachWaited};
+ghost use Rattle.quic_headline.specs.Events.{MessagesAreTold, OpeningsAreTold, ReadablesAreTold};
 ghost use Rattle.quic_headline.specs.Resets.{ResetsAreTold};
 ghost use Rattle.quic_headline.specs.Ids.{IdsAreNew, AcceptedWereOpened};
 ghost use Rattle.quic_headline.specs.Reasons.{ClosedHasAReason};
 ghost use Rattle.quic_headline.specs.Views.{ViewsTell};
+ghost use Rattle.quic_headline.specs.Sizes.{SizeIsOfHistory, SizesMove, DatagramsAreSized};
+ghost use Rattle.quic_headline.specs.Telling.{ControllersAreTold};
 ghost use Rattle.quic_machine.specs.Start.{AreStarted};
 ghost use Rattle.quic_headline.specs.Headline.{IsHonest, IsRun, OrderedPrefix, Slices, Once, EndAfterAll, BlockedOnlyWithoutBytes, AcceptsAll, FinishedMeansArrived, FinishedIsTold, AcknowledgedWereTaken, NamesWereTaken, OpensExactly, NewestOpens, LossTimersFollow, AckTimersFollow, NumbersRise};
 
@@ -277,20 +283,47 @@ pub fn polls_send_messages()
     ensures { (r : Run) (end : World) → IsHonest r → IsRun r end → PollsSendMessages r }
 {}
 
+/// So it is of the messages that wait by the run's lists alone: those that the end sent, in their
+/// order, less as many of the oldest as each datagram that it gave has; less those that were
+/// dropped for a later one whose call lets that be, the oldest first, until it fits in the buffer
+/// (RFC 9221, section 5.4); and less those that are longer than fits its datagrams, where a view
+/// shows that these have fewer bytes since.
+pub fn messages_go()
+    ensures { (r : Run) (end : World) → IsHonest r → IsRun r end → MessagesGo r }
+{}
+
+/// The messages of a datagram that a poll gives are the first of those that wait so, in their
+/// order, and all others wait behind the poll as before (RFC 9221, section 5).
+pub fn messages_go_in_order()
+    ensures { (r : Run) (end : World) → IsHonest r → IsRun r end → MessagesGoInOrder r }
+{}
+
 /// The timer of an open end's pacer is set only to the moment that the pacer named in the last
 /// poll.
 pub fn pacer_sets_its_timer()
     ensures { (r : Run) (end : World) → IsHonest r → IsRun r end → PacerSetsItsTimer r }
 {}
 
-/// An ack-eliciting datagram that is no probe goes only where the congestion window has room for it
-/// beside those in flight, and the pacer names no later moment (RFC 9002, sections 7 and 7.7).
+/// Where no PTO probe waits by the lists, an ack-eliciting datagram goes only where the congestion
+/// window, as the view before shows it, has room for one more beside those in flight, and the pacer
+/// names no later moment (RFC 9002, sections 7 and 7.7), or as an MTU probe where nothing waits:
+/// PING and PADDING alone, of the size that is looked for, where the window has room for the
+/// greatest one (RFC 8899, section 5.3).
 pub fn asking_goes_where_let()
     ensures { (r : Run) (end : World) → IsHonest r → IsRun r end → AskingGoesWhereLet r }
 {}
 
-/// Where a probe waits at an open end, a poll that leaves it open gives an ack-eliciting datagram,
-/// whatever window and pacer say, and one probe fewer waits (RFC 9002, sections 6.2.4 and 7.5).
+/// A datagram has as many bytes as the answer says: at most the current size, as the view before
+/// shows it, or it is an MTU probe, and has exactly the size that is looked for (RFC 9000, section
+/// 14).
+pub fn datagrams_are_sized()
+    ensures { (r : Run) (end : World) → IsHonest r → IsRun r end → DatagramsAreSized r }
+{}
+
+/// Where a PTO probe waits by the lists, a poll behind which the view shows its end open gives an
+/// ack-eliciting datagram, whatever window and pacer say, and one fewer waits (RFC 9002, section
+/// 7.5). Two more wait each time that the loss timer expires for no loss by time, and none once a
+/// datagram in flight is acknowledged (section 6.2.4).
 pub fn probes_pass()
     ensures { (r : Run) (end : World) → IsHonest r → IsRun r end → ProbesPass r }
 {}
@@ -299,6 +332,27 @@ pub fn probes_pass()
 /// shows once it was told what the calls up to there tell (RFC 9002, section 7).
 pub fn window_is_of_history()
     ensures { (r : Run) (end : World) → IsHonest r → IsRun r end → WindowIsOfHistory r }
+{}
+
+/// The window that a view shows is that which the end's controller, as it was when the run began,
+/// shows once it was told what the lists say: when which datagrams that ask went, were acknowledged
+/// and were lost, how many bytes are in flight behind each ACK frame, and that congestion persists
+/// where all between two such that went far apart are lost (RFC 9002, sections 6, 7 and 7.6).
+pub fn controllers_are_told()
+    ensures { (r : Run) (end : World) → IsHonest r → IsRun r end → ControllersAreTold r }
+{}
+
+/// The size of datagrams that a view shows is the last that the end's controller was told of, or
+/// that with which its path began (RFC 8899, section 4.3).
+pub fn size_is_of_history()
+    ensures { (r : Run) (end : World) → IsHonest r → IsRun r end → SizeIsOfHistory r }
+{}
+
+/// From one view of an open end to the next its size of datagrams stays; or it grows to that of a
+/// datagram of PING and PADDING alone that was in flight before and is acknowledged behind; or it
+/// falls to the least that is configured for its path (RFC 8899, section 4.3).
+pub fn sizes_move()
+    ensures { (r : Run) (end : World) → IsHonest r → IsRun r end → SizesMove r }
 {}
 
 /// Where an end rests, each byte that was written on a stream that it didn't reset has arrived, and
@@ -337,6 +391,35 @@ pub fn none_opened_only_for_undone()
     ensures { (r : Run) (end : World) → IsHonest r → IsRun r end → NoneOpenedOnlyForUndone r }
 {}
 
+/// A call that reads a stream, stops it or asks for its reset is answered that the stream is closed
+/// only where by the lists nothing more is to be read: the application read its end, or was told of
+/// its reset, or stopped it before; or the end only sends on it. The application uses only streams
+/// that it opened or accepted (RFC 9000, sections 2.4 and 3.2).
+pub fn reads_are_allowed()
+    ensures { (r : Run) (end : World) → IsHonest r → IsRun r end → ReadsAreAllowed r }
+{}
+
+/// Where nothing more is to be read so, each such call is answered that the stream is closed, or
+/// finds no memory (RFC 9000, sections 2.4 and 3.2).
+pub fn reads_are_over()
+    ensures { (r : Run) (end : World) → IsHonest r → IsRun r end → ReadsAreOver r }
+{}
+
+/// A call that writes on a stream or finishes it is answered that the stream is closed only where
+/// the application finished or reset it before, or the end only receives on it (RFC 9000, sections
+/// 2.4 and 3.1).
+pub fn writes_are_allowed()
+    ensures { (r : Run) (end : World) → IsHonest r → IsRun r end → WritesAreAllowed r }
+{}
+
+/// A call that resets a stream or sets its priority is answered that the stream is closed only
+/// where the application reset it before, or finished it and all that was written on it, and its
+/// end, are in what the other end took; or the end only receives on it (RFC 9000, sections 2.4 and
+/// 3.1).
+pub fn resets_are_allowed()
+    ensures { (r : Run) (end : World) → IsHonest r → IsRun r end → ResetsAreAllowed r }
+{}
+
 /// Where an ACK frame is due at an end that owes an acknowledgement, a poll that leaves it open
 /// gives a datagram with one. It is due from any of these on, until one goes: a packet that asks
 /// came, with which two wait, or out of order, which is below one that asks, or above all of them
@@ -344,6 +427,39 @@ pub fn none_opened_only_for_undone()
 /// or a timeout told that 25 ms have passed since one came (RFC 9000, sections 13.2.1 and 13.2.2).
 pub fn acks_are_due()
     ensures { (r : Run) (end : World) → IsHonest r → IsRun r end → AcksAreDue r }
+{}
+
+/// Each datagram that a poll gives carries something that waited: it is an MTU probe, or a PTO
+/// probe waited; or it isn't ack-eliciting, and has an ACK frame, and since the last one a packet
+/// came that is ack-eliciting or bore the mark CE, or more than ten that aren't ack-eliciting; or
+/// it is, and each PING in it was asked for since one went, each STREAM frame brings a byte or an
+/// end, and no byte that was acknowledged in flight, and MAX_DATA, MAX_STREAMS and DATA_BLOCKED go
+/// once behind what made them wait (RFC 9000, sections 12.2, 13.2 and 13.3).
+pub fn each_waited()
+    ensures { (r : Run) (end : World) → IsHonest r → IsRun r end → EachWaited r }
+{}
+
+/// Where the application asks what is told next and nothing is, while messages wait to be received,
+/// it was told that messages came since the first of those came that wait. By the lists a message
+/// waits from the packet that brought it on until a call received it, or another received none
+/// (RFC 9221).
+pub fn messages_are_told()
+    ensures { (r : Run) (end : World) → IsHonest r → IsRun r end → MessagesAreTold r }
+{}
+
+/// Where the application asks what is told next and nothing is, each stream that a frame opened was
+/// opened when it was told last that the peer opened streams of its kind, whatever was accepted
+/// (RFC 9000, sections 2.1 and 3.2).
+pub fn openings_are_told()
+    ensures { (r : Run) (end : World) → IsHonest r → IsRun r end → OpeningsAreTold r }
+{}
+
+/// Where the application asks what is told next and nothing is, it was told that a stream may be
+/// read since the last STREAM frame came on it, of those that it is told of: on a stream that this
+/// end opened, or of which one came before, and of which the end wasn't read, which wasn't stopped,
+/// and whose reset didn't come (RFC 9000, section 2.2).
+pub fn readables_are_told()
+    ensures { (r : Run) (end : World) → IsHonest r → IsRun r end → ReadablesAreTold r }
 {}
 
 /// A run less any choice of its idle events, which are injections and deliveries that their end

@@ -12,10 +12,11 @@ use Rattle.quic_streams_state.specs.State.{streams_of}
 use Rattle.quic_streams_state.specs.Acked.{after_stream_acked, after_stream_lost, after_reset_acked}
 use Rattle.quic_spaces.specs.Numbers.{cut_against}
 use Rattle.quic_machine.specs.Tracking.{TrackedPacket, Carried, asks_any, acked_by, not_acked_by, loss_delay, Verdict, verdict_at, lost_by, after_detection, after_answered}
+use Rattle.quic_machine.specs.Sizes.{search_acked, search_lost, told_packets, told_losses}
 use Rattle.quic_machine.specs.End.{End, with_acknowledging, with_tracking, with_rtt, with_streams, with_told, with_marking, peer_delay}
 use Rattle.quic_spaces.specs.Marks.{Counts, marks_refused, marks_judged}
 use Rattle.quic_spaces.specs.declared.space.EcnError.{EcnError}
-use Rattle.quic_machine.specs.Control.{last_sent, told_packets, told_acks_ended, told_losses}
+use Rattle.quic_machine.specs.Control.{last_sent, told_acks_ended}
 
 -- ---- a packet that is acknowledged
 
@@ -47,13 +48,13 @@ abbrev pub carried_acked : Carried → End → End
 carried_acked c e = streams_acked c.stream_frames (resets_acked c.retransmits.reset_stream (without_known c.largest_acked e))
 
 -- a packet is acknowledged
-abbrev pub packet_acked : TrackedPacket → End → End
-packet_acked p e = carried_acked p.carried e
+abbrev pub packet_acked : ℕ × TrackedPacket → End → End
+packet_acked p e = carried_acked p.1.carried (search_acked p e)
 
 -- packets are acknowledged, one after another
 abbrev pub packets_acked : Table TrackedPacket → End → End
 packets_acked [] e = e
-packets_acked (p ∷ ps) e = packets_acked ps (packet_acked p.1 e)
+packets_acked (p ∷ ps) e = packets_acked ps (packet_acked p e)
 
 -- ---- a packet that is lost
 
@@ -81,7 +82,9 @@ packets_lost (p ∷ ps) e = packets_lost ps (carried_lost p.1.carried e)
 
 -- the packets that a verdict finds lost are: what they carried waits again, and when the next may be lost by time is known anew
 abbrev pub lost_as : Verdict → End → End
-lost_as v e = with_tracking (packets_lost (lost_by v e.tracking.packets) e) (after_detection v e.tracking)
+lost_as v e =
+    let lost = lost_by v e.tracking.packets in
+    search_lost lost (with_tracking (packets_lost lost e) (after_detection v e.tracking))
 
 -- how late a packet may be at an end at its moment (RFC 9002, section 6.1)
 abbrev pub verdict : End → Verdict

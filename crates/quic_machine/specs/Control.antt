@@ -1,14 +1,11 @@
 -- Congestion control at an end (RFC 9002, section 7): what is in flight, what window and pacer hold back, and what the controller is told.
-use Rattle.std.specs.Prelude.{ℕ, ◌+◌, ◌*◌, max, Bool, true, false, ◌&&◌, ◌==◌, nat_le, nat_lt, if◌then◌else◌, List, [], ◌∷◌, ◌++◌, map, sum_by, Option, Some, None}
-use Rattle.std.specs.List.{filter, list_any}
+use Rattle.std.specs.Prelude.{ℕ, ◌+◌, ◌*◌, max, Bool, true, false, not, ◌&&◌, ◌==◌, nat_le, nat_lt, if◌then◌else◌, List, [], ◌∷◌, ◌++◌, sum_by, Option, Some, None}
+use Rattle.std.specs.List.{filter}
 use Rattle.quic_time.specs.Clocks.{saturated}
 use Rattle.quic_time.specs.Rtt.{best_rtt}
-use Rattle.quic_time.specs.Timers.{Timers}
-use Rattle.quic_congestion.specs.Congestion.{Told, Sent, Acked, AcksEnded, Congested}
+use Rattle.quic_congestion.specs.Congestion.{Told, Sent, Acked, AcksEnded}
 use Rattle.quic_congestion.specs.Pacer.{Pacing, after_datagram, after_delay, delay_of}
 use Rattle.quic_streams_parts.specs.Table.{Table}
-use Rattle.quic_spaces.specs.Persistent.{Loss}
-use Rattle.quic_spaces.specs.PersistentSteps.{is_persistent_after}
 use Rattle.quic_machine.specs.Tracking.{TrackedPacket}
 use Rattle.quic_machine.specs.Parts.{current_mtu}
 use Rattle.quic_machine.specs.End.{End, probe_timeout}
@@ -70,7 +67,7 @@ with_pacing_timer e moment = record e { timers = record e.timers { pacing = mome
 abbrev pub with_app_limited : End → Bool → End
 with_app_limited e limited = record e { path = record e.path { app_limited = limited } }
 
--- what becomes of what asks: it is held back or isn't, and the end that is left
+-- whether window and pacer hold back what asks, and the end that is left
 pub record Gated : Type 0 where
   pub held : Bool
   pub end : End
@@ -117,11 +114,6 @@ told_sent false e size number = []
 abbrev pub told_packet : End → ℕ × TrackedPacket → List Told
 told_packet e p = if p.1.asks then Acked e.closing.clock p.1.time_sent p.1.size e.path.app_limited e.path.rtt ∷ [] else []
 
--- packets are acknowledged, one after another
-abbrev pub told_packets : End → Table TrackedPacket → List Told
-told_packets e [] = []
-told_packets e (p ∷ ps) = told_packet e p ++ told_packets e ps
-
 -- those that an ACK frame names are acknowledged
 abbrev pub told_acks_ended : End → List Told
 told_acks_ended e = AcksEnded e.closing.clock (saturated (bytes_in_flight e)) e.path.app_limited e.numbers.largest_acked ∷ []
@@ -130,24 +122,8 @@ told_acks_ended e = AcksEnded e.closing.clock (saturated (bytes_in_flight e)) e.
 abbrev pub persistent_period : End → ℕ
 persistent_period e = saturated (e.transport.persistent_congestion_threshold * probe_timeout e)
 
--- a packet as one that is lost
-abbrev pub loss_of : ℕ × TrackedPacket → Loss
-loss_of p = record { number = p.0; time_sent = p.1.time_sent; asks = p.1.asks }
-
--- whether packets that are lost show persistent congestion
-abbrev pub is_persistent : End → Table TrackedPacket → Bool
-is_persistent e lost = is_persistent_after (persistent_period e) e.path.first_after_rtt (map loss_of lost)
-
 -- when the last of packets went
 abbrev pub last_sent : Table TrackedPacket → ℕ
 last_sent [] = 0
 last_sent (p ∷ []) = p.1.time_sent
 last_sent (p ∷ q ∷ ps) = last_sent (q ∷ ps)
-
--- packets are lost, by an ACK or by time: where one of them was in flight on the path, it is congested (sections 7.3.2 and 7.6); only an ACK shows that congestion
--- persists
-abbrev pub told_losses : Bool → End → Table TrackedPacket → List Told
-told_losses by_ack e lost =
-    if list_any (flies e.path.generation) lost
-    then Congested e.closing.clock (last_sent lost) (by_ack && is_persistent e lost) (saturated (sum_by (λ p. p.1.size) lost)) ∷ []
-    else []

@@ -1,5 +1,5 @@
 -- What holds of a draft, whichever frames go; and that a datagram has a frame.
-use Rattle.std.proofs.Common.{◌≡◌, ℕ, ◌+◌, ◌-◌, ◌<◌, ◌≤◌, ◌^◌, List, [], ◌∷◌, ◌++◌, Bool, true, false, ◌&&◌, ◌||◌, not, length, Some, refl, sym, ap, ◌∙◌, subst, arith, nat_lt, ◌⊎◌, inl, inr}
+use Rattle.std.proofs.Common.{◌≡◌, ℕ, ◌+◌, ◌-◌, ◌<◌, ◌≤◌, ◌^◌, List, [], ◌∷◌, ◌++◌, Bool, true, false, ◌&&◌, ◌||◌, length, Some, refl, sym, ap, ◌∙◌, subst, arith, nat_lt, ◌⊎◌, inl, inr}
 use Rattle.std.specs.Prelude.{if◌then◌else◌, map, ◌*◌}
 use Rattle.std.specs.List.{fold}
 use Rattle.std.proofs.lemmas.Bool.{and_parts}
@@ -22,13 +22,12 @@ use Rattle.quic_streams_laws.specs.ControlWalk.{GoesOn, by_control, by_stream_fr
 use Rattle.quic_recovery_core.specs.PendingAcks.{lazy_threshold, can_send, is_filled}
 use Rattle.quic_spaces.specs.Numbers.{cut_against}
 use Rattle.quic_machine.specs.End.{End, number_of, with_streams, with_ping}
-use Rattle.quic_machine.specs.Control.{Gated}
 use Rattle.quic_machine.specs.Parts.{current_mtu}
-use Rattle.quic_machine.specs.Poll.{Draft, frame_room, fits, with_frame, left, ping_if, behind_control, with_control_frames, with_message, with_messages_of, with_message_frames, behind_stream, no_stream_frames, with_stream_frames, Kind, order, put, with_asking, no_frames, ack_of, with_ack, ack_fits, ack_if, composed_if, composed, asks_to_go, lazied, goes, draft_if}
+use Rattle.quic_machine.specs.Poll.{Draft, frame_room, fits, with_frame, left, ping_if, behind_control, with_control_frames, with_message, with_messages_of, with_message_frames, behind_stream, no_stream_frames, with_stream_frames, Kind, order, put, with_asking, no_frames, ack_of, with_ack, ack_fits, ack_if, composed_if, composed, probing, lazied, lazied_as, Leaving, whole, alone, probe, nothing, least_left, with_ping_frame, draft_left, draft_as}
 use Rattle.quic_machine.specs.Poll as poll
 
 -- a number takes four bytes at most
-width_few : (n : ℕ) → width_for n ≤ 4
+pub width_few : (n : ℕ) → width_for n ≤ 4
 width_few n = go (nat_lt (2 * n) 256) (nat_lt (2 * n) 65536) (nat_lt (2 * n) 16777216)
   where
     go : (a b c : Bool) → (if a then 1 else (if b then 2 else (if c then 3 else 4))) ≤ 4
@@ -93,6 +92,8 @@ SendsMessage P = (d : Draft) (m : List ℕ) (ms : List (List ℕ)) → d.end.mes
 pub record Writing (P : Draft → Type 0) : Type 0 where
   pub ack : (d : Draft) → is_filled d.end.acknowledging.runs ≡ true → MayAck d → P d → P (with_ack d)
   pub ping : (d : Draft) → P d → P (with_frame d ping (spelling ping) (with_ping d.end false))
+  -- PING goes alone, as a probe of a size
+  pub probes : (e : End) (size : ℕ) → P (no_frames e) → P (probing size e)
   pub drops : Drops P
   pub control : SendsEntry P
   pub message : SendsMessage P
@@ -110,14 +111,14 @@ mapped_more : (fs : List StreamValue) (f : StreamValue) → map stream (fs ++ f 
 mapped_more [] f = refl
 mapped_more (g ∷ fs) f = ap (λ (gs : List FrameValue). stream g ∷ gs) (mapped_more fs f)
 
-module _ (P : Draft → Type 0) (drops : Drops P) (sends : SendsEntry P) where
-  -- frames of control behind a draft: one more is one more frame
-  entry_behind : (d : Draft) (c : control.Draft) (kind : ControlKind) (f : FrameValue) → behind_control d (first_sent kind f c) ≡ with_entry (behind_control d c) kind f
-  entry_behind d c kind f =
-      let fs : d.frames ++ (c.frames ++ f ∷ []) ≡ (d.frames ++ c.frames) ++ f ∷ [] = sym (append_assoc d.frames c.frames (f ∷ [])) in
-      let bs : d.bytes ++ spelled_all (c.frames ++ f ∷ []) ≡ (d.bytes ++ spelled_all c.frames) ++ spelling f = ap (λ (x : List ℕ). d.bytes ++ x) (spelled_more c.frames f) ∙ sym (append_assoc d.bytes (spelled_all c.frames) (spelling f)) in
-      rw (fs, bs) refl
+-- frames of control behind a draft: one more is one more frame
+pub entry_behind : (d : Draft) (c : control.Draft) (kind : ControlKind) (f : FrameValue) → behind_control d (first_sent kind f c) ≡ with_entry (behind_control d c) kind f
+entry_behind d c kind f =
+    let fs : d.frames ++ (c.frames ++ f ∷ []) ≡ (d.frames ++ c.frames) ++ f ∷ [] = sym (append_assoc d.frames c.frames (f ∷ [])) in
+    let bs : d.bytes ++ spelled_all (c.frames ++ f ∷ []) ≡ (d.bytes ++ spelled_all c.frames) ++ spelling f = ap (λ (x : List ℕ). d.bytes ++ x) (spelled_more c.frames f) ∙ sym (append_assoc d.bytes (spelled_all c.frames) (spelling f)) in
+    rw (fs, bs) refl
 
+module _ (P : Draft → Type 0) (drops : Drops P) (sends : SendsEntry P) where
   -- what waits beside the bytes of streams goes
   pub by_entries : (d : Draft) → P d → P (with_control_frames d)
   by_entries d p = by_control (frame_room d.end) (λ (c : control.Draft). P (behind_control d c)) steps (control.no_frames (length d.bytes) d.end.streams d.end.waiting.frames nothing_waits) first
@@ -203,18 +204,65 @@ by_writing P w e p = go (can_send e.acknowledging) refl
     go true due = by_asking P w (with_ack (no_frames e)) (w.ack (no_frames e) (and_parts e.acknowledging.due (is_filled e.acknowledging.runs) due).1 (inl refl) p)
     go false due = late_keeps P w (ack_fits (with_asking (no_frames e))) (with_asking (no_frames e)) refl (by_asking P w (no_frames e) p)
 
--- what goes where something goes: what is composed, or a due ACK alone
-pub by_leave : (P : Draft → Type 0) → Writing P → (held : Bool) (e : End) → (held ≡ true → can_send e.acknowledging ≡ true) → P (no_frames e) → P (draft_if held e)
-by_leave P w true e due p = w.ack (no_frames e) (and_parts e.acknowledging.due (is_filled e.acknowledging.runs) (due refl)).1 (inl refl) p
-by_leave P w false e due p = by_writing P w e p
+-- where an ACK goes alone, it is due
+abbrev pub MayLeave : Leaving → End → Type 0
+MayLeave leaving e = leaving ≡ alone → can_send (lazied e).acknowledging ≡ true
 
--- where what asks is held back, something goes only where an ACK is due
-pub due_alone : (g : Gated) → goes g ≡ true → g.held ≡ true → can_send (lazied g.end).acknowledging ≡ true
-due_alone g is held = go g.end.acknowledging.due (is_filled g.end.acknowledging.runs) g.held held is
+-- one that is due is due where many packets came that don't ask
+pub lazy_due : (e : End) → can_send e.acknowledging ≡ true → can_send (lazied e).acknowledging ≡ true
+lazy_due e is = go e.acknowledging.due (is_filled e.acknowledging.runs) is
   where
-    go : (due filled held : Bool) → held ≡ true → (due && filled) || (not held && asks_to_go g.end) ≡ true → (due || nat_lt lazy_threshold g.end.acknowledging.silent) && filled ≡ true
-    go true true true h is = refl
-    go true false true h is = absurd cc
-    go false true true h is = absurd cc
-    go false false true h is = absurd cc
-    go due filled false h is = absurd cc
+    go : (due filled : Bool) → due && filled ≡ true → (due || nat_lt lazy_threshold e.acknowledging.silent) && filled ≡ true
+    go true true is = refl
+    go true false is = absurd cc
+    go false filled is = absurd cc
+
+-- what goes: what is composed, a due ACK alone, a probe of a size, or nothing
+pub by_left : (P : Draft → Type 0) → Writing P → (leaving : Leaving) (e : End) → (leaving ≡ alone → can_send e.acknowledging ≡ true) → P (no_frames e) → P (draft_left leaving e)
+by_left P w whole e due p = by_writing P w e p
+by_left P w alone e due p = w.ack (no_frames e) (and_parts e.acknowledging.due (is_filled e.acknowledging.runs) (due refl)).1 (inl refl) p
+by_left P w (probe size) e due p = w.probes e size p
+by_left P w (nothing held) e due p = p
+
+-- so it is where an acknowledgement became due
+pub by_leave : (P : Draft → Type 0) → Writing P → (leaving : Leaving) (e : End) → MayLeave leaving e → P (no_frames (lazied_as leaving e)) → P (draft_as leaving e)
+by_leave P w leaving e may p = by_left P w leaving (lazied_as leaving e) (due leaving may) p
+  where
+    due : (l : Leaving) → MayLeave l e → l ≡ alone → can_send (lazied_as l e).acknowledging ≡ true
+    due whole may is = cc
+    due alone may is = may is
+    due (probe size) may is = cc
+    due (nothing held) may is = cc
+
+-- ---- its least size
+
+-- what asks leaves it
+asking_least : (d : Draft) → (with_asking d).least ≡ d.least
+asking_least d = by_streams Keeps (λ x id h room found first some is counts same. same) (with_message_frames (with_control_frames (with_ping_frame d)))
+    (by_messages Keeps (λ x m ms is fit same. same) (with_control_frames (with_ping_frame d))
+    (by_entries Keeps (λ x kind same. same) (λ x kind f is same. same) (with_ping_frame d) (pinged d.end.waiting.ping)))
+  where
+    Keeps : Draft → Type 0
+    Keeps x = x.least ≡ d.least
+
+    pinged : (b : Bool) → (ping_if b d).least ≡ d.least
+    pinged true = refl
+    pinged false = refl
+
+composed_least : (e : End) → (composed e).least ≡ 0
+composed_least e = go (can_send e.acknowledging)
+  where
+    late : (b : Bool) (d : Draft) → d.least ≡ 0 → (ack_if b d).least ≡ 0
+    late true d is = is
+    late false d is = is
+
+    go : (b : Bool) → (composed_if b e).least ≡ 0
+    go true = asking_least (with_ack (no_frames e))
+    go false = late (ack_fits (with_asking (no_frames e))) (with_asking (no_frames e)) (asking_least (no_frames e))
+
+-- only a probe of a size has one by itself
+pub left_least : (leaving : Leaving) (e : End) → (draft_left leaving e).least ≡ least_left leaving
+left_least whole e = composed_least e
+left_least alone e = refl
+left_least (probe size) e = refl
+left_least (nothing held) e = refl

@@ -22,6 +22,7 @@ use Rattle.quic_spaces.specs.Filter.{Filter, first_filter, allocated, after_allo
 use Rattle.quic_machine.specs.Tracking.{Tracking, nothing_tracked, loss_moment}
 use Rattle.quic_streams_state.specs.declared.state.StreamsState.{StreamsState}
 use Rattle.quic_streams_state.specs.State.{Streams, streams_of, new_streams, after_set_params}
+use Rattle.quic_congestion.specs.Search.{Discovery}
 use Rattle.quic_spaces.specs.Marks.{Counts}
 use Rattle.quic_machine.specs.Parts.{Path, Windows, first_path, Marks, no_marks, Messaging, no_messaging, with_queues, Waiting, nothing_waits}
 use Rattle.quic_messages.specs.Messages.{Messages}
@@ -102,6 +103,10 @@ with_closing e c = record e { closing = c }
 -- the end closes for a reason: none of its timers is set any more
 abbrev pub closed_by : LostReason → End → End
 closed_by reason e = record e { closing = closed_for reason e.closing; timers = no_timers }
+
+-- the end with another search for the size of datagrams
+abbrev pub with_discovery : End → Discovery → End
+with_discovery e d = record e { path = record e.path { discovery = d } }
 
 -- the end with other packet numbers
 abbrev pub with_numbers : End → Numbers → End

@@ -29,8 +29,12 @@ use Rattle.quic_messages.specs.declared.errors.ReceivedError.{ReceivedError}
 use Rattle.quic_messages.specs.Messages.{received_answer}
 use Rattle.quic_machine.specs.Parts.{Messaging}
 use Rattle.quic_machine.specs.Tracking.{Tracking, TrackedPacket, Carried, acked_by, Verdict, lost_by, after_detection}
-use Rattle.quic_machine.specs.End.{End, with_closing, closed_by, with_numbers, with_streams, with_messages, with_tracking, with_rtt, with_told, with_marking}
+use Rattle.quic_machine.specs.End.{End, with_closing, closed_by, with_numbers, with_streams, with_messages, with_tracking, with_rtt, with_told, with_marking, with_discovery, with_queued}
 use Rattle.quic_machine.specs.Opens.{own_id_length}
+use Rattle.quic_messages.specs.Messages.{without_longer}
+use Rattle.quic_congestion.specs.Search.{Discovery}
+use Rattle.quic_machine.specs.MessageCalls.{most_message}
+use Rattle.quic_machine.specs.Sizes.{is_resized, with_acked, search_acked, after_lost, without_longer_if, shortened, with_searched}
 use Rattle.quic_machine.specs.Acked.{without_known, reset_acked, resets_acked, stream_acked, streams_acked, packet_acked, packets_acked, stream_lost, streams_lost, again, carried_lost, packets_lost, lost_as, verdict, losses_detected, measured, sampled, without_acked, counts_judged, counts_answer, counts_seen, marks_seen, losses_taken, after_named, after_acked}
 use Rattle.quic_machine.specs.Receive.{Fault, violation, reason_of, Progress, goes_on, is_above, names_ungiven, message_taken, message_judged, take_message, take_frame, take_item, unless_fault, take_items, is_empty, take_payload, asks_in, after_taken, dropped, ends_as, by_state, opened_to, opened_as, opening, headed, received_in, received}
 
@@ -84,12 +88,27 @@ pub record Settling (P : End → Type 0) : Type 0 where
   pub acked : (m : StreamMeta) (e : End) → P e → P (stream_acked m e)
   pub lost : (m : StreamMeta) (e : End) → P e → P (stream_lost m e)
   pub again : (carried : Carried) (e : End) → P e → P (again carried e)
+  -- the search for a size learns of it, and messages that are too long are dropped
+  pub searched : (d : Discovery) (e : End) → P e → P (with_discovery e d)
+  pub shortens : (most : ℕ) (e : End) → P e → P (with_queued e (without_longer most e.messages.queues))
   -- fewer packets are tracked
   pub tracked : (t : Tracking) (e : End) → P e → P (with_tracking e t)
   -- the round trip is measured
   pub measured : (r : Rtt) (first : Option ℕ) (e : End) → P e → P (with_rtt e r first)
   -- the peer's counts of marks are kept, and marking may end
   pub marked : (counts : Counts) (marking : Bool) (e : End) → P e → P (with_marking (with_told e counts) marking)
+
+-- with another search messages that are too long are dropped, or none is
+pub by_searched : (d : Discovery) (e : End) (P : End → Type 0) → P (with_discovery e d) → ((most : ℕ) → P (with_queued (with_discovery e d) (without_longer most e.messages.queues))) → P (with_searched d e)
+by_searched d e P same shorter = go (is_resized e.path.discovery d)
+  where
+    lasts : (o : Option ℕ) → P (without_longer_if o (with_discovery e d))
+    lasts None = same
+    lasts (Some most) = shorter most
+
+    go : (b : Bool) → P (shortened b (with_discovery e d))
+    go true = lasts (most_message (with_discovery e d))
+    go false = same
 
 module _ (P : End → Type 0) (c : Settling P) where
   -- what the peer knows of, if anything
@@ -101,13 +120,19 @@ module _ (P : End → Type 0) (c : Settling P) where
   packets_acked_keep : (ps : Table TrackedPacket) (e : End) → P e → P (packets_acked ps e)
   packets_acked_keep [] e i = i
   packets_acked_keep (p ∷ ps) e i =
-      let known : End = without_known p.1.carried.largest_acked e in
-      let resets = resets_acked_keep P c.reset p.1.carried.retransmits.reset_stream known (known_keeps p.1.carried.largest_acked e i) in
-      packets_acked_keep ps (packet_acked p.1 e) (streams_acked_keep P c.acked p.1.carried.stream_frames (resets_acked p.1.carried.retransmits.reset_stream known) resets)
+      let heard : End = search_acked p e in
+      let known : End = without_known p.1.carried.largest_acked heard in
+      let resets = resets_acked_keep P c.reset p.1.carried.retransmits.reset_stream known (known_keeps p.1.carried.largest_acked heard (c.searched (with_acked p e.path.discovery) e i)) in
+      packets_acked_keep ps (packet_acked p e) (streams_acked_keep P c.acked p.1.carried.stream_frames (resets_acked p.1.carried.retransmits.reset_stream known) resets)
 
   -- packets are lost
   lost_keeps : (v : Verdict) (e : End) → P e → P (lost_as v e)
-  lost_keeps v e i = c.tracked (after_detection v e.tracking) (packets_lost (lost_by v e.tracking.packets) e) (packets_lost_keep P c.lost c.again (lost_by v e.tracking.packets) e i)
+  lost_keeps v e i =
+      let lost = lost_by v e.tracking.packets in
+      let left : End = with_tracking (packets_lost lost e) (after_detection v e.tracking) in
+      let d : Discovery = after_lost left.closing.clock lost left.path.discovery in
+      let told : P (with_discovery left d) = c.searched d left (c.tracked (after_detection v e.tracking) (packets_lost lost e) (packets_lost_keep P c.lost c.again lost e i)) in
+      by_searched d left P told (λ most. c.shortens most (with_discovery left d) told)
 
   -- losses are detected
   pub losses_keep : (e : End) → P e → P (losses_detected e)

@@ -8,10 +8,11 @@ use Rattle.quic_machine.specs.declared.answers.State.TheVariants as states
 use Rattle.quic_machine.specs.declared.answers.LostReason.{LostReason}
 use Rattle.quic_streams_parts.specs.declared.answers.StreamEvent.{StreamEvent}
 use Rattle.quic_machine.specs.Closing.{ticked, loss_to_tell, after_told}
-use Rattle.quic_machine.specs.Tracking.{Tracking, lost_by}
-use Rattle.quic_machine.specs.End.{End, with_closing, with_loss_timer}
-use Rattle.quic_machine.specs.Acked.{losses_detected, verdict}
-use Rattle.quic_machine.specs.FrameCases.{packets_lost_keep}
+use Rattle.quic_machine.specs.Sizes.{after_lost}
+use Rattle.quic_machine.specs.Tracking.{Tracking, lost_by, after_detection}
+use Rattle.quic_machine.specs.End.{End, with_closing, with_loss_timer, with_tracking}
+use Rattle.quic_machine.specs.Acked.{packets_lost, losses_detected, verdict}
+use Rattle.quic_machine.specs.FrameCases.{packets_lost_keep, by_searched}
 use Rattle.quic_machine.specs.Timeouts.{acks_expired, loss_judged, loss_expired, pacing_expired, Expiry, expiry_at, after_expiry, timed_out_in, timed_out}
 use Rattle.quic_machine.specs.Calls.{streams_told, closing_told, tells_message, message_told, others_told, end_after_event}
 
@@ -31,7 +32,11 @@ at_expiry e now expiry = after_expiry expiry (with_closing e (ticked e.closing n
 
 -- losses change none of the packets to acknowledge
 losses_leave : (e : End) → (losses_detected e).acknowledging ≡ e.acknowledging
-losses_leave e = packets_lost_keep (λ (x : End). x.acknowledging ≡ e.acknowledging) (λ m x i. i) (λ c x i. i) (lost_by (verdict e) e.tracking.packets) e refl
+losses_leave e =
+    let lost = lost_by (verdict e) e.tracking.packets in
+    let left : End = packets_lost lost e in
+    let same : left.acknowledging ≡ e.acknowledging = packets_lost_keep (λ (x : End). x.acknowledging ≡ e.acknowledging) (λ m x i. i) (λ c x i. i) lost e refl in
+    by_searched (after_lost left.closing.clock lost left.path.discovery) (with_tracking left (after_detection (verdict e) e.tracking)) (λ (x : End). x.acknowledging ≡ e.acknowledging) same (λ most. same)
 
 -- whatever timers expire, the numbers to acknowledge are as they were; and so are the tracked packets, unless some were lost
 pub by_expired : (e : End) (now : ℕ) (P : End → Type 0)

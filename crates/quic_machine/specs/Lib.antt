@@ -13,6 +13,7 @@ pub mod Receive
 pub mod Poll
 pub mod Timeouts
 pub mod Calls
+pub mod Sizes
 pub mod StreamCalls
 pub mod MessageCalls
 pub mod Lacking

@@ -1,5 +1,5 @@
 -- The calls of the application on messages (RFC 9221): what each may be answered, and what it leaves.
-use Rattle.std.specs.Prelude.{◌≡◌, ◌⊎◌, Bool, true, false, length, Ok, Err}
+use Rattle.std.specs.Prelude.{ℕ, Option, ◌≡◌, ◌⊎◌, Bool, true, false, length, Ok, Err}
 use Rattle.quic_messages.specs.declared.errors.SendDatagramError.TheVariants as send_errors
 use Rattle.quic_messages.specs.declared.limits.DatagramLimits.{DatagramLimits}
 use Rattle.quic_messages.specs.Messages.{oldest, after_recv}
@@ -12,13 +12,17 @@ use Rattle.quic_machine.specs.Parts.{current_mtu, Messaging, with_queues}
 use Rattle.quic_machine.specs.End.{End, with_messages}
 use Rattle.quic_machine.specs.Calls.{is_open}
 
+-- how long a message may be, where the peer takes messages
+abbrev pub most_message : End → Option ℕ
+most_message e = max_size e.peer_params.max_datagram_frame_size (current_mtu e.path) (length e.ids.active.id)
+
 -- what bounds the messages of an end: its settings, what the peer takes, and what a datagram takes
 abbrev pub limits_of : End → DatagramLimits
 limits_of e = record {
   is_open = is_open e.closing.state;
   receive_buffer_size = e.transport.datagram_receive_buffer_size;
   send_buffer_size = e.transport.datagram_send_buffer_size;
-  max_size = max_size e.peer_params.max_datagram_frame_size (current_mtu e.path) (length e.ids.active.id);
+  max_size = most_message e;
 }
 
 -- whether a call is one on messages

@@ -1,4 +1,4 @@
--- Parts of an end of which this stage uses little: each has its place, so that what comes adds fields and moves none.
+-- Parts of an end: each has its place, so that a new field moves no other.
 use Rattle.std.specs.Prelude.{◌≡◌, ℕ, Bool, true, false, Option, None}
 use Rattle.quic_time.specs.Rtt.{Rtt, assumed_rtt}
 use Rattle.quic_config.specs.Transport.{TransportSettings, first_mtu}

@@ -1,5 +1,5 @@
 -- What an end gives when it is polled (RFC 9000, sections 12.2, 13.3 and 14.1).
-use Rattle.std.specs.Prelude.{ℕ, ◌+◌, ◌-◌, ◌≡◌, Bool, true, false, ◌&&◌, ◌||◌, ◌==◌, not, nat_le, nat_lt, if◌then◌else◌, List, [], ◌∷◌, ◌++◌, map, length, replicate, ◌⊎◌, Option, Some, None, IsSome, Result, Ok, Err}
+use Rattle.std.specs.Prelude.{ℕ, ◌+◌, ◌-◌, ◌≡◌, Bool, true, false, ◌&&◌, ◌||◌, ◌==◌, not, nat_le, nat_lt, if◌then◌else◌, List, [], ◌∷◌, ◌++◌, map, length, replicate, max, ◌⊎◌, Option, Some, None, IsSome, Result, Ok, Err}
 use Rattle.std.specs.List.{list_any, fold}
 use Rattle.std.specs.Option.{is_some}
 use Rattle.quic_wire_core.specs.declared.shared.EcnCodepoint.{EcnCodepoint}
@@ -22,7 +22,7 @@ use Rattle.quic_machine.specs.declared.answers.Transmit.{Transmit}
 use Rattle.quic_machine.specs.declared.answers.State.TheVariants as states
 use Rattle.quic_machine.specs.declared.answers.LostReason.TheVariants as reasons
 use Rattle.quic_congestion.specs.Congestion.{Told}
-use Rattle.quic_recovery_core.specs.PendingAcks.{can_send, is_filled, after_acks_sent, after_lazy}
+use Rattle.quic_recovery_core.specs.PendingAcks.{Pending, can_send, is_filled, after_acks_sent, after_lazy}
 use Rattle.quic_spaces.specs.Acknowledging.{ack_at}
 use Rattle.quic_spaces.specs.Marks.{told_counts}
 use Rattle.quic_machine.specs.Tracking.{TrackedPacket, carried_in, after_sent, without_record}
@@ -33,6 +33,7 @@ use Rattle.quic_machine.specs.Policy.{Policy}
 use Rattle.quic_machine.specs.Parts.{current_mtu}
 use Rattle.quic_machine.specs.End.{End, with_closing, closed_by, number_of, with_number_given, with_acknowledging, with_ack_timer_at, with_tracking, with_loss_timer, with_streams, with_queued, with_waiting, with_ping}
 use Rattle.quic_machine.specs.Control.{is_window_full, Gated, gated_if, paid, with_pacing_timer, with_app_limited, told_sent}
+use Rattle.quic_machine.specs.Sizes.{may_search, search_names, search_asked}
 
 -- ---- what is given
 
@@ -41,10 +42,6 @@ pub record IsDatagram (p : Policy) (acknowledged number : ℕ) (id : List ℕ) (
   pub payload : List ℕ
   pub spells : Payload frames payload
   pub is : datagram ≡ sent p.header p.packet number acknowledged id payload
-
--- number and payload have four bytes at least, so that the sample stands in the datagram (RFC 9001, section 5.4.2)
-abbrev pub padded : ℕ → List ℕ → List ℕ
-padded width payload = payload ++ replicate (4 - (width + length payload)) 0
 
 -- ---- the answer, the datagram and the end that are left
 
@@ -70,21 +67,30 @@ gives_datagram d e = record { answer = Ok (Some (record { size = length d; ecn =
 abbrev pub frame_room : End → ℕ
 frame_room e = current_mtu e.path - (1 + length e.ids.active.id + (truncated (number_of e) (cut_against e.numbers)).width + 16)
 
+-- whether a datagram with these frames asks for an acknowledgement (RFC 9000, section 13.2)
+abbrev pub asking : List FrameValue → Bool
+asking frames = list_any asks frames
+
 -- ---- what goes into a datagram, one frame behind another
 
--- the frames so far, how they are written, and the end once they went
+-- the frames so far, how they are written, how many bytes the datagram has at least, and the end once they went
 pub record Draft : Type 0 where
   pub frames : List FrameValue
   pub bytes : List ℕ
+  pub least : ℕ
   pub end : End
 
 -- no frame yet
 abbrev pub no_frames : End → Draft
-no_frames e = record { frames = []; bytes = []; end = e }
+no_frames e = record { frames = []; bytes = []; least = 0; end = e }
+
+-- a datagram of so many bytes at least
+abbrev pub with_least : Draft → ℕ → Draft
+with_least d least = record d { least = least }
 
 -- a frame that is written so goes behind the others, and leaves this end
 abbrev pub with_frame : Draft → FrameValue → List ℕ → End → Draft
-with_frame d f bytes e = record { frames = d.frames ++ f ∷ []; bytes = d.bytes ++ bytes; end = e }
+with_frame d f bytes e = record d { frames = d.frames ++ f ∷ []; bytes = d.bytes ++ bytes; end = e }
 
 -- whether a frame fits behind those of a draft
 abbrev pub fits : Draft → FrameValue → Bool
@@ -101,7 +107,7 @@ with_ping_frame d = ping_if d.end.waiting.ping d
 
 -- frames of control behind those of a draft, which leave these streams, and this to be sent besides
 abbrev pub behind_control : Draft → control.Draft → Draft
-behind_control d c = record { frames = d.frames ++ c.frames; bytes = d.bytes ++ spelled_all c.frames; end = with_streams d.end (streams_of c.state c.pending) }
+behind_control d c = record d { frames = d.frames ++ c.frames; bytes = d.bytes ++ spelled_all c.frames; end = with_streams d.end (streams_of c.state c.pending) }
 
 -- what waits beside the bytes of streams goes, kind by kind, where it fits (RFC 9000, section 13.3)
 abbrev pub with_control_frames : Draft → Draft
@@ -122,7 +128,7 @@ with_message_frames d = with_messages_of d.end.messages.queues.outgoing d
 
 -- STREAM frames behind the frames of a draft, which leave these streams
 abbrev pub behind_stream : Draft → of_streams.Sent → Draft
-behind_stream d t = record { frames = d.frames ++ map stream t.frames; bytes = d.bytes ++ t.bytes; end = record d.end { streams = t.state } }
+behind_stream d t = record d { frames = d.frames ++ map stream t.frames; bytes = d.bytes ++ t.bytes; end = record d.end { streams = t.state } }
 
 -- how many bytes are left behind the frames of a draft
 abbrev pub left : Draft → ℕ
@@ -192,21 +198,38 @@ composed_if false e = with_late_ack (with_asking (no_frames e))
 abbrev pub composed : End → Draft
 composed e = composed_if (can_send e.acknowledging) e
 
+-- PING goes as a probe of a size, and what waits goes on waiting (RFC 8899, section 4.1)
+abbrev pub probing : ℕ → End → Draft
+probing size e = with_frame (with_least (no_frames e) size) ping (spelling ping) e
+
+-- how many bytes the number has
+abbrev pub number_width : Draft → ℕ
+number_width d = (truncated (number_of d.end) (cut_against d.end.numbers)).width
+
+-- how many bytes stand beside the payload: header, number and tag
+abbrev pub overhead : Draft → ℕ
+overhead d = 1 + length d.end.ids.active.id + number_width d + 16
+
+-- how many bytes the datagram has at least: those that ask have the size of their path, where that is set
+abbrev pub least_size : Draft → ℕ
+least_size d = if d.end.transport.pad_to_mtu && asking d.frames then max d.least (current_mtu d.end.path) else d.least
+
+-- how many bytes 0 stand behind the frames: number and payload have four bytes at least, so that the sample stands in the datagram (RFC 9001, section 5.4.2), and the
+-- datagram has its size
+abbrev pub zeros_behind : Draft → ℕ
+zeros_behind d = max (4 - (number_width d + length d.bytes)) (least_size d - (overhead d + length d.bytes))
+
 -- its payload
 abbrev pub payload_of : Draft → List ℕ
-payload_of d = padded (truncated (number_of d.end) (cut_against d.end.numbers)).width d.bytes
+payload_of d = d.bytes ++ replicate (zeros_behind d) 0
 
 -- the datagram with these frames
 abbrev pub datagram_of : Policy → Draft → List ℕ
 datagram_of p d = sent p.header p.packet (number_of d.end) (cut_against d.end.numbers) d.end.ids.active.id (payload_of d)
 
--- whether a datagram with these frames asks for an acknowledgement (RFC 9000, section 13.2)
-abbrev pub asking : List FrameValue → Bool
-asking frames = list_any asks frames
-
 -- how many bytes the datagram has: header, number, payload and tag
 abbrev pub datagram_size : Draft → ℕ
-datagram_size d = 1 + length d.end.ids.active.id + (truncated (number_of d.end) (cut_against d.end.numbers)).width + length (payload_of d) + 16
+datagram_size d = overhead d + length (payload_of d)
 
 -- the packet as it is tracked: it is in flight where it asks for an acknowledgement (RFC 9002, section 2)
 abbrev pub packet_of : Draft → TrackedPacket
@@ -254,10 +277,6 @@ probe_if false e = e
 abbrev pub probed : End → End
 probed e = probe_if (nat_lt 0 e.tracking.probes) e
 
--- before a datagram is composed, an acknowledgement is due where many packets came that don't ask for one (RFC 9000, section 13.2.1)
-abbrev pub lazied : End → End
-lazied e = with_acknowledging e (after_lazy e.acknowledging)
-
 -- how many bytes are left for frames at least, whichever number a datagram has: one takes four bytes at most
 abbrev pub least_room : End → ℕ
 least_room e = current_mtu e.path - (length e.ids.active.id + 21)
@@ -284,13 +303,70 @@ is_gated e = asks_to_go e && (e.tracking.probes == 0)
 abbrev pub gated : End → Gated
 gated e = gated_if (is_gated e) e
 
--- an end is ready to give: the timer of its pacer is stopped, what a probe carries waits, and window and pacer were asked
-abbrev pub ready : End → Gated
-ready e = gated (probed (with_pacing_timer e None))
+-- ---- what goes, if anything
 
--- whether a datagram goes: what asks does unless it is held back, and a due ACK in any case
-abbrev pub goes : Gated → Bool
-goes g = can_send g.end.acknowledging || (not g.held && asks_to_go g.end)
+-- all that waits; where what asks is held back, a due ACK alone; PING as a probe of a size; or nothing: it is held back, or nothing waits
+pub data Leaving : Type 0 where
+  whole : Leaving
+  alone : Leaving
+  probe : (size : ℕ) → Leaving
+  nothing : (held : Bool) → Leaving
+
+-- what goes, and the end that it leaves
+pub record Ready : Type 0 where
+  pub leaving : Leaving
+  pub end : End
+
+-- a probe of the size that the search names, if it names one
+abbrev pub probe_named : Option ℕ → Leaving
+probe_named None = nothing false
+probe_named (Some size) = probe size
+
+-- where nothing waits, the search for a size is asked, if it may be
+abbrev pub searched_if : Bool → End → Ready
+searched_if true e = record { leaving = probe_named (search_names e); end = search_asked e }
+searched_if false e = record { leaving = nothing false; end = e }
+
+-- where nothing is held back, all goes that waits
+abbrev pub free_if : Bool → End → Ready
+free_if true e = record { leaving = whole; end = e }
+free_if false e = searched_if (may_search e) e
+
+-- where what asks is held back, a due ACK goes
+abbrev pub held_if : Bool → End → Ready
+held_if true e = record { leaving = alone; end = e }
+held_if false e = record { leaving = nothing true; end = e }
+
+-- by whether what asks is held back
+abbrev pub leaves_if : Bool → End → Ready
+leaves_if true e = held_if (can_send e.acknowledging) e
+leaves_if false e = free_if (waits e) e
+
+-- what goes where window and pacer were asked
+abbrev pub leaves : Gated → Ready
+leaves g = leaves_if g.held g.end
+
+-- an end is ready to give: the timer of its pacer is stopped, what a probe carries waits, window and pacer were asked, and where nothing waits the search for a size
+abbrev pub ready : End → Ready
+ready e = leaves (gated (probed (with_pacing_timer e None)))
+
+-- whether a datagram goes
+abbrev pub goes_as : Leaving → Bool
+goes_as whole = true
+goes_as alone = true
+goes_as (probe size) = true
+goes_as (nothing held) = false
+
+-- so it is of an end that is ready
+abbrev pub goes : Ready → Bool
+goes g = goes_as g.leaving
+
+-- whether nothing goes since it is held back
+abbrev pub is_held : Leaving → Bool
+is_held whole = false
+is_held alone = false
+is_held (probe size) = false
+is_held (nothing held) = held
 
 -- An end has nothing to send but what window or pacer hold back, the pacer until its timer expires; and no probe waits.
 pub record IsSilent (e : End) : Type 0 where
@@ -298,26 +374,61 @@ pub record IsSilent (e : End) : Type 0 where
   pub no_probe : e.tracking.probes ≡ 0
   pub held : asks_to_go e ≡ true → (is_window_full e ≡ true) ⊎ IsSome e.timers.pacing
 
--- what goes: where what asks is held back, a due ACK alone
-abbrev pub draft_if : Bool → End → Draft
-draft_if true e = with_ack (no_frames e)
-draft_if false e = composed e
+-- before a packet is composed, an acknowledgement is due where many packets came that don't ask for one (RFC 9000, section 13.2.1)
+abbrev pub lazied : End → End
+lazied e = with_acknowledging e (after_lazy e.acknowledging)
+
+-- a probe of a size carries none, so that none is due for it
+abbrev pub lazy_as : Leaving → Pending → Pending
+lazy_as whole p = after_lazy p
+lazy_as alone p = after_lazy p
+lazy_as (probe size) p = p
+lazy_as (nothing held) p = p
+
+-- the end of which it goes
+abbrev pub lazied_as : Leaving → End → End
+lazied_as leaving e = with_acknowledging e (lazy_as leaving e.acknowledging)
+
+-- the frames of what goes
+abbrev pub draft_left : Leaving → End → Draft
+draft_left whole e = composed e
+draft_left alone e = with_ack (no_frames e)
+draft_left (probe size) e = probing size e
+draft_left (nothing held) e = no_frames e
+
+-- what goes of an end
+abbrev pub draft_as : Leaving → End → Draft
+draft_as leaving e = draft_left leaving (lazied_as leaving e)
 
 -- what goes of an end that is ready
-abbrev pub draft_of : Gated → Draft
-draft_of g = draft_if g.held (lazied g.end)
+abbrev pub draft_of : Ready → Draft
+draft_of g = draft_as g.leaving g.end
+
+-- how many bytes its datagram has at least by itself
+abbrev pub least_left : Leaving → ℕ
+least_left whole = 0
+least_left alone = 0
+least_left (probe size) = size
+least_left (nothing held) = 0
+
+-- how many bytes the datagram of what goes has at most: the size of the path, or that of a probe
+abbrev pub most_of : Leaving → End → ℕ
+most_of whole e = current_mtu e.path
+most_of alone e = current_mtu e.path
+most_of (probe size) e = max size (current_mtu e.path)
+most_of (nothing held) e = current_mtu e.path
 
 -- something goes: where the numbers are used up, the end closes and gives nothing
-abbrev pub sends : Bool → Policy → Gated → Polled
+abbrev pub sends : Bool → Policy → Ready → Polled
 sends true p g = gives_datagram (datagram_of p (draft_of g)) (after_given p (draft_of g))
 sends false p g = gives_nothing (closed_by reasons.NumberLimit g.end)
 
 -- nothing goes: for want of anything to send, or since it is held back
-abbrev pub rests : Gated → End
-rests g = with_app_limited g.end (not g.held)
+abbrev pub rests : Ready → End
+rests g = with_app_limited g.end (not (is_held g.leaving))
 
 -- what goes does, if anything
-abbrev pub polled_if : Bool → Policy → Gated → Polled
+abbrev pub polled_if : Bool → Policy → Ready → Polled
 polled_if true p g = sends (can_number g.end.numbers) p g
 polled_if false p g = gives_nothing (rests g)
 
@@ -343,7 +454,7 @@ abbrev pub told_draft : Draft → List Told
 told_draft d = told_sent (asking d.frames) d.end (datagram_size d) (number_of d.end)
 
 -- of what goes of an end that is ready, if anything does
-abbrev pub told_if : Bool → Gated → List Told
+abbrev pub told_if : Bool → Ready → List Told
 told_if true g = told_draft (draft_of g)
 told_if false g = []
 

@@ -1,8 +1,7 @@
 -- What a poll comes to, as cases with what is known in each.
-use Rattle.std.proofs.Common.{◌≡◌, ℕ, ◌+◌, ◌-◌, List, [], ◌++◌, length, replicate, Bool, true, false, not, Option, Some, None, refl, sym, ap, ◌∙◌, subst}
+use Rattle.std.proofs.Common.{◌≡◌, ℕ, ◌+◌, ◌-◌, List, [], ◌++◌, length, replicate, Bool, true, false, not, ◌&&◌, Option, Some, None, refl, sym, ap, ◌∙◌, subst}
 use Rattle.std.specs.Prelude.{Result, Ok, Err, if◌then◌else◌, nat_lt}
 use Rattle.std.specs.Option.{option_to_list}
-use Rattle.quic_packet.specs.Number.{truncated}
 use Rattle.quic_wire.specs.Value.{FrameValue, padding}
 use Rattle.quic_machine.specs.declared.answers.State.{State}
 use Rattle.quic_machine.specs.declared.answers.State.TheVariants as states
@@ -12,43 +11,60 @@ use Rattle.quic_machine.specs.declared.answers.Transmit.{Transmit}
 use Rattle.quic_machine.specs.declared.run.Call.TheVariants as calls
 use Rattle.quic_machine.specs.declared.run.Answer.TheVariants as answers
 use Rattle.quic_machine.specs.Closing.{ticked}
-use Rattle.quic_spaces.specs.Numbers.{cut_against, can_number}
+use Rattle.quic_spaces.specs.Numbers.{can_number}
 use Rattle.quic_machine.specs.Policy.{Policy}
 use Rattle.quic_time.specs.Timers.{Timers}
 use Rattle.quic_congestion.specs.Pacer.{Pacing}
+use Rattle.quic_congestion.specs.Search.{Discovery}
 use Rattle.quic_recovery_core.specs.PendingAcks.{can_send}
 use Rattle.quic_streams_state.specs.Waiting.{is_empty}
 use Rattle.quic_spaces.specs.Records.{first_record}
 use Rattle.quic_machine.specs.Tracking.{TrackedPacket, Tracking}
 use Rattle.quic_machine.specs.Parts.{Waiting}
-use Rattle.quic_machine.specs.End.{End, with_closing, closed_by, number_of, with_number_given, with_loss_timer, with_ping}
+use Rattle.quic_machine.specs.End.{End, with_closing, closed_by, with_number_given, with_loss_timer, with_ping, with_discovery}
 use Rattle.quic_machine.specs.Control.{is_window_full, paced_until, pacer_asked, Gated, lets, holds, by_pacer, by_window, gated_if, with_pacing_timer, with_app_limited}
-use Rattle.quic_machine.specs.Poll.{Polled, Draft, gives_nothing, gives_datagram, asking, datagram_of, datagram_size, tracked, paid_if, after_given, record_moved, probe_filled, probe_if, probed, lazied, is_gated, gated, ready, goes, draft_if, draft_of, rests, sends, polled_if, polled_in, polled}
+use Rattle.quic_machine.specs.Sizes.{may_search, search_names, search_asked}
+use Rattle.quic_machine.specs.Poll.{Polled, Draft, gives_nothing, gives_datagram, asking, datagram_of, datagram_size, tracked, paid_if, after_given, record_moved, probe_filled, probe_if, probed, waits, is_gated, gated, Leaving, whole, alone, probe, nothing, Ready, probe_named, searched_if, free_if, held_if, leaves_if, leaves, ready, goes, is_held, zeros_behind, draft_left, draft_as, draft_of, rests, sends, polled_if, polled_in, polled}
 use Rattle.quic_machine.specs.Machine.{gives, gave}
-use Rattle.quic_machine.specs.DraftLaws.{Writing, by_leave}
+use Rattle.quic_machine.specs.DraftLaws.{Writing, MayLeave, lazy_due, by_left, by_leave}
 
--- an end that took a moment over, with other packets tracked, and where other frames wait: what a probe changes; and with another pacer, whose timer may be set,
--- and other things to say of what was sent before
-abbrev pub at_poll : End → ℕ → Tracking → Waiting → Option ℕ → Pacing → Bool → End
-at_poll e now tracking waiting moment pacing limited = record e {
+-- what a poll changes of an end beside its moment, where nothing goes: which packets are tracked and which frames wait, for a probe; its pacer, whose timer may be set;
+-- the search for a size; and whether it had something to send
+pub record PollChange : Type 0 where
+  pub tracking : Tracking
+  pub waiting : Waiting
+  pub moment : Option ℕ
+  pub pacing : Pacing
+  pub discovery : Discovery
+  pub limited : Bool
+
+-- an end that took a moment over, so changed
+abbrev pub at_poll : End → ℕ → PollChange → End
+at_poll e now c = record e {
   closing = ticked e.closing now;
-  tracking = tracking;
-  waiting = waiting;
-  timers = record e.timers { pacing = moment };
-  path = record e.path { pacing = pacing; app_limited = limited };
+  tracking = c.tracking;
+  waiting = c.waiting;
+  timers = record e.timers { pacing = c.moment };
+  path = record e.path { pacing = c.pacing; discovery = c.discovery; app_limited = c.limited };
 }
 
--- the end after a draft went: what is tracked, the timers, and the pacer change besides
-abbrev pub after_draft : Policy → Draft → Tracking → Timers → Pacing → End
-after_draft p d tracking timers pacing = record (with_number_given (p.words d.end.filter.drawn) d.end) { tracking = tracking; timers = timers; path = record d.end.path { pacing = pacing; app_limited = false } }
+-- what a draft that went changes besides: what is tracked, the timers, and the pacer
+pub record Paid : Type 0 where
+  pub tracking : Tracking
+  pub timers : Timers
+  pub pacing : Pacing
+
+-- the end after a draft went
+abbrev pub after_draft : Policy → Draft → Paid → End
+after_draft p d c = record (with_number_given (p.words d.end.filter.drawn) d.end) { tracking = c.tracking; timers = c.timers; path = record d.end.path { pacing = c.pacing; app_limited = false } }
 
 -- an end that is ready to give at a moment: the timer of its pacer is stopped, what a probe carries waits, and window and pacer were asked
-abbrev pub ready_at : End → ℕ → Gated
+abbrev pub ready_at : End → ℕ → Ready
 ready_at e now = ready (with_closing e (ticked e.closing now))
 
 -- the frames of the datagram that a draft makes: the bytes 0 behind the others are PADDING
 abbrev pub frames_padded : Draft → List FrameValue
-frames_padded d = d.frames ++ replicate (4 - ((truncated (number_of d.end) (cut_against d.end.numbers)).width + length d.bytes)) padding
+frames_padded d = d.frames ++ replicate (zeros_behind d) padding
 
 -- what an end gives at a moment
 abbrev pub draft_at : End → ℕ → Draft
@@ -113,22 +129,96 @@ pub gate_leaves : (e : End) → (gated e).end ≡ record e { timers = record e.t
 gate_leaves e = by_gate e (λ (g : Gated). g.end ≡ record e { timers = record e.timers { pacing = g.end.timers.pacing }; path = record e.path { pacing = g.end.path.pacing } })
     (record { free = λ is. refl; full = λ asks is. refl; lets = λ asks room is. refl; holds = λ moment asks room is. refl })
 
--- an end is made ready: its moment, a probe, its pacer and its timer change, and nothing else
-pub ready_leaves : (e : End) (now : ℕ) → (ready_at e now).end ≡ at_poll e now (ready_at e now).end.tracking (ready_at e now).end.waiting (ready_at e now).end.timers.pacing (ready_at e now).end.path.pacing e.path.app_limited
+-- ---- what goes
+
+-- the cases of what goes, by what is held back and what waits
+pub record Leaves (g : Gated) (P : Ready → Type 0) : Type 0 where
+  -- what asks is held back: a due ACK goes alone, or nothing
+  pub acks : g.held ≡ true → can_send g.end.acknowledging ≡ true → P (record { leaving = alone; end = g.end })
+  pub held : g.held ≡ true → can_send g.end.acknowledging ≡ false → P (record { leaving = nothing true; end = g.end })
+  -- all goes that waits
+  pub all : g.held ≡ false → waits g.end ≡ true → P (record { leaving = whole; end = g.end })
+  -- nothing waits: no size may be looked for, none is named, or one is
+  pub idle : g.held ≡ false → waits g.end ≡ false → P (record { leaving = nothing false; end = g.end })
+  pub asked : g.held ≡ false → waits g.end ≡ false → P (record { leaving = nothing false; end = search_asked g.end })
+  pub probes : (size : ℕ) → g.held ≡ false → waits g.end ≡ false → may_search g.end ≡ true → search_names g.end ≡ Some size → P (record { leaving = probe size; end = search_asked g.end })
+
+-- what holds in each case holds of what goes
+pub by_leaves : (g : Gated) (P : Ready → Type 0) → Leaves g P → P (leaves g)
+by_leaves g P c = go g.held refl
+  where
+    named : g.held ≡ false → waits g.end ≡ false → may_search g.end ≡ true → (o : Option ℕ) → search_names g.end ≡ o → P (record { leaving = probe_named o; end = search_asked g.end })
+    named free none may None is = c.asked free none
+    named free none may (Some size) is = c.probes size free none may is
+
+    search_case : g.held ≡ false → waits g.end ≡ false → (b : Bool) → may_search g.end ≡ b → P (searched_if b g.end)
+    search_case free none true may = named free none may (search_names g.end) refl
+    search_case free none false may = c.idle free none
+
+    waits_case : g.held ≡ false → (b : Bool) → waits g.end ≡ b → P (free_if b g.end)
+    waits_case free true some = c.all free some
+    waits_case free false none = search_case free none (may_search g.end) refl
+
+    held_case : g.held ≡ true → (b : Bool) → can_send g.end.acknowledging ≡ b → P (held_if b g.end)
+    held_case held true due = c.acks held due
+    held_case held false none = c.held held none
+
+    go : (b : Bool) → g.held ≡ b → P (leaves_if b g.end)
+    go true held = held_case held (can_send g.end.acknowledging) refl
+    go false free = waits_case free (waits g.end) refl
+
+-- what goes changes the search for a size, and nothing else
+pub search_leaves : (g : Gated) → (leaves g).end ≡ with_discovery g.end (leaves g).end.path.discovery
+search_leaves g = by_leaves g (λ (r : Ready). r.end ≡ with_discovery g.end r.end.path.discovery)
+    (record { acks = λ held due. refl; held = λ held none. refl; all = λ free some. refl; idle = λ free none. refl; asked = λ free none. refl; probes = λ size free none may is. refl })
+
+-- where an ACK goes alone, it is due
+pub may_leave_at : (e : End) (now : ℕ) → MayLeave (ready_at e now).leaving (ready_at e now).end
+may_leave_at e now = by_leaves (gated (probed (with_pacing_timer (with_closing e (ticked e.closing now)) None))) (λ (r : Ready). MayLeave r.leaving r.end) (record {
+  acks = λ held due is. lazy_due (gated (probed (with_pacing_timer (with_closing e (ticked e.closing now)) None))).end due;
+  held = λ held none is. cc;
+  all = λ free some is. cc;
+  idle = λ free none is. cc;
+  asked = λ free none is. cc;
+  probes = λ size free none may named is. cc;
+})
+
+-- all goes where something waits
+pub whole_waits : (e : End) (now : ℕ) → (ready_at e now).leaving ≡ whole → waits (ready_at e now).end ≡ true
+whole_waits e now = by_leaves (gated (probed (with_pacing_timer (with_closing e (ticked e.closing now)) None))) (λ (r : Ready). r.leaving ≡ whole → waits r.end ≡ true) (record {
+  acks = λ held due is. cc;
+  held = λ held none is. cc;
+  all = λ free some is. some;
+  idle = λ free none is. cc;
+  asked = λ free none is. cc;
+  probes = λ size free none may named is. cc;
+})
+
+-- what a poll changed of an end that is left so
+abbrev pub changed_by : End → PollChange
+changed_by x = record { tracking = x.tracking; waiting = x.waiting; moment = x.timers.pacing; pacing = x.path.pacing; discovery = x.path.discovery; limited = x.path.app_limited }
+
+-- an end that took a moment over as it is left in one form, by what a poll may change of it
+abbrev pub poll_left : End → ℕ → End → End
+poll_left e now x = at_poll e now (changed_by x)
+
+-- an end is made ready: its moment, a probe, its pacer, its timer and the search for a size change, and nothing else
+pub ready_leaves : (e : End) (now : ℕ) → (ready_at e now).end ≡ poll_left e now (ready_at e now).end
 ready_leaves e now =
     let x = with_pacing_timer (with_closing e (ticked e.closing now)) None in
-    let y = probed x in
-    let g = gate_leaves y in
-    let q = probe_leaves x in
-    g ∙ go (gated y).end.timers.pacing (gated y).end.path.pacing y q (ap (λ (z : End). z.tracking) g) (ap (λ (z : End). z.waiting) g)
+    both (leaves (gated (probed x))).end (gated (probed x)).end (search_leaves (gated (probed x))) (gates (gated (probed x)).end (probed x) (gate_leaves (probed x)) (probe_leaves x))
   where
-    go : (moment : Option ℕ) (pacing : Pacing) (y : End) → y ≡ record (with_pacing_timer (with_closing e (ticked e.closing now)) None) { tracking = y.tracking; waiting = y.waiting }
-        → (ready_at e now).end.tracking ≡ y.tracking → (ready_at e now).end.waiting ≡ y.waiting
-        → record y { timers = record y.timers { pacing = moment }; path = record y.path { pacing = pacing } } ≡ at_poll e now (ready_at e now).end.tracking (ready_at e now).end.waiting moment pacing e.path.app_limited
-    go moment pacing y is tracking waiting =
-        ap (λ (z : End). record z { timers = record z.timers { pacing = moment }; path = record z.path { pacing = pacing } }) is
-        ∙ ap (λ (t : Tracking). at_poll e now t y.waiting moment pacing e.path.app_limited) (sym tracking)
-        ∙ ap (λ (w : Waiting). at_poll e now (ready_at e now).end.tracking w moment pacing e.path.app_limited) (sym waiting)
+    gates : (g y : End) → g ≡ record y { timers = record y.timers { pacing = g.timers.pacing }; path = record y.path { pacing = g.path.pacing } }
+        → y ≡ record (with_pacing_timer (with_closing e (ticked e.closing now)) None) { tracking = y.tracking; waiting = y.waiting } → g ≡ poll_left e now g
+    gates g y gate carried =
+        let same : g ≡ at_poll e now (record { tracking = y.tracking; waiting = y.waiting; moment = g.timers.pacing; pacing = g.path.pacing; discovery = e.path.discovery; limited = e.path.app_limited })
+        = gate ∙ ap (λ (z : End). record z { timers = record z.timers { pacing = g.timers.pacing }; path = record z.path { pacing = g.path.pacing } }) carried in
+        same ∙ ap (λ (z : End). at_poll e now (record { tracking = z.tracking; waiting = z.waiting; moment = g.timers.pacing; pacing = g.path.pacing; discovery = z.path.discovery; limited = z.path.app_limited })) (sym same)
+
+    both : (r g : End) → r ≡ with_discovery g r.path.discovery → g ≡ poll_left e now g → r ≡ poll_left e now r
+    both r g searched left =
+        let same : r ≡ at_poll e now (record (changed_by g) { discovery = r.path.discovery }) = searched ∙ ap (λ (z : End). with_discovery z r.path.discovery) left in
+        same ∙ ap (λ (z : End). at_poll e now (record (changed_by z) { discovery = r.path.discovery })) (sym same)
 
 -- ---- cases
 
@@ -150,13 +240,12 @@ pub record Polls (p : Policy) (e : End) (now : ℕ) (P : Polled → Type 0) : Ty
   pub silent : P (gives_nothing e)
   pub failed : P (record { answer = Err (record {}); datagram = None; end = e })
   -- nothing has to go, or what has to is held back
-  pub nothing : (t : Tracking) (w : Waiting) (moment : Option ℕ) (pacing : Pacing) (limited : Bool) → P (gives_nothing (at_poll e now t w moment pacing limited))
+  pub nothing : (c : PollChange) → P (gives_nothing (at_poll e now c))
   -- the numbers are used up: the end closes
-  pub used_up : (t : Tracking) (w : Waiting) (moment : Option ℕ) (pacing : Pacing) → P (gives_nothing (closed_by reasons.NumberLimit (at_poll e now t w moment pacing e.path.app_limited)))
+  pub used_up : (c : PollChange) → P (gives_nothing (closed_by reasons.NumberLimit (at_poll e now c)))
   -- something goes
-  pub gives : (held : Bool) (t : Tracking) (w : Waiting) (moment : Option ℕ) (pacing paid : Pacing) (tracking : Tracking) (timers : Timers) → e.closing.state ≡ states.Open → can_number e.numbers ≡ true
-      → ready_at e now ≡ record { held = held; end = at_poll e now t w moment pacing e.path.app_limited } → goes (ready_at e now) ≡ true
-      → P (gives_datagram (datagram_of p (draft_if held (lazied (at_poll e now t w moment pacing e.path.app_limited)))) (after_draft p (draft_if held (lazied (at_poll e now t w moment pacing e.path.app_limited))) tracking timers paid))
+  pub gives : (leaving : Leaving) (c : PollChange) (left : Paid) → e.closing.state ≡ states.Open → can_number e.numbers ≡ true → ready_at e now ≡ record { leaving = leaving; end = at_poll e now c } → goes (ready_at e now) ≡ true
+      → P (gives_datagram (datagram_of p (draft_as leaving (at_poll e now c))) (after_draft p (draft_as leaving (at_poll e now c)) left))
 
 module _ (p : Policy) (e : End) (now : ℕ) (P : Polled → Type 0) (c : PollsTo p e now P) where
   -- a number may be given or not
@@ -184,46 +273,49 @@ module _ (p : Policy) (e : End) (now : ℕ) (P : Polled → Type 0) (c : PollsTo
 pub by_poll_to : (p : Policy) (e : End) (now : ℕ) (P : Polled → Type 0) → PollsTo p e now P → P (polled p e now)
 by_poll_to p e now P c = state_case p e now P c e.closing.state refl
 
+-- what a datagram changed that left an end so
+abbrev pub paid_by : End → Paid
+paid_by x = record { tracking = x.tracking; timers = x.timers; pacing = x.path.pacing }
+
 -- what a datagram leaves that went
-pub given_leaves : (p : Policy) (d : Draft) → after_given p d ≡ after_draft p d (after_given p d).tracking (after_given p d).timers (after_given p d).path.pacing
+pub given_leaves : (p : Policy) (d : Draft) → after_given p d ≡ after_draft p d (paid_by (after_given p d))
 given_leaves p d = go (asking d.frames)
   where
     x : End
     x = with_number_given (p.words d.end.filter.drawn) (tracked d)
 
-    go : (b : Bool) → (let y = with_loss_timer (with_app_limited (paid_if b x (datagram_size d)) false) in y ≡ after_draft p d y.tracking y.timers y.path.pacing)
+    go : (b : Bool) → (let y = with_loss_timer (with_app_limited (paid_if b x (datagram_size d)) false) in y ≡ after_draft p d (paid_by y))
     go true = refl
     go false = refl
 
 -- the same, whatever is tracked, whichever timers are set, and whatever the pacer holds
 pub by_poll : (p : Policy) (e : End) (now : ℕ) (P : Polled → Type 0) → Polls p e now P → P (polled p e now)
-by_poll p e now P c = by_poll_to p e now P (record { silent = c.silent; failed = c.failed; nothing = nothing; used_up = used_up; gives = gives })
+by_poll p e now P c = by_poll_to p e now P (record { silent = c.silent; failed = c.failed; nothing = none; used_up = used_up; gives = gives })
   where
-    g : Gated
+    g : Ready
     g = ready_at e now
 
     x : End
-    x = at_poll e now g.end.tracking g.end.waiting g.end.timers.pacing g.end.path.pacing e.path.app_limited
+    x = poll_left e now g.end
 
     is : g.end ≡ x
     is = ready_leaves e now
 
-    ready_is : g ≡ record { held = g.held; end = x }
+    ready_is : g ≡ record { leaving = g.leaving; end = x }
     ready_is = ap (λ (y : End). record g { end = y }) is
 
-    nothing : e.closing.state ≡ states.Open → goes g ≡ false → P (gives_nothing (rests g))
-    nothing s w = subst (λ (y : End). P (gives_nothing (with_app_limited y (not g.held)))) (sym is) (c.nothing g.end.tracking g.end.waiting g.end.timers.pacing g.end.path.pacing (not g.held))
+    none : e.closing.state ≡ states.Open → goes g ≡ false → P (gives_nothing (rests g))
+    none s w = subst (λ (y : End). P (gives_nothing (with_app_limited y (not (is_held g.leaving))))) (sym is) (c.nothing (record (changed_by g.end) { limited = not (is_held g.leaving) }))
 
     used_up : P (gives_nothing (closed_by reasons.NumberLimit g.end))
-    used_up = subst (λ (y : End). P (gives_nothing (closed_by reasons.NumberLimit y))) (sym is) (c.used_up g.end.tracking g.end.waiting g.end.timers.pacing g.end.path.pacing)
+    used_up = subst (λ (y : End). P (gives_nothing (closed_by reasons.NumberLimit y))) (sym is) (c.used_up (changed_by g.end))
 
     gives : e.closing.state ≡ states.Open → can_number e.numbers ≡ true → goes g ≡ true → P (gives_datagram (datagram_of p (draft_of g)) (after_given p (draft_of g)))
     gives s n goes =
-        let d : Draft = draft_if g.held (lazied x) in
-        let left : End = after_given p d in
-        let given = c.gives g.held g.end.tracking g.end.waiting g.end.timers.pacing g.end.path.pacing left.path.pacing left.tracking left.timers s n ready_is goes in
-        let plain : after_draft p d left.tracking left.timers left.path.pacing ≡ left = sym (given_leaves p d) in
-        subst (λ (y : End). P (gives_datagram (datagram_of p (draft_if g.held (lazied y))) (after_given p (draft_if g.held (lazied y))))) (sym is) (subst (λ (y : End). P (gives_datagram (datagram_of p d) y)) plain given)
+        let d : Draft = draft_as g.leaving x in
+        let given = c.gives g.leaving (changed_by g.end) (paid_by (after_given p d)) s n ready_is goes in
+        let plain : after_draft p d (paid_by (after_given p d)) ≡ after_given p d = sym (given_leaves p d) in
+        subst (λ (y : End). P (gives_datagram (datagram_of p (draft_as g.leaving y)) (after_given p (draft_as g.leaving y)))) (sym is) (subst (λ (y : End). P (gives_datagram (datagram_of p d) y)) plain given)
 
 -- ---- how many datagrams are given
 
@@ -242,7 +334,7 @@ gives_as p e now (Err f) = refl
 pub poll_count : (p : Policy) (e : End) (now : ℕ) → length (gives p e (calls.Poll now) (answers.Poll (polled p e now).answer)) ≡ (if gave (answers.Poll (polled p e now).answer) then 1 else 0)
 poll_count p e now =
     ap length (gives_as p e now (polled p e now).answer)
-    ∙ by_poll p e now (λ x. length (given_as x.answer x.datagram) ≡ (if gave (answers.Poll x.answer) then 1 else 0)) (record { silent = refl; failed = refl; nothing = λ t w moment pacing limited. refl; used_up = λ t w moment pacing. refl; gives = λ held t w moment pacing paid tracking timers s n is goes. refl })
+    ∙ by_poll p e now (λ x. length (given_as x.answer x.datagram) ≡ (if gave (answers.Poll x.answer) then 1 else 0)) (record { silent = refl; failed = refl; nothing = λ c. refl; used_up = λ c. refl; gives = λ leaving c left s n is goes. refl })
 
 -- ---- what a poll leaves as it was
 
@@ -263,11 +355,17 @@ writing : (e : End) → Writing (λ (d : Draft). Composes e d.end)
 writing e = record {
   ack = λ d filled may c. record { ids = c.ids; numbers = c.numbers; filter = c.filter; closing = c.closing; tracking = c.tracking; loss = c.loss; pacing = c.pacing; path = c.path; transport = c.transport; peer = c.peer };
   ping = λ d c. record { ids = c.ids; numbers = c.numbers; filter = c.filter; closing = c.closing; tracking = c.tracking; loss = c.loss; pacing = c.pacing; path = c.path; transport = c.transport; peer = c.peer };
+  probes = λ f size c. record { ids = c.ids; numbers = c.numbers; filter = c.filter; closing = c.closing; tracking = c.tracking; loss = c.loss; pacing = c.pacing; path = c.path; transport = c.transport; peer = c.peer };
   drops = λ d kind c. record { ids = c.ids; numbers = c.numbers; filter = c.filter; closing = c.closing; tracking = c.tracking; loss = c.loss; pacing = c.pacing; path = c.path; transport = c.transport; peer = c.peer };
   control = λ d kind f is c. record { ids = c.ids; numbers = c.numbers; filter = c.filter; closing = c.closing; tracking = c.tracking; loss = c.loss; pacing = c.pacing; path = c.path; transport = c.transport; peer = c.peer };
   message = λ d m ms is fit c. record { ids = c.ids; numbers = c.numbers; filter = c.filter; closing = c.closing; tracking = c.tracking; loss = c.loss; pacing = c.pacing; path = c.path; transport = c.transport; peer = c.peer };
   stream = λ d id h room found first some is counts c. record { ids = c.ids; numbers = c.numbers; filter = c.filter; closing = c.closing; tracking = c.tracking; loss = c.loss; pacing = c.pacing; path = c.path; transport = c.transport; peer = c.peer };
 }
 
-pub composes : (held : Bool) (e : End) → (held ≡ true → can_send e.acknowledging ≡ true) → Composes e (draft_if held e).end
-composes held e due = by_leave (λ (d : Draft). Composes e d.end) (writing e) held e due (record { ids = refl; numbers = refl; filter = refl; closing = refl; tracking = refl; loss = refl; pacing = refl; path = refl; transport = refl; peer = refl })
+pub composes_left : (leaving : Leaving) (e : End) → (leaving ≡ alone → can_send e.acknowledging ≡ true) → Composes e (draft_left leaving e).end
+composes_left leaving e due = by_left (λ (d : Draft). Composes e d.end) (writing e) leaving e due
+    (record { ids = refl; numbers = refl; filter = refl; closing = refl; tracking = refl; loss = refl; pacing = refl; path = refl; transport = refl; peer = refl })
+
+pub composes : (leaving : Leaving) (e : End) → MayLeave leaving e → Composes e (draft_as leaving e).end
+composes leaving e due = by_leave (λ (d : Draft). Composes e d.end) (writing e) leaving e due
+    (record { ids = refl; numbers = refl; filter = refl; closing = refl; tracking = refl; loss = refl; pacing = refl; path = refl; transport = refl; peer = refl })

@@ -1,13 +1,13 @@
 -- Two ends that were made for one another, and keys that are lawful.
-use Rattle.std.specs.Prelude.{ℕ, ◌≡◌, Bool, List, [], length, Ok}
+use Rattle.std.specs.Prelude.{ℕ, ◌≡◌, ◌≤◌, Bool, List, [], length, Ok}
 use Rattle.quic_packet.specs.Keys.{KeepsForm, KeepsLength, AddsTag}
 use Rattle.quic_congestion.specs.Congestion.{Told, AreSized, last_size, HasRoom}
 use Rattle.quic_wire_core.specs.declared.stream_id.Side.TheVariants.{Client, Server}
 use Rattle.quic_parameters.specs.ParametersRead.{parameters_at}
-use Rattle.quic_config.specs.Transport.{Settings, IsInRange, parameters_of, transport_of, first_mtu}
+use Rattle.quic_config.specs.Transport.{Settings, IsInRange, parameters_of, first_mtu}
 use Rattle.quic_machine.specs.Parts.{Windows}
 use Rattle.quic_machine.specs.Policy.{Policy, CanOpen}
-use Rattle.quic_machine.specs.End.{MadeFrom}
+use Rattle.quic_machine.specs.End.{MadeFrom, most_payload}
 use Rattle.quic_machine.specs.Opens.{own_id_length}
 use Rattle.quic_machine.specs.Control.{Control}
 use Rattle.quic_machine.specs.Machine.{World, Policies}
@@ -28,6 +28,8 @@ pub record IsMaking (m : Making) : Type 0 where
   pub range : IsInRange m.settings
   pub says : parameters_at m.parameters ≡ Ok (parameters_of m.settings)
   pub id : length m.id ≡ own_id_length
+  -- no path has to carry more than a UDP payload has
+  pub sizes : m.settings.min_mtu ≤ most_payload
 
 -- One client and one server, each made from the other's parameter bytes and first id; neither has given anything.
 pub record AreStarted (w : World) : Type 0 where

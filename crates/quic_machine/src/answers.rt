@@ -98,8 +98,8 @@ impl fmt::Display for Event {
     }
 }
 
-/// Why a datagram was dropped. Nothing in the end has changed, but that the new number of one that a closing end opened counts
-/// as seen.
+/// Why a datagram was dropped. Nothing in the end has changed, but that the new number of one that
+/// a closing end opened counts as seen.
 #[derive(Clone, Copy, Debug, PartialEq, Eq)]
 pub enum DropReason {
     /// The bytes end within the id, or there are fewer than 20 behind it (RFC 9001, section 5.4.2).

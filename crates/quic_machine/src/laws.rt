@@ -6,7 +6,8 @@ ghost use Rattle.quic_machine.specs.declared.run.Answer.{Answer};
 ghost use Rattle.quic_machine.specs.declared.run.View.{View};
 ghost use Rattle.quic_machine.specs.Machine.{World, Policies, Follows, fails};
 
-/// Where memory served, the answers of a run tell what is seen after each event, and what it leaves.
+/// Where memory served, the answers of a run tell what is seen after each event, and what it
+/// leaves.
 pub fn answers_tell_the_run()
     ensures { (k : Policies) (w : World) (events : List RunEvent) (told : List Answer) (views others : List View) (x y : World) → list_any fails told ≡ false
         → Follows k w events told views x → Follows k w events told others y → (views ≡ others) × (x ≡ y) }

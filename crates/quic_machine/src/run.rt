@@ -38,7 +38,8 @@ pub enum Call {
     Reset(StreamId, VarInt),
     /// Sets the priority of a stream (`SendStream::set_priority`).
     SetPriority(StreamId, i32),
-    /// Reads a stream (`RecvStream::read`): the bounds of each `Chunks::next`, then `Chunks::finalize` or a drop.
+    /// Reads a stream (`RecvStream::read`): the bounds of each `Chunks::next`, then
+    /// `Chunks::finalize` or a drop.
     Read(ReadCall),
     /// Stops a stream with this code (`RecvStream::stop`).
     Stop(StreamId, VarInt),
@@ -56,7 +57,8 @@ pub enum Call {
     Timeout(Instant),
     /// A datagram of the other end arrives (`Connection::receive`).
     Deliver(Delivery),
-    /// Bytes arrive that the other end gave out or didn't (`Connection::receive`, unless `Connection::would_open`).
+    /// Bytes arrive that the other end gave out or didn't (`Connection::receive`, unless
+    /// `Connection::would_open`).
     Inject(Injection),
     /// Asks what the application is to be told (`Connection::poll`).
     Event,
@@ -154,7 +156,8 @@ pub enum Answer {
     Read(Result<Nexts, ReadableError>),
     /// The stream is stopped, or why it isn't.
     Stop(Result<(), UpdateError>),
-    /// The code with which the peer reset the stream, if it did; or that there is nothing to read on it.
+    /// The code with which the peer reset the stream, if it did; or that there is nothing to read
+    /// on it.
     ReceivedReset(Result<Option<VarInt>, ClosedStream>),
     /// The message waits to go, or why it doesn't.
     Send(Result<(), SendDatagramError>),
@@ -195,7 +198,7 @@ pub struct EndView {
     pub timers: [Option<Instant>; 9],
     /// The congestion window, in bytes.
     pub window: u64,
-    /// The bytes of the greatest datagram that the path takes (RFC 9000, section 14).
+    /// The bytes that a datagram has at most, but for an MTU probe (RFC 9000, section 14).
     pub current_mtu: u16,
 }
 

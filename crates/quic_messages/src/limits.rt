@@ -5,8 +5,8 @@ ghost use Rattle.quic_messages.specs.Sending.{max_size};
 use quic_wire::frame::Datagram;
 use quic_wire_core::VarInt;
 
-/// The bytes of a packet that a message leaves to others than the connection id: the first byte, the
-/// packet number, the tag, and the frame's type and length at their longest.
+/// The bytes of a packet that a message leaves to others than the connection id: the first byte,
+/// the packet number, the tag, and the frame's type and length at their longest.
 const PACKET_OVERHEAD: usize = 1 + 4 + 16 + Datagram::SIZE_BOUND;
 
 /// What an end knows of its connection that bounds its messages.

@@ -1,4 +1,5 @@
-//! Tests of messages and of statistics: each call made, also where an allocation fails, and what is printed.
+//! Tests of messages and of statistics: each call made, also where an allocation fails, and what is
+//! printed.
 #![tactic(auto)]
 
 #[cfg(test)]

@@ -7,7 +7,8 @@ use quic_wire_core::VarInt;
 use std::process::Abort;
 use std::test::Fail;
 
-// An open end that keeps 8 bytes of unread messages, and lets 8 bytes wait. Its peer takes frames of 15 bytes.
+// An open end that keeps 8 bytes of unread messages, and lets 8 bytes wait. Its peer takes frames
+// of 15 bytes.
 fn limits() -> DatagramLimits {
     DatagramLimits {
         is_open: true,

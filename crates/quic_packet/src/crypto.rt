@@ -1,4 +1,5 @@
-//! Keys that protect headers and seal payloads (RFC 9001, sections 5.3 and 5.4). Every call works in place and takes no memory.
+//! Keys that protect headers and seal payloads (RFC 9001, sections 5.3 and 5.4). Every call works
+//! in place and takes no memory.
 ghost use Rattle.std.specs.Prelude.{◌≡◌, ℕ, ◌+◌, ◌-◌, ◌/◌, ◌<◌, ◌≤◌, ◌^◌, List, ◌++◌, Some, None, length, take, drop, MatchResult};
 ghost use Rattle.quic_packet.specs.Keys.{Protection, Aead, KeepsForm, KeepsLength, AddsTag, shielded, unshielded};
 
@@ -70,7 +71,8 @@ pub trait HeaderKey {
 
 /// A key that seals payloads, or opens them (RFC 9001, 5.3), as in quinn-proto.
 pub trait PacketKey {
-    // What sealing under a number and a header makes of a payload, and the payload that bytes open to.
+    // What sealing under a number and a header makes of a payload, and the payload that bytes open
+    // to.
     ghost aead: { Self → Aead };
 
     // How many packets the key may seal, and how many it may fail to open.

@@ -12,8 +12,8 @@ pub fn mates_open()
     ensures { MatesOpen }
 {}
 
-/// A number takes the fewest bytes, at most 4, that tell apart more than twice as many numbers as lie between it and the
-/// greatest acknowledged (RFC 9000, 17.1).
+/// A number takes the fewest bytes, at most 4, that tell apart more than twice as many numbers as
+/// lie between it and the greatest acknowledged (RFC 9000, 17.1).
 pub fn numbers_take_fewest()
     ensures { TakesFewest }
 {}

@@ -97,7 +97,8 @@ impl PacketNumber {
         usize::from(self.width)
     }
 
-    /// Writes its bytes, big-endian. An error comes only where the room for them wasn't spare, and leaves `buf` as it was.
+    /// Writes its bytes, big-endian. An error comes only where the room for them wasn't spare, and
+    /// leaves `buf` as it was.
     pub fn encode<B: BufMut>(self, buf: &mut B) -> Result<(), AllocError>
         ensures ok { OnOk result (B.written buf.new ≡ B.written buf.old ++ number_bytes self) }
         ensures err { OnErr result (B.written buf.new ≡ B.written buf.old) }
@@ -267,8 +268,8 @@ impl ShortHeader {
         FIXED_BIT | (self.number.len() - 1) as u8
     }
 
-    /// Appends the header. An error comes only where `out` has no room for it and there is no memory for more, and leaves
-    /// `out` as it was.
+    /// Appends the header. An error comes only where `out` has no room for it and there is no
+    /// memory for more, and leaves `out` as it was.
     pub fn encode(&self, out: &mut Vec<u8>) -> Result<(), AllocError>
         ensures ok { OnOk result (out.new.items ≡ out.old.items ++ header_bytes self.now.destination self.now.number) }
         ensures err { OnErr result (out.new.items ≡ out.old.items) }

@@ -62,7 +62,8 @@ fn protect_behind<H: HeaderKey, K: PacketKey>(
 /// starts `number_at` bytes behind `start`, and the number and the payload have four bytes or
 /// more.
 ///
-/// `AllocError`: `out` has no room for the tag's 16 bytes and there is no memory for them, and `out` stays as it was.
+/// `AllocError`: `out` has no room for the tag's 16 bytes and there is no memory for them, and
+/// `out` stays as it was.
 pub fn seal_packet<H: HeaderKey, K: PacketKey>(
     out: &mut Vec<u8>,
     start: usize,

@@ -1,4 +1,5 @@
-//! Transport parameters (RFC 9000, sections 7.4 and 18; RFC 9221, section 3; QUIC Acknowledgement Frequency).
+//! Transport parameters (RFC 9000, sections 7.4 and 18; RFC 9221, section 3; QUIC Acknowledgement
+//! Frequency).
 ghost use Rattle.std.specs.Prelude.{◌≡◌};
 ghost use Rattle.quic_parameters.specs.Parameters.{default_of, number};
 ghost use Rattle.quic_parameters.specs.ParametersRead.{met_at, met_or};
@@ -18,22 +19,24 @@ use quic_wire_core::{Code, Reason, Side, TransportError, VarInt};
 use std::alloc::{AllocError, Global};
 use std::marker::Model;
 
-/// The limits that an end tells its peer as the connection begins (RFC 9000, section 18.2; quinn-proto's
-/// `TransportParameters`).
+/// The limits that an end tells its peer as the connection begins (RFC 9000, section 18.2;
+/// quinn-proto's `TransportParameters`).
 ///
 /// Contracts see the record of the values.
 #[derive(Clone, Copy, Debug, PartialEq, Eq)]
 pub struct TransportParameters {
-    /// The milliseconds without a packet after which the list's sender drops the connection; 0 where it never does
-    /// (id 01).
+    /// The milliseconds without a packet after which the list's sender drops the connection; 0
+    /// where it never does (id 01).
     pub max_idle_timeout: VarInt,
     /// The bytes of the greatest UDP payload that the list's sender takes, 1200 to 65527 (id 03).
     pub max_udp_payload_size: VarInt,
     /// The bytes that the reader of the list may send at first, over all streams (id 04).
     pub initial_max_data: VarInt,
-    /// The bytes that the reader may send at first on a two-way stream that the list's sender opened (id 05).
+    /// The bytes that the reader may send at first on a two-way stream that the list's sender
+    /// opened (id 05).
     pub initial_max_stream_data_bidi_local: VarInt,
-    /// The bytes that the reader may send at first on a two-way stream that it opened itself (id 06).
+    /// The bytes that the reader may send at first on a two-way stream that it opened itself (id
+    /// 06).
     pub initial_max_stream_data_bidi_remote: VarInt,
     /// The bytes that the reader may send at first on a one-way stream that it opened (id 07).
     pub initial_max_stream_data_uni: VarInt,
@@ -47,11 +50,12 @@ pub struct TransportParameters {
     pub max_ack_delay: VarInt,
     /// The connection ids that the list's sender keeps, at least 2 (id 0e).
     pub active_connection_id_limit: VarInt,
-    /// The bytes of the greatest DATAGRAM frame that the list's sender takes, with its type and length; 0 where it takes
-    /// none (id 20; RFC 9221, section 3).
+    /// The bytes of the greatest DATAGRAM frame that the list's sender takes, with its type and
+    /// length; 0 where it takes none (id 20; RFC 9221, section 3).
     pub max_datagram_frame_size: VarInt,
-    /// The least microseconds for which the list's sender can be asked to delay an ACK, at most 1000 `max_ack_delay`;
-    /// none where it can't be asked (id ff04de1b; QUIC Acknowledgement Frequency, section 3).
+    /// The least microseconds for which the list's sender can be asked to delay an ACK, at most
+    /// 1000 `max_ack_delay`; none where it can't be asked (id ff04de1b; QUIC Acknowledgement
+    /// Frequency, section 3).
     pub min_ack_delay: Option<VarInt>,
 }
 
@@ -197,17 +201,18 @@ impl TransportParameters {
         }
     }
 
-    /// Reads the list of parameters that the peer sent, all of `bytes` (RFC 9000, sections 7.4 and 18). `_side` is
-    /// the end that reads: no parameter that is kept depends on it.
+    /// Reads the list of parameters that the peer sent, all of `bytes` (RFC 9000, sections 7.4 and
+    /// 18). `_side` is the end that reads: no parameter that is kept depends on it.
     ///
-    /// A parameter that doesn't stand in the list has its default. Parameters of other ids are skipped by their
-    /// lengths, also where they stand more than once. A `max_udp_payload_size` above 65527 counts as 65527. The list is
-    /// judged entry by entry, and the first refusal is the answer. In one entry:
-    /// [`Malformed`](TransportParametersError::Malformed) where the id, the length or the value can't be read, then
-    /// where the parameter stood before, then where the value isn't an integer that fills its length; last
-    /// [`IllegalValue`](TransportParametersError::IllegalValue) where the value is out of its range. Behind the whole
-    /// list [`IllegalValue`](TransportParametersError::IllegalValue) where `min_ack_delay` is above 1000
-    /// `max_ack_delay`.
+    /// A parameter that doesn't stand in the list has its default. Parameters of other ids are
+    /// skipped by their lengths, also where they stand more than once. A `max_udp_payload_size`
+    /// above 65527 counts as 65527. The list is judged entry by entry, and the first refusal is the
+    /// answer. In one entry: [`Malformed`](TransportParametersError::Malformed) where the id, the
+    /// length or the value can't be read, then where the parameter stood before, then where the
+    /// value isn't an integer that fills its length; last
+    /// [`IllegalValue`](TransportParametersError::IllegalValue) where the value is out of its
+    /// range. Behind the whole list [`IllegalValue`](TransportParametersError::IllegalValue) where
+    /// `min_ack_delay` is above 1000 `max_ack_delay`.
     #[tactic(auto, unfolding(crate::specs::ParametersRead::parameters_at))]
     pub fn read(_side: Side, bytes: &[u8]) -> Result<Self, TransportParametersError>
         ensures value { result ≡ parameters_at bytes.now }
@@ -220,9 +225,9 @@ impl TransportParameters {
 
     /// The list of the parameters, in an order of their places (RFC 9000, section 18).
     ///
-    /// A parameter is written where its value isn't the default. `order` has each of the places 0 to 12 once: those of
-    /// the ids 01, 03, 04, 05, 06, 07, 08, 09, 0a, 0b, 0e, 20 and ff04de1b. Each integer has its shortest form. An error
-    /// is want of memory.
+    /// A parameter is written where its value isn't the default. `order` has each of the places 0
+    /// to 12 once: those of the ids 01, 03, 04, 05, 06, 07, 08, 09, 0a, 0b, 0e, 20 and ff04de1b.
+    /// Each integer has its shortest form. An error is want of memory.
     pub fn write(&self, alloc: Global, order: &[u8; 13]) -> Result<Vec<u8>, AllocError>
         requires { IsWriteOrder order.now }
         ensures bytes { IfOk result (λ v. v.items ≡ written_parameters self.now order.now) }
@@ -242,7 +247,8 @@ impl From<TransportParametersError> for TransportError {
 
     ghost from_gives = { λ e t. t ≡ plain_error transport_parameter_error };
 
-    /// The error that closes the connection: TRANSPORT_PARAMETER_ERROR (RFC 9000, section 7.4), of no frame.
+    /// The error that closes the connection: TRANSPORT_PARAMETER_ERROR (RFC 9000, section 7.4), of
+    /// no frame.
     fn from(e: TransportParametersError) -> TransportError {
         let reason = match e {
             TransportParametersError::Malformed => Reason::Malformed,

@@ -1,5 +1,5 @@
-//! Paths to the peer (RFC 9000, sections 8 and 9): what was measured of them, what is in flight, and
-//! how much may go before the peer's address is validated.
+//! Paths to the peer (RFC 9000, sections 8 and 9): what was measured of them, what is in flight,
+//! and how much may go before the peer's address is validated.
 #![tactic(auto)]
 
 mod in_flight;

@@ -61,9 +61,9 @@ impl<C> Model for PathData<C> {
 
 impl<C: Controller> PathData<C> {
     /// A path made now, of which nothing was measured and whose peer isn't validated. The factory
-    /// makes its controller for the size of datagrams that the settings begin with. A greater one is
-    /// looked for where that is allowed and configured, within the peer's `max_udp_payload_size`, in
-    /// bytes, if it is known.
+    /// makes its controller for the size of datagrams that the settings begin with. A greater one
+    /// is looked for where that is allowed and configured, within the peer's
+    /// `max_udp_payload_size`, in bytes, if it is known.
     pub fn new<F: ControllerFactory<Controller = C>>(
         allow_mtud: bool,
         peer_max_udp_payload_size: Option<u16>,
@@ -95,8 +95,9 @@ impl<C: Controller> PathData<C> {
     }
 
     /// A path made now in place of another, as the peer's address changed (RFC 9000, section 9).
-    /// Round trip, controller, size search and the first packet after a sample are the other's, and
-    /// the pacer is made for them. Nothing is in flight on it, and its peer isn't validated.
+    /// Round trip, controller, path MTU discovery and the first packet after a sample are the
+    /// other's, and the pacer is made for them. Nothing is in flight on it, and its peer isn't
+    /// validated.
     ///
     /// An `Err` is want of memory for the controller.
     pub fn from_previous(prev: &Self, generation: u64, now: Instant) -> Result<Self, AllocError>
@@ -120,8 +121,9 @@ impl<C: Controller> PathData<C> {
         })
     }
 
-    /// Forgets now what was measured: round trip, controller, size search and pacer are as on a new
-    /// path, within the peer's limit that is known. The rest stays. It is for a path of which it is known that it changed.
+    /// Forgets now what was measured: round trip, controller, path MTU discovery and pacer are as
+    /// on a new path, within the peer's limit that is known. The rest stays. It is for a path of
+    /// which it is known that it changed.
     pub fn reset<F: ControllerFactory<Controller = C>>(
         &mut self,
         now: Instant,
@@ -143,7 +145,7 @@ impl<C: Controller> PathData<C> {
 }
 
 impl<C> PathData<C> {
-    /// The bytes of the greatest datagram (RFC 9000, section 14).
+    /// The bytes that a datagram has at most, but for an MTU probe (RFC 9000, section 14).
     pub fn current_mtu(&self) -> u16
         ensures { result ≡ self.now.discovery.size }
     {

@@ -1,5 +1,5 @@
 //! Recovery of a QUIC connection (RFC 9002) under one name: moments, timers and the round-trip
-//! time; what an endpoint is configured with; the congestion window, pacing and the size search;
+//! time; what an endpoint is configured with; the congestion window, pacing and path MTU discovery;
 //! what is in flight and known of a path; duplicates, what is to be acknowledged and when, and
 //! connection ids; packet number spaces, with the numbers that are left out, the packets that are
 //! tracked, and which of them are lost.

@@ -9,7 +9,8 @@ use quic_wire::frame::AckFrequency;
 use quic_wire_core::{Code, Reason, TransportError, VarInt};
 use std::marker::Model;
 
-/// How long an ACK may wait where nothing else was said, and the least that the peer is asked for on a short path: 25 ms.
+/// How long an ACK may wait where nothing else was said, and the least that the peer is asked for
+/// on a short path: 25 ms.
 const USUAL_ACK_DELAY: u64 = 25_000_000;
 
 /// The packet of a request that isn't acknowledged yet, and the delay that it asks for.
@@ -19,10 +20,11 @@ struct Request {
     delay: Duration,
 }
 
-/// What is asked and was asked of acknowledgements (the ACK frequency extension; quinn-proto's `AckFrequencyState`).
+/// What is asked and was asked of acknowledgements (the ACK frequency extension; quinn-proto's
+/// `AckFrequencyState`).
 ///
-/// Contracts see the request in flight, the number of the next frame, the delay that the peer keeps to, the greatest number
-/// of a frame that came, and the delay that this end keeps to.
+/// Contracts see the request in flight, the number of the next frame, the delay that the peer keeps
+/// to, the greatest number of a frame that came, and the delay that this end keeps to.
 #[derive(Clone, Copy, Debug)]
 pub struct AckFrequencyState {
     in_flight: Option<Request>,
@@ -54,7 +56,8 @@ impl Model for AckFrequencyState {
     } };
 }
 
-/// So many microseconds; what is longer than [`Duration`] can say counts as the longest that it can.
+/// So many microseconds; what is longer than [`Duration`] can say counts as the longest that it
+/// can.
 fn from_micros(count: VarInt) -> Duration
     ensures { result ≡ micros count }
 {
@@ -80,8 +83,8 @@ fn differs(desired: Duration, current: Duration) -> bool
 }
 
 impl AckFrequencyState {
-    /// Nothing was asked yet. `delay` is what the peer keeps to so far: the max_ack_delay that it announced. This end keeps
-    /// to 25 ms.
+    /// Nothing was asked yet. `delay` is what the peer keeps to so far: the max_ack_delay that it
+    /// announced. This end keeps to 25 ms.
     pub fn new(delay: Duration) -> Self
         ensures { result ≡ initial_frequency delay }
     {
@@ -94,8 +97,8 @@ impl AckFrequencyState {
         }
     }
 
-    /// The delay to ask the peer for: the one that is configured, or else the one that it keeps to, but not above `rtt`,
-    /// which counts as 25 ms at least, and not below the peer's min_ack_delay.
+    /// The delay to ask the peer for: the one that is configured, or else the one that it keeps to,
+    /// but not above `rtt`, which counts as 25 ms at least, and not below the peer's min_ack_delay.
     pub fn candidate_max_ack_delay(
         &self,
         rtt: Duration,
@@ -110,8 +113,8 @@ impl AckFrequencyState {
         Duration::from_nanos(wanted.as_nanos().min(most).max(least))
     }
 
-    /// The longest that the peer may delay an ACK by now, for the probe timeout: the greater of the delay that it keeps to
-    /// and of the one in flight, which it may have taken up already.
+    /// The longest that the peer may delay an ACK by now, for the probe timeout: the greater of the
+    /// delay that it keeps to and of the one in flight, which it may have taken up already.
     pub fn max_ack_delay_for_pto(&self) -> Duration
         ensures { result ≡ longest_delay self.now }
     {
@@ -132,8 +135,9 @@ impl AckFrequencyState {
         VarInt::from_u64_unchecked(number)
     }
 
-    /// Whether an ACK_FREQUENCY frame should go: where none did, or where the delay to ask for differs from the one in
-    /// flight, or else from the one that the peer keeps to, by more than a fifth of that.
+    /// Whether an ACK_FREQUENCY frame should go: where none did, or where the delay to ask for
+    /// differs from the one in flight, or else from the one that the peer keeps to, by more than a
+    /// fifth of that.
     pub fn should_send_ack_frequency(
         &self,
         rtt: Duration,
@@ -152,15 +156,16 @@ impl AckFrequencyState {
         differs(self.candidate_max_ack_delay(rtt, config, peer), current)
     }
 
-    /// A packet with this number went out, whose ACK_FREQUENCY frame asks for this delay. It takes the place of one in
-    /// flight.
+    /// A packet with this number went out, whose ACK_FREQUENCY frame asks for this delay. It takes
+    /// the place of one in flight.
     pub fn ack_frequency_sent(&mut self, packet: u64, delay: Duration)
         ensures { self.new ≡ record self.old { in_flight = Some (record { packet = packet; delay = delay }) } }
     {
         self.in_flight = Some(Request { packet, delay });
     }
 
-    /// A packet was acknowledged. Where it has the request in flight, the peer keeps to that delay from now on.
+    /// A packet was acknowledged. Where it has the request in flight, the peer keeps to that delay
+    /// from now on.
     pub fn on_acked(&mut self, packet: u64)
         ensures { self.new ≡ after_acked self.old.in_flight packet self.old }
     {
@@ -173,12 +178,13 @@ impl AckFrequencyState {
         }
     }
 
-    /// An ACK_FREQUENCY frame came. `true` where it is newer than all before: its delay is kept. `false` where it isn't;
-    /// then nothing changes. What it asks of thresholds is not kept here.
+    /// An ACK_FREQUENCY frame came. `true` where it is newer than all before: its delay is kept.
+    /// `false` where it isn't; then nothing changes. What it asks of thresholds is not kept here.
     ///
     /// # Errors
     ///
-    /// PROTOCOL_VIOLATION where a newer frame asks for less than 1 ms. Its number is kept, and nothing else changes.
+    /// PROTOCOL_VIOLATION where a newer frame asks for less than 1 ms. Its number is kept, and
+    /// nothing else changes.
     pub fn ack_frequency_received(&mut self, frame: &AckFrequency) -> Result<bool, TransportError>
         ensures answer { result ≡ received_answer self.old frame.now }
         ensures new { self.new ≡ after_received self.old frame.now }
@@ -205,8 +211,8 @@ impl AckFrequencyState {
         self.max_ack_delay
     }
 
-    /// How long the peer may hold an ACK back, as far as this end knows: the delay of the last request that was
-    /// acknowledged, or else the one that it announced.
+    /// How long the peer may hold an ACK back, as far as this end knows: the delay of the last
+    /// request that was acknowledged, or else the one that it announced.
     pub fn peer_max_ack_delay(&self) -> Duration
         ensures { result ≡ self.now.peer_delay }
     {

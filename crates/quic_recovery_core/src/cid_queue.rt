@@ -12,10 +12,12 @@ use thiserror::Error;
 /// How many numbers above the one in use are kept.
 const LATER: usize = CidQueue::LEN - 1;
 
-/// The ids that the peer gave this end, from the one in use on (RFC 9000, section 5.1; quinn-proto's `CidQueue`): at most
-/// [`CidQueue::LEN`], with consecutive numbers, of which some may not have come yet.
+/// The ids that the peer gave this end, from the one in use on (RFC 9000, section 5.1;
+/// quinn-proto's `CidQueue`): at most [`CidQueue::LEN`], with consecutive numbers, of which some
+/// may not have come yet.
 ///
-/// Contracts see the number in use with its id, and the known ids above it, ascending by their numbers.
+/// Contracts see the number in use with its id, and the known ids above it, ascending by their
+/// numbers.
 #[derive(Debug, Drop)]
 pub struct CidQueue {
     active: ConnectionId,
@@ -76,7 +78,8 @@ impl CidQueue {
     /// How many ids with consecutive numbers are kept: the one in use, and those behind it.
     pub const LEN: usize = IDS_KEPT as usize;
 
-    /// How many retirements of ids of the peer may wait to be told at once: ten for each id that is kept.
+    /// How many retirements of ids of the peer may wait to be told at once: ten for each id that is
+    /// kept.
     pub const MAX_PENDING_RETIREMENTS: usize = 10 * CidQueue::LEN;
 
     /// Only the first id is known, under the number 0, and in use.
@@ -124,7 +127,8 @@ impl CidQueue {
         self.active = cid.id;
     }
 
-    /// Uses the least id from `least` on, of those known and this one, which becomes known too. Gives its token.
+    /// Uses the least id from `least` on, of those known and this one, which becomes known too.
+    /// Gives its token.
     fn retire_below(&mut self, least: u64, cid: IssuedCid) -> ResetToken
         requires above { self.old.active < least }
         requires low { least ≤ cid.sequence }
@@ -147,15 +151,17 @@ impl CidQueue {
         }
     }
 
-    /// Takes up an id that a NEW_CONNECTION_ID frame brings (RFC 9000, section 19.15). A frame for a known number puts its
-    /// id in the place of the old one. Where the frame asks for the id in use to be retired, the least known one that is to
-    /// stay is used from now on: then the answer has the numbers to retire, from the one that was in use up to the one that
-    /// is, at most [`CidQueue::LEN`], and the token of the id that is in use now.
+    /// Takes up an id that a NEW_CONNECTION_ID frame brings (RFC 9000, section 19.15). A frame for
+    /// a known number puts its id in the place of the old one. Where the frame asks for the id in
+    /// use to be retired, the least known one that is to stay is used from now on: then the answer
+    /// has the numbers to retire, from the one that was in use up to the one that is, at most
+    /// [`CidQueue::LEN`], and the token of the id that is in use now.
     ///
     /// # Errors
     ///
-    /// [`InsertError::Retired`] where the number lies below the one in use, and [`InsertError::ExceedsLimit`] where it lies
-    /// [`CidQueue::LEN`] or more above the least number that stays. Then nothing changes.
+    /// [`InsertError::Retired`] where the number lies below the one in use, and
+    /// [`InsertError::ExceedsLimit`] where it lies [`CidQueue::LEN`] or more above the least number
+    /// that stays. Then nothing changes.
     pub fn insert(
         &mut self,
         cid: NewConnectionId,
@@ -186,8 +192,8 @@ impl CidQueue {
         Ok(Some((start..kept.min(self.active_seq()), token)))
     }
 
-    /// Uses the least known id above the one in use: its token, and the numbers to retire, from the one that was in use up
-    /// to its own. `None` where no other is known; then nothing changes.
+    /// Uses the least known id above the one in use: its token, and the numbers to retire, from the
+    /// one that was in use up to its own. `None` where no other is known; then nothing changes.
     pub fn next(&mut self) -> Option<(ResetToken, Range<u64>)>
         ensures answer { result ≡ next_answer self.old.later self.old.active }
         ensures new { self.new ≡ after_next self.old }

@@ -9,18 +9,19 @@ use std::alloc::{AllocError, Global};
 use std::collections::{BTreeSet, VecDeque};
 use std::marker::Model;
 
-/// Ids that were issued together, by the greatest of their numbers, and the moment when they are to be retired.
+/// Ids that were issued together, by the greatest of their numbers, and the moment when they are to
+/// be retired.
 #[derive(Clone, Copy, Debug, Drop)]
 struct CidTimestamp {
     sequence: u64,
     timestamp: Instant,
 }
 
-/// Which of the ids that this end issued live, and when they expire (RFC 9000, sections 5.1.1 and 5.1.2; quinn-proto's
-/// `CidState`). An id lives from its issue until the peer retires it.
+/// Which of the ids that this end issued live, and when they expire (RFC 9000, sections 5.1.1 and
+/// 5.1.2; quinn-proto's `CidState`). An id lives from its issue until the peer retires it.
 ///
-/// Contracts see how many were issued, the living numbers, ascending, the batches that are to expire, the last two values
-/// of retire_prior_to, the length of an id and its lifetime.
+/// Contracts see how many were issued, the living numbers, ascending, the batches that are to
+/// expire, the last two values of retire_prior_to, the length of an id and its lifetime.
 #[derive(Drop)]
 pub struct CidState {
     retire_timestamp: VecDeque<CidTimestamp>,
@@ -49,7 +50,8 @@ impl Model for CidState {
     } };
 }
 
-/// When ids that are issued now expire; `None` without a lifetime, or past the last moment that can be said.
+/// When ids that are issued now expire; `None` without a lifetime, or past the last moment that can
+/// be said.
 fn expiry(lifetime: Option<Duration>, now: Instant) -> Option<Instant>
     ensures { result ≡ expiry lifetime now }
 {
@@ -58,7 +60,8 @@ fn expiry(lifetime: Option<Duration>, now: Instant) -> Option<Instant>
     Some(Instant::from_nanos(nanos))
 }
 
-/// Puts a batch behind the others. It takes the place of the last one where that has the same moment.
+/// Puts a batch behind the others. It takes the place of the last one where that has the same
+/// moment.
 fn track(batches: &mut VecDeque<CidTimestamp>, batch: CidTimestamp)
     requires { deque_len batches.old < deque_capacity batches.old }
     ensures { batches.new.items ≡ with_batch batches.old.items batch }
@@ -106,8 +109,8 @@ fn numbers_below(alloc: Global, end: u64) -> Result<BTreeSet<u64>, AllocError>
     Ok(numbers)
 }
 
-/// Puts in the numbers of these ids, of which a call has few. Where memory lacks, those that were new come out again: so
-/// each is put in by a call of its own, which knows whether it was.
+/// Puts in the numbers of these ids, of which a call has few. Where memory lacks, those that were
+/// new come out again: so each is put in by a call of its own, which knows whether it was.
 fn insert_all(living: &mut BTreeSet<u64>, ids: &[IssuedCid]) -> Result<(), AllocError>
     ensures ok { OnOk result (living.new.keys ≡ living_with ids.now living.old.keys) }
     ensures err { OnErr result (living.new.keys ≡ living.old.keys) }
@@ -150,8 +153,8 @@ fn behind(batch: Option<CidTimestamp>, present: u64) -> u64
 }
 
 impl CidState {
-    /// The numbers below `issued` were issued now, and none is retired. An id has `cid_len` bytes, and is to be retired
-    /// once it lived for `cid_lifetime`, where there is one.
+    /// The numbers below `issued` were issued now, and none is retired. An id has `cid_len` bytes,
+    /// and is to be retired once it lived for `cid_lifetime`, where there is one.
     ///
     /// # Errors
     ///
@@ -179,8 +182,9 @@ impl CidState {
         Ok(state)
     }
 
-    /// These ids, whose numbers follow those that were issued, are issued now (RFC 9000, section 19.15). They live, and
-    /// with a lifetime they expire together, unless that lies past the last moment.
+    /// These ids, whose numbers follow those that were issued, are issued now (RFC 9000, section
+    /// 19.15). They live, and with a lifetime they expire together, unless that lies past the last
+    /// moment.
     ///
     /// # Errors
     ///
@@ -209,12 +213,13 @@ impl CidState {
         Ok(())
     }
 
-    /// The peer retires the id with a number (RFC 9000, section 19.16), which lives no more. Answers whether fewer than
-    /// `limit` live then, so that another may be issued.
+    /// The peer retires the id with a number (RFC 9000, section 19.16), which lives no more.
+    /// Answers whether fewer than `limit` live then, so that another may be issued.
     ///
     /// # Errors
     ///
-    /// PROTOCOL_VIOLATION where ids have no bytes, or the number was never issued; then nothing changes.
+    /// PROTOCOL_VIOLATION where ids have no bytes, or the number was never issued; then nothing
+    /// changes.
     pub fn on_cid_retirement(&mut self, sequence: u64, limit: u64) -> Result<bool, TransportError>
         ensures answer { result ≡ retirement_answer self.old sequence limit }
         ensures new { self.new ≡ after_retirement self.old sequence }
@@ -237,9 +242,10 @@ impl CidState {
         }
     }
 
-    /// The first of the batches expires. Where the peer retired all that it was asked to by the last two values of
-    /// retire_prior_to, the next value lies behind the batch (RFC 9000, section 5.1.2). Answers whether an id lives that
-    /// the next value retires and the last did not: then the peer is to be told.
+    /// The first of the batches expires. Where the peer retired all that it was asked to by the
+    /// last two values of retire_prior_to, the next value lies behind the batch (RFC 9000, section
+    /// 5.1.2). Answers whether an id lives that the next value retires and the last did not: then
+    /// the peer is to be told.
     pub fn on_cid_timeout(&mut self) -> bool
         ensures answer { result ≡ timeout_answer self.old }
         ensures new { self.new ≡ after_timeout self.old }

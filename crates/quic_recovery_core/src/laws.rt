@@ -1,4 +1,5 @@
-//! What the definitions of this crate say together. Each function does nothing: its contract is the law.
+//! What the definitions of this crate say together. Each function does nothing: its contract is the
+//! law.
 ghost use Rattle.std.specs.Prelude.{◌≡◌};
 ghost use Rattle.quic_recovery_core.specs.declared.spaces.dedup.TheConstants.{WINDOW_BITS};
 ghost use Rattle.quic_recovery_core.specs.CidQueue.{kept_ids};

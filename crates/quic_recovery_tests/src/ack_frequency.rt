@@ -4,7 +4,8 @@ use quic_recovery_core::AckFrequencyState;
 use quic_time::Duration;
 use quic_wire_core::VarInt;
 
-// The delay that a peer is asked for which keeps to `own` and can keep to `least`, both in milliseconds.
+// The delay that a peer is asked for which keeps to `own` and can keep to `least`, both in
+// milliseconds.
 fn candidate(own: u64, least: u32) -> Duration {
     let state = AckFrequencyState::new(Duration::from_millis(own));
     let mut peer = TransportParameters::default();

@@ -11,8 +11,8 @@ fn seen(acks: &Acknowledging) -> (bool, bool, u64) {
     (acks.is_due(), acks.is_filled(), acks.largest())
 }
 
-// The packet of a number comes, which asks, with the mark CE or without. Where memory lacks, nothing has changed, and it comes
-// again.
+// The packet of a number comes, which asks, with the mark CE or without. Where memory lacks,
+// nothing has changed, and it comes again.
 fn take(
     rt: &impl Abort,
     acks: &mut Acknowledging,
@@ -33,7 +33,8 @@ fn take(
     }
 }
 
-// The ACK frame with these counts of marks is this at 7 ms: they are 875 units of 8 microseconds, which take two bytes.
+// The ACK frame with these counts of marks is this at 7 ms: they are 875 units of 8 microseconds,
+// which take two bytes.
 fn put<R: Abort + AllocGlobal>(
     rt: &R,
     acks: &mut Acknowledging,

@@ -22,7 +22,8 @@ enum Step {
     Show(Seen),
 }
 
-// How many were issued, how many of the first 20 live, the value of retire_prior_to, and when the next batch expires.
+// How many were issued, how many of the first 20 live, the value of retire_prior_to, and when the
+// next batch expires.
 type Seen = (u64, u64, u64, Option<Instant>);
 
 fn seen(state: &CidState) -> Seen {

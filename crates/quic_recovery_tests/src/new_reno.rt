@@ -32,8 +32,8 @@ fn window_behind_ack<C: Controller>(controller: &mut C, now: u64, sent: u64, byt
     controller.window()
 }
 
-// Packets of the moment when recovery began don't count. Below the threshold the bytes are added, a loss leaves the half, and a
-// window of bytes then adds a datagram.
+// Packets of the moment when recovery began don't count. Below the threshold the bytes are added, a
+// loss leaves the half, and a window of bytes then adds a datagram.
 #[test]
 fn windows_grow_and_fall(rt: HostRuntime) {
     let mut reno = NewRenoConfig::default().build(Instant::from_nanos(0), 1200);

@@ -25,7 +25,8 @@ fn bursts_are_of_eighty_datagrams(rt: HostRuntime) {
     bursts(&rt, &mut pacer, 2_400_000, 80, 4_000_000);
 }
 
-// At 0 so many bytes go at once. One more waits so long, in which a byte comes, or what a full pacer lacks.
+// At 0 so many bytes go at once. One more waits so long, in which a byte comes, or what a full
+// pacer lacks.
 fn holds(rt: &impl Abort, pacer: &mut Pacer, window: u64, size: u16, tokens: u32, wait: u64) {
     assert!(rt; window > 0);
     let now = Instant::from_nanos(0);

@@ -28,7 +28,8 @@ fn at(millis: u64) -> Instant {
     Instant::from_nanos(millis.saturating_mul(1_000_000))
 }
 
-// How many runs are kept, their least number, how long ago the greatest came at 7 ms, and whether they are due.
+// How many runs are kept, their least number, how long ago the greatest came at 7 ms, and whether
+// they are due.
 fn seen(acks: &PendingAcks) -> (usize, Option<u64>, Duration, bool) {
     (
         acks.ranges().len(),

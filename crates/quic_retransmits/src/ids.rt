@@ -88,7 +88,8 @@ fn remove_all(ids: &mut BTreeSet<u64>, added: &mut Vec<u64>)
     }
 }
 
-// Puts the ids of another set in, and notes those that are new. Where memory lacks, these come out again.
+// Puts the ids of another set in, and notes those that are new. Where memory lacks, these come out
+// again.
 fn insert_all(
     ids: &mut BTreeSet<u64>,
     more: &BTreeSet<u64>,
@@ -230,7 +231,8 @@ impl StreamIds {
         self.lone.is_none() && self.ids.is_empty()
     }
 
-    /// Puts the ids of another set in, and gives those that are new, by which the call can be taken back.
+    /// Puts the ids of another set in, and gives those that are new, by which the call can be taken
+    /// back.
     ///
     /// # Errors
     ///

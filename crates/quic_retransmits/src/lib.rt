@@ -1,5 +1,5 @@
-//! What waits to be sent beside the bytes of streams, and what a packet carried of it, which goes again where the packet is
-//! lost (RFC 9000, section 13.3; quinn-proto's `connection::spaces`).
+//! What waits to be sent beside the bytes of streams, and what a packet carried of it, which goes
+//! again where the packet is lost (RFC 9000, section 13.3; quinn-proto's `connection::spaces`).
 #![tactic(auto)]
 
 mod ids;

@@ -4,7 +4,8 @@ ghost use Rattle.std.specs.Prelude.{◌≡◌, ℕ, Bool};
 use crate::retransmits::ControlKind;
 use quic_wire_core::StreamId;
 
-/// Which of the frames that wait may be sent now (quinn-proto has a query on `StreamsState` for each kind of which not all may).
+/// Which of the frames that wait may be sent now (quinn-proto has a query on `StreamsState` for
+/// each kind of which not all may).
 pub trait LimitQueries {
     ghost use Rattle.quic_retransmits.specs.declared.retransmits.ControlKind.{ControlKind};
 

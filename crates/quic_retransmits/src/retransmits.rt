@@ -88,7 +88,8 @@ pub const CONTROL_KINDS: [ControlKind; 8] = [
 /// The most retirements that wait: ten for each id that this end keeps of the peer's.
 const MAX_PENDING_RETIRED_CIDS: u64 = 50;
 
-/// What waits to be sent, or what a packet carried that goes again where the packet is lost (quinn-proto's `Retransmits`).
+/// What waits to be sent, or what a packet carried that goes again where the packet is lost
+/// (quinn-proto's `Retransmits`).
 #[derive(Drop)]
 pub struct Retransmits {
     max_data: bool,
@@ -301,7 +302,8 @@ impl Retransmits {
         self.stop_sending.pop_front()
     }
 
-    /// MAX_STREAM_DATA of a stream waits (RFC 9000, section 19.10). The answer is whether it didn't before.
+    /// MAX_STREAM_DATA of a stream waits (RFC 9000, section 19.10). The answer is whether it didn't
+    /// before.
     ///
     /// # Errors
     ///
@@ -316,7 +318,8 @@ impl Retransmits {
         Ok(is_new)
     }
 
-    /// Takes back the MAX_STREAM_DATA of a stream that was made to wait, and hadn't waited before or had.
+    /// Takes back the MAX_STREAM_DATA of a stream that was made to wait, and hadn't waited before
+    /// or had.
     pub fn take_back_max_stream_data(&mut self, id: StreamId, was_new: bool)
         ensures { (before : Waiting) → self.old ≡ record before { max_stream_data = with_id id before.max_stream_data } → was_new ≡ not (has_id id before.max_stream_data) → self.new ≡ before }
     {
@@ -415,13 +418,13 @@ impl Retransmits {
         self.new_cids.pop_front()
     }
 
-    /// The ids with these numbers are to be retired: RETIRE_CONNECTION_ID of each waits behind the others (RFC 9000, sections
-    /// 5.1.2 and 19.16).
+    /// The ids with these numbers are to be retired: RETIRE_CONNECTION_ID of each waits behind the
+    /// others (RFC 9000, sections 5.1.2 and 19.16).
     ///
     /// # Errors
     ///
-    /// [`RetireError::LimitExceeded`] where more than 50 would wait, and [`RetireError::Memory`] where memory lacks; nothing
-    /// changes.
+    /// [`RetireError::LimitExceeded`] where more than 50 would wait, and [`RetireError::Memory`]
+    /// where memory lacks; nothing changes.
     pub fn retire_cids(&mut self, cids: Range<u64>) -> Result<(), RetireError>
         ensures ok { OnOk result (self.new ≡ after_retire self.old cids.start cids.end) }
         ensures few { OnOk result (IsTrue (can_retire self.old cids.start cids.end)) }
@@ -452,8 +455,8 @@ impl Retransmits {
         self.retire_cids.pop_front()
     }
 
-    /// What other waits as well: flags and sets are joined, and the other's lists go behind. It takes the logarithm of a set for
-    /// each id of the other, and what the other's lists hold.
+    /// What other waits as well: flags and sets are joined, and the other's lists go behind. It
+    /// takes the logarithm of a set for each id of the other, and what the other's lists hold.
     ///
     /// # Errors
     ///
@@ -503,8 +506,8 @@ impl Retransmits {
             && self.retire_cids.is_empty()
     }
 
-    /// Whether nothing waits that may go: DATA_BLOCKED, MAX_STREAM_DATA and STREAM_DATA_BLOCKED count only where `streams` says
-    /// that they may.
+    /// Whether nothing waits that may go: DATA_BLOCKED, MAX_STREAM_DATA and STREAM_DATA_BLOCKED
+    /// count only where `streams` says that they may.
     pub fn is_empty<S: LimitQueries>(&self, streams: &S) -> bool
         ensures { result ≡ is_empty_where (λ kind. S.gate streams.now kind) (λ kind id. S.gate_on streams.now kind id) self.now }
     {

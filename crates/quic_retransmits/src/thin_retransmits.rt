@@ -10,8 +10,8 @@ use crate::retransmits::Retransmits;
 use std::alloc::{AllocError, Global};
 use std::marker::Model;
 
-/// What a packet carried of [`Retransmits`]: most carry nothing of it, and then nothing is allocated (quinn-proto's
-/// `ThinRetransmits`).
+/// What a packet carried of [`Retransmits`]: most carry nothing of it, and then nothing is
+/// allocated (quinn-proto's `ThinRetransmits`).
 #[derive(Drop)]
 pub struct ThinRetransmits {
     retransmits: Option<Box<Retransmits>>,

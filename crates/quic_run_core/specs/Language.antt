@@ -17,7 +17,7 @@ use Rattle.quic_run_core.specs.declared.script.Line.TheVariants as lines
 use Rattle.quic_run_core.specs.declared.script.LineError.{LineError}
 use Rattle.quic_run_core.specs.declared.script.LineError.TheVariants.{BadCommand, OutOfMemory}
 use Rattle.quic_run_core.specs.declared.script.Setting.{Setting}
-use Rattle.quic_run_core.specs.declared.script.Setting.TheVariants.{ReceiveWindow, StreamWindow, SendWindow, Bidi, Uni, Messages, Word, Pcg}
+use Rattle.quic_run_core.specs.declared.script.Setting.TheVariants.{ReceiveWindow, StreamWindow, SendWindow, Bidi, Uni, Messages, Search, Word, Pcg}
 use Rattle.quic_run_core.specs.Named.{side_named, dir_named, mark_named, timer_named, bytes_named}
 
 -- ---- what may be asked for
@@ -94,6 +94,15 @@ varint_in (Some n) = varint_of n
 abbrev pub varint_named : List ℕ → Option ℕ
 varint_named word = varint_in (number_named word)
 
+-- what is on for 1, and off for 0
+abbrev pub switch_in : Option ℕ → Option Bool
+switch_in None = None
+switch_in (Some n) = if n == 0 then Some false else (if n == 1 then Some true else None)
+
+-- what a word switches
+abbrev pub switch_named : List ℕ → Option Bool
+switch_named word = switch_in (number_named word)
+
 -- a priority, below 2^31
 abbrev pub priority_in : Option ℕ → Option ℤ
 priority_in None = None
@@ -148,9 +157,10 @@ setting_said name args =
     else (if is_word name (codes "bidi") then one Bidi varint_named args
     else (if is_word name (codes "uni") then one Uni varint_named args
     else (if is_word name (codes "messages") then one Messages number_named args
+    else (if is_word name (codes "search") then one Search switch_named args
     else (if is_word name (codes "word") then one Word number_named args
     else (if is_word name (codes "pcg") then one Pcg number_named args
-    else None)))))))
+    else None))))))))
 
 -- the same, where there is a name
 abbrev pub settings_said : List (List ℕ) → Option Setting

@@ -1,10 +1,11 @@
 -- What a script does: its lines in turn, each with what it prints.
-use Rattle.std.specs.Prelude.{min, ◌^◌, ◌≡◌, ◌≤◌, ◌==◌, ℕ, true, if◌then◌else◌, List, [], ◌∷◌, ◌++◌, length, replicate, codes, Option, Some, None, IsSome, IfSome, Ok}
+use Rattle.std.specs.Prelude.{min, ◌^◌, ◌≡◌, ◌≤◌, ◌==◌, ℕ, Bool, true, false, if◌then◌else◌, List, [], ◌∷◌, ◌++◌, length, replicate, codes, Option, Some, None, IsSome, IfSome, Ok}
 use Rattle.std.specs.declared.alloc.AllocError.{AllocError}
 use Rattle.std.specs.List.{slice_split}
 use Rattle.quic_wire_core.specs.declared.stream_id.Side.{Side}
 use Rattle.quic_wire_core.specs.declared.stream_id.Side.TheVariants.{Client, Server}
 use Rattle.quic_wire_core.specs.StreamId.{other_side}
+use Rattle.quic_config.specs.Configs.{SearchSettings, default_search}
 use Rattle.quic_config.specs.Transport.{Settings, settings_with, default_transport, parameters_of}
 use Rattle.quic_parameters.specs.ParametersWritten.{written_parameters}
 use Rattle.quic_congestion.specs.NewReno.{Reno, default_reno, reno_made, window_after}
@@ -18,7 +19,7 @@ use Rattle.quic_machine.specs.declared.run.Answer.{Answer}
 use Rattle.quic_connection.specs.Settled.{AreAtRest, Settles}
 use Rattle.quic_run_core.specs.declared.options.Options.{Options}
 use Rattle.quic_run_core.specs.declared.script.Setting.{Setting}
-use Rattle.quic_run_core.specs.declared.script.Setting.TheVariants.{ReceiveWindow, StreamWindow, SendWindow, Bidi, Uni, Messages, Word, Pcg}
+use Rattle.quic_run_core.specs.declared.script.Setting.TheVariants.{ReceiveWindow, StreamWindow, SendWindow, Bidi, Uni, Messages, Search, Word, Pcg}
 use Rattle.quic_run_core.specs.declared.words.Source.TheVariants as sources
 use Rattle.quic_run_core.specs.Words.{words_from}
 use Rattle.quic_run_core.specs.Policies.{plain_policies}
@@ -28,9 +29,9 @@ use Rattle.quic_run_core.specs.Language.{Command, Asked, nothing, sets, asks, sh
 
 -- ---- options
 
--- the options of an end for which none is set
+-- the options of an end for which none is set: no greater size is looked for
 abbrev pub first_options : Options
-first_options = record { transport = default_transport; source = sources.Word 63 }
+first_options = record { transport = record default_transport { mtu_discovery_config = None }; source = sources.Word 63 }
 
 -- the settings of an end with these options; none sets a size of datagrams
 abbrev pub settings_of : Options → Settings
@@ -40,6 +41,11 @@ settings_of o = settings_with (record o.transport { initial_mtu = 1200; min_mtu 
 abbrev pub kept_size : ℕ → Option ℕ
 kept_size bytes = if bytes == 0 then None else Some bytes
 
+-- how a greater size of datagrams is looked for, where it is
+abbrev pub search_if : Bool → Option SearchSettings
+search_if true = Some default_search
+search_if false = None
+
 -- the options with one of them set
 abbrev pub with_setting : Setting → Options → Options
 with_setting (ReceiveWindow value) o = record { transport = record o.transport { receive_window = value }; source = o.source }
@@ -48,6 +54,7 @@ with_setting (SendWindow value) o = record { transport = record o.transport { se
 with_setting (Bidi count) o = record { transport = record o.transport { max_bidi = min count (2 ^ 60) }; source = o.source }
 with_setting (Uni count) o = record { transport = record o.transport { max_uni = min count (2 ^ 60) }; source = o.source }
 with_setting (Messages bytes) o = record { transport = record o.transport { datagram_receive_buffer_size = kept_size bytes }; source = o.source }
+with_setting (Search on) o = record { transport = record o.transport { mtu_discovery_config = search_if on }; source = o.source }
 with_setting (Word word) o = record { transport = o.transport; source = sources.Word word }
 with_setting (Pcg seed) o = record { transport = o.transport; source = sources.Pcg seed }
 

@@ -5,7 +5,7 @@ ghost use Rattle.quic_run_core.specs.Scripts.{first_options, settings_of, kept_s
 
 use crate::script::Setting;
 use crate::words::Source;
-use quic_connection::{Config, NewRenoConfig, TransportConfig};
+use quic_connection::{Config, MtuDiscoveryConfig, NewRenoConfig, TransportConfig};
 
 /// The most bytes of a datagram, and the least that each path carries (RFC 9000, section 14).
 const MTU: u16 = 1200;
@@ -37,8 +37,10 @@ impl Options {
     pub fn new() -> Self
         ensures { result ≡ first_options }
     {
+        let mut transport = TransportConfig::default();
+        transport.mtu_discovery_config(None);
         Options {
-            transport: TransportConfig::default(),
+            transport,
             source: SOURCE,
         }
     }
@@ -77,6 +79,14 @@ impl Options {
             Setting::Messages(bytes) => {
                 self.transport
                     .datagram_receive_buffer_size(kept_size(bytes));
+            }
+            Setting::Search(on) => {
+                let search = if on {
+                    Some(MtuDiscoveryConfig::default())
+                } else {
+                    None
+                };
+                self.transport.mtu_discovery_config(search);
             }
             Setting::Word(word) => self.source = Source::Word(word),
             Setting::Pcg(seed) => self.source = Source::Pcg(seed),

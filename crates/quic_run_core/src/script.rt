@@ -5,7 +5,7 @@ ghost use Rattle.std.specs.List.{list_any};
 ghost use Rattle.std.specs.Option.{SomeIff};
 ghost use Rattle.std.specs.Str.Parse.{IsNumeral, digits_value};
 ghost use Rattle.quic_run_core.specs.Named.{side_named, dir_named, mark_named, timer_named, bytes_named};
-ghost use Rattle.quic_run_core.specs.Language.{number_named, varint_named, priority_named, first, two, three, reading, resets, stops, delivers, injects, words_left, setting_said, settings_said, call_said, command_said, end_said, words_said, is_skipped, said, command_of, asked_of, asked_read, Reads, words as words_of};
+ghost use Rattle.quic_run_core.specs.Language.{number_named, varint_named, switch_in, switch_named, priority_named, first, two, three, reading, resets, stops, delivers, injects, words_left, setting_said, settings_said, call_said, command_said, end_said, words_said, is_skipped, said, command_of, asked_of, asked_read, Reads, words as words_of};
 
 use bytes::Bytes;
 use hex::FromHexError;
@@ -47,6 +47,8 @@ pub enum Setting {
     Uni(VarInt),
     /// How many bytes of messages are kept unread: 0 where the end takes none.
     Messages(usize),
+    /// Whether a greater size of datagrams is looked for.
+    Search(bool),
     /// The random word that the end is given each time.
     Word(u64),
     /// The seed of the generator whose words the end is given.
@@ -112,6 +114,13 @@ impl<'a> LineWords<'a> {
         ensures rest { words_left self.new.rest ≡ drop 1 (words_left self.old.rest) }
     {
         VarInt::from_u64(self.number()?).map_err(|_| LineError::BadCommand)
+    }
+
+    fn switch(&mut self) -> Result<bool, LineError>
+        ensures answer { result ≡ ok_or (first switch_named (words_left self.old.rest)) LineError.BadCommand }
+        ensures rest { words_left self.new.rest ≡ drop 1 (words_left self.old.rest) }
+    {
+        switch_of(self.number()?).ok_or(LineError::BadCommand)
     }
 
     fn priority(&mut self) -> Result<i32, LineError>
@@ -229,6 +238,17 @@ fn number(word: &str) -> Option<u64>
     }
 }
 
+/// Whether something is on: 1, or 0 where it is off.
+fn switch_of(number: u64) -> Option<bool>
+    ensures { result ≡ switch_in (Some number) }
+{
+    match number {
+        0 => Some(false),
+        1 => Some(true),
+        _ => None,
+    }
+}
+
 /// An end: `c` for the client, `s` for the server.
 pub fn side(word: &str) -> Option<Side>
     ensures { result ≡ side_named word.now }
@@ -319,6 +339,7 @@ fn setting_of(name: &str, words: &mut LineWords) -> Result<Setting, LineError>
         "bidi" => Ok(Setting::Bidi(words.varint()?)),
         "uni" => Ok(Setting::Uni(words.varint()?)),
         "messages" => Ok(Setting::Messages(words.index()?)),
+        "search" => Ok(Setting::Search(words.switch()?)),
         "word" => Ok(Setting::Word(words.number()?)),
         "pcg" => Ok(Setting::Pcg(words.number()?)),
         _ => Err(LineError::BadCommand),

@@ -30,12 +30,15 @@ fn id_of(side: Side) -> ConnectionId {
     }
 }
 
+/// No greater size of datagrams is looked for, so that only what a test asks for goes.
 fn making(
     side: Side,
     transport: TransportConfig,
 ) -> Making<NewRenoConfig, PlainHeaderKey, PlainKey, Words>
     ensures { result.keys ≡ keys_of side }
 {
+    let mut transport = transport;
+    transport.mtu_discovery_config(None);
     Making {
         config: Config::new(transport, NewRenoConfig::default()),
         id: id_of(side),

@@ -87,8 +87,8 @@ impl SendBuffer {
     }
 
     /// Takes over the first `len` bytes of chunks, each chunk as one piece, which shares its bytes;
-    /// all together they end at 2^62 - 1 at most (RFC 9000, 19.8). A chunk of which it takes no byte
-    /// makes no piece.
+    /// all together they end at 2^62 - 1 at most (RFC 9000, 19.8). A chunk of which it takes no
+    /// byte makes no piece.
     ///
     /// # Errors
     ///

@@ -61,9 +61,9 @@ impl Acknowledging {
     }
 
     /// A packet of this number was taken at this moment, which asks for an acknowledgement or
-    /// doesn't: whether the timer of acknowledgements is to be set. It is to be acknowledged at once
-    /// where it came with the mark CE (RFC 9000, section 13.2.1). `dedup` has the numbers opened, this
-    /// one too.
+    /// doesn't: whether the timer of acknowledgements is to be set. It is to be acknowledged at
+    /// once where it came with the mark CE (RFC 9000, section 13.2.1). `dedup` has the numbers
+    /// opened, this one too.
     ///
     /// # Errors
     ///
@@ -157,8 +157,8 @@ impl Acknowledging {
     }
 
     /// Appends the ACK frame of this moment with these counts of marks, for which there is room:
-    /// 1065 bytes are enough. There is a number to acknowledge. No acknowledgement is due then until
-    /// more packets come.
+    /// 1065 bytes are enough. There is a number to acknowledge. No acknowledgement is due then
+    /// until more packets come.
     pub fn put(&mut self, now: Instant, ecn: Option<&EcnCounts>, out: &mut Vec<u8>)
         requires some { is_filled self.old.runs ≡ true }
         requires room { length self.old.runs ≤ MAX_ACK_RUNS → vec_len out.old + ack_size (ack_at self.old now (shown_ecn ecn)) ≤ vec_capacity out.old }

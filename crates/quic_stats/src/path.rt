@@ -14,19 +14,19 @@ pub struct PathStats {
     pub cwnd: u64,
     /// How many times the congestion controller was told of congestion.
     pub congestion_events: u64,
-    /// How many packets were lost; those that probed for a greater size don't count.
+    /// How many packets were lost; open MTU probes don't count.
     pub lost_packets: u64,
-    /// How many bytes the lost packets had; those that probed for a greater size don't count.
+    /// How many bytes the lost packets had; open MTU probes don't count.
     pub lost_bytes: u64,
-    /// How many packets were sent, also those that probed for a greater size.
+    /// How many packets were sent, MTU probes too.
     pub sent_packets: u64,
-    /// How many packets were sent to probe for a greater size (RFC 9000, section 14.4).
+    /// How many of them were MTU probes (RFC 9000, section 14.4).
     pub sent_plpmtud_probes: u64,
-    /// How many of those were lost.
+    /// How many MTU probes were lost while their search went on.
     pub lost_plpmtud_probes: u64,
-    /// How many times the path no longer carried the size that it had (RFC 8899, section 4.3).
+    /// How many times a black hole was found (RFC 8899, section 4.3).
     pub black_holes_detected: u64,
-    /// The bytes of the greatest datagram that the path is known to carry.
+    /// The bytes that a datagram has at most, but for an MTU probe.
     pub current_mtu: u16,
 }
 

@@ -1,7 +1,7 @@
-//! The streams of one endpoint of a QUIC connection under one name (RFC 9000, sections 2 to 4 and 19),
-//! usable over the wire layer with no connection: the state of all streams, what waits to be sent
-//! beside their bytes, what an application holds of them, and what their calls answer. What each
-//! does is said where it stands.
+//! The streams of one endpoint of a QUIC connection under one name (RFC 9000, sections 2 to 4 and
+//! 19), usable over the wire layer with no connection: the state of all streams, what waits to be
+//! sent beside their bytes, what an application holds of them, and what their calls answer. What
+//! each does is said where it stands.
 #![tactic(auto)]
 
 pub use quic_assembler::{Assembler, Chunk, IllegalOrderedRead, MOST_PIECES};

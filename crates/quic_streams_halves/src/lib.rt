@@ -1,5 +1,5 @@
-//! The parts of all streams that run one way at one end, by id (quinn-proto's maps `send` and `recv` of `StreamsState`): those
-//! that are in use, and which ever were.
+//! The parts of all streams that run one way at one end, by id (quinn-proto's maps `send` and
+//! `recv` of `StreamsState`): those that are in use, and which ever were.
 #![tactic(auto)]
 
 mod pending_streams;

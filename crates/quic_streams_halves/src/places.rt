@@ -11,7 +11,8 @@ use quic_wire_core::{Dir, Side, StreamId};
 use std::alloc::{AllocError, Global};
 use std::marker::Model;
 
-/// Places of streams among those of their kind and opener: a set of runs, which contracts see as the list of them.
+/// Places of streams among those of their kind and opener: a set of runs, which contracts see as
+/// the list of them.
 #[derive(Drop)]
 pub struct Indices(PrefixSet);
 
@@ -52,7 +53,8 @@ impl Indices {
     }
 }
 
-/// The places of streams among those of their kind: of streams that this end opened, and of those that the peer opened.
+/// The places of streams among those of their kind: of streams that this end opened, and of those
+/// that the peer opened.
 #[derive(Drop)]
 pub struct Places {
     /// Of streams that this end opened.

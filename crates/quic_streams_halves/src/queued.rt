@@ -18,8 +18,8 @@ use quic_wire_core::StreamId;
 use std::alloc::AllocError;
 use std::slice;
 
-// A part that stands in the queue, or has nothing to send, is in the queue while it has something to
-// send.
+// A part that stands in the queue, or has nothing to send, is in the queue while it has something
+// to send.
 fn leave(half: &mut Send, queue: &mut PendingStreams)
     requires { half.old.place ≡ None → has_pending half.old ≡ false }
     ensures half { (id : ℕ) → half.new ≡ (requeued queue.old id half.old).half }
@@ -183,9 +183,10 @@ fn turn(
     Ok(())
 }
 
-/// Appends the next frame of a part, if it brings a byte or the end, with `max_len` bytes of room, 16 at least, behind its type and
-/// id, and takes it: what it carries. Where streams take turns (`fair`) the part goes behind its equals. After an `Err` (want of
-/// memory) the frame is taken, and its part may stand nowhere in the queue.
+/// Appends the next frame of a part, if it brings a byte or the end, with `max_len` bytes of room,
+/// 16 at least, behind its type and id, and takes it: what it carries. Where streams take turns
+/// (`fair`) the part goes behind its equals. After an `Err` (want of memory) the frame is taken,
+/// and its part may stand nowhere in the queue.
 pub(crate) fn put_frame(
     half: &mut Send,
     id: StreamId,
@@ -243,7 +244,8 @@ pub(crate) fn write_all(
     Ok(())
 }
 
-/// What a write of so many bytes to a part is answered on an open end, where all streams together have so much room.
+/// What a write of so many bytes to a part is answered on an open end, where all streams together
+/// have so much room.
 pub fn written_to(half: &Send, room: u64, len: usize) -> Result<usize, WriteError>
     ensures answer { result ≡ written_to (Some half.now) room len }
     ensures memory { result ≢ Err write_errors.Memory }
@@ -284,8 +286,8 @@ fn grow(
     write_all(half, id, slice::from_ref(&piece), bytes.len(), queue)
 }
 
-/// Writes as many of the bytes to a part as fit, where all streams together have so much room: how many. Any error, as
-/// [`written_to`] says, or want of memory, changes nothing.
+/// Writes as many of the bytes to a part as fit, where all streams together have so much room: how
+/// many. Any error, as [`written_to`] says, or want of memory, changes nothing.
 pub(crate) fn write(
     half: &mut Send,
     id: StreamId,

@@ -23,8 +23,8 @@ use std::marker::Model;
 pub struct RecvHalves {
     live: Numbered<Recv>,
     places: Places,
-    // The greatest offsets that arrived on all of them, and the bytes that count as consumed, so that
-    // no frame and no read has to sum them.
+    // The greatest offsets that arrived on all of them, and the bytes that count as consumed, so
+    // that no frame and no read has to sum them.
     seen: u64,
     consumed: u64,
     // Frames that come in order are copied here.
@@ -53,8 +53,8 @@ fn with_term(sum: u64, before: u64, after: u64) -> u64
     sum - before + after
 }
 
-// A part takes a frame that breaks no rule on its final size: its offsets alone where this end stopped
-// it, nothing where the peer reset it. An `Err` (want of memory) changes nothing.
+// A part takes a frame that breaks no rule on its final size: its offsets alone where this end
+// stopped it, nothing where the peer reset it. An `Err` (want of memory) changes nothing.
 fn take_on(half: &mut Recv, frame: &Stream<'_>, copies: &mut Copies) -> Result<(), AllocError>
     requires end { end_of (stream_view frame.now) < 2 ^ 62 }
     requires size { breaks_final half.old.final half.old.seen (end_of (stream_view frame.now)) frame.now.fin ≡ false }
@@ -135,8 +135,8 @@ impl RecvHalves {
         Ok(())
     }
 
-    /// Nothing is left to do on a part. Gives the greatest offset that arrived on it, and 0 where it
-    /// isn't in use.
+    /// Nothing is left to do on a part. Gives the greatest offset that arrived on it, and 0 where
+    /// it isn't in use.
     pub fn remove(&mut self, id: StreamId) -> u64
         ensures new { self.new ≡ without_half self.old id }
         ensures seen { result ≡ unwrap_or (option_map (λ h. h.seen) (at self.old.live id)) 0 }
@@ -152,8 +152,8 @@ impl RecvHalves {
         seen
     }
 
-    /// Keeps a frame's bytes on a part that isn't in use yet, and breaks no rule on its final size. An `Err` (want of memory) changes
-    /// nothing.
+    /// Keeps a frame's bytes on a part that isn't in use yet, and breaks no rule on its final size.
+    /// An `Err` (want of memory) changes nothing.
     pub fn insert_on(&mut self, half: &mut Recv, frame: &Stream<'_>) -> Result<(), AllocError>
         requires end { end_of (stream_view frame.now) < 2 ^ 62 }
         requires size { breaks_final half.old.final half.old.seen (end_of (stream_view frame.now)) frame.now.fin ≡ false }
@@ -164,8 +164,8 @@ impl RecvHalves {
         half.insert(frame, &mut self.copies)
     }
 
-    /// Takes a frame on its part, if it is in use: its offsets alone where this end stopped the part,
-    /// nothing where the peer reset it. An `Err` (want of memory) changes nothing.
+    /// Takes a frame on its part, if it is in use: its offsets alone where this end stopped the
+    /// part, nothing where the peer reset it. An `Err` (want of memory) changes nothing.
     pub fn take(&mut self, frame: &Stream<'_>) -> Result<(), AllocError>
         requires end { IfSome (at self.old.live frame.now.id) (λ h. end_of (stream_view frame.now) < 2 ^ 62) }
         requires size { IfSome (at self.old.live frame.now.id) (λ h. breaks_final h.final h.seen (end_of (stream_view frame.now)) frame.now.fin ≡ false) }
@@ -228,8 +228,8 @@ impl RecvHalves {
         self.consumed = with_term(self.consumed, consumed, half.credit());
     }
 
-    /// A read of a part, if it is in use, begins, in order or not. [`IllegalOrderedRead`] where it would be in order after one that
-    /// wasn't; nothing changes.
+    /// A read of a part, if it is in use, begins, in order or not. [`IllegalOrderedRead`] where it
+    /// would be in order after one that wasn't; nothing changes.
     pub fn begin(&mut self, id: StreamId, ordered: bool) -> Result<(), IllegalOrderedRead>
         ensures refused { IfSome (at self.old.live id) (λ h. is_err result ≡ is_illegal h ordered) }
         ensures new { self.new ≡ changed (λ h. begun h ordered) self.old id }

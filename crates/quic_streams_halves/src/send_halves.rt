@@ -159,8 +159,9 @@ impl SendHalves {
         half.set_blocked(blocked);
     }
 
-    /// The first `len` bytes of chunks go behind those that were written on a part, if it is in use, each chunk as a piece that
-    /// shares its bytes, and wait to go. An `Err` (want of memory) changes nothing.
+    /// The first `len` bytes of chunks go behind those that were written on a part, if it is in
+    /// use, each chunk as a piece that shares its bytes, and wait to go. An `Err` (want of memory)
+    /// changes nothing.
     pub fn write_all(
         &mut self,
         id: StreamId,
@@ -185,9 +186,9 @@ impl SendHalves {
         Ok(())
     }
 
-    /// Writes as many of the bytes to a part as fit, where all streams together have so much room: how many. [`WriteError::ClosedStream`]
-    /// where the part isn't in use. That and any other error, as [`written_to`](crate::written_to) says, or want of memory, changes
-    /// nothing.
+    /// Writes as many of the bytes to a part as fit, where all streams together have so much room:
+    /// how many. [`WriteError::ClosedStream`] where the part isn't in use. That and any other
+    /// error, as [`written_to`](crate::written_to) says, or want of memory, changes nothing.
     pub fn write(
         &mut self,
         id: StreamId,
@@ -250,7 +251,8 @@ impl SendHalves {
         half.set_place(place);
     }
 
-    /// A frame of a part was acknowledged, if it is in use. An `Err` (want of memory) changes nothing.
+    /// A frame of a part was acknowledged, if it is in use. An `Err` (want of memory) changes
+    /// nothing.
     pub fn ack(&mut self, frame: &StreamMeta, queue: &mut PendingStreams) -> Result<(), AllocError>
         ensures ok { OnOk result (self.new ≡ changed (λ h. (acked_with frame.now queue.old h).half) self.old frame.now.id) }
         ensures queue { OnOk result (queue.new ≡ queue_with (acked_with frame.now queue.old) (at self.old.live frame.now.id) queue.old) }
@@ -267,8 +269,8 @@ impl SendHalves {
         Ok(())
     }
 
-    /// The same, unless the part's end or a reset was told: it stays then. Says whether the part is in use, its end was told, and no
-    /// reset. An `Err` (want of memory) changes nothing.
+    /// The same, unless the part's end or a reset was told: it stays then. Says whether the part is
+    /// in use, its end was told, and no reset. An `Err` (want of memory) changes nothing.
     pub fn ack_if_ready(
         &mut self,
         frame: &StreamMeta,
@@ -308,9 +310,10 @@ impl SendHalves {
         queued::retransmit(half, frame, queue)
     }
 
-    /// Appends the next frame of a part, if it is in use and the frame brings a byte or the end, with `max_len` bytes of room, 16 at
-    /// least, behind its type and id, and takes it: what it carries. Where streams take turns (`fair`) the part goes behind its
-    /// equals. After an `Err` (want of memory) the frame is taken, and its part may stand nowhere in the queue.
+    /// Appends the next frame of a part, if it is in use and the frame brings a byte or the end,
+    /// with `max_len` bytes of room, 16 at least, behind its type and id, and takes it: what it
+    /// carries. Where streams take turns (`fair`) the part goes behind its equals. After an `Err`
+    /// (want of memory) the frame is taken, and its part may stand nowhere in the queue.
     pub fn put_frame(
         &mut self,
         id: StreamId,

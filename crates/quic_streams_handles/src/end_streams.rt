@@ -3,7 +3,8 @@
 use quic_retransmits::Retransmits;
 use quic_streams_state::StreamsState;
 
-/// The streams of an end, and what waits to be sent beside their bytes: a handle borrows both at once.
+/// The streams of an end, and what waits to be sent beside their bytes: a handle borrows both at
+/// once.
 #[derive(Drop)]
 pub struct EndStreams {
     /// All streams of the end.

@@ -1,5 +1,6 @@
-//! What an application holds of the streams of an end (quinn-proto's `connection::streams`): all of them ([`Streams`]), one on which
-//! it writes ([`SendStream`]), one that it reads ([`RecvStream`]), and a read of that ([`Chunks`]). Each borrows them while it lives.
+//! What an application holds of the streams of an end (quinn-proto's `connection::streams`): all of
+//! them ([`Streams`]), one on which it writes ([`SendStream`]), one that it reads ([`RecvStream`]),
+//! and a read of that ([`Chunks`]). Each borrows them while it lives.
 #![tactic(auto)]
 
 mod end_streams;

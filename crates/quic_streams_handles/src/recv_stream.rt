@@ -83,14 +83,16 @@ impl<'a> RecvStream<'a> {
         RecvStream { id, streams }
     }
 
-    /// Begins a read, in order or not (RFC 9000, section 2.2; quinn-proto's `RecvStream::read`), and takes the memory that its end needs.
-    /// After a read that wasn't in order all others are so.
+    /// Begins a read, in order or not (RFC 9000, section 2.2; quinn-proto's `RecvStream::read`),
+    /// and takes the memory that its end needs. After a read that wasn't in order all others are
+    /// so.
     ///
     /// # Errors
     ///
-    /// [`ReadableError::ClosedStream`] where there is no such stream, this end stopped it, or its end or reset was told;
-    /// [`ReadableError::IllegalOrderedRead`] in order after a read that wasn't; [`ReadableError::Memory`] where memory lacks. They are
-    /// tested in this order, and change nothing.
+    /// [`ReadableError::ClosedStream`] where there is no such stream, this end stopped it, or its
+    /// end or reset was told; [`ReadableError::IllegalOrderedRead`] in order after a read that
+    /// wasn't; [`ReadableError::Memory`] where memory lacks. They are tested in this order, and
+    /// change nothing.
     pub fn read(self, ordered: bool) -> Result<Chunks<'a>, ReadableError>
         ensures* unchanged_at_error { sem 𝓛 (follows_if streams_row streams_row self.entry.streams.ghost_name (name_if_ok chunks_lender result) (λ streams. streams) self.entry.streams.now) }
         ensures same_reference { IfOk result (λ chunks. chunks.streams.ghost_name ≡ self.entry.streams.ghost_name) }
@@ -108,13 +110,15 @@ impl<'a> RecvStream<'a> {
         streams.chunks(id, ordered)
     }
 
-    /// Stops the stream, of which nothing is read any more (RFC 9000, section 3.5; quinn-proto's `RecvStream::stop`): the peer is asked to
-    /// stop too unless it reset the stream, and the limits that grew wait to be told.
+    /// Stops the stream, of which nothing is read any more (RFC 9000, section 3.5; quinn-proto's
+    /// `RecvStream::stop`): the peer is asked to stop too unless it reset the stream, and the
+    /// limits that grew wait to be told.
     ///
     /// # Errors
     ///
-    /// [`UpdateError::ClosedStream`] where there is no such stream, this end stopped it before, or its end or reset was told;
-    /// [`UpdateError::Memory`] where memory lacks. Either changes nothing.
+    /// [`UpdateError::ClosedStream`] where there is no such stream, this end stopped it before, or
+    /// its end or reset was told; [`UpdateError::Memory`] where memory lacks. Either changes
+    /// nothing.
     pub fn stop(&mut self, error_code: VarInt) -> Result<(), UpdateError>
         ensures same_reference { self.new.streams.ghost_name ≡ self.old.streams.ghost_name }
         ensures same_stream { self.new.id ≡ self.old.id }
@@ -128,9 +132,10 @@ impl<'a> RecvStream<'a> {
         state.stop(self.id, error_code, pending)
     }
 
-    /// The code with which the peer reset the stream, if it did (RFC 9000, section 3.2; quinn-proto's `RecvStream::received_reset`);
-    /// nothing is left to read then. [`ClosedStream`] where there is no such stream, this end stopped it, or its end or reset was told;
-    /// nothing changes.
+    /// The code with which the peer reset the stream, if it did (RFC 9000, section 3.2;
+    /// quinn-proto's `RecvStream::received_reset`); nothing is left to read then. [`ClosedStream`]
+    /// where there is no such stream, this end stopped it, or its end or reset was told; nothing
+    /// changes.
     pub fn received_reset(&mut self) -> Result<Option<VarInt>, ClosedStream>
         ensures same_reference { self.new.streams.ghost_name ≡ self.old.streams.ghost_name }
         ensures same_stream { self.new.id ≡ self.old.id }
@@ -146,13 +151,14 @@ impl<'a> RecvStream<'a> {
 impl Chunks<'_> {
     ghost use Rattle.quic_streams_handles.specs.Told.{told_of};
 
-    /// The next bytes, at most so many, or none at the end of the stream (quinn-proto's `Chunks::next`). The end, or that the peer reset
-    /// the stream, is told again from then on.
+    /// The next bytes, at most so many, or none at the end of the stream (quinn-proto's
+    /// `Chunks::next`). The end, or that the peer reset the stream, is told again from then on.
     ///
     /// # Errors
     ///
-    /// [`ReadError::Reset`] where the peer reset the stream; [`ReadError::Blocked`] where no byte waits that may be given, which changes
-    /// nothing; [`ReadError::Memory`] where memory lacks to give some, and nothing changes either.
+    /// [`ReadError::Reset`] where the peer reset the stream; [`ReadError::Blocked`] where no byte
+    /// waits that may be given, which changes nothing; [`ReadError::Memory`] where memory lacks to
+    /// give some, and nothing changes either.
     pub fn next(&mut self, max_length: usize) -> Result<Option<Chunk>, ReadError>
         ensures same_reference { self.new.streams.ghost_name ≡ self.old.streams.ghost_name }
         ensures same_stream { self.new.id ≡ self.old.id }
@@ -171,8 +177,8 @@ impl Chunks<'_> {
         answer
     }
 
-    /// Ends the read (quinn-proto's `Chunks::finalize`): the limits that grew wait to be told. The answer is whether there are any, so
-    /// that something is to be sent.
+    /// Ends the read (quinn-proto's `Chunks::finalize`): the limits that grew wait to be told. The
+    /// answer is whether there are any, so that something is to be sent.
     pub fn finalize(self) -> ShouldTransmit
         ensures answer { result ≡ record { 0 = finalize_answer self.entry.streams.now.state self.entry.id } }
         ensures state { self.exit.1.0.now.state ≡ self.entry.streams.now.state }

@@ -41,15 +41,17 @@ impl<'a> SendStream<'a> {
         }
     }
 
-    /// Writes as many of the bytes as fit, and says how many (RFC 9000, sections 2.2 and 4.1; quinn-proto's `SendStream::write`).
+    /// Writes as many of the bytes as fit, and says how many (RFC 9000, sections 2.2 and 4.1;
+    /// quinn-proto's `SendStream::write`).
     ///
     /// # Errors
     ///
-    /// [`WriteError::Blocked`] where the end isn't open; `ClosedStream` where there is no such stream, or its sending half is done;
-    /// `Blocked` where the connection's limit or the send window leaves no room; `ClosedStream` where it was finished or reset;
-    /// `Stopped` where the peer stopped it; `Blocked` where its own limit leaves no room. They are tested in this order, and none of
-    /// the bytes is taken: `Blocked` on an open end notes that the stream is. `Memory` where memory lacks to take some bytes, or to note
-    /// that; nothing changes.
+    /// [`WriteError::Blocked`] where the end isn't open; `ClosedStream` where there is no such
+    /// stream, or its sending half is done; `Blocked` where the connection's limit or the send
+    /// window leaves no room; `ClosedStream` where it was finished or reset; `Stopped` where the
+    /// peer stopped it; `Blocked` where its own limit leaves no room. They are tested in this
+    /// order, and none of the bytes is taken: `Blocked` on an open end notes that the stream is.
+    /// `Memory` where memory lacks to take some bytes, or to note that; nothing changes.
     pub fn write(&mut self, data: &[u8]) -> Result<usize, WriteError>
         ensures same_reference { self.new.streams.ghost_name ≡ self.old.streams.ghost_name }
         ensures same_stream { self.new.id ≡ self.old.id }
@@ -64,9 +66,10 @@ impl<'a> SendStream<'a> {
         state.write(self.is_open, self.id, data, pending)
     }
 
-    /// Writes as many bytes of several buffers as fit, as one write of all their bytes, each buffer as a piece that shares its bytes
-    /// (RFC 9000, sections 2.2 and 4.1; quinn-proto's `SendStream::write_chunks`). Says how many bytes, and how many of the buffers
-    /// they use up, those without a byte too: the caller goes on behind these.
+    /// Writes as many bytes of several buffers as fit, as one write of all their bytes, each buffer
+    /// as a piece that shares its bytes (RFC 9000, sections 2.2 and 4.1; quinn-proto's
+    /// `SendStream::write_chunks`). Says how many bytes, and how many of the buffers they use up,
+    /// those without a byte too: the caller goes on behind these.
     ///
     /// # Errors
     ///
@@ -85,21 +88,24 @@ impl<'a> SendStream<'a> {
         state.write_chunks(self.is_open, self.id, chunks, pending)
     }
 
-    /// The code with which the peer stopped the stream, if it did (RFC 9000, section 3.5; quinn-proto's `SendStream::stopped`).
-    /// [`ClosedStream`] where there is no such stream, or its sending half is done.
+    /// The code with which the peer stopped the stream, if it did (RFC 9000, section 3.5;
+    /// quinn-proto's `SendStream::stopped`). [`ClosedStream`] where there is no such stream, or its
+    /// sending half is done.
     pub fn stopped(&self) -> Result<Option<VarInt>, ClosedStream>
         ensures { result ≡ stopped_answer self.now.streams.now.state self.now.id }
     {
         self.streams.state.stopped(self.id)
     }
 
-    /// Finishes the stream: its end has to go behind its bytes (RFC 9000, section 3.1; quinn-proto's `SendStream::finish`).
+    /// Finishes the stream: its end has to go behind its bytes (RFC 9000, section 3.1;
+    /// quinn-proto's `SendStream::finish`).
     ///
     /// # Errors
     ///
-    /// [`FinishError::ClosedStream`] where there is no such stream, or its sending half is done; [`FinishError::Stopped`] where the peer
-    /// stopped it; `ClosedStream` where it was finished or reset; [`FinishError::Memory`] where memory lacks to queue it. They are tested
-    /// in this order, and change nothing.
+    /// [`FinishError::ClosedStream`] where there is no such stream, or its sending half is done;
+    /// [`FinishError::Stopped`] where the peer stopped it; `ClosedStream` where it was finished or
+    /// reset; [`FinishError::Memory`] where memory lacks to queue it. They are tested in this
+    /// order, and change nothing.
     pub fn finish(&mut self) -> Result<(), FinishError>
         ensures same_reference { self.new.streams.ghost_name ≡ self.old.streams.ghost_name }
         ensures same_stream { self.new.id ≡ self.old.id }
@@ -114,13 +120,13 @@ impl<'a> SendStream<'a> {
         self.streams.state.finish(self.id)
     }
 
-    /// Resets the stream with a code (RFC 9000, section 3.1; quinn-proto's `SendStream::reset`): RESET_STREAM waits, and nothing else of
-    /// the stream goes.
+    /// Resets the stream with a code (RFC 9000, section 3.1; quinn-proto's `SendStream::reset`):
+    /// RESET_STREAM waits, and nothing else of the stream goes.
     ///
     /// # Errors
     ///
-    /// [`UpdateError::ClosedStream`] where there is no such stream, its sending half is done, or it was reset;
-    /// [`UpdateError::Memory`] where memory lacks. Either changes nothing.
+    /// [`UpdateError::ClosedStream`] where there is no such stream, its sending half is done, or it
+    /// was reset; [`UpdateError::Memory`] where memory lacks. Either changes nothing.
     pub fn reset(&mut self, error_code: VarInt) -> Result<(), UpdateError>
         ensures same_reference { self.new.streams.ghost_name ≡ self.old.streams.ghost_name }
         ensures same_stream { self.new.id ≡ self.old.id }
@@ -135,12 +141,14 @@ impl<'a> SendStream<'a> {
         state.reset(self.id, error_code, pending)
     }
 
-    /// Sets the priority of the stream, which counts when it is queued next (quinn-proto's `SendStream::set_priority`).
+    /// Sets the priority of the stream, which counts when it is queued next (quinn-proto's
+    /// `SendStream::set_priority`).
     ///
     /// # Errors
     ///
-    /// [`UpdateError::ClosedStream`] where there is no such stream, or its sending half is done; [`UpdateError::Memory`] where memory
-    /// lacks to bring its sending half into use. Either changes nothing.
+    /// [`UpdateError::ClosedStream`] where there is no such stream, or its sending half is done;
+    /// [`UpdateError::Memory`] where memory lacks to bring its sending half into use. Either
+    /// changes nothing.
     pub fn set_priority(&mut self, priority: i32) -> Result<(), UpdateError>
         ensures same_reference { self.new.streams.ghost_name ≡ self.old.streams.ghost_name }
         ensures same_stream { self.new.id ≡ self.old.id }
@@ -155,8 +163,8 @@ impl<'a> SendStream<'a> {
         self.streams.state.set_priority(self.id, priority)
     }
 
-    /// The priority of the stream (quinn-proto's `SendStream::priority`). [`ClosedStream`] where there is no such stream, or its sending
-    /// half is done.
+    /// The priority of the stream (quinn-proto's `SendStream::priority`). [`ClosedStream`] where
+    /// there is no such stream, or its sending half is done.
     pub fn priority(&self) -> Result<i32, ClosedStream>
         ensures { result ≡ priority_answer self.now.streams.now.state self.now.id }
     {

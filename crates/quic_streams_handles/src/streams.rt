@@ -25,8 +25,8 @@ impl<'a> Streams<'a> {
         Streams { streams, is_open }
     }
 
-    /// Opens the next stream of a kind (RFC 9000, section 4.6; quinn-proto's `Streams::open`): its id. `None` where the end isn't open,
-    /// or the peer lets no more of them be opened.
+    /// Opens the next stream of a kind (RFC 9000, section 4.6; quinn-proto's `Streams::open`): its
+    /// id. `None` where the end isn't open, or the peer lets no more of them be opened.
     pub fn open(&mut self, dir: Dir) -> Option<StreamId>
         ensures same_reference { self.new.streams.ghost_name ≡ self.old.streams.ghost_name }
         ensures same_open { self.new.is_open ≡ self.old.is_open }
@@ -37,8 +37,8 @@ impl<'a> Streams<'a> {
         self.streams.state.open(self.is_open, dir)
     }
 
-    /// The first stream of a kind that the peer opened and that wasn't accepted; it is accepted now (quinn-proto's `Streams::accept`).
-    /// `None` where all were.
+    /// The first stream of a kind that the peer opened and that wasn't accepted; it is accepted now
+    /// (quinn-proto's `Streams::accept`). `None` where all were.
     pub fn accept(&mut self, dir: Dir) -> Option<StreamId>
         ensures same_reference { self.new.streams.ghost_name ≡ self.old.streams.ghost_name }
         ensures same_open { self.new.is_open ≡ self.old.is_open }

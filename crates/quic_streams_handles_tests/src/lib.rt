@@ -1,4 +1,5 @@
-//! Tests of what an application holds of all streams: each call made, also where an allocation fails.
+//! Tests of what an application holds of all streams: each call made, also where an allocation
+//! fails.
 #![tactic(auto)]
 
 #[cfg(test)]

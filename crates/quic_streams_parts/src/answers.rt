@@ -118,7 +118,8 @@ pub enum Breach {
     FlowControl,
     /// The limit on streams (RFC 9000, section 4.6).
     StreamLimit,
-    /// A stream on which the peer may not send, or this end may not (RFC 9000, sections 19.4, 19.5, 19.8 and 19.10).
+    /// A stream on which the peer may not send, or this end may not (RFC 9000, sections 19.4, 19.5,
+    /// 19.8 and 19.10).
     StreamState,
     /// A final size that can't be (RFC 9000, section 4.5).
     FinalSize,

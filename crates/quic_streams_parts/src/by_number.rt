@@ -35,8 +35,8 @@ impl<T> Model for ByNumber<T> {
     ghost invariant = { λ m. IsSplit m.earlier.entries m.ring };
 }
 
-/// Whether a number lies behind all that a map has: so it is with most that are asked for once their
-/// value was taken out, and a look-up among many others is spared.
+/// Whether a number lies behind all that a map has: so it is with most that are asked for once
+/// their value was taken out, and a look-up among many others is spared.
 fn is_behind<T>(values: &BTreeMap<u64, T>, number: u64) -> bool
     ensures { result ≡ true → at values.now.entries number ≡ None }
 {

@@ -10,8 +10,8 @@ use std::alloc::{AllocError, Global};
 use std::collections::VecDeque;
 use std::marker::Model;
 
-/// What happened to streams and wasn't told: that the peer opened streams, once for each kind, and what else happened, in its
-/// order (quinn-proto's `StreamsState::{opened, events}`).
+/// What happened to streams and wasn't told: that the peer opened streams, once for each kind, and
+/// what else happened, in its order (quinn-proto's `StreamsState::{opened, events}`).
 #[derive(Drop)]
 pub struct Events {
     opened: ByDir<bool>,
@@ -70,7 +70,8 @@ impl Events {
         let _ = self.queue.pop_back();
     }
 
-    /// Takes off the kind of which the peer opened streams, two-way ones first; `None` where that was told.
+    /// Takes off the kind of which the peer opened streams, two-way ones first; `None` where that
+    /// was told.
     pub fn take_opened(&mut self) -> Option<Dir>
         ensures answer { result ≡ first_opened self.old }
         ensures new { self.new ≡ after_opened self.old result }

@@ -1,6 +1,6 @@
-//! The parts of the streams of one end, below the calls on them all: what calls answer, what is told of streams, what has to be
-//! sent again, the queue of streams with something to send (quinn-proto's `connection::streams`, `connection::spaces`), and values by
-//! number.
+//! The parts of the streams of one end, below the calls on them all: what calls answer, what is
+//! told of streams, what has to be sent again, the queue of streams with something to send
+//! (quinn-proto's `connection::streams`, `connection::spaces`), and values by number.
 #![tactic(auto)]
 
 mod answers;

@@ -18,8 +18,8 @@ const MAX_SPARE: usize = 16;
 
 /// Values by number, for numbers that come nearly in order. One of the latest 65536 numbers is
 /// found, kept and taken out in constant time, amortized, and an earlier one in the logarithm of
-/// how many of those there are. Each value stays where it is on the heap, and a place that was given
-/// back is used again.
+/// how many of those there are. Each value stays where it is on the heap, and a place that was
+/// given back is used again.
 #[derive(Drop)]
 pub struct Numbered<T> {
     values: ByNumber<Kept<T>>,
@@ -115,8 +115,8 @@ impl<T> Numbered<T> {
         self.values.remove(number)
     }
 
-    /// Takes back the place of a value that was taken out, to be used again, unless enough wait. The
-    /// value gives way to an idle one, which should hold no memory.
+    /// Takes back the place of a value that was taken out, to be used again, unless enough wait.
+    /// The value gives way to an idle one, which should hold no memory.
     pub fn give_back(&mut self, mut kept: Kept<T>, idle: T)
     where
         T: Drop,

@@ -9,8 +9,8 @@ use std::marker::Model;
 /// Where a stream stands in the queue: its rank, and the turn at which it was queued.
 pub type Place = (u64, u64);
 
-/// The streams with something to send, the lowest rank first, equal ones in the order in which they were queued (quinn-proto's
-/// `PendingStreamsQueue`).
+/// The streams with something to send, the lowest rank first, equal ones in the order in which they
+/// were queued (quinn-proto's `PendingStreamsQueue`).
 #[derive(Drop)]
 pub struct PendingStreamsQueue {
     streams: ByPlace,

@@ -158,8 +158,8 @@ impl Recv {
         self.sent_max_stream_data = max_data;
     }
 
-    /// Whether bytes up to an offset, with the end or without, go past a known final size, name another one, or one below an
-    /// offset that arrived (RFC 9000, section 4.5).
+    /// Whether bytes up to an offset, with the end or without, go past a known final size, name
+    /// another one, or one below an offset that arrived (RFC 9000, section 4.5).
     pub fn breaks_final(&self, end: u64, fin: bool) -> bool
         ensures value { result ≡ breaks_final self.now.final self.now.seen end fin }
         ensures behind { result ≡ false → fin ≡ true → self.now.seen ≤ end }
@@ -170,8 +170,8 @@ impl Recv {
         }
     }
 
-    /// Keeps a frame's bytes, which break no rule on its final size, copied by `copies` where they come in order. An `Err` (want of
-    /// memory) changes nothing.
+    /// Keeps a frame's bytes, which break no rule on its final size, copied by `copies` where they
+    /// come in order. An `Err` (want of memory) changes nothing.
     pub fn insert(&mut self, frame: &Stream<'_>, copies: &mut Copies) -> Result<(), AllocError>
         requires end { end_of (stream_view frame.now) < 2 ^ 62 }
         requires size { breaks_final self.old.final self.old.seen (end_of (stream_view frame.now)) frame.now.fin ≡ false }
@@ -234,7 +234,8 @@ impl Recv {
         self.assembler.runs() > MOST_PIECES
     }
 
-    /// A read begins, in order or not. [`IllegalOrderedRead`] where it would be in order after one that wasn't; nothing changes.
+    /// A read begins, in order or not. [`IllegalOrderedRead`] where it would be in order after one
+    /// that wasn't; nothing changes.
     pub fn begin(&mut self, ordered: bool) -> Result<(), IllegalOrderedRead>
         ensures refused { is_err result ≡ is_illegal self.old ordered }
         ensures new { self.new ≡ begun self.old ordered }

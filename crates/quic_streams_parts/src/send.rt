@@ -244,7 +244,8 @@ impl Send {
         self.reset = Some(size);
     }
 
-    /// A frame of it was acknowledged: its bytes never go again. An `Err` (want of memory, where some of it was sent) changes nothing.
+    /// A frame of it was acknowledged: its bytes never go again. An `Err` (want of memory, where
+    /// some of it was sent) changes nothing.
     pub fn ack(&mut self, frame: &StreamMeta) -> Result<(), AllocError>
         ensures ok { OnOk result (self.new ≡ half_acked self.old frame.now) }
         ensures err { OnErr result (self.new ≡ self.old) }
@@ -258,9 +259,9 @@ impl Send {
         Ok(())
     }
 
-    /// A frame of it was lost: what isn't acknowledged of it goes again (RFC 9000, section 13.3), and its end even where another
-    /// frame brought it. An `Err` (want of memory, where some of it was sent) changes
-    /// nothing.
+    /// A frame of it was lost: what isn't acknowledged of it goes again (RFC 9000, section 13.3),
+    /// and its end even where another frame brought it. An `Err` (want of memory, where some of it
+    /// was sent) changes nothing.
     pub fn retransmit(&mut self, frame: &StreamMeta) -> Result<(), AllocError>
         ensures ok { OnOk result (self.new ≡ half_lost self.old frame.now) }
         ensures err { OnErr result (self.new ≡ self.old) }
@@ -306,7 +307,8 @@ impl Send {
         }
     }
 
-    /// Appends the next frame, with so much room behind its type and id, 16 bytes at least, and takes it: what it carries.
+    /// Appends the next frame, with so much room behind its type and id, 16 bytes at least, and
+    /// takes it: what it carries.
     pub fn put_frame(&mut self, id: StreamId, max_len: usize, out: &mut Vec<u8>) -> StreamMeta
         requires some { 16 ≤ max_len }
         requires room { vec_len out.old + (1 + width_of id) + max_len ≤ vec_capacity out.old }

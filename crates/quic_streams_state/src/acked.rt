@@ -27,8 +27,8 @@ impl StreamsState {
         self.receiving.get(id).is_none() && self.receiving.was_used(self.side, id)
     }
 
-    // Nothing is left to do on the sending half of a stream: where the peer opened it, and it is done both ways, the peer may open
-    // one more.
+    // Nothing is left to do on the sending half of a stream: where the peer opened it, and it is
+    // done both ways, the peer may open one more.
     fn send_done(&mut self, id: StreamId)
         ensures { self.new ≡ send_done self.old id }
     {
@@ -50,8 +50,8 @@ impl StreamsState {
         }
     }
 
-    // A frame was acknowledged of a finished half that is in use and wasn't reset: whether that is done now, of which the application
-    // is told then.
+    // A frame was acknowledged of a finished half that is in use and wasn't reset: whether that is
+    // done now, of which the application is told then.
     fn ack_finished(&mut self, frame: &StreamMeta) -> Result<bool, AllocError>
         requires { IsSomeAnd (sent_half self.old frame.now.id) (λ h. h.reset ≡ None) }
         ensures answer { IfOk result (λ done. done ≡ finishes (sent_half self.old frame.now.id) frame.now) }
@@ -84,15 +84,16 @@ impl StreamsState {
         Ok(false)
     }
 
-    /// A STREAM frame was acknowledged (RFC 9000, sections 3.1 and 13.3; quinn-proto's `StreamsState::received_ack_of`): its offsets go
-    /// no more, unless its stream was reset. Once all of a finished stream is acknowledged, its end too, its sending half is done: the
-    /// application is told [`StreamEvent::Finished`], and where the peer opened the stream and it is done both ways, the peer may open
-    /// one more, of which it is to be told.
+    /// A STREAM frame was acknowledged (RFC 9000, sections 3.1 and 13.3; quinn-proto's
+    /// `StreamsState::received_ack_of`): its offsets go no more, unless its stream was reset. Once
+    /// all of a finished stream is acknowledged, its end too, its sending half is done: the
+    /// application is told [`StreamEvent::Finished`], and where the peer opened the stream and it
+    /// is done both ways, the peer may open one more, of which it is to be told.
     ///
     /// # Errors
     ///
-    /// [`AllocError`] where memory lacks, of a half in use that wasn't reset: where it was finished, some of the frame was sent, or the
-    /// half isn't in the queue. Nothing changes.
+    /// [`AllocError`] where memory lacks, of a half in use that wasn't reset: where it was
+    /// finished, some of the frame was sent, or the half isn't in the queue. Nothing changes.
     pub fn received_ack_of(
         &mut self,
         frame: &StreamMeta,
@@ -110,7 +111,8 @@ impl StreamsState {
         Ok(())
     }
 
-    // RESET_STREAM of a stream was acknowledged: whether its sending half, which was reset, is done by that.
+    // RESET_STREAM of a stream was acknowledged: whether its sending half, which was reset, is done
+    // by that.
     fn take_reset_ack(&mut self, id: StreamId) -> bool
         ensures answer { result ≡ is_reset_in_use (sent_half self.old id) }
         ensures new { (p : Waiting) → self.new ≡ (after_reset_acked self.old p id).state }
@@ -125,9 +127,10 @@ impl StreamsState {
         true
     }
 
-    /// RESET_STREAM of a stream was acknowledged (RFC 9000, section 3.1; quinn-proto's `StreamsState::reset_acked`): its sending half,
-    /// if it is in use and was reset, is done. Where the peer opened the stream and it is done both ways, the peer may open one more,
-    /// of which it is to be told.
+    /// RESET_STREAM of a stream was acknowledged (RFC 9000, section 3.1; quinn-proto's
+    /// `StreamsState::reset_acked`): its sending half, if it is in use and was reset, is done.
+    /// Where the peer opened the stream and it is done both ways, the peer may open one more, of
+    /// which it is to be told.
     pub fn reset_acked(&mut self, id: StreamId, pending: &mut Retransmits)
         ensures new { self.new ≡ (after_reset_acked self.old pending.old id).state }
         ensures pending { pending.new ≡ (after_reset_acked self.old pending.old id).pending }
@@ -137,13 +140,13 @@ impl StreamsState {
         }
     }
 
-    /// A STREAM frame was lost (RFC 9000, section 13.3; quinn-proto's `StreamsState::retransmit`): what isn't acknowledged of it
-    /// goes again, unless its stream was reset.
+    /// A STREAM frame was lost (RFC 9000, section 13.3; quinn-proto's `StreamsState::retransmit`):
+    /// what isn't acknowledged of it goes again, unless its stream was reset.
     ///
     /// # Errors
     ///
-    /// [`AllocError`] where memory lacks, of a half in use that wasn't reset: where some of the frame was sent, or the half isn't in the
-    /// queue. Nothing changes.
+    /// [`AllocError`] where memory lacks, of a half in use that wasn't reset: where some of the
+    /// frame was sent, or the half isn't in the queue. Nothing changes.
     pub fn retransmit(&mut self, frame: &StreamMeta) -> Result<(), AllocError>
         ensures ok { OnOk result (self.new ≡ after_stream_lost self.old frame.now) }
         ensures err { OnErr result (self.new ≡ self.old) }

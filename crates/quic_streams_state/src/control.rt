@@ -1,4 +1,5 @@
-//! The frames about streams that go into a datagram, but for STREAM (RFC 9000, sections 13.3 and 19).
+//! The frames about streams that go into a datagram, but for STREAM (RFC 9000, sections 13.3 and
+//! 19).
 ghost use Rattle.std.specs.Prelude.{◌≡◌, ◌<◌, ◌≤◌, ◌++◌, length, take, Some, IfSome, OnOk, OnErr, vec_len, vec_capacity};
 ghost use Rattle.std.specs.List.{fold};
 ghost use Rattle.std.specs.Option.{option_map};
@@ -117,7 +118,8 @@ impl StreamsState {
         Frame::MaxData(VarInt::from_u64_unchecked(self.receiving.max_data()))
     }
 
-    // MAX_STREAM_DATA of a stream: how far the peer may come on it now; none where it takes no more limits.
+    // MAX_STREAM_DATA of a stream: how far the peer may come on it now; none where it takes no more
+    // limits.
     fn limit_frame(&self, id: StreamId) -> Option<Frame<'static>>
         ensures frame { option_map frame_view result ≡ (limit_entry id).frame self.now }
         ensures fits { IfSome result (λ f. Fits (frame_view f)) }
@@ -160,7 +162,8 @@ impl StreamsState {
         Some(Frame::StreamDataBlocked { id, offset })
     }
 
-    // The frame of the first that waits of a kind; none where nothing waits, or that is no longer due.
+    // The frame of the first that waits of a kind; none where nothing waits, or that is no longer
+    // due.
     fn first_frame(&self, kind: ControlKind, pending: &Retransmits) -> Option<Frame<'static>>
         ensures frame { option_map frame_view result ≡ frame_of_first (waiting kind pending.now) self.now }
         ensures fits { IfSome result (λ f. Fits (frame_view f)) }
@@ -211,7 +214,8 @@ impl StreamsState {
         }
     }
 
-    // Appends the frames of a kind that are due and fit. An `Err` is want of memory: what was in the buffer stands there yet.
+    // Appends the frames of a kind that are due and fit. An `Err` is want of memory: what was in
+    // the buffer stands there yet.
     fn write_kind(
         &mut self,
         kind: ControlKind,
@@ -276,15 +280,18 @@ impl StreamsState {
         Ok(())
     }
 
-    /// Appends the frames about streams that are due and fit, but for STREAM, so that `out` has at most `max_size` bytes; memory for
-    /// these is there. They go in the order of RESET_STREAM, STOP_SENDING, MAX_DATA, MAX_STREAM_DATA, MAX_STREAMS (two-way, one-way),
-    /// DATA_BLOCKED and STREAM_DATA_BLOCKED (RFC 9000, section 19), no longer wait in `pending`, and stand in `sent`, which has to go
-    /// again if the datagram is lost (section 13.3; quinn-proto's `write_control_frames`).
+    /// Appends the frames about streams that are due and fit, but for STREAM, so that `out` has at
+    /// most `max_size` bytes; memory for these is there. They go in the order of RESET_STREAM,
+    /// STOP_SENDING, MAX_DATA, MAX_STREAM_DATA, MAX_STREAMS (two-way, one-way), DATA_BLOCKED and
+    /// STREAM_DATA_BLOCKED (RFC 9000, section 19), no longer wait in `pending`, and stand in
+    /// `sent`, which has to go again if the datagram is lost (section 13.3; quinn-proto's
+    /// `write_control_frames`).
     ///
     /// # Errors
     ///
-    /// [`AllocError`] where memory lacks to note a frame that fits. What stood in `out` stands there yet, behind which some of the
-    /// frames may be; nothing is promised of the rest, so that the connection has to fail.
+    /// [`AllocError`] where memory lacks to note a frame that fits. What stood in `out` stands
+    /// there yet, behind which some of the frames may be; nothing is promised of the rest, so that
+    /// the connection has to fail.
     pub fn write_control_frames(
         &mut self,
         out: &mut Vec<u8>,

@@ -20,15 +20,17 @@ fn is_used_up(half: &Send) -> bool
 }
 
 impl StreamsState {
-    /// Takes MAX_STREAM_DATA (RFC 9000, section 19.10), which never lowers a limit: a stream whose limit was used up takes bytes
-    /// again, of which the application is told at once, or once the connection has room.
+    /// Takes MAX_STREAM_DATA (RFC 9000, section 19.10), which never lowers a limit: a stream whose
+    /// limit was used up takes bytes again, of which the application is told at once, or once the
+    /// connection has room.
     ///
     /// # Errors
     ///
-    /// [`ReceivedError::Breach`] where the id breaks a rule: `StreamState` on a stream on which only the peer sends, or on one of this
-    /// end that isn't opened; `StreamLimit` beyond the count that the peer may open. It changes nothing. [`ReceivedError::Memory`] where
-    /// memory lacks to note a stream that takes bytes again, or to bring its sending half into use: the stream is open by then, and
-    /// nothing else changed.
+    /// [`ReceivedError::Breach`] where the id breaks a rule: `StreamState` on a stream on which
+    /// only the peer sends, or on one of this end that isn't opened; `StreamLimit` beyond the count
+    /// that the peer may open. It changes nothing. [`ReceivedError::Memory`] where memory lacks to
+    /// note a stream that takes bytes again, or to bring its sending half into use: the stream is
+    /// open by then, and nothing else changed.
     pub fn received_max_stream_data(
         &mut self,
         id: StreamId,
@@ -79,8 +81,8 @@ impl StreamsState {
         self.sending.add(self.side, id, half)
     }
 
-    // A stream whose sending half is in use takes bytes again: the application is told so at once, or once the connection has
-    // room.
+    // A stream whose sending half is in use takes bytes again: the application is told so at once,
+    // or once the connection has room.
     fn note_writable(&mut self, id: StreamId) -> Result<(), AllocError>
         requires { IsSome (at self.old.sending.halves.live id) }
         ensures ok { OnOk result (self.new ≡ noted_at (at self.old.sending.halves.live id) self.old id) }

@@ -14,7 +14,8 @@ use std::marker::Model;
 /// The most streams of a kind (RFC 9000, section 4.6).
 pub const MAX_STREAM_COUNT: u64 = 1 << 60;
 
-/// How many streams of each kind are opened by either end, and how many may be (the counts of quinn-proto's `StreamsState`).
+/// How many streams of each kind are opened by either end, and how many may be (the counts of
+/// quinn-proto's `StreamsState`).
 #[derive(Drop)]
 pub struct Opening {
     // How many this end opened, and how many it may open.
@@ -69,7 +70,8 @@ fn none() -> ByDir<u64>
 }
 
 impl Opening {
-    /// No stream is opened, and this end may open none; the peer may have so many of each kind open at once.
+    /// No stream is opened, and this end may open none; the peer may have so many of each kind open
+    /// at once.
     pub fn new(max_remote_bi: u64, max_remote_uni: u64) -> Self
         ensures { result ≡ no_opening max_remote_bi max_remote_uni }
     {
@@ -133,8 +135,8 @@ impl Opening {
         set(&mut self.sent_max_remote, dir, max);
     }
 
-    /// The rule that a frame of a stream breaks by its id: an own stream has to be opened before, and one of the peer's has to lie
-    /// within the count that it may open.
+    /// The rule that a frame of a stream breaks by its id: an own stream has to be opened before,
+    /// and one of the peer's has to lie within the count that it may open.
     pub fn beyond(&self, side: Side, id: StreamId) -> Option<Breach>
         ensures { result ≡ beyond_in self.now side id }
     {
@@ -165,7 +167,8 @@ impl Opening {
         Some(StreamId::new(side, dir, next))
     }
 
-    /// The first stream of a kind that the peer opened and that wasn't accepted; it is accepted now.
+    /// The first stream of a kind that the peer opened and that wasn't accepted; it is accepted
+    /// now.
     pub fn accept(&mut self, side: Side, dir: Dir) -> Option<StreamId>
         ensures id { result ≡ (accepted_next side dir self.old).0 }
         ensures new { self.new ≡ (accepted_next side dir self.old).1 }

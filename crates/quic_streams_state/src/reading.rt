@@ -48,10 +48,11 @@ impl StreamsState {
         Some(self.receiving.fresh())
     }
 
-    /// The code with which the peer reset a stream that is still read, if it did (quinn's `RecvStream::received_reset`); nothing is
-    /// left to read then.
+    /// The code with which the peer reset a stream that is still read, if it did (quinn's
+    /// `RecvStream::received_reset`); nothing is left to read then.
     ///
-    /// [`ClosedStream`] where there is no such stream, this end stopped it, or its end or reset was told; nothing changes.
+    /// [`ClosedStream`] where there is no such stream, this end stopped it, or its end or reset was
+    /// told; nothing changes.
     pub fn received_reset_code(
         &mut self,
         id: StreamId,
@@ -113,11 +114,13 @@ impl StreamsState {
         Ok(())
     }
 
-    /// Stops a stream, of which nothing is read any more (RFC 9000, section 3.5; quinn's `RecvStream::stop`): the peer is asked to stop
-    /// too unless it reset the stream, and the limits that grew wait to be told.
+    /// Stops a stream, of which nothing is read any more (RFC 9000, section 3.5; quinn's
+    /// `RecvStream::stop`): the peer is asked to stop too unless it reset the stream, and the
+    /// limits that grew wait to be told.
     ///
-    /// [`UpdateError::ClosedStream`] where there is no such stream, this end stopped it before, or its end or reset was told: nothing
-    /// changes. [`UpdateError::Memory`] where memory lacks, and nothing changes either.
+    /// [`UpdateError::ClosedStream`] where there is no such stream, this end stopped it before, or
+    /// its end or reset was told: nothing changes. [`UpdateError::Memory`] where memory lacks, and
+    /// nothing changes either.
     pub fn stop(
         &mut self,
         id: StreamId,

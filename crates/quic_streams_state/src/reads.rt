@@ -85,15 +85,17 @@ impl StreamsState {
         Ok(is_new)
     }
 
-    /// Begins a read of a stream, in order or not (RFC 9000, section 2.2; quinn's `RecvStream::read`), and takes the memory that its
-    /// end needs: MAX_STREAM_DATA of the stream waits then. The answer is whether it didn't before. A first read in order brings no
-    /// half into use; after an unordered one all others are so.
+    /// Begins a read of a stream, in order or not (RFC 9000, section 2.2; quinn's
+    /// `RecvStream::read`), and takes the memory that its end needs: MAX_STREAM_DATA of the stream
+    /// waits then. The answer is whether it didn't before. A first read in order brings no half
+    /// into use; after an unordered one all others are so.
     ///
     /// # Errors
     ///
-    /// [`ReadableError::ClosedStream`] where there is no such stream, this end stopped it, or its end or reset was told;
-    /// [`ReadableError::IllegalOrderedRead`] in order after a read that wasn't; [`ReadableError::Memory`] where memory lacks for a
-    /// MAX_STREAM_DATA that didn't wait, or for a half that comes into use. They are tested in this order, and change nothing.
+    /// [`ReadableError::ClosedStream`] where there is no such stream, this end stopped it, or its
+    /// end or reset was told; [`ReadableError::IllegalOrderedRead`] in order after a read that
+    /// wasn't; [`ReadableError::Memory`] where memory lacks for a MAX_STREAM_DATA that didn't wait,
+    /// or for a half that comes into use. They are tested in this order, and change nothing.
     pub fn begin_read(
         &mut self,
         id: StreamId,
@@ -120,13 +122,15 @@ impl StreamsState {
         self.begin_used(id, ordered, pending)
     }
 
-    /// Reads on of a stream of which nothing but bytes was told: at most so many bytes that come next (quinn's `Chunks::next`). `None`
-    /// where all up to its final size were read: its half is done then.
+    /// Reads on of a stream of which nothing but bytes was told: at most so many bytes that come
+    /// next (quinn's `Chunks::next`). `None` where all up to its final size were read: its half is
+    /// done then.
     ///
     /// # Errors
     ///
-    /// [`ReadError::Reset`] where the peer reset it: its half is done then. [`ReadError::Blocked`] where no byte waits that may be
-    /// given; [`ReadError::Memory`] where memory lacks to give some. These change nothing.
+    /// [`ReadError::Reset`] where the peer reset it: its half is done then. [`ReadError::Blocked`]
+    /// where no byte waits that may be given; [`ReadError::Memory`] where memory lacks to give
+    /// some. These change nothing.
     pub fn read_next(&mut self, id: StreamId, max: usize) -> Result<Option<Chunk>, ReadError>
         ensures answer { result ≢ Err read_errors.Memory → result ≡ next_answer told_bytes self.old id max }
         ensures new { self.new ≡ after_next told_bytes result self.old id max }
@@ -149,8 +153,9 @@ impl StreamsState {
         }
     }
 
-    /// A read is over for which MAX_STREAM_DATA of its stream was made to wait, and didn't before or did (quinn's `Chunks::finalize`):
-    /// the limits that grew wait to be told. The answer is whether there are any.
+    /// A read is over for which MAX_STREAM_DATA of its stream was made to wait, and didn't before
+    /// or did (quinn's `Chunks::finalize`): the limits that grew wait to be told. The answer is
+    /// whether there are any.
     pub fn end_read(&self, id: StreamId, is_new: bool, pending: &mut Retransmits) -> ShouldTransmit
         ensures answer { result ≡ record { 0 = finalize_answer self.now id } }
         ensures pending { (before : Waiting) → pending.old ≡ with_reserved before id → is_new ≡ not (has_id id before.max_stream_data) → pending.new ≡ (after_finalize self.now before id).pending }

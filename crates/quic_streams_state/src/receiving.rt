@@ -29,7 +29,8 @@ pub struct Receiving {
     recv: RecvHalves,
     // The final sizes of the halves that are done, summed.
     gone: u64,
-    // How many bytes more than were consumed may come, and how far the peer was told that they may come.
+    // How many bytes more than were consumed may come, and how far the peer was told that they may
+    // come.
     receive_window: u64,
     sent_max_data: u64,
     stream_receive_window: u64,
@@ -48,7 +49,8 @@ impl Model for Receiving {
 }
 
 impl Receiving {
-    /// Nothing has come; so many bytes more than were consumed may come on all streams, and so many more than were read on each.
+    /// Nothing has come; so many bytes more than were consumed may come on all streams, and so many
+    /// more than were read on each.
     pub fn new(alloc: Global, receive_window: u64, stream_receive_window: u64) -> Self
         requires window { receive_window ≤ greatest_offset }
         requires stream_window { stream_receive_window ≤ greatest_offset }
@@ -85,8 +87,8 @@ impl Receiving {
         Recv::new(self.alloc, self.stream_receive_window)
     }
 
-    /// Keeps a frame's bytes on a half that isn't in use yet, which breaks no rule on its final size. An `Err` (want of memory) changes
-    /// nothing.
+    /// Keeps a frame's bytes on a half that isn't in use yet, which breaks no rule on its final
+    /// size. An `Err` (want of memory) changes nothing.
     pub fn insert_on(&mut self, half: &mut Recv, frame: &Stream<'_>) -> Result<(), AllocError>
         requires end { end_of (stream_view frame.now) < 2 ^ 62 }
         requires size { breaks_final half.old.final half.old.seen (end_of (stream_view frame.now)) frame.now.fin ≡ false }
@@ -159,7 +161,8 @@ impl Receiving {
         Ok(())
     }
 
-    /// A frame that breaks no rule comes for a half that is in use. An `Err` (want of memory) changes nothing.
+    /// A frame that breaks no rule comes for a half that is in use. An `Err` (want of memory)
+    /// changes nothing.
     pub fn take(&mut self, frame: &Stream<'_>) -> Result<(), AllocError>
         requires { IfSome (at self.old.halves.live frame.now.id) (λ h. breach_on self.old h (end_of (stream_view frame.now)) frame.now.fin ≡ None) }
         ensures ok { OnOk result (self.new ≡ record self.old { halves = changed (λ h. after_frame h (stream_view frame.now)) self.old.halves frame.now.id }) }
@@ -197,8 +200,8 @@ impl Receiving {
         self.recv.stop(id);
     }
 
-    /// A read of a half, if it is in use, begins, in order or not. [`IllegalOrderedRead`] where it would be in order after one that
-    /// wasn't; nothing changes.
+    /// A read of a half, if it is in use, begins, in order or not. [`IllegalOrderedRead`] where it
+    /// would be in order after one that wasn't; nothing changes.
     pub fn begin(&mut self, id: StreamId, ordered: bool) -> Result<(), IllegalOrderedRead>
         ensures refused { IfSome (at self.old.halves.live id) (λ h. is_err result ≡ is_illegal h ordered) }
         ensures new { self.new ≡ record self.old { halves = changed (λ h. begun h ordered) self.old.halves id } }

@@ -9,13 +9,13 @@ use quic_streams_parts::UpdateError;
 use quic_wire_core::{StreamId, VarInt};
 
 impl StreamsState {
-    /// Resets a stream with a code (RFC 9000, section 3.1; quinn-proto's `SendStream::reset`): RESET_STREAM waits, and nothing else of
-    /// the stream goes.
+    /// Resets a stream with a code (RFC 9000, section 3.1; quinn-proto's `SendStream::reset`):
+    /// RESET_STREAM waits, and nothing else of the stream goes.
     ///
     /// # Errors
     ///
-    /// [`UpdateError::ClosedStream`] where there is no such stream, its sending half is done, or it was reset;
-    /// [`UpdateError::Memory`] where memory lacks. Either changes nothing.
+    /// [`UpdateError::ClosedStream`] where there is no such stream, its sending half is done, or it
+    /// was reset; [`UpdateError::Memory`] where memory lacks. Either changes nothing.
     pub fn reset(
         &mut self,
         id: StreamId,

@@ -56,7 +56,8 @@ fn takes_bytes(half: &Send) -> bool
 }
 
 impl Sending {
-    /// Nothing was sent, nothing may be, and at most `send_window` bytes are buffered on all streams.
+    /// Nothing was sent, nothing may be, and at most `send_window` bytes are buffered on all
+    /// streams.
     pub fn new(alloc: Global, send_window: u64) -> Self
         ensures { result ≡ record { halves = no_halves; accepted = 0; limit = 0; window = send_window; first_own = no_count; first_remote = 0; queue = no_queue; blocked = [] } }
     {
@@ -76,8 +77,8 @@ impl Sending {
         }
     }
 
-    /// The peer's first limits: on the bytes of all streams, of each kind of stream that this end opens, and of two-way ones that
-    /// the peer opens.
+    /// The peer's first limits: on the bytes of all streams, of each kind of stream that this end
+    /// opens, and of two-way ones that the peer opens.
     pub fn set_limits(&mut self, max_data: VarInt, own: ByDir<VarInt>, remote: VarInt)
         ensures { self.new ≡ record self.old { limit = max_data; first_own = own; first_remote = remote } }
     {
@@ -188,7 +189,8 @@ impl Sending {
         self.send.add(side, id, half)
     }
 
-    /// The end of a half that isn't in use, and on which nothing was written, has to go. An `Err` (want of memory) changes nothing.
+    /// The end of a half that isn't in use, and on which nothing was written, has to go. An `Err`
+    /// (want of memory) changes nothing.
     pub fn finish_fresh(&mut self, side: Side, id: StreamId, half: Send) -> Result<(), AllocError>
         requires none { at self.old.halves.live id ≡ None }
         requires empty { half.buffer.kept ≡ [] }
@@ -247,8 +249,8 @@ impl Sending {
         Ok(())
     }
 
-    /// Writes as many of the bytes to a half as fit, where the end is open: how many. [`WriteError::ClosedStream`] where the half isn't
-    /// in use. Any error changes nothing.
+    /// Writes as many of the bytes to a half as fit, where the end is open: how many.
+    /// [`WriteError::ClosedStream`] where the half isn't in use. Any error changes nothing.
     pub fn write(&mut self, id: StreamId, bytes: &[u8]) -> Result<usize, WriteError>
         ensures answer { result ≢ Err write_errors.Memory → result ≡ written_to (at self.old.halves.live id) (room self.old) (length bytes.now) }
         ensures ok { IfOk result (λ n. self.new ≡ accepted_in (at self.old.halves.live id) self.old id (take n bytes.now)) }
@@ -299,7 +301,8 @@ impl Sending {
         Ok(())
     }
 
-    /// A half that is in use is among those whose write the connection blocked. An `Err` (want of memory) changes nothing.
+    /// A half that is in use is among those whose write the connection blocked. An `Err` (want of
+    /// memory) changes nothing.
     pub fn block(&mut self, id: StreamId) -> Result<(), AllocError>
         ensures ok { OnOk result (self.new ≡ blocked_in (at self.old.halves.live id) self.old id) }
         ensures err { OnErr result (self.new ≡ self.old) }
@@ -316,8 +319,8 @@ impl Sending {
         Ok(())
     }
 
-    /// A half that isn't in use, and on which nothing was written, is among those whose write the connection blocked. An `Err` (want
-    /// of memory) changes nothing.
+    /// A half that isn't in use, and on which nothing was written, is among those whose write the
+    /// connection blocked. An `Err` (want of memory) changes nothing.
     pub fn block_fresh(&mut self, side: Side, id: StreamId, half: Send) -> Result<(), AllocError>
         requires none { at self.old.halves.live id ≡ None }
         requires empty { half.buffer.kept ≡ [] }
@@ -342,8 +345,8 @@ impl Sending {
         self.send.set_stop_reason(id, code);
     }
 
-    // The stream whose write the connection blocked last, which is no longer among them, and whether
-    // it takes bytes.
+    // The stream whose write the connection blocked last, which is no longer among them, and
+    // whether it takes bytes.
     fn pop_blocked(&mut self) -> Option<(StreamId, bool)>
         ensures { MatchOption result ((self.old.blocked ≡ []) × (self.new ≡ self.old)) (λ e. (self.old.blocked ≡ e.0 ∷ self.new.blocked) × (e.1 ≡ is_writable (at self.old.halves.live e.0)) × (self.new ≡ record self.old { blocked = self.new.blocked; halves = record self.old.halves { live = unblocked_at (at self.old.halves.live e.0) self.old.halves.live e.0 } })) }
     {
@@ -356,8 +359,8 @@ impl Sending {
         Some((id, writable))
     }
 
-    /// The stream that takes bytes again, of those whose write the connection blocked the latest; those that were blocked later, and
-    /// take none, are no longer among them.
+    /// The stream that takes bytes again, of those whose write the connection blocked the latest;
+    /// those that were blocked later, and take none, are no longer among them.
     pub fn pop_writable(&mut self) -> Option<StreamId>
         ensures answer { result ≡ (passed self.old.blocked self.old.halves.live).found }
         ensures new { self.new ≡ after_passed self.old (passed self.old.blocked self.old.halves.live) }

@@ -41,7 +41,8 @@ use std::slice;
 
 /// All streams of one end (quinn-proto's `StreamsState`).
 ///
-/// Contracts see the counts of streams, what is sent on them, what has come, and what the application is told.
+/// Contracts see the counts of streams, what is sent on them, what has come, and what the
+/// application is told.
 #[derive(Drop)]
 pub struct StreamsState {
     pub(crate) side: Side,
@@ -78,9 +79,10 @@ fn finish_of(half: &Send) -> Result<(), FinishError>
 }
 
 impl StreamsState {
-    /// No stream is opened, and the peer's limits aren't known: the peer may have so many streams of each kind open at once, 2^60 at
-    /// most; at most `send_window` bytes are buffered; and so many bytes more than were consumed, and on each stream so many more
-    /// than were read, may come.
+    /// No stream is opened, and the peer's limits aren't known: the peer may have so many streams
+    /// of each kind open at once, 2^60 at most; at most `send_window` bytes are buffered; and so
+    /// many bytes more than were consumed, and on each stream so many more than were read, may
+    /// come.
     pub fn new(
         alloc: Global,
         side: Side,
@@ -130,8 +132,8 @@ impl StreamsState {
             .set_limits(params.initial_max_data, own, remote);
     }
 
-    /// Opens the next stream of a kind, where the end is open and the peer lets it (RFC 9000, section 4.6); `None` where it may not
-    /// be opened.
+    /// Opens the next stream of a kind, where the end is open and the peer lets it (RFC 9000,
+    /// section 4.6); `None` where it may not be opened.
     pub fn open(&mut self, is_open: bool, dir: Dir) -> Option<StreamId>
         ensures answer { result ≡ open_answer is_open dir self.old }
         ensures new { self.new ≡ after_open is_open dir self.old }
@@ -142,7 +144,8 @@ impl StreamsState {
         self.opening.open(self.side, dir)
     }
 
-    /// The first stream of a kind that the peer opened and that wasn't accepted; it is accepted now. `None` where all were.
+    /// The first stream of a kind that the peer opened and that wasn't accepted; it is accepted
+    /// now. `None` where all were.
     pub fn accept(&mut self, dir: Dir) -> Option<StreamId>
         ensures answer { result ≡ accept_answer dir self.old }
         ensures new { self.new ≡ after_accept dir self.old }
@@ -178,7 +181,8 @@ impl StreamsState {
         self.sending.is_waiting()
     }
 
-    /// Whether DATA_BLOCKED may be sent: all bytes that the peer lets come were accepted (RFC 9000, section 19.12).
+    /// Whether DATA_BLOCKED may be sent: all bytes that the peer lets come were accepted (RFC 9000,
+    /// section 19.12).
     pub fn can_send_data_blocked(&self) -> bool
         ensures { result ≡ can_send_data_blocked self.now }
     {
@@ -195,8 +199,8 @@ impl StreamsState {
         }
     }
 
-    // A sending half that isn't in use: one on which nothing was done, unless its stream isn't opened, only the peer sends on it, or
-    // it is done.
+    // A sending half that isn't in use: one on which nothing was done, unless its stream isn't
+    // opened, only the peer sends on it, or it is done.
     pub(crate) fn fresh_send(&self, id: StreamId) -> Option<Send>
         requires { at self.now.sending.halves.live id ≡ None }
         ensures { result ≡ sending_half self.now id }
@@ -211,7 +215,8 @@ impl StreamsState {
         Some(self.sending.fresh(self.side, id))
     }
 
-    /// The limit that STREAM_DATA_BLOCKED of a stream names; `None` where it may not be sent (RFC 9000, section 19.13).
+    /// The limit that STREAM_DATA_BLOCKED of a stream names; `None` where it may not be sent (RFC
+    /// 9000, section 19.13).
     pub fn stream_data_blocked_limit(&self, id: StreamId) -> Option<u64>
         ensures value { result ≡ stream_data_blocked_limit self.now id }
         ensures small { IfSome result (λ limit. limit < 2 ^ 62) }
@@ -225,7 +230,8 @@ impl StreamsState {
         }
     }
 
-    /// The priority of a stream. [`ClosedStream`] where there is no such stream, or its sending half is done.
+    /// The priority of a stream. [`ClosedStream`] where there is no such stream, or its sending
+    /// half is done.
     pub fn priority(&self, id: StreamId) -> Result<i32, ClosedStream>
         ensures { result ≡ priority_answer self.now id }
     {
@@ -238,8 +244,8 @@ impl StreamsState {
         }
     }
 
-    /// The code with which the peer stopped a stream, if it did. [`ClosedStream`] where there is no such stream, or its sending half
-    /// is done.
+    /// The code with which the peer stopped a stream, if it did. [`ClosedStream`] where there is no
+    /// such stream, or its sending half is done.
     pub fn stopped(&self, id: StreamId) -> Result<Option<VarInt>, ClosedStream>
         ensures { result ≡ stopped_answer self.now id }
     {
@@ -252,10 +258,12 @@ impl StreamsState {
         }
     }
 
-    /// Takes MAX_STREAMS (RFC 9000, section 19.11), which never lowers a count; the application is told of one that rose.
+    /// Takes MAX_STREAMS (RFC 9000, section 19.11), which never lowers a count; the application is
+    /// told of one that rose.
     ///
-    /// [`ReceivedError::Breach`] where the count is above 2^60: `FrameEncoding`. [`ReceivedError::Memory`] where memory lacks to tell
-    /// of a count that rose. Either changes nothing.
+    /// [`ReceivedError::Breach`] where the count is above 2^60: `FrameEncoding`.
+    /// [`ReceivedError::Memory`] where memory lacks to tell of a count that rose. Either changes
+    /// nothing.
     pub fn received_max_streams(&mut self, dir: Dir, count: u64) -> Result<(), ReceivedError>
         ensures answer { AnswersBreach result (max_streams_breach count) }
         ensures new { UnlessMemory result (self.new ≡ after_max_streams dir count self.old) }
@@ -277,9 +285,10 @@ impl StreamsState {
 
     /// Finishes a stream: its end has to go behind its bytes.
     ///
-    /// [`FinishError::ClosedStream`] where there is no such stream, or its sending half is done; [`FinishError::Stopped`] where the peer
-    /// stopped it; `ClosedStream` where it was finished or reset; [`FinishError::Memory`] where memory lacks to queue it. They are tested
-    /// in this order, and change nothing.
+    /// [`FinishError::ClosedStream`] where there is no such stream, or its sending half is done;
+    /// [`FinishError::Stopped`] where the peer stopped it; `ClosedStream` where it was finished or
+    /// reset; [`FinishError::Memory`] where memory lacks to queue it. They are tested in this
+    /// order, and change nothing.
     pub fn finish(&mut self, id: StreamId) -> Result<(), FinishError>
         ensures answer { result ≢ Err finish_errors.Memory → result ≡ finish_answer self.old id }
         ensures new { result ≢ Err finish_errors.Memory → self.new ≡ after_finish self.old id }
@@ -308,8 +317,9 @@ impl StreamsState {
 
     /// Sets the priority of a stream, which counts when it is queued next.
     ///
-    /// [`UpdateError::ClosedStream`] where there is no such stream, or its sending half is done; [`UpdateError::Memory`] where memory
-    /// lacks to bring its sending half into use. Either changes nothing.
+    /// [`UpdateError::ClosedStream`] where there is no such stream, or its sending half is done;
+    /// [`UpdateError::Memory`] where memory lacks to bring its sending half into use. Either
+    /// changes nothing.
     pub fn set_priority(&mut self, id: StreamId, priority: i32) -> Result<(), UpdateError>
         ensures answer { result ≢ Err update_errors.Memory → result ≡ set_priority_answer self.old id }
         ensures new { result ≢ Err update_errors.Memory → self.new ≡ after_set_priority self.old id priority }
@@ -355,8 +365,8 @@ impl StreamsState {
         written_to(half, self.sending.room(), len)
     }
 
-    // A stream whose write is blocked by what all streams may send, or by its own limit: what the peer is told of that waits, and
-    // the application is told once it takes bytes again.
+    // A stream whose write is blocked by what all streams may send, or by its own limit: what the
+    // peer is told of that waits, and the application is told once it takes bytes again.
     fn block(&mut self, id: StreamId, pending: &mut Retransmits) -> Result<(), AllocError>
         ensures ok { OnOk result (self.new ≡ (blocked_at (sending_half self.old id) self.old pending.old id).state) }
         ensures pending { OnOk result (pending.new ≡ (blocked_at (sending_half self.old id) self.old pending.old id).pending) }
@@ -503,10 +513,12 @@ impl StreamsState {
 
     /// Writes as many of the bytes as fit, and says how many (RFC 9000, sections 2.2 and 4.1).
     ///
-    /// [`WriteError::Blocked`] where the end isn't open; `ClosedStream` where there is no such stream, or its sending half is done;
-    /// `Blocked` where the connection's limit or the send window leaves no room; `ClosedStream` where it was finished or reset;
-    /// `Stopped` where the peer stopped it; `Blocked` where its own limit leaves no room. They are tested in this order, and none of
-    /// the bytes is taken. `Memory` where memory lacks to take some, or to note that the stream is blocked, and nothing changes.
+    /// [`WriteError::Blocked`] where the end isn't open; `ClosedStream` where there is no such
+    /// stream, or its sending half is done; `Blocked` where the connection's limit or the send
+    /// window leaves no room; `ClosedStream` where it was finished or reset; `Stopped` where the
+    /// peer stopped it; `Blocked` where its own limit leaves no room. They are tested in this
+    /// order, and none of the bytes is taken. `Memory` where memory lacks to take some, or to note
+    /// that the stream is blocked, and nothing changes.
     pub fn write(
         &mut self,
         is_open: bool,
@@ -536,10 +548,12 @@ impl StreamsState {
     /// `SendStream::write_chunks`). Says how many bytes, and how many of the buffers they use up,
     /// those without a byte too: the caller goes on behind these.
     ///
-    /// [`WriteError::Blocked`] where the end isn't open; `ClosedStream` where there is no such stream, or its sending half is done;
-    /// `Blocked` where the connection's limit or the send window leaves no room; `ClosedStream` where it was finished or reset;
-    /// `Stopped` where the peer stopped it; `Blocked` where its own limit leaves no room. They are tested in this order, and none of
-    /// the bytes is taken. `Memory` where memory lacks to take some, or to note that the stream is blocked, and nothing changes.
+    /// [`WriteError::Blocked`] where the end isn't open; `ClosedStream` where there is no such
+    /// stream, or its sending half is done; `Blocked` where the connection's limit or the send
+    /// window leaves no room; `ClosedStream` where it was finished or reset; `Stopped` where the
+    /// peer stopped it; `Blocked` where its own limit leaves no room. They are tested in this
+    /// order, and none of the bytes is taken. `Memory` where memory lacks to take some, or to note
+    /// that the stream is blocked, and nothing changes.
     pub fn write_chunks(
         &mut self,
         is_open: bool,
@@ -595,11 +609,13 @@ impl StreamsState {
         self.opening.beyond(self.side, id)
     }
 
-    /// Takes STOP_SENDING (RFC 9000, section 19.5): the first for a sending half that isn't done counts, and the application is told.
+    /// Takes STOP_SENDING (RFC 9000, section 19.5): the first for a sending half that isn't done
+    /// counts, and the application is told.
     ///
-    /// [`ReceivedError::Breach`] where the id breaks a rule: `StreamState` on a stream on which only the peer sends, or on one of this
-    /// end that isn't opened; `StreamLimit` beyond the count that the peer may open. It changes nothing. [`ReceivedError::Memory`] where
-    /// memory lacks, and the frame counts: the stream is open by then, and nothing else changed.
+    /// [`ReceivedError::Breach`] where the id breaks a rule: `StreamState` on a stream on which
+    /// only the peer sends, or on one of this end that isn't opened; `StreamLimit` beyond the count
+    /// that the peer may open. It changes nothing. [`ReceivedError::Memory`] where memory lacks,
+    /// and the frame counts: the stream is open by then, and nothing else changed.
     pub fn received_stop_sending(&mut self, frame: StopSending) -> Result<(), ReceivedError>
         ensures answer { AnswersBreach result (sending_refusal self.old frame.id) }
         ensures new { UnlessMemory result (self.new ≡ after_stop_sending self.old (stop_sending_view frame)) }
@@ -642,8 +658,9 @@ impl StreamsState {
         Ok(())
     }
 
-    /// What the application is told next of streams, if anything: that the peer opened some, two-way ones first; that one takes bytes
-    /// again whose write the connection blocked, the latest first, while the connection has room; and the rest as it came.
+    /// What the application is told next of streams, if anything: that the peer opened some,
+    /// two-way ones first; that one takes bytes again whose write the connection blocked, the
+    /// latest first, while the connection has room; and the rest as it came.
     pub fn poll(&mut self) -> Option<StreamEvent>
         ensures answer { result ≡ (polled self.old).answer }
         ensures new { self.new ≡ (polled self.old).state }

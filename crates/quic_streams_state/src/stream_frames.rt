@@ -19,7 +19,8 @@ use std::alloc::AllocError;
 const LEAST_STREAM_ROOM: usize = 25;
 
 impl StreamsState {
-    // The stream that stands first in the queue, where a datagram has enough bytes left for a frame.
+    // The stream that stands first in the queue, where a datagram has enough bytes left for a
+    // frame.
     fn next_stream(&self, left: usize) -> Option<StreamId>
         ensures next { result ≡ first_in self.now left }
         ensures room { IsSome result → least_stream_room ≤ left }
@@ -30,9 +31,9 @@ impl StreamsState {
         self.sending.first()
     }
 
-    // Appends the frame of a stream, if it brings a byte or the end, with `max_len` bytes of room behind
-    // its type and id, and notes what it carries: whether it did. After an `Err` (want of memory) the
-    // frame is taken, and its stream may stand nowhere in the queue.
+    // Appends the frame of a stream, if it brings a byte or the end, with `max_len` bytes of room
+    // behind its type and id, and notes what it carries: whether it did. After an `Err` (want of
+    // memory) the frame is taken, and its stream may stand nowhere in the queue.
     fn put_if_counts(
         &mut self,
         id: StreamId,
@@ -59,9 +60,9 @@ impl StreamsState {
         Ok(true)
     }
 
-    // Appends the frame that goes next, where so many bytes are left of a datagram, and notes what it
-    // carries: of which stream it is. After an `Err` (want of memory) the frame is taken, and its stream
-    // may stand nowhere in the queue.
+    // Appends the frame that goes next, where so many bytes are left of a datagram, and notes what
+    // it carries: of which stream it is. After an `Err` (want of memory) the frame is taken, and
+    // its stream may stand nowhere in the queue.
     fn put_next(
         &mut self,
         left: usize,

@@ -1,4 +1,5 @@
-//! Frames that come for the receiving halves of streams (RFC 9000, sections 3.2, 4.1, 4.5, 19.4, 19.8, 19.13 and 19.14).
+//! Frames that come for the receiving halves of streams (RFC 9000, sections 3.2, 4.1, 4.5, 19.4,
+//! 19.8, 19.13 and 19.14).
 ghost use Rattle.std.specs.Prelude.{ℕ, ◌≡◌, ◌||◌, not, true, false, Some, None, IsSome, IfSome, OnOk, OnErr};
 ghost use Rattle.std.specs.Option.{is_some};
 ghost use Rattle.quic_wire.specs.FrameView.{frame_view, stream_view, reset_stream_view};
@@ -21,14 +22,17 @@ use quic_wire::frame::{Frame, ResetStream, Stream};
 use quic_wire_core::{Dir, StreamId};
 use std::alloc::AllocError;
 
-/// What a frame is held to by the id or the count that it names, whatever else it does (RFC 9000, sections 4.6 and 19).
+/// What a frame is held to by the id or the count that it names, whatever else it does (RFC 9000,
+/// sections 4.6 and 19).
 #[derive(Clone, Copy, Debug, PartialEq, Eq)]
 pub enum IdRule {
     /// Nothing.
     Free,
-    /// This end receives on the stream, which is open, or which the peer may open: so of STREAM and RESET_STREAM.
+    /// This end receives on the stream, which is open, or which the peer may open: so of STREAM and
+    /// RESET_STREAM.
     ReceivingOf(StreamId),
-    /// This end sends on the stream, which is open, or which the peer may open: so of STOP_SENDING and MAX_STREAM_DATA.
+    /// This end sends on the stream, which is open, or which the peer may open: so of STOP_SENDING
+    /// and MAX_STREAM_DATA.
     SendingOf(StreamId),
     /// The stream isn't one on which only this end sends: so of STREAM_DATA_BLOCKED.
     NotOfOwn(StreamId),
@@ -65,9 +69,10 @@ fn count_breach(count: u64) -> Option<Breach>
 }
 
 impl StreamsState {
-    /// How a frame that is held to a rule of ids and counts breaks it: in this order `StreamState` on a stream on which this end
-    /// doesn't receive or send as the rule asks, or on one of this end that isn't opened, and `StreamLimit` beyond the count that the
-    /// peer may open; `FrameEncoding` for a count above 2^60. `None` where it doesn't break it.
+    /// How a frame that is held to a rule of ids and counts breaks it: in this order `StreamState`
+    /// on a stream on which this end doesn't receive or send as the rule asks, or on one of this
+    /// end that isn't opened, and `StreamLimit` beyond the count that the peer may open;
+    /// `FrameEncoding` for a count above 2^60. `None` where it doesn't break it.
     pub fn breach(&self, rule: IdRule) -> Option<Breach>
         ensures { result ≡ broken self.now rule }
     {
@@ -107,8 +112,8 @@ impl StreamsState {
         self.opening.beyond(self.side, id)
     }
 
-    // The half that a frame is for where it isn't in use: one on which nothing was done, unless it is
-    // done.
+    // The half that a frame is for where it isn't in use: one on which nothing was done, unless it
+    // is done.
     fn unused_part(&self, id: StreamId) -> Option<Recv>
         requires none { at self.now.receiving.halves.live id ≡ None }
         requires lawful { receiving_refusal self.now id ≡ None }
@@ -275,8 +280,8 @@ impl StreamsState {
         Ok(())
     }
 
-    // A frame that isn't refused by its id comes for a half that isn't in use. One piece waits then at
-    // most, and this end didn't stop the half, so it is neither crowded nor over.
+    // A frame that isn't refused by its id comes for a half that isn't in use. One piece waits then
+    // at most, and this end didn't stop the half, so it is neither crowded nor over.
     fn received_fresh(
         &mut self,
         frame: &Stream<'_>,
@@ -306,14 +311,17 @@ impl StreamsState {
         Ok(())
     }
 
-    /// Takes STREAM (RFC 9000, section 19.8): its stream is open then, its bytes and its end are kept unless this end stopped the
-    /// stream or the peer reset it, the application is told that it may read, and the limits that grew wait to be told.
+    /// Takes STREAM (RFC 9000, section 19.8): its stream is open then, its bytes and its end are
+    /// kept unless this end stopped the stream or the peer reset it, the application is told that
+    /// it may read, and the limits that grew wait to be told.
     ///
-    /// [`ReceivedError::Breach`] where it breaks a rule. These change nothing, and are tested in this order: `StreamState` on a stream on
-    /// which only this end sends, or on one of this end that isn't opened; `StreamLimit` beyond the count that the peer may open; and on
-    /// a half that isn't done `FlowControl` beyond 2^62 - 1, `FinalSize` against the final size, and `FlowControl` beyond the limit of
-    /// the stream or of all. `Pieces` where more pieces wait then than may: the frame is kept. [`ReceivedError::Memory`] where memory
-    /// lacks, on a half that this end didn't stop, and nothing changes.
+    /// [`ReceivedError::Breach`] where it breaks a rule. These change nothing, and are tested in
+    /// this order: `StreamState` on a stream on which only this end sends, or on one of this end
+    /// that isn't opened; `StreamLimit` beyond the count that the peer may open; and on a half that
+    /// isn't done `FlowControl` beyond 2^62 - 1, `FinalSize` against the final size, and
+    /// `FlowControl` beyond the limit of the stream or of all. `Pieces` where more pieces wait then
+    /// than may: the frame is kept. [`ReceivedError::Memory`] where memory lacks, on a half that
+    /// this end didn't stop, and nothing changes.
     pub fn received(
         &mut self,
         frame: &Stream<'_>,
@@ -339,8 +347,8 @@ impl StreamsState {
         self.received_used(frame, pending)
     }
 
-    // A reset of a half that is in use is kept, and the application told of the first. An `Err` (want
-    // of memory) changes nothing.
+    // A reset of a half that is in use is kept, and the application told of the first. An `Err`
+    // (want of memory) changes nothing.
     fn keep_reset(&mut self, frame: ResetStream) -> Result<(), AllocError>
         requires { IfSome (at self.old.receiving.halves.live frame.id) (λ h. breach_on self.old.receiving h frame.final_offset true ≡ None) }
         ensures ok { OnOk result (IfSome (at self.old.receiving.halves.live frame.id) (λ h. self.new ≡ noted_on self.old frame.id h (after_reset_stream h frame.error_code frame.final_offset) (not (is_some h.reset)))) }
@@ -399,8 +407,8 @@ impl StreamsState {
         Ok(())
     }
 
-    // A reset that isn't refused by its id comes for a half that isn't in use. This end didn't stop the
-    // half, so it isn't over.
+    // A reset that isn't refused by its id comes for a half that isn't in use. This end didn't stop
+    // the half, so it isn't over.
     fn received_fresh_reset(
         &mut self,
         frame: ResetStream,
@@ -431,13 +439,16 @@ impl StreamsState {
         Ok(())
     }
 
-    /// Takes RESET_STREAM (RFC 9000, section 19.4): its stream is open then, the final size is kept, what waits to be read goes unless
-    /// this end stopped the stream, the application is told of the first that it may read, and the limits that grew wait to be told.
+    /// Takes RESET_STREAM (RFC 9000, section 19.4): its stream is open then, the final size is
+    /// kept, what waits to be read goes unless this end stopped the stream, the application is told
+    /// of the first that it may read, and the limits that grew wait to be told.
     ///
-    /// [`ReceivedError::Breach`] where it breaks a rule, and nothing changes, in this order: `StreamState` on a stream on which only this
-    /// end sends, or on one of this end that isn't opened; `StreamLimit` beyond the count that the peer may open; and on a half that
-    /// isn't done `FinalSize` against another final size, or below what arrived, and `FlowControl` beyond the limit of the stream or of
-    /// all. [`ReceivedError::Memory`] where memory lacks, for the first on a half that this end didn't stop, and nothing changes.
+    /// [`ReceivedError::Breach`] where it breaks a rule, and nothing changes, in this order:
+    /// `StreamState` on a stream on which only this end sends, or on one of this end that isn't
+    /// opened; `StreamLimit` beyond the count that the peer may open; and on a half that isn't done
+    /// `FinalSize` against another final size, or below what arrived, and `FlowControl` beyond the
+    /// limit of the stream or of all. [`ReceivedError::Memory`] where memory lacks, for the first
+    /// on a half that this end didn't stop, and nothing changes.
     pub fn received_reset(
         &mut self,
         frame: ResetStream,

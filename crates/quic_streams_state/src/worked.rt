@@ -22,7 +22,8 @@ ghost use Rattle.quic_streams_state.specs.Telling.{polled};
 ghost use Rattle.quic_streams_state.specs.Frames.{stream_frames_in};
 ghost use Rattle.quic_streams_state.specs.Worked.{client, server, wrote, sends, controls, controls_in, two_stops, resets_wait, took, hello, hello_frame, twenty, eight_written, eight_frame, eight_read, one_written, one_frame, one_read, one_ended, a_frame, one_accepted, end_read, hello_written, hello_reset, reset_taken, hello_taken, hello_stopped, a_ended, byte_lost, end_lost, whole_acked, two_written, higher_written, sends_twice, some_of_twenty};
 
-/// With a window of eight bytes a write takes eight; once the server read them, MAX_DATA tells 16, and a write takes eight more.
+/// With a window of eight bytes a write takes eight; once the server read them, MAX_DATA tells 16,
+/// and a write takes eight more.
 #[tactic(auto, unfolding(quic_wire::specs::Writing::stream_spelling, quic_sets::specs::Offsets::without_offsets, quic_sets::specs::Offsets::with_offsets, quic_sets::specs::Offsets::parts_from, quic_sets::specs::Pieces::pieces, quic_sets::specs::Pieces::joining, quic_sets::specs::Pieces::with_range))]
 pub fn window_of_eight()
     ensures opened { open_answer true Bi (client 8 100) ≡ Some 0 }
@@ -47,7 +48,8 @@ pub fn window_of_one()
     ensures again { write_answer true (after_max_data one_written 2) 0 20 ≡ Ok 1 }
 {}
 
-/// What was written is dropped by a reset, which tells how many bytes that were: RESET_STREAM goes, and no STREAM frame.
+/// What was written is dropped by a reset, which tells how many bytes that were: RESET_STREAM goes,
+/// and no STREAM frame.
 pub fn stream_is_reset()
     ensures answer { reset_answer hello_written 0 ≡ Ok tt }
     ensures again { reset_answer hello_reset.state 0 ≡ Err update_errors.ClosedStream }
@@ -59,7 +61,8 @@ pub fn stream_is_reset()
     ensures told { next_answer told_bytes (reset_taken 0).state 0 32 ≡ Err (read_errors.Reset 5) }
 {}
 
-/// A stream whose bytes and end came may be stopped before it is read: STOP_SENDING goes, nothing is read any more, and the part is done.
+/// A stream whose bytes and end came may be stopped before it is read: STOP_SENDING goes, nothing
+/// is read any more, and the part is done.
 #[tactic(auto, unfolding(quic_sets::specs::Offsets::with_offsets, quic_sets::specs::Pieces::joining, quic_sets::specs::Pieces::with_range))]
 pub fn stream_is_stopped()
     ensures accepted { accept_answer Bi (took (server 1000 100) hello_frame) ≡ Some 0 }
@@ -82,7 +85,8 @@ pub fn buffers_are_written()
     ensures unknown { priority_answer (client 1000 100) 0 ≡ Err (record {}) }
 {}
 
-/// One one-way stream may be open at once: once its bytes and its end were read, one more may be opened.
+/// One one-way stream may be open at once: once its bytes and its end were read, one more may be
+/// opened.
 #[tactic(auto, unfolding(quic_wire::specs::Writing::stream_spelling, quic_sets::specs::Offsets::without_offsets, quic_sets::specs::Offsets::with_offsets, quic_sets::specs::Offsets::parts_from, quic_sets::specs::Pieces::pieces, quic_sets::specs::Pieces::joining, quic_sets::specs::Pieces::with_range))]
 pub fn counts_are_given_back()
     ensures opened { open_answer true Uni (client 1000 1) ≡ Some 2 }
@@ -115,8 +119,8 @@ pub fn broken_rules_are_found()
     ensures stop_beyond { sending_refusal (server 1000 100) 400 ≡ Some breaches.StreamLimit }
 {}
 
-/// An end that was lost waits to go again. Where another frame with it is acknowledged before that, the stream is done, and no
-/// longer stands in the queue.
+/// An end that was lost waits to go again. Where another frame with it is acknowledged before that,
+/// the stream is done, and no longer stands in the queue.
 #[tactic(auto, unfolding(quic_wire::specs::Writing::stream_spelling, quic_sets::specs::Offsets::without_offsets, quic_sets::specs::Offsets::with_offsets, quic_sets::specs::Offsets::parts_from, quic_sets::specs::Pieces::pieces, quic_sets::specs::Pieces::joining, quic_sets::specs::Pieces::with_range))]
 pub fn end_goes_twice()
     ensures alone { (sends a_ended).frames ≡ record { id = 0; offset = 1; fin = true; bytes = [] } ∷ [] }
@@ -128,8 +132,8 @@ pub fn end_goes_twice()
     ensures told { (polled whole_acked.state).answer ≡ Some (stream_events.Finished 0) }
 {}
 
-/// What waits is taken from its front: what is no longer due is dropped, and the first that is due and doesn't fit stays, with all
-/// behind it.
+/// What waits is taken from its front: what is no longer due is dropped, and the first that is due
+/// and doesn't fit stays, with all behind it.
 pub fn first_goes_first()
     ensures goes { (controls_in 5 (client 1000 100) two_stops).frames ≡ stop_sending (record { id = 0; code = 9 }) ∷ [] }
     ensures stays { (controls_in 5 (client 1000 100) two_stops).pending.stop_sending ≡ record { id = 4; code = 9 } ∷ [] }

@@ -1,7 +1,7 @@
 //! Moments, which the caller hands in, and lengths of time: the core has no clock of its own.
 //!
-//! Both are whole nanoseconds in 64 bits, which hold some 584 years. What would pass them saturates: it is the
-//! greatest number of nanoseconds that fits.
+//! Both are whole nanoseconds in 64 bits, which hold some 584 years. What would pass them
+//! saturates: it is the greatest number of nanoseconds that fits.
 ghost use Rattle.std.specs.Prelude.{◌≡◌, ◌+◌, ◌-◌, ◌*◌, ◌/◌, max};
 ghost use Rattle.quic_time.specs.Clocks.{saturated, if_it_fits, moment_before};
 

@@ -1,3 +1,4 @@
-//! What the definitions of this crate say together. Each function does nothing: its contract is the law.
+//! What the definitions of this crate say together. Each function does nothing: its contract is the
+//! law.
 
 pub mod clocks;

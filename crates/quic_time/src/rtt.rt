@@ -58,16 +58,16 @@ impl RttEstimator {
         self.min
     }
 
-    /// The probe timeout without the delay of the peer: the best estimate and four times its variation, or a
-    /// millisecond where that is more. It saturates. (RFC 9002, section 6.2.1.)
+    /// The probe timeout without the delay of the peer: the best estimate and four times its
+    /// variation, or a millisecond where that is more. It saturates. (RFC 9002, section 6.2.1.)
     pub fn pto_base(&self) -> Duration
         ensures { result ≡ probe_timeout self.now }
     {
         self.get() + self.var.saturating_mul(4).max(TIMER_GRANULARITY)
     }
 
-    /// Takes a sample: the round trip took `rtt`, of which the peer held its acknowledgement back for `ack_delay`
-    /// (RFC 9002, section 5.3).
+    /// Takes a sample: the round trip took `rtt`, of which the peer held its acknowledgement back
+    /// for `ack_delay` (RFC 9002, section 5.3).
     pub fn update(&mut self, ack_delay: Duration, rtt: Duration)
         ensures { self.new ≡ with_sample self.old ack_delay rtt }
     {

@@ -10,7 +10,8 @@ use std::marker::Model;
 /// What a timer is for (quinn-proto's `Timer`).
 #[derive(Clone, Copy, Debug, PartialEq, Eq, PartialOrd, Ord)]
 pub enum Timer {
-    /// When to send a probe that asks for an acknowledgement, or to declare packets lost (RFC 9002, section 6).
+    /// When to send a probe that asks for an acknowledgement, or to declare packets lost (RFC 9002,
+    /// section 6).
     LossDetection = 0,
     /// When to close the connection because nothing came (RFC 9000, section 10.1).
     Idle = 1,

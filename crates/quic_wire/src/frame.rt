@@ -62,7 +62,8 @@ pub enum Frame<'a> {
     MaxStreams {
         /// Which streams.
         dir: Dir,
-        /// How many of them since the connection began: below 2^62. An end that acts on it closes above 2^60 (section 19.11).
+        /// How many of them since the connection began: below 2^62. An end that acts on it closes
+        /// above 2^60 (section 19.11).
         count: u64,
     },
     /// The limit of the connection holds data back (section 19.12).
@@ -81,7 +82,8 @@ pub enum Frame<'a> {
     StreamsBlocked {
         /// Which streams.
         dir: Dir,
-        /// How many may be opened: below 2^62. An end that acts on it closes above 2^60 (section 19.14).
+        /// How many may be opened: below 2^62. An end that acts on it closes above 2^60 (section
+        /// 19.14).
         limit: u64,
     },
     /// Gives an id of the connection (section 19.15).
@@ -130,8 +132,8 @@ impl<'a> Frame<'a> {
     ghost use Rattle.quic_wire.specs.FrameView.{frame_view};
     ghost use Rattle.quic_wire.specs.Writing.{type_number};
 
-    /// The frame's type; of a STREAM or DATAGRAM frame the type that it has where its length isn't written
-    /// (quinn-proto's `Frame::ty`).
+    /// The frame's type; of a STREAM or DATAGRAM frame the type that it has where its length isn't
+    /// written (quinn-proto's `Frame::ty`).
     pub fn ty(&self) -> FrameType
         ensures { result ≡ type_number (frame_view self.now) }
     {
@@ -165,8 +167,8 @@ impl<'a> Frame<'a> {
         }
     }
 
-    /// Whether a packet with this frame asks for an acknowledgement: all frames but PADDING, ACK and the closes do
-    /// (RFC 9000, section 13.2; quinn-proto's `Frame::is_ack_eliciting`).
+    /// Whether a packet with this frame asks for an acknowledgement: all frames but PADDING, ACK
+    /// and the closes do (RFC 9000, section 13.2; quinn-proto's `Frame::is_ack_eliciting`).
     pub fn is_ack_eliciting(&self) -> bool
         ensures { result ≡ asks (frame_view self.now) }
     {
@@ -203,7 +205,8 @@ impl<'a> Stream<'a> {
     /// The most bytes that stand before the data: type, id, offset and length.
     pub const SIZE_BOUND: usize = 1 + 8 + 8 + 8;
 
-    /// The type, with the bits of an offset that isn't 0, of a length that is written and of the end.
+    /// The type, with the bits of an offset that isn't 0, of a length that is written and of the
+    /// end.
     pub(crate) fn ty(&self, with_length: bool) -> u32
         ensures { result ≡ type_of (is_stream (has_offset self.now.offset) with_length self.now.fin) }
     {
@@ -258,12 +261,13 @@ pub struct NewConnectionId {
 }
 
 impl NewConnectionId {
-    /// The most bytes that such a frame takes: type, two numbers, the length of the id, the id and the token.
+    /// The most bytes that such a frame takes: type, two numbers, the length of the id, the id and
+    /// the token.
     pub const SIZE_BOUND: usize = 1 + 8 + 8 + 1 + MAX_CID_SIZE + RESET_TOKEN_SIZE;
 }
 
-/// Asks the peer to acknowledge more or less often (the ACK frequency extension, section 4; quinn-proto's
-/// `frame::AckFrequency`).
+/// Asks the peer to acknowledge more or less often (the ACK frequency extension, section 4;
+/// quinn-proto's `frame::AckFrequency`).
 #[derive(Clone, Copy, Debug, PartialEq, Eq)]
 pub struct AckFrequency {
     /// The number of this request among those of its sender.
@@ -290,7 +294,8 @@ pub enum FrameError {
     InvalidId,
 }
 
-/// Bytes that are no frame: the type, where it could be read, and why (quinn-proto's `frame::InvalidFrame`).
+/// Bytes that are no frame: the type, where it could be read, and why (quinn-proto's
+/// `frame::InvalidFrame`).
 #[derive(Clone, Copy, Debug, PartialEq, Eq, Error)]
 #[error("invalid frame: {reason}")]
 pub struct InvalidFrame {

@@ -1,4 +1,5 @@
-//! What the definitions of frames say together. Each function does nothing: its contract is the law.
+//! What the definitions of frames say together. Each function does nothing: its contract is the
+//! law.
 ghost use Rattle.std.specs.Prelude.{◌≡◌, ℕ, ◌+◌, ◌≤◌, Bool, false, List, [], ◌∷◌, ◌++◌, ◌<◌, ◌^◌, length, map, replicate, Ok, Err, Result, Option, ◌↔◌};
 ghost use Rattle.quic_wire.specs.declared.frame.InvalidFrame.{InvalidFrame};
 ghost use Rattle.quic_wire.specs.Value.{FrameValue, StreamValue, ack, padding, stream, datagram};
@@ -11,7 +12,8 @@ ghost use Rattle.quic_wire.specs.AckSet.{ack_of_set, IsSmall};
 ghost use Rattle.quic_wire.specs.AckWriting.{ack_spelling};
 ghost use Rattle.quic_wire.specs.Writing.{spelling, stream_spelling, datagram_to_end, spelled_all, Fits, AllFit, StreamFits, frame_size, stream_size, most_of};
 
-/// A type number names one kind of frame, and each kind is named by its number (RFC 9000, section 12.4).
+/// A type number names one kind of frame, and each kind is named by its number (RFC 9000, section
+/// 12.4).
 pub fn types_name_kinds()
     ensures number { (type : ℕ) → type_of (kind_of type) ≡ type }
     ensures kind { (kind : Kind) → IsKnown kind → kind_of (type_of kind) ≡ kind }
@@ -39,8 +41,8 @@ pub fn payload_is_one_list()
     ensures { (fs gs : List FrameValue) (bytes : List ℕ) → Payload fs bytes → Payload gs bytes → fs ≡ gs }
 {}
 
-/// What is written for a frame is a form of it, whatever follows it; a STREAM or DATAGRAM frame without its length
-/// where nothing follows it.
+/// What is written for a frame is a form of it, whatever follows it; a STREAM or DATAGRAM frame
+/// without its length where nothing follows it.
 pub fn written_is_form()
     ensures frame { (f : FrameValue) (rest : List ℕ) → Fits f → IsForm f (spelling f) rest }
     ensures stream { (with_length : Bool) (s : StreamValue) (rest : List ℕ) → StreamFits s → Ends with_length rest → IsForm (stream s) (stream_spelling with_length s) rest }
@@ -59,21 +61,24 @@ pub fn written_has_size()
     ensures datagram { (d : List ℕ) → length (datagram_to_end d) ≡ 1 + length d }
 {}
 
-/// A frame of each kind takes no more bytes than the greatest numbers of its fields and its text do.
+/// A frame of each kind takes no more bytes than the greatest numbers of its fields and its text
+/// do.
 pub fn written_has_bound()
     ensures { (f : FrameValue) → Fits f → frame_size f ≤ most_of f }
 {}
 
-/// Frames that are written are read as those frames: each byte 0 behind them as PADDING, and a STREAM or
-/// DATAGRAM frame without its length as the last of them: all that follows its header is its text.
+/// Frames that are written are read as those frames: each byte 0 behind them as PADDING, and a
+/// STREAM or DATAGRAM frame without its length as the last of them: all that follows its header is
+/// its text.
 pub fn written_is_read()
     ensures padded { (fs : List FrameValue) (count : ℕ) → AllFit fs → items (spelled_all fs ++ replicate count 0) ≡ map Ok (fs ++ replicate count padding) }
     ensures last { (fs : List FrameValue) (s : StreamValue) → AllFit fs → StreamFits s → items (spelled_all fs ++ stream_spelling false s) ≡ map Ok (fs ++ stream s ∷ []) }
     ensures last_datagram { (fs : List FrameValue) (d : List ℕ) → AllFit fs → items (spelled_all fs ++ datagram_to_end d) ≡ map Ok (fs ++ datagram d ∷ []) }
 {}
 
-/// An ACK frame is its set of numbers (RFC 9000, section 19.3.1): what is written for a set that isn't empty has a form and is
-/// read as that frame, whatever follows it, and a number is in the set exactly where one of the frame's ranges holds it.
+/// An ACK frame is its set of numbers (RFC 9000, section 19.3.1): what is written for a set that
+/// isn't empty has a form and is read as that frame, whatever follows it, and a number is in the
+/// set exactly where one of the frame's ranges holds it.
 pub fn ack_is_its_set()
     ensures fits { (delay : ℕ) (runs : List Run) (ecn : Option (ℕ × ℕ × ℕ)) → AreRuns runs → (runs ≡ [] → ⊥) → IsSmall runs → delay < 2 ^ 62 → EcnFits ecn → Fits (ack (ack_of_set delay runs ecn)) }
     ensures read { (delay : ℕ) (runs : List Run) (ecn : Option (ℕ × ℕ × ℕ)) (rest : List ℕ) → AreRuns runs → (runs ≡ [] → ⊥) → IsSmall runs → delay < 2 ^ 62 → EcnFits ecn

@@ -6,8 +6,8 @@ use crate::frame::{
     ApplicationClose, ConnectionClose, Datagram, NewConnectionId, ResetStream, StopSending, Stream,
 };
 
-/// Frames that were sent are the frames that a mate reads, where the expected number lies from the greatest acknowledged up
-/// to less than half a window above the datagram's.
+/// Frames that were sent are the frames that a mate reads, where the expected number lies from the
+/// greatest acknowledged up to less than half a window above the datagram's.
 pub fn frames_arrive()
     ensures { FramesArrive }
 {}

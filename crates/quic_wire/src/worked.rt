@@ -1,5 +1,5 @@
-//! The definitions computed on samples of RFC 9000, and on one short stream. Each function does nothing: its contract is the
-//! law.
+//! The definitions computed on samples of RFC 9000, and on one short stream. Each function does
+//! nothing: its contract is the law.
 ghost use Rattle.std.specs.Prelude.{◌≡◌, ◌-◌, true, false, [], ◌∷◌, ◌++◌, drop, replicate, Some, None, Ok, Err};
 ghost use Rattle.quic_wire_core.specs.Varint.{Spells, varint_at, shortest};
 ghost use Rattle.quic_wire.specs.declared.frame.FrameError.TheVariants.{UnexpectedEnd, InvalidId};
@@ -21,7 +21,8 @@ ghost use Rattle.quic_parameters.specs.ParametersRead.{parameters_at};
 ghost use Rattle.quic_parameters.specs.ParametersWritten.{IsWriteOrder, places, written_parameters};
 ghost use Rattle.quic_wire.specs.Worked.{seven_numbers, seven_acked, seven_spelled, hello_stream, hello_sized, hello_unsized, eight_bytes, short_header, limits, limits_spelled, no_limits};
 
-/// The samples of RFC 9000, A.1: each form is a form of its number, is read as it, and all but the last are the shortest.
+/// The samples of RFC 9000, A.1: each form is a form of its number, is read as it, and all but the
+/// last are the shortest.
 pub fn integers_of_the_standard()
     ensures eight_bytes { shortest 151288809941952652 ≡ 0xc2 ∷ 0x19 ∷ 0x7c ∷ 0x5e ∷ 0xff ∷ 0x14 ∷ 0xe8 ∷ 0x8c ∷ [] }
     ensures eight_read { varint_at (0xc2 ∷ 0x19 ∷ 0x7c ∷ 0x5e ∷ 0xff ∷ 0x14 ∷ 0xe8 ∷ 0x8c ∷ []) ≡ Some (151288809941952652, []) }
@@ -41,8 +42,8 @@ pub fn integers_of_the_standard()
     ensures empty { varint_at [] ≡ None }
 {}
 
-/// The samples of RFC 9000, A.2: where 0xabe8b3 is acknowledged, 0xac5c02 takes 16 bits and 0xace8fe takes 24. The same holds
-/// where 0xabe8bc is.
+/// The samples of RFC 9000, A.2: where 0xabe8b3 is acknowledged, 0xac5c02 takes 16 bits and
+/// 0xace8fe takes 24. The same holds where 0xabe8bc is.
 pub fn numbers_are_cut()
     ensures two_bytes { truncated 0xac5c02 0xabe8b3 ≡ record { width = 2; residue = 0x5c02 } }
     ensures two_written { number_bytes (truncated 0xac5c02 0xabe8b3) ≡ 0x5c ∷ 0x02 ∷ [] }
@@ -68,7 +69,8 @@ pub fn numbers_are_expanded()
     ensures below { expanded (record { width = 1; residue = 1 }) 130 ≡ 257 }
 {}
 
-/// A short header is written as RFC 9000, section 17.3.1, has it, and its id is read again or refused.
+/// A short header is written as RFC 9000, section 17.3.1, has it, and its id is read again or
+/// refused.
 pub fn headers_are_read()
     ensures written { header_bytes eight_bytes (truncated 0x100 0) ≡ short_header }
     ensures width { width_in 0x41 ≡ 2 }
@@ -84,8 +86,8 @@ pub fn headers_are_read()
     ensures nothing { decoded (fixed_length_id 8) (eight_bytes ∷ []) [] ≡ Err TooShort }
 {}
 
-/// A STREAM frame is spelled with its length or to the payload's end, and its offset stands where it isn't 0 (RFC 9000,
-/// section 19.8).
+/// A STREAM frame is spelled with its length or to the payload's end, and its offset stands where
+/// it isn't 0 (RFC 9000, section 19.8).
 #[tactic(auto, unfolding(crate::specs::Writing::stream_spelling, crate::specs::FrameTypes::kind_of))]
 pub fn frames_are_spelled()
     ensures sized { spelling (stream hello_stream) ≡ hello_sized }
@@ -103,7 +105,8 @@ pub fn frames_are_spelled()
     ensures asks_not { asks padding ≡ false }
 {}
 
-/// A payload is read frame by frame, up to the first field that can't be read (RFC 9000, section 12.4).
+/// A payload is read frame by frame, up to the first field that can't be read (RFC 9000, section
+/// 12.4).
 #[tactic(auto, unfolding(crate::specs::Items::items, crate::specs::Items::items_within, crate::specs::Items::frame_at, crate::specs::Reading::body_at, crate::specs::FrameTypes::kind_of, crate::specs::Reading::stream_at, crate::specs::Reading::offset_at, crate::specs::Reading::data_at, crate::specs::Reading::sized_at, crate::specs::Reading::block_at))]
 pub fn frames_are_read()
     ensures sized { items hello_sized ≡ Ok (stream hello_stream) ∷ [] }
@@ -116,8 +119,8 @@ pub fn frames_are_read()
     ensures unknown { items (0x40 ∷ 0x42 ∷ 0x00 ∷ []) ≡ Err (record { ty = Some 0x42; reason = InvalidId }) ∷ [] }
 {}
 
-/// The limits are spelled as RFC 9000, section 18, has them, and read again; what can't be read is refused for the first
-/// reason in the list's order.
+/// The limits are spelled as RFC 9000, section 18, has them, and read again; what can't be read is
+/// refused for the first reason in the list's order.
 #[tactic(auto, unfolding(quic_parameters::specs::ParametersRead::parameters_at, quic_parameters::specs::ParametersRead::judged, quic_parameters::specs::ParametersRead::values_met, quic_parameters::specs::ParametersRead::met_in, quic_parameters::specs::ParametersRead::met_within, quic_parameters::specs::ParametersRead::met_after, quic_parameters::specs::ParametersRead::whole_at, quic_parameters::specs::ParametersRead::entry_at))]
 pub fn parameters_are_read()
     ensures written { written_parameters limits places ≡ limits_spelled }
@@ -141,8 +144,9 @@ pub fn parameters_are_read()
     ensures delay_malformed { parameters_at (0xc0 ∷ 0x00 ∷ 0x00 ∷ 0x00 ∷ 0xff ∷ 0x04 ∷ 0xde ∷ 0x1b ∷ 0x02 ∷ 0x43 ∷ 0xe9 ∷ 0x0b ∷ 0x01 ∷ 0x01 ∷ 0x04 ∷ []) ≡ Err Malformed }
 {}
 
-/// A set of numbers is written as an ACK frame, and read again; fields are judged in their order (RFC 9000, section 19.3): a
-/// first range longer than its greatest number, a gap that is too large with nothing behind it, a length that is too large.
+/// A set of numbers is written as an ACK frame, and read again; fields are judged in their order
+/// (RFC 9000, section 19.3): a first range longer than its greatest number, a gap that is too large
+/// with nothing behind it, a length that is too large.
 #[tactic(auto, unfolding(crate::specs::Items::items, crate::specs::Items::items_within, crate::specs::Items::frame_at, crate::specs::Reading::body_at, crate::specs::FrameTypes::kind_of, crate::specs::AckReading::ack_at, crate::specs::AckReading::ranges_at, crate::specs::AckReading::range_at, crate::specs::AckReading::ecn_at, crate::specs::AckReading::some_ecn_at))]
 pub fn acks_are_sets()
     ensures set { ack_of_set 42 seven_numbers (Some (42, 24, 12)) ≡ seven_acked }

@@ -49,7 +49,8 @@ impl FrameType {
     /// Gives a token for a later connection (RFC 9000, section 19.7).
     pub const NEW_TOKEN: FrameType = FrameType(0x07);
 
-    /// The least of the eight types of frames that carry bytes of a stream (RFC 9000, section 19.8).
+    /// The least of the eight types of frames that carry bytes of a stream (RFC 9000, section
+    /// 19.8).
     pub const STREAM: FrameType = FrameType(0x08);
 
     /// Raises the limit of the connection (RFC 9000, section 19.9).
@@ -180,7 +181,8 @@ impl From<FrameType> for u64 {
     }
 }
 
-/// The name of the type in RFC 9000, RFC 9221 or the ACK frequency extension, or `unknown frame type N`.
+/// The name of the type in RFC 9000, RFC 9221 or the ACK frequency extension, or `unknown frame
+/// type N`.
 impl fmt::Display for FrameType {
     ghost output = { λ ty. Some (frame_text ty) };
 

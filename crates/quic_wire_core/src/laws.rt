@@ -1,4 +1,5 @@
-//! What the definitions of this crate say together. Each function does nothing: its contract is the law.
+//! What the definitions of this crate say together. Each function does nothing: its contract is the
+//! law.
 ghost use Rattle.std.specs.Prelude.{◌≡◌, ℕ, ◌<◌, ◌≤◌, ◌^◌, ◌↔◌, List, ◌++◌, Some, IsTrue, length, nat_eq};
 ghost use Rattle.std.specs.Cmp.Lexicographic.{pointwise};
 ghost use Rattle.std.specs.Int.{w8, w16, w32, w64};
@@ -51,8 +52,8 @@ pub fn forms_are_of_one()
     ensures { (v w : ℕ) (bytes : List ℕ) → Spells v bytes → Spells w bytes → v ≡ w }
 {}
 
-/// What each type with a form in bytes writes for a value, followed by any bytes, is read as that value, and those bytes
-/// are left.
+/// What each type with a form in bytes writes for a value, followed by any bytes, is read as that
+/// value, and those bytes are left.
 pub fn encoded_is_decoded()
     ensures varint { (n : ℕ) (rest : List ℕ) → n < 2 ^ 62 → ⟦<VarInt as Codec>⟧.reads (⟦<VarInt as Codec>⟧.spelling n ++ rest) ≡ Some (n, rest) }
     ensures stream_id { (n : ℕ) (rest : List ℕ) → n < 2 ^ 62 → ⟦<StreamId as Codec>⟧.reads (⟦<StreamId as Codec>⟧.spelling n ++ rest) ≡ Some (n, rest) }
@@ -64,7 +65,8 @@ pub fn encoded_is_decoded()
     ensures eight_bytes { (n : ℕ) (rest : List ℕ) → n < 2 ^ 64 → ⟦<u64 as Codec>⟧.reads (⟦<u64 as Codec>⟧.spelling n ++ rest) ≡ Some (n, rest) }
 {}
 
-/// Numbers of a fixed width are read where their big-endian bytes stand at the front, and only there.
+/// Numbers of a fixed width are read where their big-endian bytes stand at the front, and only
+/// there.
 pub fn fixed_is_spelled()
     ensures byte { (bytes : List ℕ) (n : ℕ) (rest : List ℕ) → IsBytes bytes → fixed_at w8 bytes ≡ Some (n, rest) → BeginsWith w8 bytes n rest }
     ensures two_bytes { (bytes : List ℕ) (n : ℕ) (rest : List ℕ) → IsBytes bytes → fixed_at w16 bytes ≡ Some (n, rest) → BeginsWith w16 bytes n rest }
@@ -85,13 +87,15 @@ pub fn stream_ids_differ()
     ensures { (side : Side) (dir : Dir) (index : ℕ) (side' : Side) (dir' : Dir) (index' : ℕ) → stream_id side dir index ≡ stream_id side' dir' index' → AreSameParts side dir index side' dir' index' }
 {}
 
-/// What `==` answers of two connection ids, and where `cmp` calls them equal: where their bytes are.
+/// What `==` answers of two connection ids, and where `cmp` calls them equal: where their bytes
+/// are.
 pub fn connection_ids_are_their_bytes()
     ensures eq { (a b : List ℕ) → IsTrue (pointwise nat_eq a b) ↔ a ≡ b }
     ensures cmp { (a b : List ℕ) → (id_cmp a b ≡ Equal) ↔ a ≡ b }
 {}
 
-/// What `==` answers of two errors of the transport: whether they have the same code and the same frame.
+/// What `==` answers of two errors of the transport: whether they have the same code and the same
+/// frame.
 pub fn errors_are_code_and_frame()
     ensures { (a b : ErrorValue) → IsTrue (same_error a b) ↔ a ≡ b }
 {}

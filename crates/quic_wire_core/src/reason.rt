@@ -2,7 +2,8 @@
 ghost use Rattle.std.specs.Prelude.{◌≡◌};
 ghost use Rattle.quic_wire_core.specs.Reason.{reason_text};
 
-/// Why an end says that a rule of the transport was broken: a text for people, that takes no memory.
+/// Why an end says that a rule of the transport was broken: a text for people, that takes no
+/// memory.
 #[derive(Clone, Copy, Debug, PartialEq, Eq)]
 pub enum Reason {
     /// Nothing is said.

@@ -18,13 +18,15 @@ use std::hash::{Hash, Hasher};
 use std::marker::Model;
 use std::ops::DerefSlice;
 
-/// The most bytes of an id in QUIC version 1 (RFC 9000, section 17.2; quinn-proto's `MAX_CID_SIZE`).
+/// The most bytes of an id in QUIC version 1 (RFC 9000, section 17.2; quinn-proto's
+/// `MAX_CID_SIZE`).
 pub const MAX_CID_SIZE: usize = 20;
 
-/// An id of a connection: at most 20 bytes (RFC 9000, sections 5.1 and 17.2; quinn-proto's `ConnectionId`).
+/// An id of a connection: at most 20 bytes (RFC 9000, sections 5.1 and 17.2; quinn-proto's
+/// `ConnectionId`).
 ///
-/// Contracts see the list of the bytes. Two ids are equal exactly where these lists are; the order is by length, and
-/// then by bytes.
+/// Contracts see the list of the bytes. Two ids are equal exactly where these lists are; the order
+/// is by length, and then by bytes.
 #[derive(Clone, Copy, Debug)]
 pub struct ConnectionId {
     len: u8,
@@ -179,8 +181,8 @@ impl fmt::Display for ConnectionId {
     }
 }
 
-/// A connection id that an end gave its peer, with what the peer is told of it (RFC 9000, section 19.15; quinn-proto's
-/// `IssuedCid`).
+/// A connection id that an end gave its peer, with what the peer is told of it (RFC 9000, section
+/// 19.15; quinn-proto's `IssuedCid`).
 #[derive(Clone, Copy, Debug, PartialEq, Eq)]
 pub struct IssuedCid {
     /// The number of the id, counted from 0 for the first one.
@@ -209,7 +211,8 @@ fn write_hex_byte<W: fmt::Write>(f: &mut fmt::Formatter<W>, byte: u8) -> fmt::Re
     write!(f, "{byte:02x}")
 }
 
-/// The congestion mark of an IP packet, where it has one (RFC 3168, section 5; quinn-proto's `EcnCodepoint`).
+/// The congestion mark of an IP packet, where it has one (RFC 3168, section 5; quinn-proto's
+/// `EcnCodepoint`).
 #[derive(Clone, Copy, Debug, PartialEq, Eq)]
 pub enum EcnCodepoint {
     /// The transport takes marks, codepoint ECT(0).

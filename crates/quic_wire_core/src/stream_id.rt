@@ -136,8 +136,8 @@ impl fmt::Display for Dir {
 
 /// The id of a stream, below 2^62 (quinn-proto's `StreamId`).
 ///
-/// Contracts see the number: four times the place of the stream among those of its kind, plus 2 where it runs one
-/// way, plus 1 where the server opens it.
+/// Contracts see the number: four times the place of the stream among those of its kind, plus 2
+/// where it runs one way, plus 1 where the server opens it.
 #[derive(Clone, Copy, Debug, PartialEq, Eq, PartialOrd, Ord, Hash)]
 pub struct StreamId(u64);
 
@@ -154,7 +154,8 @@ impl Model for StreamId {
 }
 
 impl StreamId {
-    /// The id of the stream that `initiator` opens in the directions `dir`, as its `index`th from 0.
+    /// The id of the stream that `initiator` opens in the directions `dir`, as its `index`th from
+    /// 0.
     pub fn new(initiator: Side, dir: Dir, index: u64) -> Self
         requires { index < 2 ^ 60 }
         ensures { result ≡ stream_id initiator dir index }

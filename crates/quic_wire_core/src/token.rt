@@ -11,8 +11,8 @@ use std::ops::DerefSlice;
 /// How many bytes a token has (RFC 9000, section 10.3; quinn-proto's `RESET_TOKEN_SIZE`).
 pub const RESET_TOKEN_SIZE: usize = 16;
 
-/// The token of a stateless reset: 16 bytes, which an end tells its peer with each of its ids (RFC 9000, section 10.3;
-/// quinn-proto's `ResetToken`). Contracts see the list of its bytes.
+/// The token of a stateless reset: 16 bytes, which an end tells its peer with each of its ids (RFC
+/// 9000, section 10.3; quinn-proto's `ResetToken`). Contracts see the list of its bytes.
 #[derive(Clone, Copy, Debug, PartialEq, Eq)]
 pub struct ResetToken([u8; RESET_TOKEN_SIZE]);
 

@@ -13,8 +13,8 @@ use std::error::Error;
 use std::fmt;
 use std::marker::Model;
 
-/// The code of an error of the transport: a number below 2^62 (RFC 9000, section 20.1; quinn-proto's
-/// `transport_error::Code`).
+/// The code of an error of the transport: a number below 2^62 (RFC 9000, section 20.1;
+/// quinn-proto's `transport_error::Code`).
 ///
 /// Contracts see the number.
 #[derive(Clone, Copy, Debug, PartialEq, Eq)]
@@ -174,10 +174,11 @@ fn name_of(code: u64) -> Option<&'static str>
     Some(name)
 }
 
-/// An error of the transport: its code, the type of the frame that caused it, where one did, and a reason for
-/// people to read (quinn-proto's `transport_error::Error`).
+/// An error of the transport: its code, the type of the frame that caused it, where one did, and a
+/// reason for people to read (quinn-proto's `transport_error::Error`).
 ///
-/// Contracts see the code and the type of the frame. Two errors are equal where these are, whatever their reasons.
+/// Contracts see the code and the type of the frame. Two errors are equal where these are, whatever
+/// their reasons.
 #[derive(Clone, Debug, Drop)]
 pub struct TransportError {
     code: Code,

@@ -9,7 +9,8 @@ use std::fmt;
 use std::marker::Model;
 use thiserror::Error;
 
-/// A number below 2^62, which QUIC writes in one, two, four or eight bytes (quinn-proto's `VarInt`).
+/// A number below 2^62, which QUIC writes in one, two, four or eight bytes (quinn-proto's
+/// `VarInt`).
 ///
 /// Contracts see the number itself.
 #[derive(Clone, Copy, Debug, Default, PartialEq, Eq, PartialOrd, Ord, Hash)]

@@ -1,5 +1,5 @@
-//! Calls that take memory. Each test passes with memory, and where one of its first four allocations fails: the call that
-//! answers so is then made once more.
+//! Calls that take memory. Each test passes with memory, and where one of its first four
+//! allocations fails: the call that answers so is then made once more.
 mod close;
 mod coding;
 mod frame;

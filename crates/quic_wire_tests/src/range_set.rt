@@ -65,7 +65,8 @@ pub(crate) fn are(runs: &[Range<u64>], wanted: &[(u64, u64)]) -> bool {
     true
 }
 
-/// Puts the numbers of a range in or takes them out, one by one, and tells whether that changed anything.
+/// Puts the numbers of a range in or takes them out, one by one, and tells whether that changed
+/// anything.
 fn put(list: &mut [bool], adds: bool, x: &Range<u64>) -> bool {
     let mut changed = false;
     for k in 0..list.len() {
@@ -94,7 +95,8 @@ fn runs_of(alloc: Global, list: &[bool]) -> Result<Vec<(u64, u64)>, AllocError> 
     Ok(runs)
 }
 
-/// Whether an empty set equals a list through 300 changes, by ranges of which some are empty or reversed.
+/// Whether an empty set equals a list through 300 changes, by ranges of which some are empty or
+/// reversed.
 fn equals_a_list<S: Numbers>(alloc: Global, set: &mut S) -> Result<bool, AllocError> {
     let mut list = [false; 65];
     let mut state: u64 = 1;

@@ -6,7 +6,8 @@ use Rattle.quic_wire_core.specs.declared.stream_id.Side.TheVariants.{Client, Ser
 use Rattle.quic_wire_core.specs.declared.stream_id.Dir.TheVariants.{Uni}
 use Rattle.quic_wire.specs.Value.{FrameValue, max_data, max_stream_data, max_streams}
 use Rattle.quic_parameters.specs.ParametersRead.{parameters_at, judged, values_met, met_in, met_within, met_after, whole_at, entry_at}
-use Rattle.quic_config.specs.Transport.{default_settings, parameters_of}
+use Rattle.quic_config.specs.Transport.{parameters_of}
+use Rattle.quic_worked.specs.Settings.{plain_settings}
 use Rattle.quic_machine.specs.End.{IsMade}
 use Rattle.quic_machine.specs.declared.run.ReadCall.{ReadCall}
 use Rattle.quic_machine.specs.Start.{AreStarted}
@@ -207,11 +208,11 @@ one_way_say = refl
 
 unfoldable count_started : AreStarted narrow_count
 count_started = record {
-  client_making = record { settings = default_settings; windows = steady; parameters = worked_parameters; id = client_id; moment = 0; validated = true; word = 63 };
+  client_making = record { settings = plain_settings; windows = steady; parameters = worked_parameters; id = client_id; moment = 0; validated = true; word = 63 };
   server_making = record { settings = with_uni 1; windows = steady; parameters = one_way_parameters; id = server_id; moment = 0; validated = true; word = 63 };
-  client_is = record { range = record { receive_window = lit< tt; stream_receive_window = lit< tt; initial_mtu = lit≤ tt }; says = parameters_say; id = refl };
-  server_is = record { range = record { receive_window = lit< tt; stream_receive_window = lit< tt; initial_mtu = lit≤ tt }; says = one_way_say; id = refl };
-  client = subst (λ read. IsMade Client default_settings steady read client_id server_id 0 true 63 narrow_count.client) (sym one_way_say) refl;
+  client_is = record { range = record { receive_window = lit< tt; stream_receive_window = lit< tt; bounds = record { bidi = lit≤ tt; uni = lit≤ tt; divides = lit< tt; initial = lit≤ tt; least = lit≤ tt }; search = tt }; sizes = lit≤ tt; says = parameters_say; id = refl };
+  server_is = record { range = record { receive_window = lit< tt; stream_receive_window = lit< tt; bounds = record { bidi = lit≤ tt; uni = lit≤ tt; divides = lit< tt; initial = lit≤ tt; least = lit≤ tt }; search = tt }; sizes = lit≤ tt; says = one_way_say; id = refl };
+  client = subst (λ read. IsMade Client plain_settings steady read client_id server_id 0 true 63 narrow_count.client) (sym one_way_say) refl;
   server = subst (λ read. IsMade Server (with_uni 1) steady read server_id client_id 0 true 63 narrow_count.server) (sym parameters_say) refl;
   client_gave = refl;
   server_gave = refl;

@@ -1,5 +1,5 @@
 -- Machines with a fault: the clause that is false of the run of each, that it meets the premises, and that the reference machine makes another.
-use Rattle.std.proofs.Common.{◌≡◌, ℕ, List, [], ◌∷◌, ◌++◌, Some, None, Result, Ok, Err, true, false, refl, inl, inr, ap, sym, ◌∙◌, subst, arith, lit<, lit≤}
+use Rattle.std.proofs.Common.{◌≡◌, ℕ, List, [], ◌∷◌, Some, None, Result, Ok, Err, true, false, refl, inl, inr, ap, sym, ◌∙◌, subst, arith, lit<, lit≤}
 use Rattle.quic_wire_core.specs.TransportError.{plain_error}
 use Rattle.quic_wire_core.specs.declared.stream_id.Side.{Side}
 use Rattle.quic_wire_core.specs.declared.stream_id.Side.TheVariants.{Client, Server}
@@ -7,7 +7,8 @@ use Rattle.quic_wire_core.specs.declared.stream_id.Dir.TheVariants.{Uni}
 use Rattle.quic_wire.specs.Value.{StreamValue, stream}
 use Rattle.quic_parameters.specs.ParametersRead.{parameters_at, judged, values_met, met_in, met_within, met_after, whole_at, entry_at}
 use Rattle.quic_packet.specs.Datagram.{Opening}
-use Rattle.quic_config.specs.Transport.{default_settings, parameters_of}
+use Rattle.quic_config.specs.Transport.{parameters_of}
+use Rattle.quic_worked.specs.Settings.{plain_settings}
 use Rattle.quic_streams_parts.specs.declared.answers.WriteError.{WriteError}
 use Rattle.quic_streams_parts.specs.declared.answers.WriteError.TheVariants as write_errors
 use Rattle.quic_machine.specs.declared.answers.State.TheVariants as states
@@ -125,11 +126,11 @@ one_way_say = refl
 one_back_started : AreStarted one_back
 one_back_started = record {
   client_making = record { settings = with_uni 1; windows = steady; parameters = one_way_parameters; id = client_id; moment = 0; validated = true; word = 63 };
-  server_making = record { settings = default_settings; windows = steady; parameters = worked_parameters; id = server_id; moment = 0; validated = true; word = 63 };
-  client_is = record { range = record { receive_window = lit< tt; stream_receive_window = lit< tt; initial_mtu = lit≤ tt }; says = one_way_say; id = refl };
-  server_is = record { range = record { receive_window = lit< tt; stream_receive_window = lit< tt; initial_mtu = lit≤ tt }; says = parameters_say; id = refl };
+  server_making = record { settings = plain_settings; windows = steady; parameters = worked_parameters; id = server_id; moment = 0; validated = true; word = 63 };
+  client_is = record { range = record { receive_window = lit< tt; stream_receive_window = lit< tt; bounds = record { bidi = lit≤ tt; uni = lit≤ tt; divides = lit< tt; initial = lit≤ tt; least = lit≤ tt }; search = tt }; sizes = lit≤ tt; says = one_way_say; id = refl };
+  server_is = record { range = record { receive_window = lit< tt; stream_receive_window = lit< tt; bounds = record { bidi = lit≤ tt; uni = lit≤ tt; divides = lit< tt; initial = lit≤ tt; least = lit≤ tt }; search = tt }; sizes = lit≤ tt; says = parameters_say; id = refl };
   client = subst (λ read. IsMade Client (with_uni 1) steady read client_id server_id 0 true 63 one_back.client) (sym parameters_say) refl;
-  server = subst (λ read. IsMade Server default_settings steady read server_id client_id 0 true 63 one_back.server) (sym one_way_say) refl;
+  server = subst (λ read. IsMade Server plain_settings steady read server_id client_id 0 true 63 one_back.server) (sym one_way_say) refl;
   client_gave = refl;
   server_gave = refl;
 }

@@ -31,7 +31,7 @@ use Rattle.quic_worked.proofs.WorkedKeys.{are_keys}
 
 -- ---- the machine's run
 
-step_0 : IsStep worked_policies started asks_ping answers.Ping (once_hasty 1)
+pub step_0 : IsStep worked_policies started asks_ping answers.Ping (once_hasty 1)
 unfolding once_hasty
 step_0 = record { answer = refl; end = refl; control = refl; others = refl; lacking = tt }
 
@@ -39,7 +39,7 @@ seen_0 : seen_with None None ≡ view_of (once_hasty 1)
 unfolding once_hasty
 seen_0 = refl
 
-step_1 : IsStep worked_policies (once_hasty 1) asks_datagram (gives_bytes 29) (once_hasty 2)
+pub step_1 : IsStep worked_policies (once_hasty 1) asks_datagram (gives_bytes 29) (once_hasty 2)
 unfolding once_hasty
 step_1 = record { answer = inl refl; end = refl; control = refl; others = refl; lacking = tt }
 
@@ -47,7 +47,7 @@ seen_1 : seen_with (Some 1024000000) None ≡ view_of (once_hasty 2)
 unfolding once_hasty
 seen_1 = refl
 
-step_2 : IsStep worked_policies (once_hasty 2) asks_ping answers.Ping (once_hasty 3)
+pub step_2 : IsStep worked_policies (once_hasty 2) asks_ping answers.Ping (once_hasty 3)
 unfolding once_hasty
 step_2 = record { answer = refl; end = refl; control = refl; others = refl; lacking = tt }
 
@@ -55,7 +55,7 @@ seen_2 : seen_with (Some 1024000000) None ≡ view_of (once_hasty 3)
 unfolding once_hasty
 seen_2 = refl
 
-step_3 : IsStep worked_policies (once_hasty 3) asks_datagram (gives_bytes 29) (once_hasty 4)
+pub step_3 : IsStep worked_policies (once_hasty 3) asks_datagram (gives_bytes 29) (once_hasty 4)
 unfolding once_hasty
 step_3 = record { answer = inl refl; end = refl; control = refl; others = refl; lacking = tt }
 
@@ -63,7 +63,7 @@ seen_3 : seen_with (Some 1024000000) None ≡ view_of (once_hasty 4)
 unfolding once_hasty
 seen_3 = refl
 
-step_4 : IsStep worked_policies (once_hasty 4) (delivers_at 0) (answers.Deliver receives.Taken) (once_hasty 5)
+pub step_4 : IsStep worked_policies (once_hasty 4) (delivers_at 0) (answers.Deliver receives.Taken) (once_hasty 5)
 unfolding once_hasty
 step_4 = record { answer = inl refl; end = refl; control = refl; others = refl; lacking = tt }
 
@@ -71,7 +71,7 @@ seen_4 : seen_with (Some 1024000000) (Some 25000000) ≡ view_of (once_hasty 5)
 unfolding once_hasty
 seen_4 = refl
 
-step_5 : IsStep worked_policies (once_hasty 5) (delivers_at 1) (answers.Deliver receives.Taken) (once_hasty 6)
+pub step_5 : IsStep worked_policies (once_hasty 5) (delivers_at 1) (answers.Deliver receives.Taken) (once_hasty 6)
 unfolding once_hasty
 step_5 = record { answer = inl refl; end = refl; control = refl; others = refl; lacking = tt }
 
@@ -79,7 +79,7 @@ seen_5 : seen_with (Some 1024000000) (Some 25000000) ≡ view_of (once_hasty 6)
 unfolding once_hasty
 seen_5 = refl
 
-step_6 : IsStep worked_policies (once_hasty 6) asks_server (gives_bytes 31) (once_hasty 7)
+pub step_6 : IsStep worked_policies (once_hasty 6) asks_server (gives_bytes 31) (once_hasty 7)
 unfolding once_hasty
 step_6 = record { answer = inl refl; end = refl; control = refl; others = refl; lacking = tt }
 

@@ -1,24 +1,27 @@
 -- The run in which a window holds back, event by event.
-use Rattle.std.proofs.Common.{◌≡◌, ◌+◌, ◌<◌, ◌≤◌, ℕ, List, [], ◌∷◌, length, replicate, true, false, Option, Some, None, Ok, refl, inl, inr, ap, sym, ◌∙◌, subst, lit<, lit≤, arith}
+use Rattle.std.proofs.Common.{◌≡◌, ◌+◌, ◌<◌, ◌≤◌, ◌++◌, ℕ, zero, suc, List, [], ◌∷◌, length, replicate, true, false, Option, Some, None, Ok, refl, inl, inr, ap, sym, ◌∙◌, subst, lit<, lit≤, arith}
 use Rattle.quic_wire_core.specs.declared.stream_id.Side.{Side}
 use Rattle.quic_wire_core.specs.declared.stream_id.Side.TheVariants.{Client, Server}
-use Rattle.quic_wire.specs.Value.{FrameValue, StreamValue, stream}
-use Rattle.quic_congestion.specs.Congestion.{Sent}
-use Rattle.quic_config.specs.Transport.{default_settings}
+use Rattle.quic_wire_core.specs.declared.shared.EcnCodepoint.TheVariants.{Ect0}
+use Rattle.quic_wire.specs.Value.{FrameValue, StreamValue, ping, padding, stream}
+use Rattle.quic_congestion.specs.Congestion.{Sent, last_size}
+use Rattle.quic_worked.specs.Settings.{plain_settings}
+use Rattle.quic_machine.specs.declared.run.Answer.{Answer}
 use Rattle.quic_machine.specs.declared.run.Answer.TheVariants as answers
 use Rattle.quic_machine.specs.End.{IsMade}
 use Rattle.quic_machine.specs.Control.{bytes_in_flight, is_window_full}
 use Rattle.quic_machine.specs.Start.{AreStarted}
-use Rattle.quic_machine.specs.Machine.{World, IsStep, Follows, view_of}
-use Rattle.quic_headline.specs.Runs.{In}
-use Rattle.quic_headline.specs.Observer.{Sent as SentAs, HoldsOffset, acked_until}
+use Rattle.quic_machine.specs.Machine.{IsStep, Follows, view_of}
+use Rattle.quic_headline.specs.Runs.{Run, In}
+use Rattle.quic_headline.specs.Observer.{Sent as SentAs, HoldsOffset, watch, sents_until, acked_until}
 use Rattle.quic_headline.specs.Headline.{IsHonest, IsRun}
-use Rattle.quic_headline.specs.Polls.{GaveNothing, IsFull, IsPaced, IsByteToGo, PollsSendWhatWaits, WindowIsOfHistory, flying, bytes_flying}
+use Rattle.quic_headline.specs.Polls.{GaveNothing, GaveAsking, IsFull, IsPaced, IsByteToGo, PollsSendWhatWaits, AskingGoesWhereLet, ProbesPass, WindowIsOfHistory, seen_at, flying, bytes_flying}
 use Rattle.quic_worked.specs.Worked.{worked_policies, told_in, client_id, server_id, client_gives, once_written, once_sent, opens_stream, asks_datagram, gives_bytes, view_with, open_view}
 use Rattle.quic_worked.specs.Broken.{IsNoRun}
 use Rattle.quic_worked.specs.Reordered.{writes_bytes}
 use Rattle.quic_worked.specs.Timed.{serves, asks_at}
-use Rattle.quic_worked.specs.Held.{narrow_windows, held_start, held_events, held_answers, gives_nothing, once_held, held_view, full_view, held_run, silent_run, shrunk_view, shrunk_run}
+use Rattle.quic_worked.specs.Held.{narrow_windows, held_start, held_events, held_answers, gives_nothing, once_held, held_view, full_view, held_run, silent_run, shrunk_view, shrunk_run, resized_view, resized_run, grown_run, overfull_run, unprobed_run, third_probe_run}
+use Rattle.quic_headline.specs.Sizes.{SizeIsOfHistory, SizesMove}
 use Rattle.quic_worked.proofs.Codes.{no_codes}
 use Rattle.quic_worked.proofs.OwnIds.{AreOwn, BothOwn, own_ids, honest}
 use Rattle.quic_worked.proofs.BrokenRuns.{IsRefused, stops, behind}
@@ -32,10 +35,10 @@ pub held_started : AreStarted held_start
 held_started = record {
   client_making = record (making client_id) { windows = narrow_windows };
   server_making = record (making server_id) { windows = narrow_windows };
-  client_is = record { range = record { receive_window = lit< tt; stream_receive_window = lit< tt; initial_mtu = lit≤ tt }; says = parameters_say; id = refl };
-  server_is = record { range = record { receive_window = lit< tt; stream_receive_window = lit< tt; initial_mtu = lit≤ tt }; says = parameters_say; id = refl };
-  client = subst (λ read. IsMade Client default_settings narrow_windows read client_id server_id 0 true 63 held_start.client) (sym parameters_say) refl;
-  server = subst (λ read. IsMade Server default_settings narrow_windows read server_id client_id 0 true 63 held_start.server) (sym parameters_say) refl;
+  client_is = record { range = record { receive_window = lit< tt; stream_receive_window = lit< tt; bounds = record { bidi = lit≤ tt; uni = lit≤ tt; divides = lit< tt; initial = lit≤ tt; least = lit≤ tt }; search = tt }; sizes = lit≤ tt; says = parameters_say; id = refl };
+  server_is = record { range = record { receive_window = lit< tt; stream_receive_window = lit< tt; bounds = record { bidi = lit≤ tt; uni = lit≤ tt; divides = lit< tt; initial = lit≤ tt; least = lit≤ tt }; search = tt }; sizes = lit≤ tt; says = parameters_say; id = refl };
+  client = subst (λ read. IsMade Client plain_settings narrow_windows read client_id server_id 0 true 63 held_start.client) (sym parameters_say) refl;
+  server = subst (λ read. IsMade Server plain_settings narrow_windows read server_id client_id 0 true 63 held_start.server) (sym parameters_say) refl;
   client_gave = refl;
   server_gave = refl;
 }
@@ -213,15 +216,49 @@ so_many = refl
 pub window_is_full : IsFull held_run Client 4 full_view
 window_is_full = let same : bytes_flying held_run Client 4 + 1200 ≡ 2400 = ap (λ (n : ℕ). n + 1200) so_many in subst (λ (n : ℕ). 2400 ≤ n) (sym same) (lit≤ tt)
 
--- ---- what goes wrong
+-- ---- a client that doesn't ask its window
 
-pub past_no : (next : World) → IsStep worked_policies (once_held 3) (asks_at Client 0) (gives_bytes 1200) next → ⊥
-unfolding once_held
-past_no next step = elim (step.answer) [ inl e ↦ cc | inr e ↦ cc ]
+-- where no probe waits, what asks doesn't go past a full window, unless it is PING and zeros
+full_asks : (r : Run) (i now : ℕ) (gave : GaveAsking r Client i now) → (watch r Client i).flight.probes ≡ 0 → (seen_at r Client i).window ≤ bytes_flying r Client i + (seen_at r Client i).current_mtu
+    → ((zeros : ℕ) → gave.one.sent.frames ≡ ping ∷ replicate zeros padding → ⊥) → AskingGoesWhereLet r → ⊥
+full_asks r i now gave none full other h = elim (h Client i now gave none) [ inl l ↦ (let room = l.room in omega (arith, full, room)) | inr p ↦ other p.zeros p.alone ]
 
-pub probe_no : (next : World) → IsStep worked_policies (once_held 5) (asks_at Client 1024000000) gives_nothing next → ⊥
+-- the datagram as it was sent
+abbrev next_sent : SentAs
+next_sent = record { number = 1; reference = 0; frames = stream (record { id = 0; offset = 1172; fin = false; bytes = replicate 1170 0x61 }) ∷ []; moment = 0; size = 1200 }
+
+next_went : sents_until overfull_run Client 4 ≡ sents_until overfull_run Client 3 ++ next_sent ∷ []
 unfolding once_held
-probe_no next step = elim (step.answer) [ inl e ↦ cc | inr e ↦ cc ]
+next_went = refl
+
+abbrev next_gave : GaveAsking overfull_run Client 3 0
+next_gave = record { one = record { transmit = record { size = 1200; ecn = Some Ect0 }; poll = record { event = refl; answer = refl }; served = refl; sent = next_sent; went = next_went }; asks = refl }
+
+none_before : (watch overfull_run Client 3).flight.probes ≡ 0
+unfolding once_held
+none_before = refl
+
+one_before : bytes_flying overfull_run Client 3 ≡ 1200
+unfolding once_held
+one_before = refl
+
+pub overfull_asks : AskingGoesWhereLet overfull_run → ⊥
+overfull_asks = full_asks overfull_run 3 0 next_gave none_before (subst (λ (n : ℕ). 2400 ≤ n + 1200) (sym one_before) (lit≤ tt)) (λ zeros is. cc)
+
+overfull_no : IsRefused (once_held 3) (asks_at Client 0) (gives_bytes 1200)
+unfolding once_held
+overfull_no (inl e) = cc
+overfull_no (inr e) = cc
+
+pub overfull_is_none : IsNoRun overfull_run
+overfull_is_none = behind refl opens (behind refl writes (behind refl gives (stops _ _ _ _ _ overfull_no)))
+
+overfull_own : (side : Side) → AreOwn side [] overfull_run.events overfull_run.answers overfull_run.views
+overfull_own Client = (tt, (inl refl, (tt, (tt, tt))))
+overfull_own Server = (tt, (tt, (tt, (tt, tt))))
+
+pub overfull_is_honest : IsHonest overfull_run
+overfull_is_honest = record { start = held_started; keys = are_keys; ids = own_ids overfull_run overfull_own }
 
 -- ---- a client that keeps what it wrote
 
@@ -272,3 +309,125 @@ shrunk_own = record { start = refl; keys = refl; client = (tt, (inl refl, (tt, t
 
 pub shrunk_is_honest : IsHonest shrunk_run
 shrunk_is_honest = honest shrunk_run shrunk_own
+
+-- ---- a client that holds a probe back
+
+pub two_wait : (watch unprobed_run Client 5).flight.probes ≡ 2
+unfolding once_held
+two_wait = refl
+
+-- its poll gives nothing
+none_goes : GaveAsking unprobed_run Client 5 1024000000 → ⊥
+none_goes gave = let said : ◌≡◌ {A = Option Answer} (Some gives_nothing) (Some (answers.Poll (Ok (Some gave.one.transmit)))) = gave.one.poll.answer in cc
+
+pub unprobed_passes : ProbesPass unprobed_run → ⊥
+unprobed_passes h =
+    none_goes (h Client 5 1024000000 gives_nothing (held_view (view_with (Some 2048000000) None)) refl (record { event = refl; answer = refl }) refl refl (subst (λ (n : ℕ). 0 < n) (sym two_wait) (lit< tt))).0
+
+unprobed_no : IsRefused (once_held 5) (asks_at Client 1024000000) gives_nothing
+unfolding once_held
+unprobed_no (inl e) = cc
+unprobed_no (inr e) = cc
+
+pub unprobed_is_none : IsNoRun unprobed_run
+unprobed_is_none = behind refl opens (behind refl writes (behind refl gives (behind refl holds (behind refl expires (stops _ _ _ _ _ unprobed_no)))))
+
+unprobed_own : (side : Side) → AreOwn side [] unprobed_run.events unprobed_run.answers unprobed_run.views
+unprobed_own Client = (tt, (inl refl, (tt, (tt, (tt, (tt, tt))))))
+unprobed_own Server = (tt, (tt, (tt, (tt, (tt, (tt, tt))))))
+
+pub unprobed_is_honest : IsHonest unprobed_run
+unprobed_is_honest = record { start = held_started; keys = are_keys; ids = own_ids unprobed_run unprobed_own }
+
+-- ---- a client that lets a third probe pass
+
+pub none_waits : (watch third_probe_run Client 7).flight.probes ≡ 0
+unfolding once_held
+none_waits = refl
+
+three_fly : bytes_flying third_probe_run Client 7 ≡ 3600
+unfolding once_held
+three_fly = refl
+
+-- the third probe as it was sent
+abbrev third_sent : SentAs
+third_sent = record {
+  number = 3;
+  reference = 0;
+  frames = ping ∷ stream (record { id = 0; offset = 3510; fin = false; bytes = replicate 490 0x61 }) ∷ [];
+  moment = 1024000000;
+  size = 521;
+}
+
+third_went : sents_until third_probe_run Client 8 ≡ sents_until third_probe_run Client 7 ++ third_sent ∷ []
+unfolding once_held
+third_went = refl
+
+abbrev third_gave : GaveAsking third_probe_run Client 7 1024000000
+third_gave = record {
+  one = record {
+    transmit = record { size = 521; ecn = Some Ect0 };
+    poll = record { event = refl; answer = refl };
+    served = refl;
+    sent = third_sent;
+    went = third_went;
+  };
+  asks = refl;
+}
+
+-- it is no probe of a size
+not_padded : (zeros : ℕ) → third_sent.frames ≡ ping ∷ replicate zeros padding → ⊥
+not_padded zero is = cc
+not_padded (suc more) is = cc
+
+pub third_asks : AskingGoesWhereLet third_probe_run → ⊥
+third_asks = full_asks third_probe_run 7 1024000000 third_gave none_waits (subst (λ (n : ℕ). 2400 ≤ n + 1200) (sym three_fly) (lit≤ tt)) not_padded
+
+third_no : IsRefused (once_held 7) (asks_at Client 1024000000) (gives_bytes 521)
+unfolding once_held
+third_no (inl e) = cc
+third_no (inr e) = cc
+
+pub third_is_none : IsNoRun third_probe_run
+third_is_none = behind refl opens (behind refl writes (behind refl gives (behind refl holds (behind refl expires (behind refl probes (behind refl probes_again (stops _ _ _ _ _ third_no)))))))
+
+third_own : (side : Side) → AreOwn side [] third_probe_run.events third_probe_run.answers third_probe_run.views
+third_own Client = (tt, (inl refl, (tt, (tt, (tt, (tt, (tt, (tt, tt))))))))
+third_own Server = (tt, (tt, (tt, (tt, (tt, (tt, (tt, (tt, tt))))))))
+
+pub third_is_honest : IsHonest third_probe_run
+third_is_honest = record { start = held_started; keys = are_keys; ids = own_ids third_probe_run third_own }
+
+-- ---- a client that shows another size of datagrams
+
+pub resized_size : SizeIsOfHistory resized_run → ⊥
+resized_size h =
+    let told = h Client 0 resized_view refl refl in
+    let step = told.2 in
+    let nothing : told.1 ≡ [] = step.3 ∙ step.4.1 in
+    let shows : ◌≡◌ {A = ℕ} 1452 1200 = told.3 ∙ ap (last_size 1200) nothing in
+    omega (arith, shows)
+
+pub grown_size : SizesMove grown_run → ⊥
+grown_size h = elim (h Client 0 (record { client = open_view; server = open_view }) resized_view refl refl refl refl refl) [
+  | inl same ↦ (let never : ◌≡◌ {A = ℕ} 1452 1200 = same in omega (arith, never))
+  | inr moved ↦ elim moved [ inl grew ↦ grew.1.flew | inr fell ↦ (let never : 1452 < 1200 = fell.0 in omega (arith, never)) ]
+]
+
+resized_own : BothOwn resized_run
+resized_own = record { start = refl; keys = refl; client = (tt, (inl refl, (tt, tt))); server = (tt, (tt, (tt, tt))) }
+
+grown_own : BothOwn grown_run
+grown_own = record { start = refl; keys = refl; client = (tt, (inl refl, (tt, tt))); server = (tt, (tt, (tt, tt))) }
+
+pub resized_is_honest : IsHonest resized_run
+resized_is_honest = honest resized_run resized_own
+
+pub grown_is_honest : IsHonest grown_run
+grown_is_honest = honest grown_run grown_own
+
+pub resized_is_none : IsNoRun resized_run
+resized_is_none = silent_is_none
+
+pub grown_is_none : IsNoRun grown_run
+grown_is_none = silent_is_none

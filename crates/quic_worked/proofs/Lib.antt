@@ -27,8 +27,10 @@ mod RaisedRun
 mod ChunkedRun
 pub mod TimedRun
 mod MeasuredRun
+mod HalvedRun
 mod SkippedRun
 mod ProbedRun
+mod SearchedRun
 mod HeldRun
 mod PacedRun
 mod FaultRuns
@@ -43,4 +45,7 @@ mod HastyRun
 mod IsolatedRuns
 mod BlockedRun
 mod UndoneRun
+mod ToldRuns
 mod BoundedRun
+pub mod AllowedRun
+pub mod RepeatedRuns

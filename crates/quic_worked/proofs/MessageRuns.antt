@@ -31,7 +31,7 @@ seen_0 : seen_with None None ≡ view_of (once_messaged 1)
 unfolding once_messaged
 seen_0 = refl
 
-step_1 : IsStep worked_policies (once_messaged 1) asks_datagram (gives_bytes 32) (once_messaged 2)
+pub step_1 : IsStep worked_policies (once_messaged 1) asks_datagram (gives_bytes 32) (once_messaged 2)
 unfolding once_messaged
 step_1 = record { answer = inl refl; end = refl; control = refl; others = refl; lacking = tt }
 
@@ -39,7 +39,7 @@ seen_1 : seen_with (Some 1024000000) None ≡ view_of (once_messaged 2)
 unfolding once_messaged
 seen_1 = refl
 
-step_2 : IsStep worked_policies (once_messaged 2) delivers (answers.Deliver receives.Taken) (once_messaged 3)
+pub step_2 : IsStep worked_policies (once_messaged 2) delivers (answers.Deliver receives.Taken) (once_messaged 3)
 unfolding once_messaged
 step_2 = record { answer = inl refl; end = refl; control = refl; others = refl; lacking = tt }
 
@@ -55,7 +55,7 @@ seen_3 : seen_with (Some 1024000000) (Some 25000000) ≡ view_of (once_messaged 
 unfolding once_messaged
 seen_3 = refl
 
-answer_message_4 : tells_message ≡ answers.Event (end_tells (once_messaged 3).server)
+pub answer_message_4 : tells_message ≡ answers.Event (end_tells (once_messaged 3).server)
 unfolding once_messaged
 answer_message_4 = refl
 

@@ -1,18 +1,18 @@
 -- The run in which the pacer holds a datagram back, event by event.
-use Rattle.std.proofs.Common.{◌≡◌, [], ◌∷◌, ◌++◌, Some, None, Ok, false, refl, inl, inr, lit<}
+use Rattle.std.proofs.Common.{◌≡◌, [], ◌∷◌, ◌++◌, Some, None, Ok, false, refl, inl, inr, sym, ◌∙◌, lit<}
 use Rattle.quic_wire_core.specs.declared.stream_id.Side.TheVariants.{Client}
 use Rattle.quic_wire_core.specs.declared.shared.EcnCodepoint.TheVariants.{Ect0}
 use Rattle.quic_wire.specs.Value.{stream}
+use Rattle.quic_machine.specs.declared.run.Call.TheVariants as calls
 use Rattle.quic_machine.specs.declared.run.Answer.TheVariants as answers
 use Rattle.quic_machine.specs.Machine.{World, IsStep, view_of}
-use Rattle.quic_headline.specs.Runs.{LeadsTo}
 use Rattle.quic_headline.specs.Observer.{Sent, sents_until}
 use Rattle.quic_headline.specs.Headline.{IsRun}
-use Rattle.quic_headline.specs.Polls.{GaveNothing, GaveAsking, IsByteToGo, IsPaced, pacer_names, pacing_at}
-use Rattle.quic_worked.specs.Worked.{worked_policies, hello, opens_stream, writes_hello, gives_bytes, open_view, view_with, once_taken}
+use Rattle.quic_headline.specs.Polls.{GaveNothing, GaveAsking, IsByteToGo, IsPaced, PacingBehind, pacer_names, pacing_at}
+use Rattle.quic_worked.specs.Worked.{worked_policies, hello, opens_stream, writes_hello, gives_bytes, open_view, view_with, once_written, once_sent, once_taken}
 use Rattle.quic_worked.specs.Timed.{asks_at}
 use Rattle.quic_worked.specs.Held.{gives_nothing}
-use Rattle.quic_worked.specs.Paced.{full_again, paced_start, once_paced, paced_view, paced_run}
+use Rattle.quic_worked.specs.Paced.{full_again, paced_start, once_paced, paced_view, paced_run, needlessly_paced}
 use Rattle.quic_worked.proofs.Codes.{no_codes}
 
 -- ---- the events
@@ -48,9 +48,6 @@ held_seen = refl
 given_seen : record { client = view_with (Some 1290400000) None; server = open_view } ≡ view_of (once_paced 4)
 unfolding once_paced
 given_seen = refl
-
-leads : LeadsTo paced_run 3 (once_paced 3)
-leads = (once_paced 1, opens, opened_seen, (once_paced 2, writes, written_seen, (once_paced 3, holds, held_seen, refl)))
 
 gave_one : paced_run.from_client ≡ (once_paced 4).from_client
 unfolding once_paced
@@ -111,12 +108,15 @@ word_went : sents_until paced_run Client 4 ≡ sents_until paced_run Client 3 ++
 unfolding once_taken
 word_went = refl
 
-pub goes_then : GaveAsking paced_run Client 3 full_again (once_paced 3) (once_paced 4)
+pub goes_then : GaveAsking paced_run Client 3 full_again
 goes_then = record {
-  transmit = record { size = 34; ecn = Some Ect0 };
-  made = record { at = record { event = refl; answer = refl }; leads = leads; step = gives; served = refl };
-  sent = word_sent;
-  went = word_went;
+  one = record {
+    transmit = record { size = 34; ecn = Some Ect0 };
+    poll = record { event = refl; answer = refl };
+    served = refl;
+    sent = word_sent;
+    went = word_went;
+  };
   asks = refl;
 }
 
@@ -125,3 +125,19 @@ goes_then = record {
 pub gives_no : (next : World) → IsStep worked_policies (once_paced 2) (asks_at Client 0) (gives_bytes 34) next → ⊥
 unfolding once_paced
 gives_no next step = elim (step.answer) [ inl e ↦ cc | inr e ↦ cc ]
+
+-- the pacer has tokens
+pub names_nothing : pacer_names Client once_written 0 ≡ None
+unfolding once_sent
+names_nothing = refl
+
+set_needlessly : pacing_at Client needlessly_paced ≡ Some full_again
+set_needlessly = refl
+
+pub needless_behind : PacingBehind Client (calls.Poll 0) once_written needlessly_paced → ⊥
+needless_behind (inl e) = (let never : Some full_again ≡ None = sym set_needlessly ∙ e in cc)
+needless_behind (inr e) = (let never : Some full_again ≡ None = sym set_needlessly ∙ e ∙ names_nothing in cc)
+
+pub gives_nothing_no : (next : World) → IsStep worked_policies once_written (asks_at Client 0) gives_nothing next → ⊥
+unfolding once_sent
+gives_nothing_no next step = elim (step.answer) [ inl e ↦ cc | inr e ↦ cc ]

@@ -85,22 +85,22 @@ reads_only = refl
 -- ---- what is seen
 
 -- the client waits for an acknowledgement, and the server for nothing yet
-abbrev one_waits : View
+abbrev pub one_waits : View
 one_waits = record { client = sent_view; server = open_view }
 
 -- or the server waits to give one
-abbrev both_wait : View
+abbrev pub both_wait : View
 both_wait = record { client = sent_view; server = waiting_view }
 
-sees_first : one_waits ≡ view_of first_sent
+pub sees_first : one_waits ≡ view_of first_sent
 unfolding first_sent
 sees_first = refl
 
-sees_second : one_waits ≡ view_of second_written
+pub sees_second : one_waits ≡ view_of second_written
 unfolding first_sent
 sees_second = refl
 
-sees_both : one_waits ≡ view_of both_sent
+pub sees_both : one_waits ≡ view_of both_sent
 unfolding both_sent
 sees_both = refl
 

@@ -1,14 +1,15 @@
 -- The run in which both ends come to rest, event by event, and those of machines that rest too early or not at all.
-use Rattle.std.proofs.Common.{◌≡◌, ℕ, suc, ◌+◌, ◌*◌, ◌^◌, ◌<◌, ◌≤◌, List, [], ◌∷◌, ◌++◌, length, replicate, take, true, false, Option, Some, None, Ok, refl, inl, inr, sym, ap, ◌∙◌, subst, lit<, lit≤, arith}
+use Rattle.std.proofs.Common.{◌≡◌, ℕ, ◌^◌, ◌<◌, List, [], ◌∷◌, ◌++◌, replicate, take, true, Option, Some, None, Ok, refl, inl, inr, sym, ap, ◌∙◌, subst, lit<, lit≤, arith}
 use Rattle.std.specs.Prelude.{slice_get}
-use Rattle.std.specs.List.{All}
 use Rattle.std.proofs.lemmas.List.Elements.{All-head, All-tail}
 use Rattle.quic_wire_core.specs.declared.stream_id.Side.{Side}
 use Rattle.quic_wire_core.specs.declared.stream_id.Side.TheVariants.{Client, Server}
 use Rattle.quic_wire.specs.Value.{ack, stream}
 use Rattle.quic_congestion.specs.Congestion.{Told, Sent, Acked, AcksEnded, Congested, Resized, IsSized, AreSized, size_told, last_size, HasRoom}
-use Rattle.quic_config.specs.Transport.{default_settings}
+use Rattle.quic_worked.specs.Settings.{plain_settings}
 use Rattle.quic_machine.specs.declared.answers.Received.TheVariants as receives
+use Rattle.quic_machine.specs.declared.run.RunEvent.{RunEvent}
+use Rattle.quic_machine.specs.declared.run.Answer.{Answer}
 use Rattle.quic_machine.specs.declared.run.Answer.TheVariants as answers
 use Rattle.quic_machine.specs.declared.run.View.{View}
 use Rattle.quic_machine.specs.End.{IsMade}
@@ -16,12 +17,12 @@ use Rattle.quic_machine.specs.Start.{AreStarted, IsController}
 use Rattle.quic_machine.specs.Machine.{World, IsStep, Follows, view_of}
 use Rattle.quic_machine.specs.RunLaws.{one_run}
 use Rattle.quic_headline.specs.Runs.{Packet, In, IsNamed, HasArrived, EndHasArrived, until}
-use Rattle.quic_headline.specs.Observer.{Sent as SentAs, asks_of, took, sents_until}
+use Rattle.quic_headline.specs.Observer.{Sent as SentAs, took, sents_until}
 use Rattle.quic_headline.specs.Moments.{loss_timer, ack_timer, AllNamed, LossTimerQuiet}
 use Rattle.quic_headline.specs.Polls.{pacing_timer, IsPaced}
 use Rattle.quic_headline.specs.Headline.{IsHonest, IsRun}
 use Rattle.quic_headline.specs.Rest.{ShowsStill, Rests, HaveRoom, unanswered, IsUnacknowledged, DeliveredAtRest, NothingOwedAtRest}
-use Rattle.quic_worked.specs.Worked.{ran, worked_policies, client_id, server_id, once_sent, opens_stream, writes_hello, finishes_stream, asks_datagram, gives_bytes, hello_frame}
+use Rattle.quic_worked.specs.Worked.{ran, worked_policies, client_id, server_id, opens_stream, writes_hello, finishes_stream, asks_datagram, gives_bytes, hello_frame}
 use Rattle.quic_worked.specs.Acknowledged.{client_acked}
 use Rattle.quic_worked.specs.Broken.{IsNoRun}
 use Rattle.quic_worked.specs.Timed.{serves, asks_at, comes_at, NeverShows}
@@ -36,14 +37,14 @@ use Rattle.quic_worked.proofs.WorkedRun.{parameters_say}
 
 -- ---- the premises
 
-rested_started : AreStarted rested_start
+abbrev pub rested_started : AreStarted rested_start
 rested_started = record {
   client_making = record (making client_id) { windows = roomy_windows };
   server_making = record (making server_id) { windows = roomy_windows };
-  client_is = record { range = in_range; says = parameters_say; id = refl };
-  server_is = record { range = in_range; says = parameters_say; id = refl };
-  client = subst (λ read. IsMade Client default_settings roomy_windows read client_id server_id 0 true 63 rested_start.client) (sym parameters_say) refl;
-  server = subst (λ read. IsMade Server default_settings roomy_windows read server_id client_id 0 true 63 rested_start.server) (sym parameters_say) refl;
+  client_is = record { range = in_range; sizes = lit≤ tt; says = parameters_say; id = refl };
+  server_is = record { range = in_range; sizes = lit≤ tt; says = parameters_say; id = refl };
+  client = subst (λ read. IsMade Client plain_settings roomy_windows read client_id server_id 0 true 63 rested_start.client) (sym parameters_say) refl;
+  server = subst (λ read. IsMade Server plain_settings roomy_windows read server_id client_id 0 true 63 rested_start.server) (sym parameters_say) refl;
   client_gave = refl;
   server_gave = refl;
 }
@@ -105,7 +106,7 @@ is_due : IsStep worked_policies (once_rested 5) (serves Server 35000000) (answer
 unfolding once_rested
 is_due = record { answer = inl refl; end = refl; control = refl; others = refl; lacking = tt }
 
-still_roomy : roomy_control ≡ roomy_control
+pub still_roomy : roomy_control ≡ roomy_control
 still_roomy = refl
 
 answers_it : IsStep worked_policies (once_rested 6) (asks_at Server 35000000) (gives_bytes 32) (once_rested 7)
@@ -164,8 +165,13 @@ server_seen : still_view ≡ view_of (once_rested 10)
 unfolding once_rested
 server_seen = refl
 
+-- what the machine does behind it
+pub until_rested : (events : List RunEvent) (told : List Answer) (views : List View) (end : World)
+    → Follows worked_policies (once_rested 10) events told views end → Follows worked_policies rested_start (rested_events ++ events) (rested_answers ++ told) (rested_run.views ++ views) end
+until_rested events told views end rest = (once_rested 1, opens, opened_seen, (once_rested 2, writes, written_seen, (once_rested 3, finishes, ended_seen, (once_rested 4, gives, given_seen, (once_rested 5, takes, taken_seen, (once_rested 6, is_due, due_seen, (once_rested 7, answers_it, answer_seen, (once_rested 8, is_answered, answered_seen, (once_rested 9, client_rests, client_seen, (once_rested 10, server_rests, server_seen, rest))))))))))
+
 follows : Follows rested_run.keys rested_run.start rested_run.events rested_run.answers rested_run.views (once_rested 10)
-follows = (once_rested 1, opens, opened_seen, (once_rested 2, writes, written_seen, (once_rested 3, finishes, ended_seen, (once_rested 4, gives, given_seen, (once_rested 5, takes, taken_seen, (once_rested 6, is_due, due_seen, (once_rested 7, answers_it, answer_seen, (once_rested 8, is_answered, answered_seen, (once_rested 9, client_rests, client_seen, (once_rested 10, server_rests, server_seen, refl))))))))))
+follows = until_rested [] [] [] (once_rested 10) refl
 
 gave_hello : rested_run.from_client ≡ (once_rested 10).from_client
 unfolding once_rested
@@ -201,7 +207,7 @@ unfolding client_acked
 took_hello = refl
 
 -- each offset of the word
-word_arrived : (offset : ℕ) → offset < 5 → HasArrived (hello_packet ∷ []) 0 offset
+pub word_arrived : (offset : ℕ) → offset < 5 → HasArrived (hello_packet ∷ []) 0 offset
 word_arrived offset below = record { frame = hello_frame; taken = record { packet = hello_packet; was_taken = inl refl; carried = inl refl }; of_stream = refl; from = omega arith; below = below }
 
 pub first_arrived : HasArrived (took rested_run Server 10) 0 0
@@ -210,8 +216,11 @@ first_arrived = subst (λ (ps : List Packet). HasArrived ps 0 0) (sym took_hello
 pub last_arrived : HasArrived (took rested_run Server 10) 0 4
 last_arrived = subst (λ (ps : List Packet). HasArrived ps 0 4) (sym took_hello) (word_arrived 4 (lit< tt))
 
+pub end_in_hello : EndHasArrived (hello_packet ∷ []) 0 5
+end_in_hello = record { frame = hello_frame; taken = record { packet = hello_packet; was_taken = inl refl; carried = inl refl }; of_stream = refl; fin = refl; behind = refl }
+
 pub end_arrived : EndHasArrived (took rested_run Server 10) 0 5
-end_arrived = subst (λ (ps : List Packet). EndHasArrived ps 0 5) (sym took_hello) (record { frame = hello_frame; taken = record { packet = hello_packet; was_taken = inl refl; carried = inl refl }; of_stream = refl; fin = refl; behind = refl })
+end_arrived = subst (λ (ps : List Packet). EndHasArrived ps 0 5) (sym took_hello) end_in_hello
 
 -- ---- what is owed
 

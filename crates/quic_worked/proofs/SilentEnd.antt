@@ -1,7 +1,6 @@
 -- An end that closes shows why; one that is drained for no reason is none of the machine's.
-use Rattle.std.proofs.Common.{◌≡◌, [], Some, None, Ok, refl, ap, ◌∙◌}
+use Rattle.std.proofs.Common.{◌≡◌, [], None, Ok, refl, ap, ◌∙◌}
 use Rattle.quic_wire_core.specs.declared.stream_id.Side.TheVariants.{Client}
-use Rattle.quic_machine.specs.declared.answers.State.{State}
 use Rattle.quic_machine.specs.declared.answers.State.TheVariants as states
 use Rattle.quic_machine.specs.declared.run.Call.TheVariants as calls
 use Rattle.quic_machine.specs.declared.run.Answer.TheVariants as answers

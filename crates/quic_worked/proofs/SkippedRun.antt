@@ -4,7 +4,7 @@ use Rattle.std.specs.Prelude.{slice_index}
 use Rattle.quic_wire_core.specs.TransportError.{plain_error}
 use Rattle.quic_wire_core.specs.declared.stream_id.Side.{Side}
 use Rattle.quic_wire_core.specs.declared.stream_id.Side.TheVariants.{Client, Server}
-use Rattle.quic_config.specs.Transport.{default_settings}
+use Rattle.quic_worked.specs.Settings.{plain_settings}
 use Rattle.quic_machine.specs.declared.answers.LostReason.TheVariants as reasons
 use Rattle.quic_machine.specs.declared.answers.Received.TheVariants as receives
 use Rattle.quic_machine.specs.declared.run.Answer.TheVariants as answers
@@ -35,9 +35,9 @@ pub skipping_started : AreStarted leaving_out
 skipping_started = record {
   client_making = record (making client_id) { word = 0 };
   server_making = making server_id;
-  client_is = record { range = record { receive_window = lit< tt; stream_receive_window = lit< tt; initial_mtu = lit≤ tt }; says = parameters_say; id = refl };
-  server_is = record { range = record { receive_window = lit< tt; stream_receive_window = lit< tt; initial_mtu = lit≤ tt }; says = parameters_say; id = refl };
-  client = subst (λ read. IsMade Client default_settings steady read client_id server_id 0 true 0 leaving_out.client) (sym parameters_say) refl;
+  client_is = record { range = record { receive_window = lit< tt; stream_receive_window = lit< tt; bounds = record { bidi = lit≤ tt; uni = lit≤ tt; divides = lit< tt; initial = lit≤ tt; least = lit≤ tt }; search = tt }; sizes = lit≤ tt; says = parameters_say; id = refl };
+  server_is = record { range = record { receive_window = lit< tt; stream_receive_window = lit< tt; bounds = record { bidi = lit≤ tt; uni = lit≤ tt; divides = lit< tt; initial = lit≤ tt; least = lit≤ tt }; search = tt }; sizes = lit≤ tt; says = parameters_say; id = refl };
+  client = subst (λ read. IsMade Client plain_settings steady read client_id server_id 0 true 0 leaving_out.client) (sym parameters_say) refl;
   server = server_is_made;
   client_gave = refl;
   server_gave = refl;

@@ -7,7 +7,8 @@ use Rattle.quic_wire_core.specs.declared.stream_id.Side.{Side}
 use Rattle.quic_wire_core.specs.declared.stream_id.Side.TheVariants.{Client, Server}
 use Rattle.quic_wire_core.specs.declared.stream_id.Dir.TheVariants.{Bi, Uni}
 use Rattle.quic_parameters.specs.ParametersRead.{entry_at, whole_at, met_after, met_within, met_in, values_met, judged, parameters_at}
-use Rattle.quic_config.specs.Transport.{IsInRange, default_settings, parameters_of}
+use Rattle.quic_config.specs.Transport.{IsInRange, parameters_of}
+use Rattle.quic_worked.specs.Settings.{plain_settings}
 use Rattle.quic_machine.specs.declared.run.ReadCall.{ReadCall}
 use Rattle.quic_machine.specs.declared.run.Answer.TheVariants as answers
 use Rattle.quic_machine.specs.End.{IsMade}
@@ -74,10 +75,10 @@ abbrev shut_started : AreStarted rested_start
 shut_started = record {
   client_making = record (making client_id) { windows = roomy_windows };
   server_making = record (making server_id) { windows = roomy_windows };
-  client_is = record { range = in_range; says = parameters_say; id = refl };
-  server_is = record { range = in_range; says = parameters_say; id = refl };
-  client = subst (λ read. IsMade Client default_settings roomy_windows read client_id server_id 0 true 63 rested_start.client) (sym parameters_say) refl;
-  server = subst (λ read. IsMade Server default_settings roomy_windows read server_id client_id 0 true 63 rested_start.server) (sym parameters_say) refl;
+  client_is = record { range = in_range; sizes = lit≤ tt; says = parameters_say; id = refl };
+  server_is = record { range = in_range; sizes = lit≤ tt; says = parameters_say; id = refl };
+  client = subst (λ read. IsMade Client plain_settings roomy_windows read client_id server_id 0 true 63 rested_start.client) (sym parameters_say) refl;
+  server = subst (λ read. IsMade Server plain_settings roomy_windows read server_id client_id 0 true 63 rested_start.server) (sym parameters_say) refl;
   client_gave = refl;
   server_gave = refl;
 }
@@ -122,15 +123,15 @@ unfolding parameters_at judged values_met met_in met_within met_after whole_at e
 lone_says = refl
 
 lone_range : IsInRange (with_uni 1)
-lone_range = record { receive_window = lit< tt; stream_receive_window = lit< tt; initial_mtu = lit≤ tt }
+lone_range = record { receive_window = lit< tt; stream_receive_window = lit< tt; bounds = record { bidi = lit≤ tt; uni = lit≤ tt; divides = lit< tt; initial = lit≤ tt; least = lit≤ tt }; search = tt }
 
 abbrev lone_started : AreStarted lone_start
 lone_started = record {
   client_making = record (making client_id) { windows = roomy_windows };
   server_making = record (making server_id) { settings = with_uni 1; windows = roomy_windows; parameters = lone_parameters };
-  client_is = record { range = in_range; says = parameters_say; id = refl };
-  server_is = record { range = lone_range; says = lone_says; id = refl };
-  client = subst (λ read. IsMade Client default_settings roomy_windows read client_id server_id 0 true 63 lone_start.client) (sym lone_says) refl;
+  client_is = record { range = in_range; sizes = lit≤ tt; says = parameters_say; id = refl };
+  server_is = record { range = lone_range; sizes = lit≤ tt; says = lone_says; id = refl };
+  client = subst (λ read. IsMade Client plain_settings roomy_windows read client_id server_id 0 true 63 lone_start.client) (sym lone_says) refl;
   server = subst (λ read. IsMade Server (with_uni 1) roomy_windows read server_id client_id 0 true 63 lone_start.server) (sym parameters_say) refl;
   client_gave = refl;
   server_gave = refl;

@@ -4,7 +4,8 @@ use Rattle.quic_wire_core.specs.declared.stream_id.Side.{Side}
 use Rattle.quic_machine.specs.declared.run.ReadCall.{ReadCall}
 use Rattle.quic_machine.specs.declared.run.RunEvent.{RunEvent}
 use Rattle.quic_machine.specs.declared.run.Call.{Call}
-use Rattle.quic_config.specs.Transport.{default_settings, IsInRange}
+use Rattle.quic_config.specs.Transport.{IsInRange}
+use Rattle.quic_worked.specs.Settings.{plain_settings}
 use Rattle.quic_headline.specs.Runs.{In, until, ids_of}
 use Rattle.quic_machine.specs.Start.{Making, AreStarted}
 use Rattle.quic_headline.specs.Headline.{UsesOwnIds, used, IsHonest, IsRun}
@@ -15,17 +16,17 @@ use Rattle.quic_worked.proofs.Codes.{no_codes}
 
 -- an end with default settings and this id, at moment 0 on a validated path
 abbrev pub making : List ℕ → Making
-making id = record { settings = default_settings; windows = steady; parameters = worked_parameters; id = id; moment = 0; validated = true; word = 63 }
+making id = record { settings = plain_settings; windows = steady; parameters = worked_parameters; id = id; moment = 0; validated = true; word = 63 }
 
-pub in_range : IsInRange default_settings
-in_range = record { receive_window = lit< tt; stream_receive_window = lit< tt; initial_mtu = lit≤ tt }
+pub in_range : IsInRange plain_settings
+in_range = record { receive_window = lit< tt; stream_receive_window = lit< tt; bounds = record { bidi = lit≤ tt; uni = lit≤ tt; divides = lit< tt; initial = lit≤ tt; least = lit≤ tt }; search = tt }
 
 unfoldable pub are_started : AreStarted started
 are_started = record {
   client_making = making client_id;
   server_making = making server_id;
-  client_is = record { range = in_range; says = parameters_say; id = refl };
-  server_is = record { range = in_range; says = parameters_say; id = refl };
+  client_is = record { range = in_range; sizes = lit≤ tt; says = parameters_say; id = refl };
+  server_is = record { range = in_range; sizes = lit≤ tt; says = parameters_say; id = refl };
   client = client_is_made;
   server = server_is_made;
   client_gave = refl;

@@ -8,7 +8,8 @@ use Rattle.quic_machine.specs.declared.answers.Received.TheVariants as receives
 use Rattle.quic_machine.specs.declared.answers.DropReason.TheVariants as drops
 use Rattle.quic_machine.specs.declared.run.ReadCall.{ReadCall}
 use Rattle.quic_machine.specs.declared.run.Answer.TheVariants as answers
-use Rattle.quic_config.specs.Transport.{default_settings, parameters_of}
+use Rattle.quic_config.specs.Transport.{parameters_of}
+use Rattle.quic_worked.specs.Settings.{plain_settings}
 use Rattle.quic_streams_state.specs.Reading.{told_bytes, after_read_begun}
 use Rattle.quic_machine.specs.End.{End, MadeFrom, IsMade, streams_at, with_streams}
 use Rattle.quic_machine.specs.Control.{Control}
@@ -22,20 +23,20 @@ use Rattle.quic_headline.specs.Observer.{took}
 use Rattle.quic_worked.specs.Worked.{with_server, steady, NextAnswers, ReadsAs, ReadsBy, two_chunks, worked_parameters, client_id, server_id, client_made, server_made, started, once_opened, once_written, once_ended, once_sent, once_taken, once_accepted, once_read, hello_frame, hello_payload, hello_datagram, opens_stream, writes_hello, finishes_stream, asks_datagram, delivers, accepts_stream, reads_stream, all_nexts, gives_bytes, worked_policies, worked_events, worked_answers, open_view, sent_view, waiting_view, worked_views, worked_run}
 use Rattle.quic_worked.proofs.Steps.{server_alone}
 
-pub parameters_say : parameters_at worked_parameters ≡ Ok (parameters_of default_settings)
+pub parameters_say : parameters_at worked_parameters ≡ Ok (parameters_of plain_settings)
 unfolding parameters_at judged values_met met_in met_within met_after whole_at entry_at
 parameters_say = refl
 
-pub client_is_made : MadeFrom Client default_settings steady worked_parameters client_id server_id 0 true 63
+pub client_is_made : MadeFrom Client plain_settings steady worked_parameters client_id server_id 0 true 63
     client_made
 client_is_made =
-    subst (λ read. IsMade Client default_settings steady read client_id server_id 0 true 63 client_made)
+    subst (λ read. IsMade Client plain_settings steady read client_id server_id 0 true 63 client_made)
     (sym parameters_say) refl
 
-pub server_is_made : MadeFrom Server default_settings steady worked_parameters server_id client_id 0 true 63
+pub server_is_made : MadeFrom Server plain_settings steady worked_parameters server_id client_id 0 true 63
     server_made
 server_is_made =
-    subst (λ read. IsMade Server default_settings steady read server_id client_id 0 true 63 server_made)
+    subst (λ read. IsMade Server plain_settings steady read server_id client_id 0 true 63 server_made)
     (sym parameters_say) refl
 
 pub opens : IsStep worked_policies started opens_stream (answers.Open (Some 0)) once_opened

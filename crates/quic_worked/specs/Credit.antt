@@ -5,7 +5,8 @@ use Rattle.quic_wire_core.specs.declared.stream_id.Side.TheVariants.{Client, Ser
 use Rattle.quic_wire_core.specs.declared.stream_id.Dir.TheVariants.{Uni}
 use Rattle.quic_sets.specs.Offsets.{with_offsets}
 use Rattle.quic_sets.specs.Pieces.{with_range, joining}
-use Rattle.quic_config.specs.Transport.{Settings, default_settings, parameters_of}
+use Rattle.quic_config.specs.Transport.{Settings, parameters_of}
+use Rattle.quic_worked.specs.Settings.{plain_settings}
 use Rattle.quic_machine.specs.declared.answers.Received.TheVariants as receives
 use Rattle.quic_machine.specs.declared.run.RunEvent.{RunEvent}
 use Rattle.quic_machine.specs.declared.run.ReadCall.{ReadCall}
@@ -27,8 +28,8 @@ use Rattle.quic_worked.specs.Paired.{writes_on, asks_server, client_hears}
 -- both ends, where the server has these settings, before anything was given
 abbrev pub ends_of : Settings → World
 ends_of narrow = record {
-  client = new_end Client default_settings steady (parameters_of narrow) client_id server_id 0 true 63;
-  server = new_end Server narrow steady (parameters_of default_settings) server_id client_id 0 true 63;
+  client = new_end Client plain_settings steady (parameters_of narrow) client_id server_id 0 true 63;
+  server = new_end Server narrow steady (parameters_of plain_settings) server_id client_id 0 true 63;
   from_client = [];
   from_server = [];
   client_control = steady_control;

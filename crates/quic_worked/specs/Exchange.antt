@@ -8,7 +8,8 @@ use Rattle.quic_wire_core.specs.StreamId.{other_side}
 use Rattle.quic_wire.specs.Value.{FrameValue, ack, stream, asks}
 use Rattle.std.specs.List.{list_any}
 use Rattle.quic_assembler.specs.declared.assembler.Chunk.{Chunk}
-use Rattle.quic_config.specs.Transport.{Settings, default_settings, parameters_of}
+use Rattle.quic_config.specs.Transport.{Settings, parameters_of}
+use Rattle.quic_worked.specs.Settings.{plain_settings}
 use Rattle.quic_streams_parts.specs.declared.answers.WriteError.{WriteError}
 use Rattle.quic_streams_parts.specs.declared.answers.FinishError.{FinishError}
 use Rattle.quic_streams_parts.specs.declared.answers.UpdateError.{UpdateError}
@@ -144,11 +145,11 @@ ends_with client server = record {
 
 -- what one says of itself that lets come so many bytes on all streams
 abbrev pub with_window : ℕ → Settings
-with_window window = record default_settings { receive_window = window }
+with_window window = record plain_settings { receive_window = window }
 
 -- and one that lets the peer open so many one-way streams
 abbrev pub with_uni : ℕ → Settings
-with_uni most = record default_settings { max_uni = most }
+with_uni most = record plain_settings { max_uni = most }
 
 -- an ACK frame of the numbers from one up to another, without a delay
 abbrev pub acks_from : ℕ → ℕ → FrameValue
@@ -176,4 +177,4 @@ hello = 104 ∷ 101 ∷ 108 ∷ 108 ∷ 111 ∷ []
 
 -- both as they are without settings of their own
 abbrev pub default_ends : Ends
-default_ends = ends_with default_settings default_settings
+default_ends = ends_with plain_settings plain_settings

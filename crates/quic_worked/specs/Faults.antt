@@ -3,7 +3,8 @@
 use Rattle.std.specs.Prelude.{ℕ, true, List, [], ◌∷◌, ◌++◌, replicate, take, Some, None, Ok, Err}
 use Rattle.quic_wire_core.specs.TransportError.{plain_error}
 use Rattle.quic_wire_core.specs.declared.stream_id.Side.TheVariants.{Client, Server}
-use Rattle.quic_config.specs.Transport.{default_settings, parameters_of}
+use Rattle.quic_config.specs.Transport.{parameters_of}
+use Rattle.quic_worked.specs.Settings.{plain_settings}
 use Rattle.quic_streams_parts.specs.declared.answers.WriteError.TheVariants as write_errors
 use Rattle.quic_machine.specs.declared.answers.LostReason.TheVariants as reasons
 use Rattle.quic_machine.specs.declared.answers.Received.TheVariants as receives
@@ -87,8 +88,8 @@ one_way_parameters =
 -- both ends, of which the server may open one one-way stream
 abbrev pub one_back : World
 one_back = record {
-  client = new_end Client (with_uni 1) steady (parameters_of default_settings) client_id server_id 0 true 63;
-  server = new_end Server default_settings steady (parameters_of (with_uni 1)) server_id client_id 0 true 63;
+  client = new_end Client (with_uni 1) steady (parameters_of plain_settings) client_id server_id 0 true 63;
+  server = new_end Server plain_settings steady (parameters_of (with_uni 1)) server_id client_id 0 true 63;
   from_client = [];
   from_server = [];
   client_control = steady_control;

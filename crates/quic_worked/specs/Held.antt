@@ -1,10 +1,11 @@
 -- A run in which a congestion window holds back what asks (RFC 9002, section 7): the window is 2400 bytes, twice the size of a datagram, and the client writes
 -- 4000 bytes. Once a full datagram is in flight, there is no room for one more. The loss timer expires, and two probes pass (section 7.5); then it holds again. And machines that hold back
--- what the window lets go.
+-- what the window lets go, that don't ask it, that hold a probe back, and that let a third one pass.
 use Rattle.std.specs.Prelude.{ℕ, true, List, [], ◌∷◌, ◌++◌, replicate, take, Some, None, Ok}
 use Rattle.quic_wire_core.specs.declared.stream_id.Side.TheVariants.{Client, Server}
 use Rattle.quic_congestion.specs.Congestion.{Told}
-use Rattle.quic_config.specs.Transport.{default_settings, parameters_of}
+use Rattle.quic_config.specs.Transport.{parameters_of}
+use Rattle.quic_worked.specs.Settings.{plain_settings}
 use Rattle.quic_machine.specs.declared.run.RunEvent.{RunEvent}
 use Rattle.quic_machine.specs.declared.run.Answer.{Answer}
 use Rattle.quic_machine.specs.declared.run.Answer.TheVariants as answers
@@ -37,8 +38,8 @@ narrow_windows = record { initial = narrow_window; present = narrow_window }
 -- both ends, before anything was given
 abbrev pub held_start : World
 held_start = record {
-  client = new_end Client default_settings narrow_windows (parameters_of default_settings) client_id server_id 0 true 63;
-  server = new_end Server default_settings narrow_windows (parameters_of default_settings) server_id client_id 0 true 63;
+  client = new_end Client plain_settings narrow_windows (parameters_of plain_settings) client_id server_id 0 true 63;
+  server = new_end Server plain_settings narrow_windows (parameters_of plain_settings) server_id client_id 0 true 63;
   from_client = [];
   from_server = [];
   client_control = narrow_control;
@@ -145,3 +146,48 @@ shrunk_view = record { client = record open_view { window = 1 }; server = open_v
 -- so nothing seems to fit, and the same poll gives nothing
 abbrev pub shrunk_run : Run
 shrunk_run = record silent_run { views = replicate 3 shrunk_view }
+
+-- STREAM from offset 1172 on
+abbrev pub next_payload : List ℕ
+next_payload = (0x0c ∷ 0x00 ∷ 0x44 ∷ 0x94 ∷ []) ++ replicate 1170 0x61
+
+-- the client gives a second datagram, though its window is full
+abbrev pub overfull_run : Run
+overfull_run = record held_run {
+  events = take 4 held_events;
+  answers = take 3 held_answers ++ gives_bytes 1200 ∷ [];
+  views = take 4 held_views;
+  from_client = client_datagram 0 0 first_payload ∷ client_datagram 1 0 next_payload ∷ [];
+}
+
+-- the client's timer expires while its window is full, and its poll gives no probe
+abbrev pub unprobed_run : Run
+unprobed_run = record held_run {
+  events = take 6 held_events;
+  answers = take 5 held_answers ++ gives_nothing ∷ [];
+  views = take 5 held_views ++ held_view (view_with (Some 2048000000) None) ∷ [];
+  from_client = client_datagram 0 0 first_payload ∷ [];
+}
+
+-- a third probe has what is left: PING, and STREAM from offset 3510 on
+abbrev pub fourth_payload : List ℕ
+fourth_payload = (0x01 ∷ 0x0c ∷ 0x00 ∷ 0x4d ∷ 0xb6 ∷ []) ++ replicate 490 0x61
+
+-- the client's timer expires once, and three probes go past a full window
+abbrev pub third_probe_run : Run
+third_probe_run = record held_run {
+  answers = take 7 held_answers ++ gives_bytes 521 ∷ [];
+  from_client = held_run.from_client ++ client_datagram 3 0 fourth_payload ∷ [];
+}
+
+-- the client shows a larger size of datagrams, of which its controller was never told
+abbrev pub resized_view : View
+resized_view = record { client = record open_view { current_mtu = 1452 }; server = open_view }
+
+-- from its first answer on
+abbrev pub resized_run : Run
+resized_run = record silent_run { views = replicate 3 resized_view }
+
+-- or from its second on, though no datagram was acknowledged, nor sent
+abbrev pub grown_run : Run
+grown_run = record silent_run { views = record { client = open_view; server = open_view } ∷ replicate 2 resized_view }

@@ -5,7 +5,8 @@ use Rattle.quic_wire_core.specs.declared.stream_id.Side.TheVariants.{Client, Ser
 use Rattle.quic_sets.specs.Offsets.{with_offsets}
 use Rattle.quic_sets.specs.Pieces.{with_range, joining, pieces}
 use Rattle.quic_wire.specs.Reading.{stream_limit_at}
-use Rattle.quic_config.specs.Transport.{Settings, default_settings, parameters_of}
+use Rattle.quic_config.specs.Transport.{Settings, parameters_of}
+use Rattle.quic_worked.specs.Settings.{plain_settings}
 use Rattle.quic_streams_parts.specs.declared.answers.WriteError.TheVariants as write_errors
 use Rattle.quic_machine.specs.declared.answers.Received.TheVariants as receives
 use Rattle.quic_machine.specs.declared.run.RunEvent.{RunEvent}
@@ -27,11 +28,11 @@ use Rattle.quic_worked.specs.Credit.{eight, eight_bounds, views_of_credit}
 
 -- the client keeps seven bytes at most
 abbrev pub keeps_seven : Settings
-keeps_seven = record default_settings { send_window = 7 }
+keeps_seven = record plain_settings { send_window = 7 }
 
 -- the server takes eight in all, and five on each stream
 abbrev pub takes_eight : Settings
-takes_eight = record default_settings { receive_window = 8; stream_receive_window = 5 }
+takes_eight = record plain_settings { receive_window = 8; stream_receive_window = 5 }
 
 -- what the server tells so
 abbrev pub narrow_parameters : List ℕ

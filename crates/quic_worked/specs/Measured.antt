@@ -4,7 +4,8 @@
 use Rattle.std.specs.Prelude.{ℕ, true, List, [], ◌∷◌, ◌++◌, replicate, take, Option, Some, None, Ok}
 use Rattle.quic_wire_core.specs.TransportError.{plain_error}
 use Rattle.quic_wire_core.specs.declared.stream_id.Side.TheVariants.{Client}
-use Rattle.quic_config.specs.Transport.{default_settings, parameters_of}
+use Rattle.quic_config.specs.Transport.{parameters_of}
+use Rattle.quic_worked.specs.Settings.{plain_settings}
 use Rattle.quic_machine.specs.declared.answers.LostReason.TheVariants as reasons
 use Rattle.quic_machine.specs.declared.answers.Received.TheVariants as receives
 use Rattle.quic_machine.specs.declared.run.RunEvent.{RunEvent}
@@ -109,7 +110,7 @@ cleared = with_client (once_measured 11) (record (once_measured 11).client { tim
 
 -- both ends, of which the client leaves out number 0: that was the first word of its random source
 abbrev pub leaving_out : World
-leaving_out = with_client started (new_end Client default_settings steady (parameters_of default_settings) client_id server_id 0 true 0)
+leaving_out = with_client started (new_end Client plain_settings steady (parameters_of plain_settings) client_id server_id 0 true 0)
 
 -- a datagram goes, and is acknowledged
 abbrev pub skipping_events : List RunEvent

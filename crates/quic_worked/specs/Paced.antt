@@ -8,9 +8,10 @@ use Rattle.quic_machine.specs.declared.run.Answer.TheVariants as answers
 use Rattle.quic_machine.specs.declared.run.EndView.{EndView}
 use Rattle.quic_machine.specs.declared.run.View.{View}
 use Rattle.quic_machine.specs.End.{End}
+use Rattle.quic_machine.specs.Control.{with_pacing_timer}
 use Rattle.quic_machine.specs.Machine.{World}
 use Rattle.quic_headline.specs.Runs.{Run}
-use Rattle.quic_worked.specs.Worked.{steady_window, worked_policies, ran, started, with_client, once_sent, hello, opens_stream, writes_hello, gives_bytes, open_view, view_with}
+use Rattle.quic_worked.specs.Worked.{steady_window, worked_policies, ran, started, with_client, once_written, once_sent, hello, opens_stream, writes_hello, gives_bytes, open_view, view_with}
 use Rattle.quic_worked.specs.Acknowledged.{client_datagram}
 use Rattle.quic_worked.specs.Timed.{asks_at}
 use Rattle.quic_worked.specs.Held.{gives_nothing}
@@ -70,3 +71,10 @@ paced_run = record {
   from_client = client_datagram 0 0 ((0x0a ∷ 0x00 ∷ 0x05 ∷ []) ++ hello) ∷ [];
   from_server = [];
 }
+
+-- ---- a machine that goes wrong
+
+-- what its poll leaves where five bytes wait: the timer of the pacer is set, though the pacer has
+-- tokens
+abbrev pub needlessly_paced : World
+needlessly_paced = with_client once_written (with_pacing_timer once_written.client (Some full_again))

@@ -5,12 +5,12 @@ use Rattle.std.specs.Prelude.{ℕ, true, List, [], ◌∷◌, ◌++◌, replicat
 use Rattle.quic_wire_core.specs.declared.stream_id.Side.TheVariants.{Client, Server}
 use Rattle.quic_wire.specs.Value.{stream}
 use Rattle.quic_congestion.specs.Congestion.{Told}
-use Rattle.quic_config.specs.Transport.{default_settings, parameters_of}
+use Rattle.quic_config.specs.Transport.{parameters_of}
+use Rattle.quic_worked.specs.Settings.{plain_settings}
 use Rattle.quic_machine.specs.declared.answers.Received.TheVariants as receives
 use Rattle.quic_machine.specs.declared.run.RunEvent.{RunEvent}
 use Rattle.quic_machine.specs.declared.run.Answer.{Answer}
 use Rattle.quic_machine.specs.declared.run.Answer.TheVariants as answers
-use Rattle.quic_machine.specs.declared.run.EndView.{EndView}
 use Rattle.quic_machine.specs.declared.run.View.{View}
 use Rattle.quic_machine.specs.Parts.{Windows}
 use Rattle.quic_machine.specs.End.{new_end}
@@ -39,8 +39,8 @@ roomy_windows = record { initial = roomy_window; present = roomy_window }
 -- both ends, before anything was given
 abbrev pub rested_start : World
 rested_start = record {
-  client = new_end Client default_settings roomy_windows (parameters_of default_settings) client_id server_id 0 true 63;
-  server = new_end Server default_settings roomy_windows (parameters_of default_settings) server_id client_id 0 true 63;
+  client = new_end Client plain_settings roomy_windows (parameters_of plain_settings) client_id server_id 0 true 63;
+  server = new_end Server plain_settings roomy_windows (parameters_of plain_settings) server_id client_id 0 true 63;
   from_client = [];
   from_server = [];
   client_control = roomy_control;

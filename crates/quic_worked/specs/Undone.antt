@@ -3,7 +3,8 @@
 -- is done.
 use Rattle.std.specs.Prelude.{ℕ, true, List, [], ◌∷◌, ◌++◌, replicate, Some, None, Ok}
 use Rattle.quic_wire_core.specs.declared.stream_id.Side.TheVariants.{Client, Server}
-use Rattle.quic_config.specs.Transport.{default_settings, parameters_of}
+use Rattle.quic_config.specs.Transport.{parameters_of}
+use Rattle.quic_worked.specs.Settings.{plain_settings}
 use Rattle.quic_machine.specs.declared.run.ReadCall.{ReadCall}
 use Rattle.quic_machine.specs.declared.run.Answer.TheVariants as answers
 use Rattle.quic_machine.specs.End.{new_end}
@@ -50,8 +51,8 @@ lone_parameters =
 -- both ends, where the server lets one one-way stream be open
 abbrev pub lone_start : World
 lone_start = record {
-  client = new_end Client default_settings roomy_windows (parameters_of (with_uni 1)) client_id server_id 0 true 63;
-  server = new_end Server (with_uni 1) roomy_windows (parameters_of default_settings) server_id client_id 0 true 63;
+  client = new_end Client plain_settings roomy_windows (parameters_of (with_uni 1)) client_id server_id 0 true 63;
+  server = new_end Server (with_uni 1) roomy_windows (parameters_of plain_settings) server_id client_id 0 true 63;
   from_client = [];
   from_server = [];
   client_control = roomy_control;

@@ -11,6 +11,7 @@ use Rattle.quic_wire_core.specs.declared.stream_id.Dir.{Dir}
 use Rattle.quic_wire_core.specs.declared.stream_id.Dir.TheVariants.{Bi}
 use Rattle.quic_wire_core.specs.declared.shared.EcnCodepoint.TheVariants.{Ect0}
 use Rattle.quic_config.specs.Transport.{Settings, default_settings, parameters_of}
+use Rattle.quic_worked.specs.Settings.{plain_settings}
 use Rattle.quic_sets.specs.Offsets.{without_offsets, parts_from}
 use Rattle.quic_sets.specs.Pieces.{pieces}
 use Rattle.quic_wire.specs.Value.{StreamValue}
@@ -180,12 +181,12 @@ worked_parameters =
 -- first that is left out
 abbrev pub client_made : End
 client_made =
-    new_end Client default_settings steady (parameters_of default_settings) client_id server_id 0 true 63
+    new_end Client plain_settings steady (parameters_of plain_settings) client_id server_id 0 true 63
 
 -- the server before the first event
 abbrev pub server_made : End
 server_made =
-    new_end Server default_settings steady (parameters_of default_settings) server_id client_id 0 true 63
+    new_end Server plain_settings steady (parameters_of plain_settings) server_id client_id 0 true 63
 
 -- both ends, before anything was given
 abbrev pub started : World
@@ -226,9 +227,13 @@ numbered_from next e = record e { numbers = record e.numbers { next = next } }
 abbrev pub within : ℕ → End → End
 within limit e = record e { streams = record e.streams { sending = record e.streams.sending { limit = limit } } }
 
+-- the client, which looks for a greater size of datagrams, on a path that is validated or isn't
+abbrev pub searching : Bool → End
+searching validated = new_end Client default_settings steady (parameters_of default_settings) client_id server_id 0 validated 63
+
 -- settings by which the peer may open no two-way stream
 abbrev pub no_two_way : Settings
-no_two_way = record default_settings { max_bidi = 0 }
+no_two_way = record plain_settings { max_bidi = 0 }
 
 -- the stream that an end opens, if it may
 abbrev pub end_opens : Dir → End → Option ℕ

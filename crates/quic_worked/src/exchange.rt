@@ -4,7 +4,7 @@ ghost use Rattle.std.specs.Prelude.{◌≡◌, ◌+◌, ◌^◌, pos, true, fals
 ghost use Rattle.quic_wire_core.specs.declared.stream_id.Side.TheVariants.{Client, Server};
 ghost use Rattle.quic_wire_core.specs.declared.stream_id.Dir.TheVariants.{Bi, Uni};
 ghost use Rattle.quic_wire.specs.Value.{reset_stream, stop_sending, max_data, max_streams, max_stream_data};
-ghost use Rattle.quic_config.specs.Transport.{default_settings};
+ghost use Rattle.quic_worked.specs.Settings.{plain_settings};
 ghost use Rattle.quic_streams_parts.specs.declared.answers.ReadableError.TheVariants as readable_errors;
 ghost use Rattle.quic_streams_parts.specs.declared.answers.ReadError.TheVariants as read_errors;
 ghost use Rattle.quic_streams_parts.specs.declared.answers.UpdateError.TheVariants as update_errors;
@@ -34,14 +34,14 @@ pub fn stops_end_reads()
 /// (section 4.1).
 #[tactic(auto, unfolding(quic_wire::specs::Writing::stream_spelling, quic_sets::specs::Offsets::without_offsets, quic_sets::specs::Offsets::with_offsets, quic_sets::specs::Offsets::parts_from, quic_sets::specs::Pieces::pieces, quic_sets::specs::Pieces::joining, quic_sets::specs::Pieces::with_range))]
 pub fn windows_are_raised()
-    ensures { played (ends_with default_settings (with_window 8)) (opens Client Bi ∷ writes Client 0 (replicate 20 97) ∷ gives Client 0 ∷ accepts Server Bi ∷ reads Server true 0 8 ∷ gives Server 0 ∷ writes Client 0 (replicate 12 98) ∷ [])
+    ensures { played (ends_with plain_settings (with_window 8)) (opens Client Bi ∷ writes Client 0 (replicate 20 97) ∷ gives Client 0 ∷ accepts Server Bi ∷ reads Server true 0 8 ∷ gives Server 0 ∷ writes Client 0 (replicate 12 98) ∷ [])
         ≡ id (Some 0) ∷ count (Ok 8) ∷ given (stream_frame 0 0 false (replicate 8 97) ∷ []) Taken ∷ id (Some 0) ∷ chunk 0 (replicate 8 97) ∷ given (max_data 16 ∷ acks 0 ∷ []) Taken ∷ count (Ok 8) ∷ [] }
 {}
 
 /// A one-way stream whose end is read gives back its place in the count (section 4.6).
 #[tactic(auto, unfolding(quic_wire::specs::Writing::stream_spelling, quic_sets::specs::Offsets::without_offsets, quic_sets::specs::Offsets::with_offsets, quic_sets::specs::Offsets::parts_from, quic_sets::specs::Pieces::pieces, quic_sets::specs::Pieces::joining, quic_sets::specs::Pieces::with_range))]
 pub fn counts_are_given_back()
-    ensures { played (ends_with default_settings (with_uni 1)) (opens Client Uni ∷ opens Client Uni ∷ writes Client 2 (97 ∷ []) ∷ finishes Client 2 ∷ gives Client 0 ∷ accepts Server Uni ∷ reads Server true 2 32 ∷ reads Server true 2 32 ∷ gives Server 0 ∷ tells Client ∷ tells Client ∷ opens Client Uni ∷ [])
+    ensures { played (ends_with plain_settings (with_uni 1)) (opens Client Uni ∷ opens Client Uni ∷ writes Client 2 (97 ∷ []) ∷ finishes Client 2 ∷ gives Client 0 ∷ accepts Server Uni ∷ reads Server true 2 32 ∷ reads Server true 2 32 ∷ gives Server 0 ∷ tells Client ∷ tells Client ∷ opens Client Uni ∷ [])
         ≡ id (Some 2) ∷ id None ∷ count (Ok 1) ∷ ended (Ok tt) ∷ given (stream_frame 2 0 true (97 ∷ []) ∷ []) Taken ∷ id (Some 2) ∷ chunk 0 (97 ∷ []) ∷ next (Ok None)
         ∷ given (max_streams (record { one_way = true; count = 2 }) ∷ acks 0 ∷ []) Taken ∷ event (Some (Stream (stream_events.Available Uni))) ∷ event (Some (Stream (stream_events.Finished 2))) ∷ id (Some 6) ∷ [] }
 {}

@@ -3,6 +3,7 @@
 #![tactic(auto)]
 
 pub mod acknowledged;
+pub mod allowed;
 pub mod blocked;
 pub mod bounded;
 pub mod broken;
@@ -11,6 +12,7 @@ pub mod closed;
 pub mod credit;
 pub mod exchange;
 pub mod faults;
+pub mod halved;
 pub mod hasty;
 pub mod held;
 pub mod isolated;
@@ -24,7 +26,10 @@ pub mod picked;
 pub mod probed;
 pub mod raised;
 pub mod reordered;
+pub mod repeated;
 pub mod rested;
+pub mod searched;
 pub mod timed;
+pub mod told;
 pub mod undone;
 pub mod worked;

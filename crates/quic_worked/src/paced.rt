@@ -1,13 +1,15 @@
-//! A run in which a pacer holds a datagram back, computed. Each function does nothing: its contract
-//! is the law.
+//! A run in which a pacer holds a datagram back, computed, and clients that go wrong there. Each
+//! function does nothing: its contract is the law.
 ghost use Rattle.std.specs.Prelude.{◌≡◌, None, Some};
 ghost use Rattle.quic_wire_core.specs.declared.stream_id.Side.TheVariants.{Client};
+ghost use Rattle.quic_machine.specs.declared.run.Call.TheVariants as calls;
 ghost use Rattle.quic_machine.specs.Machine.{World, IsStep};
 ghost use Rattle.quic_headline.specs.Headline.{IsRun};
-ghost use Rattle.quic_headline.specs.Polls.{GaveNothing, GaveAsking, IsByteToGo, IsPaced, pacer_names, pacing_at};
-ghost use Rattle.quic_worked.specs.Worked.{worked_policies, gives_bytes};
+ghost use Rattle.quic_headline.specs.Polls.{GaveNothing, GaveAsking, IsByteToGo, IsPaced, PacingBehind, pacer_names, pacing_at};
+ghost use Rattle.quic_worked.specs.Worked.{worked_policies, once_written, gives_bytes};
 ghost use Rattle.quic_worked.specs.Timed.{asks_at};
-ghost use Rattle.quic_worked.specs.Paced.{full_again, once_paced, paced_view, paced_run};
+ghost use Rattle.quic_worked.specs.Held.{gives_nothing};
+ghost use Rattle.quic_worked.specs.Paced.{full_again, once_paced, paced_view, paced_run, needlessly_paced};
 
 /// A client whose pacer has no token gives nothing, though a byte waits, and sets the timer of its
 /// pacer to the moment that this names: then it is full, and the datagram goes (RFC 9002, section
@@ -19,7 +21,7 @@ pub fn pacer_holds_back()
     ensures gave { GaveNothing paced_run Client 2 0 paced_view }
     ensures waits { IsByteToGo paced_run Client 3 0 0 }
     ensures held { IsPaced paced_run Client 3 paced_view }
-    ensures goes { GaveAsking paced_run Client 3 full_again (once_paced 3) (once_paced 4) }
+    ensures goes { GaveAsking paced_run Client 3 full_again }
     ensures names_none { pacer_names Client (once_paced 3) full_again ≡ None }
     ensures stops { pacing_at Client (once_paced 4) ≡ None }
 {}
@@ -28,4 +30,13 @@ pub fn pacer_holds_back()
 pub fn token_is_never_asked_for()
     ensures { (next : World)
         → IsStep worked_policies (once_paced 2) (asks_at Client 0) (gives_bytes 34) next → ⊥ }
+{}
+
+/// A client whose pacer has tokens sets the timer of its pacer all the same, and gives nothing. The
+/// machine gives the datagram.
+pub fn needless_pacing_shows()
+    ensures names { pacer_names Client once_written 0 ≡ None }
+    ensures step { PacingBehind Client (calls.Poll 0) once_written needlessly_paced → ⊥ }
+    ensures machine { (next : World)
+        → IsStep worked_policies once_written (asks_at Client 0) gives_nothing next → ⊥ }
 {}

@@ -9,7 +9,8 @@ ghost use Rattle.quic_packet.specs.declared.packet.HeaderError.TheVariants.{Unkn
 ghost use Rattle.quic_packet.specs.Keys.{shielded, unshielded};
 ghost use Rattle.quic_packet.specs.Datagram.{protected, opened_packet};
 ghost use Rattle.quic_packet.specs.Destination.{decoded, fixed_length_id};
-ghost use Rattle.quic_wire.specs.Value.{stream};
+ghost use Rattle.quic_wire.specs.Value.{stream, ping};
+ghost use Rattle.quic_congestion.specs.Search.{open_probe};
 ghost use Rattle.quic_parameters.specs.ParametersRead.{parameters_at};
 ghost use Rattle.quic_wire.specs.Writing.{spelling};
 ghost use Rattle.quic_wire.specs.Items.{items};
@@ -24,13 +25,15 @@ ghost use Rattle.quic_machine.specs.declared.answers.Received.TheVariants.{Taken
 ghost use Rattle.quic_machine.specs.declared.answers.Received.TheVariants as receives;
 ghost use Rattle.quic_machine.specs.declared.run.ReadCall.{ReadCall};
 ghost use Rattle.quic_machine.specs.declared.run.Answer.TheVariants as answers;
-ghost use Rattle.quic_config.specs.Transport.{default_settings, parameters_of};
+ghost use Rattle.quic_config.specs.Transport.{parameters_of};
+ghost use Rattle.quic_worked.specs.Settings.{plain_settings};
 ghost use Rattle.quic_recovery_core.specs.Duplicates.{is_duplicate};
 ghost use Rattle.quic_recovery_core.specs.DuplicateRuns.{seen_after};
 ghost use Rattle.quic_streams_state.specs.Writing.{finish_answer};
 ghost use Rattle.quic_streams_state.specs.Reading.{read_answer};
-ghost use Rattle.quic_machine.specs.End.{MadeFrom, new_end, refusal_of, closed_by};
+ghost use Rattle.quic_machine.specs.End.{MadeFrom, new_end, refusal_of, closed_by, with_window};
 ghost use Rattle.quic_machine.specs.Poll.{IsDatagram};
+ghost use Rattle.quic_machine.specs.PollCases.{draft_at};
 ghost use Rattle.quic_machine.specs.Machine.{IsStep, Follows};
 ghost use Rattle.quic_machine.specs.Opens.{opens};
 ghost use Rattle.quic_headline.specs.Runs.{until, written, ended, reads, finished, ids_of, accepts, count_given, given_until, is_again, HasArrived, EndHasArrived};
@@ -38,13 +41,13 @@ ghost use Rattle.quic_headline.specs.Observer.{took, references_until};
 ghost use Rattle.quic_machine.specs.Start.{AreStarted, AreKeys};
 ghost use Rattle.quic_headline.specs.Headline.{IsHonest, IsRun};
 ghost use Rattle.quic_worked.specs.Broken.{once_full, once_failed};
-ghost use Rattle.quic_worked.specs.Worked.{steady_window, steady, unprotected_hello, hello_opening, client_gives, no_two_way, end_opens, end_accepts, end_writes, end_after_write, end_next, write_lacks, finish_lacks, read_lacks, next_lacks, poll_lacks, ReadsBy, two_chunks, worked_parameters, client_id, server_id, client_made, server_made, started, with_server, once_opened, once_written, once_ended, once_sent, once_taken, once_read, hello, hello_frame, hello_payload, hello_datagram, writes_hello, finishes_stream, asks_datagram, delivers, reads_stream, failed_end, numbered_from, from_client, client_packet, at_server, within, worked_policies, worked_events, worked_answers, worked_views, worked_run};
+ghost use Rattle.quic_worked.specs.Worked.{steady_window, steady, unprotected_hello, hello_opening, client_gives, searching, no_two_way, end_opens, end_accepts, end_writes, end_after_write, end_next, write_lacks, finish_lacks, read_lacks, next_lacks, poll_lacks, ReadsBy, two_chunks, worked_parameters, client_id, server_id, client_made, server_made, started, with_server, once_opened, once_written, once_ended, once_sent, once_taken, once_read, hello, hello_frame, hello_payload, hello_datagram, writes_hello, finishes_stream, asks_datagram, delivers, reads_stream, failed_end, numbered_from, from_client, client_packet, at_server, within, worked_policies, worked_events, worked_answers, worked_views, worked_run};
 
 /// Each end is made of the other's parameters and first id, at moment 0 on a validated path.
 pub fn ends_are_made()
-    ensures client { MadeFrom Client default_settings steady worked_parameters client_id server_id 0
+    ensures client { MadeFrom Client plain_settings steady worked_parameters client_id server_id 0
         true 63 client_made }
-    ensures server { MadeFrom Server default_settings steady worked_parameters server_id client_id 0
+    ensures server { MadeFrom Server plain_settings steady worked_parameters server_id client_id 0
         true 63 server_made }
 {}
 
@@ -189,7 +192,7 @@ pub fn broken_rules_are_found()
     ensures other_end { at_server once_taken.server (from_client 1 (0x09 ∷ 0x00 ∷ 0x61 ∷ []))
         ≡ Closed (plain_error 6) }
     ensures beyond_count { at_server
-        (new_end Server no_two_way steady (parameters_of default_settings) server_id client_id 0
+        (new_end Server no_two_way steady (parameters_of plain_settings) server_id client_id 0
         true 63)
         hello_datagram ≡ Closed (plain_error 4) }
     ensures none { at_server server_made (from_client 0 (0x40 ∷ 0x00 ∷ 0x01 ∷ [])) ≡ Taken }
@@ -202,7 +205,7 @@ pub fn calls_are_bounded()
     ensures second_open { end_opens Bi once_opened.client ≡ Some 4 }
     ensures one_way { end_opens Uni once_opened.client ≡ Some 2 }
     ensures no_count { end_opens Bi
-        (new_end Client default_settings steady (parameters_of no_two_way) client_id server_id 0
+        (new_end Client plain_settings steady (parameters_of no_two_way) client_id server_id 0
         true 63)
         ≡ None }
     ensures server_open { end_opens Bi server_made ≡ Some 1 }
@@ -234,18 +237,33 @@ pub fn calls_are_bounded()
         ≡ Ok None }
     ensures last_number { (client_gives (numbered_from (2 ^ 31 - 17) once_ended.client) 0).answer
         ≡ Ok (Some (record { size = 37; ecn = Some Ect0 })) }
-    ensures bad_parameters { refusal_of default_settings steady_window
+    ensures bad_parameters { refusal_of plain_settings steady_window
         (parameters_at (0x04 ∷ 0x01 ∷ [])) client_id server_id ≡ Some Parameters }
-    ensures short_id { refusal_of default_settings steady_window (parameters_at worked_parameters)
+    ensures short_id { refusal_of plain_settings steady_window (parameters_at worked_parameters)
         (take 7 client_id) server_id ≡ Some IdLength }
-    ensures no_peer_id { refusal_of default_settings steady_window
+    ensures no_peer_id { refusal_of plain_settings steady_window
         (parameters_at worked_parameters) client_id [] ≡ Some IdLength }
-    ensures big_datagrams { refusal_of (record default_settings { initial_mtu = 65528 })
+    ensures big_datagrams { refusal_of (record plain_settings { initial_mtu = 65528 })
         steady_window (parameters_at worked_parameters) client_id server_id ≡ Some Size }
-    ensures small_window { refusal_of default_settings 2399 (parameters_at worked_parameters)
+    ensures small_window { refusal_of plain_settings 2399 (parameters_at worked_parameters)
         client_id server_id ≡ Some Window }
-    ensures no_refusal { refusal_of default_settings steady_window
+    ensures no_refusal { refusal_of plain_settings steady_window
         (parameters_at worked_parameters) client_id server_id ≡ None }
+{}
+
+/// Where nothing waits, PING goes as a probe of the size between 1200 and 1452 bytes, under a
+/// number that is open then; but not where the path isn't validated, the window has no room for the
+/// greatest size that is looked at, or none is looked for (RFC 8899, section 5.3).
+pub fn sizes_are_probed()
+    ensures probe { (client_gives (searching true) 0).answer
+        ≡ Ok (Some (record { size = 1326; ecn = Some Ect0 })) }
+    ensures alone { (draft_at (searching true) 0).frames ≡ ping ∷ [] }
+    ensures opened { open_probe (client_gives (searching true) 0).end.path.discovery ≡ Some 0 }
+    ensures room { (client_gives (with_window (searching true) 1453) 0).answer
+        ≡ Ok (Some (record { size = 1326; ecn = Some Ect0 })) }
+    ensures no_room { (client_gives (with_window (searching true) 1452) 0).answer ≡ Ok None }
+    ensures not_validated { (client_gives (searching false) 0).answer ≡ Ok None }
+    ensures not_looked_for { (client_gives client_made 0).answer ≡ Ok None }
 {}
 
 /// Where memory lacks, an application's call leaves all as it was, and an end that is polled or

@@ -111,8 +111,8 @@ fn touches(parts: &PartMap, at: u64, joins: bool) -> usize
     if joins { before + 1 } else { before }
 }
 
-// Where no part ends behind an offset: how many parts end at it, one or none. The last part alone is
-// looked up.
+// Where no part ends behind an offset: how many parts end at it, one or none. The last part alone
+// is looked up.
 fn ends_at_last(parts: &PartMap, at: u64) -> Option<usize>
     requires { AreApart 0 parts.now }
     ensures behind { IfSome result (λ n. after at parts.now ≡ None) }

@@ -1,5 +1,5 @@
-//! The controller of RFC 9002: slow start up to a threshold, one datagram a round trip above it, and a smaller window after
-//! a loss.
+//! The controller of RFC 9002: slow start up to a threshold, one datagram a round trip above it,
+//! and a smaller window after a loss.
 ghost use Rattle.std.specs.Prelude.{◌≡◌, ◌*◌, ◌≤◌, ◌<◌, Some, nat_lt, IfOk, IsOk, refl};
 ghost use Rattle.quic_congestion.specs.NewReno.{default_reno, loss_leaves, reno_made, bytes_sum, is_past, grown, recounted, reno_acked, reduced, collapsed, reno_congested, reno_resized};
 
@@ -48,8 +48,8 @@ impl NewRenoConfig {
         self
     }
 
-    /// What a loss leaves of the window: `numerator / denominator` of it. The numerator has to be at most the denominator,
-    /// and the denominator above 0.
+    /// What a loss leaves of the window: `numerator / denominator` of it. The numerator has to be
+    /// at most the denominator, and the denominator above 0.
     pub fn loss_reduction_factor(&mut self, numerator: u64, denominator: u64) -> &mut Self
         requires at_most_one { numerator ≤ denominator }
         requires above_zero { 0 < denominator }
@@ -123,7 +123,8 @@ impl Model for NewReno {
 }
 
 impl NewReno {
-    /// A controller made now, for datagrams of at most so many bytes. Its window is the configured one.
+    /// A controller made now, for datagrams of at most so many bytes. Its window is the configured
+    /// one.
     pub fn new(config: NewRenoConfig, now: Instant, current_mtu: u16) -> Self
         ensures { result ≡ reno_made config now current_mtu }
     {
@@ -229,8 +230,9 @@ impl Controller for NewReno {
     /// Nothing changes.
     fn on_sent(&mut self, _now: Instant, _bytes: u64, _last_packet_number: u64) {}
 
-    /// The window grows, unless the packet is of the time before recovery began or the window wasn't used up: by the bytes
-    /// below the threshold, and above it by a datagram for each window of bytes.
+    /// The window grows, unless the packet is of the time before recovery began or the window
+    /// wasn't used up: by the bytes below the threshold, and above it by a datagram for each window
+    /// of bytes.
     fn on_ack(
         &mut self,
         _now: Instant,
@@ -258,7 +260,8 @@ impl Controller for NewReno {
         _largest: Option<u64>,
     ) {}
 
-    /// Recovery begins, unless the packet is of the time before the last one began, and the window falls.
+    /// Recovery begins, unless the packet is of the time before the last one began, and the window
+    /// falls.
     fn on_congestion_event(
         &mut self,
         now: Instant,

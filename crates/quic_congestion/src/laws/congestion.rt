@@ -8,7 +8,8 @@ ghost use Rattle.quic_congestion.specs.RenoHistory.{Counts, AllCount, bytes_told
 use crate::congestion::Controller;
 use crate::congestion::new_reno::NewReno;
 
-/// No controller keeps its history: after calls it is what the last of them makes of what the calls before it left.
+/// No controller keeps its history: after calls it is what the last of them makes of what the calls
+/// before it left.
 pub fn histories_are_folded<C>()
     ensures none { (steps : Steps C) (c : C) → after_calls steps c [] ≡ c }
     ensures next { (steps : Steps C) (c : C) (calls : List Told) (call : Told)
@@ -17,8 +18,8 @@ pub fn histories_are_folded<C>()
         → after_calls steps c (before ++ later) ≡ after_calls steps (after_calls steps c before) later }
 {}
 
-/// After any calls a controller has the size of a datagram that was handed in last; and where two datagrams fitted its
-/// window at the beginning, two of that size fit it then.
+/// After any calls a controller has the size of a datagram that was handed in last; and where two
+/// datagrams fitted its window at the beginning, two of that size fit it then.
 pub fn two_datagrams_have_room<C: Controller>()
     ensures size { let steps =
         steps_of C.after_sent C.after_ack C.after_end_acks C.after_congestion_event C.after_mtu_update in
@@ -36,14 +37,15 @@ pub fn new_reno_steps()
         ⟦<NewReno as Controller>⟧.after_mtu_update ≡ reno_steps }
 {}
 
-/// Made for a size of which two fit the configured window, a `NewReno` has room for two datagrams after any calls.
+/// Made for a size of which two fit the configured window, a `NewReno` has room for two datagrams
+/// after any calls.
 pub fn new_reno_keeps_room()
     ensures { (s : RenoSettings) (now size : ℕ) (calls : List Told) → size < 2 ^ 16 → 2 * size ≤ s.initial → AreSized calls
         → 2 * last_size size calls ≤ window_after (reno_made s now size) calls }
 {}
 
-/// A packet sent before recovery began, or as it began, changes nothing, nor does an acknowledgement where the window
-/// wasn't used up.
+/// A packet sent before recovery began, or as it began, changes nothing, nor does an
+/// acknowledgement where the window wasn't used up.
 pub fn past_packets_change_nothing()
     ensures acked { (r : Reno) (sent bytes : ℕ) (app_limited : Bool) → sent ≤ r.recovery
         → reno_acked r sent bytes app_limited ≡ r }
@@ -52,13 +54,15 @@ pub fn past_packets_change_nothing()
         → reno_congested r now sent persistent ≡ r }
 {}
 
-/// However many of the packets are lost that were sent before a loss was noticed, the window falls once.
+/// However many of the packets are lost that were sent before a loss was noticed, the window falls
+/// once.
 pub fn window_falls_once()
     ensures { (r : Reno) (now sent later other : ℕ) (persistent again : Bool) → r.recovery < sent → other ≤ now
         → reno_congested (reno_congested r now sent persistent) later other again ≡ reno_congested r now sent persistent }
 {}
 
-/// An acknowledgement takes nothing from the window, and adds no more than its bytes or one datagram.
+/// An acknowledgement takes nothing from the window, and adds no more than its bytes or one
+/// datagram.
 pub fn acknowledgements_raise_the_window()
     ensures least { (r : Reno) (sent bytes : ℕ) (app_limited : Bool) → r.window < 2 ^ 64
         → r.window ≤ (reno_acked r sent bytes app_limited).window }
@@ -66,9 +70,9 @@ pub fn acknowledgements_raise_the_window()
         → (reno_acked r sent bytes app_limited).window ≤ r.window + max bytes r.size }
 {}
 
-/// While the window stays below the threshold, it is the first window and the bytes acknowledged since, as long as each
-/// packet counts and 64 bits hold it (RFC 9002, section 7.3.1). So it is after the acknowledgement that takes it to the
-/// threshold or past it.
+/// While the window stays below the threshold, it is the first window and the bytes acknowledged
+/// since, as long as each packet counts and 64 bits hold it (RFC 9002, section 7.3.1). So it is
+/// after the acknowledgement that takes it to the threshold or past it.
 pub fn slow_start_adds_what_is_acknowledged()
     ensures below { (r : Reno) (calls : List Told) → AllCount r calls → r.window + acked_bytes calls < r.threshold
         → r.window + acked_bytes calls < 2 ^ 64 → window_after r calls ≡ r.window + acked_bytes calls }
@@ -77,9 +81,9 @@ pub fn slow_start_adds_what_is_acknowledged()
         → window_after r (calls ++ call ∷ []) ≡ r.window + acked_bytes calls + bytes_told call }
 {}
 
-/// At or above the threshold each window of bytes acknowledged adds one datagram, as long as each packet counts and 64 bits
-/// hold the window and the bytes (RFC 9002, section 7.3.3). What is left to count is less than a window where no
-/// acknowledgement has more bytes than the first one.
+/// At or above the threshold each window of bytes acknowledged adds one datagram, as long as each
+/// packet counts and 64 bits hold the window and the bytes (RFC 9002, section 7.3.3). What is left
+/// to count is less than a window where no acknowledgement has more bytes than the first one.
 pub fn avoidance_adds_a_datagram_a_window()
     ensures each { (r : Reno) (calls : List Told) → AllCount r calls → r.threshold ≤ r.window → r.size ≤ r.window
         → r.window + r.counted + acked_bytes calls < 2 ^ 64
@@ -96,9 +100,9 @@ pub fn losses_lower_the_window()
         → 2 * r.size ≤ r.window → (reno_congested r now sent persistent).window ≤ r.window }
 {}
 
-/// The window of a `NewReno` made at 0 for datagrams of 1200 bytes: the packet sent at 0 doesn't count, 1200 bytes sent at
-/// 1 are added, a loss at 5 leaves the half, the packet sent at 5 doesn't count, and a window of bytes sent at 6 adds a
-/// datagram.
+/// The window of a `NewReno` made at 0 for datagrams of 1200 bytes: the packet sent at 0 doesn't
+/// count, 1200 bytes sent at 1 are added, a loss at 5 leaves the half, the packet sent at 5 doesn't
+/// count, and a window of bytes sent at 6 adds a datagram.
 pub fn worked_window()
     ensures past { (rtt : Rtt) → window_after (reno_made default_reno 0 1200) (Acked 2 0 1200 false rtt ∷ []) ≡ 12000 }
     ensures grown { (rtt : Rtt) → window_after (reno_made default_reno 0 1200)

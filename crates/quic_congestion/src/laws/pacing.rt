@@ -8,8 +8,8 @@ pub fn tokens_are_bytes()
     ensures { (p : Pacing) (lengths : List ℕ) → fold after_datagram p lengths ≡ record p { tokens = tokens_after p.tokens lengths } }
 {}
 
-/// A pacer never holds more than its capacity, which is from 10 datagrams to 256: at first, after each call, and after any
-/// calls. Another window or size than before gives it anew.
+/// A pacer never holds more than its capacity, which is from 10 datagrams to 256: at first, after
+/// each call, and after any calls. Another window or size than before gives it anew.
 pub fn bursts_are_bounded()
     ensures made { (rtt window size moment : ℕ) → IsPacing (new_pacing rtt window size moment) }
     ensures sent { (p : Pacing) (len : ℕ) → IsPacing p → IsPacing (after_datagram p len) }
@@ -18,22 +18,23 @@ pub fn bursts_are_bounded()
     ensures last { (p : Pacing) (ask : Ask) → (p.window ≡ ask.window → p.size ≡ ask.size → ⊥) → (after_ask p ask).capacity ≡ capacity_of ask.rtt ask.window ask.size }
 {}
 
-/// Bytes wait exactly where they're paced and the pacer then lacks a token for one of them, and never until a moment that
-/// is earlier.
+/// Bytes wait exactly where they're paced and the pacer then lacks a token for one of them, and
+/// never until a moment that is earlier.
 pub fn bytes_wait_for_tokens()
     ensures waits { (p : Pacing) (rtt bytes size window moment : ℕ) → is_none (delay_of p rtt bytes size window moment) ≡ goes_at_once (after_delay p rtt bytes size window moment) rtt bytes window }
     ensures later { (p : Pacing) (rtt bytes size window moment : ℕ) → moment < 2 ^ 64 → IfSome (delay_of p rtt bytes size window moment) (λ until. moment ≤ until) }
 {}
 
-/// In the time that is waited for tokens no more than these come, and besides what comes in 4 ns all but one.
+/// In the time that is waited for tokens no more than these come, and besides what comes in 4 ns
+/// all but one.
 pub fn waits_are_for_what_lacks()
     ensures most { (rtt missing window : ℕ) → 0 < rtt → 0 < window → gained rtt window (time_for rtt missing window) ≤ missing }
     ensures least { (rtt missing window : ℕ) → 0 < rtt → 0 < window → missing ≤ gained rtt window (time_for rtt missing window) + window * 5 / rtt + 1 }
 {}
 
-/// However window, round trip and size change: datagrams that have their tokens go no faster than the tokens at first and
-/// five quarters of the greatest window in each shortest round trip; and what a pacer lets go has its tokens, where it's
-/// paced.
+/// However window, round trip and size change: datagrams that have their tokens go no faster than
+/// the tokens at first and five quarters of the greatest window in each shortest round trip; and
+/// what a pacer lets go has its tokens, where it's paced.
 pub fn bytes_go_at_five_quarters()
     ensures rate { (calls : List Call) (p : Pacing) (rtt window until : ℕ) → 0 < rtt → AreAsked calls rtt window p.refilled until → covered_bytes calls p + (pacing_after calls p).tokens ≤ p.tokens + gained rtt window (until - p.refilled) }
     ensures let_go { (p : Pacing) (ask : Ask) → 0 < ask.rtt → ask.window < 2 ^ 32 → answer_of p ask ≡ None → ask.bytes ≤ (after_ask p ask).tokens }

@@ -5,7 +5,8 @@ ghost use Rattle.quic_congestion.specs.Bursts.{no_bursts, is_suspicious, suspect
 use crate::mtud::suspects::SuspiciousBursts;
 use std::marker::Model;
 
-/// Packets with consecutive numbers that were lost, perhaps all for one reason (quinn-proto's `CurrentLossBurst`).
+/// Packets with consecutive numbers that were lost, perhaps all for one reason (quinn-proto's
+/// `CurrentLossBurst`).
 #[derive(Clone, Copy, Debug)]
 pub(super) struct LossBurst {
     latest: u64,
@@ -22,7 +23,8 @@ impl Model for LossBurst {
     ghost inverse = { λ b. record { latest = b.last; smallest_size = b.size } };
 }
 
-/// Judges by losses whether a path carries less than before (RFC 8899, section 4.3; quinn-proto's `BlackHoleDetector`).
+/// Judges by losses whether a path carries less than before (RFC 8899, section 4.3; quinn-proto's
+/// `BlackHoleDetector`).
 #[derive(Clone, Copy, Debug)]
 pub(super) struct BlackHoleDetector {
     min_mtu: u16,
@@ -76,7 +78,8 @@ impl BlackHoleDetector {
         self.min_mtu
     }
 
-    /// A probe was acknowledged. It is larger than all that went before, so no burst is due to sizes.
+    /// A probe was acknowledged. It is larger than all that went before, so no burst is due to
+    /// sizes.
     pub(super) fn on_probe_acked(&mut self, number: u64, len: u16)
         ensures { self.new ≡ after_probe number len self.old }
     {
@@ -85,8 +88,8 @@ impl BlackHoleDetector {
         self.suspicious = SuspiciousBursts::new();
     }
 
-    /// A packet that is no probe was acknowledged. Where it is larger than what is known to arrive, bursts of no more than
-    /// it were not due to sizes.
+    /// A packet that is no probe was acknowledged. Where it is larger than what is known to arrive,
+    /// bursts of no more than it were not due to sizes.
     pub(super) fn on_non_probe_acked(&mut self, number: u64, len: u16)
         ensures { self.new ≡ after_acknowledged number len self.old }
     {
@@ -102,8 +105,8 @@ impl BlackHoleDetector {
         self.suspicious = self.suspicious.above(len);
     }
 
-    /// Whether a burst may be due to its sizes: not where every path carries its least packet, nor where a later packet
-    /// that was no smaller arrived.
+    /// Whether a burst may be due to its sizes: not where every path carries its least packet, nor
+    /// where a later packet that was no smaller arrived.
     fn is_suspicious(&self, burst: LossBurst) -> bool
         ensures { result ≡ is_suspicious self.now burst }
     {
@@ -158,7 +161,8 @@ impl BlackHoleDetector {
         });
     }
 
-    /// A packet that is no probe was lost: the next of the current burst, or else the first of another.
+    /// A packet that is no probe was lost: the next of the current burst, or else the first of
+    /// another.
     pub(super) fn on_non_probe_lost(&mut self, number: u64, len: u16)
         ensures { self.new ≡ after_lost number len self.old }
     {
@@ -173,7 +177,8 @@ impl BlackHoleDetector {
         }
     }
 
-    /// Ends the current burst. Where more than three are suspicious, true, and none is from then on.
+    /// Ends the current burst. Where more than three are suspicious, true, and none is from then
+    /// on.
     pub(super) fn black_hole_detected(&mut self) -> bool
         ensures found { result ≡ is_black_hole self.old }
         ensures new { self.new ≡ after_told self.old }

@@ -28,6 +28,13 @@ impl Model for EnabledMtuDiscovery {
 }
 
 impl EnabledMtuDiscovery {
+    /// The greatest size that is looked at.
+    pub(super) fn upper_bound(&self) -> u16
+        ensures { result ≡ self.now.settings.upper_bound }
+    {
+        self.config.size_bound()
+    }
+
     /// Nothing was searched. The first poll begins, whatever its moment.
     pub(super) fn new(config: MtuDiscoveryConfig) -> Self
         ensures { result ≡ first_plan config }

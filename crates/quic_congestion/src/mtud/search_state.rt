@@ -4,7 +4,8 @@ ghost use Rattle.quic_congestion.specs.Search.{within, begun, narrowed, halved, 
 
 use std::marker::Model;
 
-/// How often a size is probed before it counts as too large (RFC 8899, section 5.1.2, `MAX_PROBES`).
+/// How often a size is probed before it counts as too large (RFC 8899, section 5.1.2,
+/// `MAX_PROBES`).
 const MAX_PROBES: u8 = 3;
 
 /// A search by halving between two sizes (RFC 8899, section 5.3; quinn-proto's `SearchState`).
@@ -95,7 +96,8 @@ impl SearchState {
         search
     }
 
-    /// The middle of the bounds, or else the upper one, where it differs enough from the size probed last.
+    /// The middle of the bounds, or else the upper one, where it differs enough from the size
+    /// probed last.
     fn halved(&self, minimum_change: u16) -> Option<u16>
         ensures { result ≡ halved minimum_change self.now }
     {
@@ -109,7 +111,8 @@ impl SearchState {
         }
     }
 
-    /// The size to probe next: a lost one again, or else one between the bounds. None ends the search.
+    /// The size to probe next: a lost one again, or else one between the bounds. None ends the
+    /// search.
     pub(super) fn next_mtu_to_probe(&self, minimum_change: u16) -> Option<u16>
         ensures { result ≡ next_size minimum_change self.now }
     {

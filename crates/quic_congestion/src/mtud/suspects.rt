@@ -5,7 +5,8 @@ ghost use Rattle.quic_congestion.specs.Passing.{greater, lesser, above};
 
 use std::marker::Model;
 
-/// The sizes of the suspicious bursts that are kept, at most four, the greatest first. Contracts see the list of the sizes.
+/// The sizes of the suspicious bursts that are kept, at most four, the greatest first. Contracts
+/// see the list of the sizes.
 #[derive(Clone, Copy, Debug)]
 pub(super) struct SuspiciousBursts {
     first: Option<u16>,
@@ -31,7 +32,8 @@ impl Model for SuspiciousBursts {
     ghost inverse_ok = { places_of_sizes };
 }
 
-/// What a place has once a size came to it, the greater of the two, and what goes on to the next place.
+/// What a place has once a size came to it, the greater of the two, and what goes on to the next
+/// place.
 fn exchanged(place: Option<u16>, size: Option<u16>) -> (Option<u16>, Option<u16>)
     ensures stays { result.0 ≡ greater place size }
     ensures goes_on { result.1 ≡ lesser place size }

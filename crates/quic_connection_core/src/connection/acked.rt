@@ -11,10 +11,12 @@ ghost use Rattle.quic_streams_parts.specs.Table.{at};
 ghost use Rattle.quic_sent_packets.specs.Packets.{asks_any, from};
 ghost use Rattle.quic_paths.specs.InFlight.{CanLeave, no_flight, flight_of};
 ghost use Rattle.quic_machine.specs.End.{with_end, with_tracking, with_rtt};
+ghost use Rattle.quic_machine.specs.Sizes.{told_packets};
+ghost use Rattle.quic_congestion.specs.Search.{is_number, open_probe};
 ghost use Rattle.quic_wire.specs.AckView.{counts_view};
-ghost use Rattle.quic_machine.specs.Control.{bytes_in_flight, last_sent, persistent_period, told_packet, told_packets, told_acks_ended};
-ghost use Rattle.quic_machine.specs.Tracking.{lost_by, kept_by, acked_by, not_acked_by};
-ghost use Rattle.quic_machine.specs.Acked.{without_known, carried_acked, carried_lost, packets_acked, packets_lost, verdict, losses_detected, told_delay, first_measured, counts_answer, counts_judged, marks_seen, told_grown, told_seen, after_acked, told_detected, told_acked};
+ghost use Rattle.quic_machine.specs.Control.{bytes_in_flight, last_sent, persistent_period, told_packet, told_acks_ended};
+ghost use Rattle.quic_machine.specs.Tracking.{lost_by, acked_by, not_acked_by};
+ghost use Rattle.quic_machine.specs.Acked.{without_known, carried_acked, carried_lost, packets_acked, verdict, losses_detected, told_delay, first_measured, counts_answer, counts_judged, marks_seen, told_grown, told_seen, after_acked, told_detected, told_acked};
 ghost use Rattle.quic_connection_core.specs.Flying.{flying_packets, is_flying, flight_left, less, HasAll};
 ghost use Rattle.quic_connection_core.specs.Losses.{none_lost, all_lost, told_lost};
 ghost use Rattle.quic_connection_core.specs.Telling.{telling, KeepsKeys};
@@ -163,6 +165,16 @@ fn take_lost(tracking: &mut Tracking, low: u64, verdict: &Verdict) -> Option<(u6
     Some((number, packet))
 }
 
+/// Whether this is the number of a probe, if there is one.
+fn is_number(number: u64, probe: Option<u64>) -> bool
+    ensures { result ≡ is_number number probe }
+{
+    match probe {
+        Some(probe) => probe == number,
+        None => false,
+    }
+}
+
 /// A packet is no longer in flight, if it was.
 pub(crate) fn leave_flight<C>(path: &mut PathData<C>, packet: &SentPacket)
     requires { is_flying path.old.generation packet.now ≡ true → CanLeave path.old.in_flight packet.now.size true }
@@ -199,8 +211,8 @@ impl<H: HeaderKey + Drop, K: PacketKey + Drop, R: Rng + Drop, C: Controller> Con
     /// Takes an ACK frame whose greatest number is counted already, and lies above all that were
     /// named before or doesn't. The tracked packets that it names are acknowledged, the round trip
     /// is measured where it can be, packets that are late by number or by time are lost, and its
-    /// counts of marks are judged. One that names no tracked packet changes nothing. An error is want of memory; the end is of no
-    /// more use then.
+    /// counts of marks are judged. One that names no tracked packet changes nothing. An error is
+    /// want of memory; the end is of no more use then.
     pub(crate) fn on_ack_received(&mut self, frame: &Ack<'_>, rises: bool) -> Result<(), AllocError>
         ensures ok { OnOk result (self.new ≡ telling C.steps self.old (told_acked rises frame.now self.old.end) (after_acked rises frame.now self.old.end)) }
         ensures others { KeepsKeys self.old self.new }
@@ -240,11 +252,11 @@ impl<H: HeaderKey + Drop, K: PacketKey + Drop, R: Rng + Drop, C: Controller> Con
         Ok(Some((newly, last)))
     }
 
-    /// Judges the counts of marks of an ACK frame, while datagrams are marked: it newly acknowledged
-    /// so many packets, the last of which went at this moment. They are judged where its greatest
-    /// number lies above all that were named before. Where none come, or they can't be right, nothing
-    /// is marked any more; where that of CE grew, the path is congested (RFC 9000, section 13.4.2; RFC
-    /// 9002, section 7.1).
+    /// Judges the counts of marks of an ACK frame, while datagrams are marked: it newly
+    /// acknowledged so many packets, the last of which went at this moment. They are judged where
+    /// its greatest number lies above all that were named before. Where none come, or they can't be
+    /// right, nothing is marked any more; where that of CE grew, the path is congested (RFC 9000,
+    /// section 13.4.2; RFC 9002, section 7.1).
     fn see_marks(&mut self, frame: &Ack<'_>, rises: bool, newly: u64, last: Instant)
         ensures { self.new ≡ telling C.steps self.old (told_seen self.old.end.path.marking rises newly frame.now.ecn last self.old.end) (marks_seen rises newly frame.now self.old.end) }
     {
@@ -305,8 +317,9 @@ impl<H: HeaderKey + Drop, K: PacketKey + Drop, R: Rng + Drop, C: Controller> Con
         ensures ok { OnOk result (self.new ≡ telling C.steps self.old (told_packets self.old.end (reverse acked.items)) (packets_acked (reverse acked.items) self.old.end)) }
         ensures others { KeepsKeys self.old self.new }
     {
-        while let Some((_, packet)) = acked.pop() {
+        while let Some((number, packet)) = acked.pop() {
             self.tell_acked(&packet);
+            self.search_acked(number, packet.size);
             self.on_packet_acked(packet)?;
         }
         Ok(())
@@ -421,6 +434,7 @@ impl<H: HeaderKey + Drop, K: PacketKey + Drop, R: Rng + Drop, C: Controller> Con
         let mut losses = self.no_losses();
         self.on_packets_lost(&verdict, &mut losses)?;
         self.space.tracking.detected(&verdict);
+        self.judge_size(&losses);
         self.tell_lost(by_ack, &losses);
         Ok(())
     }
@@ -437,16 +451,19 @@ impl<H: HeaderKey + Drop, K: PacketKey + Drop, R: Rng + Drop, C: Controller> Con
     /// The packets that a verdict finds lost are: what they carried goes again, and they count
     /// among these losses.
     fn on_packets_lost(&mut self, verdict: &Verdict, losses: &mut Losses) -> Result<(), AllocError>
-        ensures ok { OnOk result (self.new ≡ with_end self.old (after_losses verdict.now self.old.end)) }
-        ensures losses { OnOk result (losses.new ≡ all_lost self.old.end.path.generation losses.old (lost_by verdict.now self.old.end.tracking.packets)) }
+        ensures ok { OnOk result (self.new ≡ with_end self.old (after_losses (open_probe self.old.end.path.discovery) verdict.now self.old.end)) }
+        ensures losses { OnOk result (losses.new ≡ all_lost self.old.end.path.generation (open_probe self.old.end.path.discovery) losses.old (lost_by verdict.now self.old.end.tracking.packets)) }
         ensures others { self.new ≡ with_end self.old self.new.end }
         ensures lacking { OnErr result (lost_by verdict.now self.old.end.tracking.packets ≢ []) }
     {
+        let probe = self.open_probe();
         let mut low = 0;
         while let Some((number, packet)) = take_lost(&mut self.space.tracking, low, verdict) {
             leave_flight(&mut self.path, &packet);
-            losses.add(self.path.generation(), number, &packet);
+            let is_probe = is_number(number, probe);
+            losses.add(self.path.generation(), number, &packet, is_probe);
             self.on_packet_lost(&packet)?;
+            self.search_lost(number, packet.size, is_probe);
             low = number;
         }
         Ok(())
@@ -475,7 +492,6 @@ impl<H: HeaderKey + Drop, K: PacketKey + Drop, R: Rng + Drop, C: Controller> Con
         ensures ok { OnOk result (self.new ≡ with_end self.old (carried_lost packet.now.carried self.old.end)) }
         ensures others { self.new ≡ with_end self.old self.new.end }
     {
-        self.count_lost(packet.size);
         on_carried_lost(&mut self.streams, packet)?;
         Ok(())
     }

@@ -1,6 +1,6 @@
 //! Packets that are lost at once, as a congestion controller hears of them (RFC 9002, sections
 //! 7.3.2 and 7.6).
-ghost use Rattle.std.specs.Prelude.{ℕ, ◌≡◌};
+ghost use Rattle.std.specs.Prelude.{ℕ, ◌≡◌, ◌&&◌, not};
 ghost use Rattle.quic_machine.specs.Control.{flies};
 ghost use Rattle.quic_connection_core.specs.Losses.{none_lost, one_lost};
 
@@ -18,10 +18,20 @@ pub(crate) fn flies(generation: u64, packet: &SentPacket) -> bool
     packet.ack_eliciting && packet.path_generation == generation
 }
 
+/// Whether the loss of a packet may show congestion: it asks for an acknowledgement, and is no
+/// probe of a size.
+fn shows(packet: &SentPacket, is_probe: bool) -> bool
+    ensures { result ≡ packet.now.asks && not is_probe }
+{
+    packet.ack_eliciting && !is_probe
+}
+
 /// Packets that are lost at once.
 #[derive(Debug, Drop)]
 pub(crate) struct Losses {
-    // Whether one of them was in flight on the path.
+    // Whether one is no probe of a size. Of a probe nothing else counts.
+    pub(crate) others: bool,
+    // Whether one of the others was in flight on the path.
     pub(crate) flew: bool,
     // When the last of them went.
     pub(crate) last_sent: Instant,
@@ -36,6 +46,7 @@ impl Model for Losses {
     ghost Value = { Lost };
 
     ghost view = { λ l. record {
+      others = l.others;
       flew = l.flew;
       last = l.last_sent;
       bytes = l.bytes;
@@ -50,6 +61,7 @@ impl Losses {
         ensures { result ≡ none_lost period first_after_rtt }
     {
         Losses {
+            others: false,
             flew: false,
             last_sent: Instant::from_nanos(0),
             bytes: 0,
@@ -57,14 +69,19 @@ impl Losses {
         }
     }
 
-    /// One more is lost, where packets fly on the path of this generation.
-    pub(crate) fn add(&mut self, generation: u64, number: u64, packet: &SentPacket)
-        ensures { self.new ≡ one_lost generation self.old (number, packet.now) }
+    /// One more is lost, where packets fly on the path of this generation. As a probe of a size it
+    /// shows no congestion, but lies between others (RFC 9000, section 14.4).
+    pub(crate) fn add(&mut self, generation: u64, number: u64, packet: &SentPacket, is_probe: bool)
+        ensures { self.new ≡ one_lost generation is_probe self.old (number, packet.now) }
     {
+        let asks = shows(packet, is_probe);
+        self.persistent.on_lost(number, packet.time_sent, asks);
+        if is_probe {
+            return;
+        }
+        self.others = true;
         self.flew = self.flew || flies(generation, packet);
         self.last_sent = packet.time_sent;
         self.bytes = self.bytes.saturating_add(u64::from(packet.size));
-        self.persistent
-            .on_lost(number, packet.time_sent, packet.ack_eliciting);
     }
 }

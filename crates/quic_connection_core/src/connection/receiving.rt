@@ -109,7 +109,8 @@ impl<H: HeaderKey + Drop, K: PacketKey + Drop, R: Rng + Drop, C: Controller> Con
     /// the new number of one that a closing end opened counts as seen. Where it breaks a rule, the
     /// end closes; the frames before keep their effect, and its number isn't taken. Where memory
     /// lacks, the end fails for good. Its number is to be acknowledged once all its frames were
-    /// taken, at once where it came with the mark CE, and its mark counts (sections 13.2.1 and 13.4.1). The datagram's bytes may be changed; to what isn't said.
+    /// taken, at once where it came with the mark CE, and its mark counts (sections 13.2.1 and
+    /// 13.4.1). The datagram's bytes may be changed; to what isn't said.
     pub fn receive(
         &mut self,
         now: Instant,

@@ -58,6 +58,32 @@ impl<H, K, R, C: Controller> Connection<H, K, R, C> {
         path.lost_bytes = path.lost_bytes.saturating_add(u64::from(size));
     }
 
+    /// A probe of a size goes.
+    pub(crate) fn count_probe(&mut self)
+        ensures { self.new ≡ self.old }
+    {
+        let path = &mut self.stats.path;
+        path.sent_plpmtud_probes = path.sent_plpmtud_probes.saturating_add(1);
+    }
+
+    /// A probe of a size is lost.
+    pub(crate) fn count_lost_probe(&mut self)
+        ensures { self.new ≡ self.old }
+    {
+        let path = &mut self.stats.path;
+        path.lost_plpmtud_probes = path.lost_plpmtud_probes.saturating_add(1);
+    }
+
+    /// The path carries less than before, or it doesn't.
+    pub(crate) fn count_black_hole(&mut self, fell: bool)
+        ensures { self.new ≡ self.old }
+    {
+        let path = &mut self.stats.path;
+        if fell {
+            path.black_holes_detected = path.black_holes_detected.saturating_add(1);
+        }
+    }
+
     /// The congestion controller is told of congestion.
     pub(crate) fn count_congestion(&mut self)
         ensures { self.new ≡ self.old }

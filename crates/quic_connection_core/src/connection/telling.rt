@@ -1,6 +1,8 @@
 //! What the congestion controller of a path is told (RFC 9002, section 7).
-ghost use Rattle.std.specs.Prelude.{◌≡◌, Option};
-ghost use Rattle.quic_congestion.specs.Congestion.{KeepsRoom, Sent, Acked, AcksEnded, Congested, after_call};
+ghost use Rattle.std.specs.Prelude.{◌≡◌, ◌≤◌, ◌==◌, not, Option};
+ghost use Rattle.quic_congestion.specs.Congestion.{HasRoom, KeepsRoom, Sent, Acked, AcksEnded, Congested, after_call, after_calls};
+ghost use Rattle.quic_machine.specs.Sizes.{told_if_resized};
+ghost use Rattle.quic_connection_core.specs.Telling.{IsTold};
 
 use quic_congestion::Controller;
 use quic_machine::Instant;
@@ -64,4 +66,15 @@ pub(crate) fn tell_congested<C: Controller>(
 {
     path.congestion
         .on_congestion_event(now, sent, persistent, lost);
+}
+
+/// The size of datagrams on the path was this before. It is told where it changed.
+pub(crate) fn tell_resized<C: Controller>(path: &mut PathData<C>, before: u16)
+    ensures told { path.new ≡ record path.old { congestion = after_calls C.steps path.old.congestion (told_if_resized (not (before == path.old.discovery.size)) path.old.discovery.size) } }
+    ensures sizes { before ≤ C.size_of path.old.congestion → HasRoom (C.size_of path.old.congestion) (C.window_of path.old.congestion) → IsTold C.size_of C.window_of path.old.discovery.size path.new.congestion }
+{
+    let size = path.current_mtu();
+    if size != before {
+        path.congestion.on_mtu_update(size);
+    }
 }

@@ -1,9 +1,9 @@
 -- Where an ACK frame is due at an open end, and it owes an acknowledgement, a poll that leaves it
 -- open gives one.
-use Rattle.std.proofs.Common.{◌≡◌, ℕ, suc, Bool, true, false, ◌||◌, List, [], ◌∷◌, ◌++◌, refl, sym, ap, ◌∙◌, subst}
+use Rattle.std.proofs.Common.{◌≡◌, ℕ, suc, Bool, true, false, ◌||◌, List, [], ◌∷◌, ◌++◌, None, refl, sym, ap, ◌∙◌, subst, ◌⊎◌, inl, inr}
 use Rattle.std.specs.Prelude.{nat_lt}
 use Rattle.std.specs.List.{list_any}
-use Rattle.std.proofs.lemmas.Bool.{or_left, and_from, and_parts}
+use Rattle.std.proofs.lemmas.Bool.{or_left, and_from, and_parts, both_ways}
 use Rattle.std.proofs.lemmas.List.Folds.{list_any-append}
 use Rattle.quic_wire_core.specs.StreamId.{other_side}
 use Rattle.quic_wire.specs.Value.{FrameValue, ack}
@@ -16,10 +16,11 @@ use Rattle.quic_machine.specs.declared.run.Answer.{Answer}
 use Rattle.quic_machine.specs.declared.run.Answer.TheVariants as answers
 use Rattle.quic_spaces.specs.Numbers.{can_number}
 use Rattle.quic_machine.specs.Policy.{Policy}
-use Rattle.quic_machine.specs.End.{End, with_window}
-use Rattle.quic_machine.specs.Control.{Gated}
-use Rattle.quic_machine.specs.Poll.{Polled, Draft, no_frames, with_asking, ack_of, with_ack, composed_if, lazied, goes, draft_if, draft_of, sends, polled_if, polled_in, polled}
-use Rattle.quic_machine.specs.PollCases.{ready_at, frames_at}
+use Rattle.quic_machine.specs.Closing.{ticked}
+use Rattle.quic_machine.specs.End.{End, with_closing, with_window}
+use Rattle.quic_machine.specs.Control.{Gated, with_pacing_timer}
+use Rattle.quic_machine.specs.Poll.{Polled, Draft, no_frames, with_asking, ack_of, with_ack, composed_if, probed, waits, asks_to_go, gated, Leaving, whole, alone, Ready, goes_as, goes, lazied, draft_as, draft_of, sends, polled_if, polled_in, polled}
+use Rattle.quic_machine.specs.PollCases.{ready_at, frames_at, by_leaves, search_leaves}
 use Rattle.quic_machine.specs.DraftLaws.{by_asking}
 use Rattle.quic_machine.specs.Machine.{World, gave, end_at, control_at, policy_at}
 use Rattle.quic_headline.specs.Runs.{Run, Intake, In, folded, until, given_of}
@@ -60,36 +61,62 @@ asking_acks : (d : Draft) → Acknowledges d → Acknowledges (with_asking d)
 asking_acks = by_asking Acknowledges (record {
   ack = λ d filled may is. still_acks d (ack (ack_of d.end)) is;
   ping = λ d is. still_acks d _ is;
+  probes = λ f size is. cc;
   drops = λ d kind is. is;
   control = λ d kind f is i. still_acks d f i;
   message = λ d m ms first fit is. still_acks d _ is;
   stream = λ d id h room found first left at counts is. still_acks d _ is;
 })
 
+-- all goes, or an ACK alone
+abbrev pub Acks : Leaving → Type 0
+Acks leaving = (leaving ≡ whole) ⊎ (leaving ≡ alone)
+
 -- where one is due, it goes: first, or alone
-draft_acks : (held : Bool) (e : End) → can_send e.acknowledging ≡ true → Acknowledges (draft_if held e)
-draft_acks true e due = refl
-draft_acks false e due = subst (λ (b : Bool). Acknowledges (composed_if b e)) (sym due) (asking_acks (with_ack (no_frames e)) refl)
+pub draft_acks : (leaving : Leaving) (e : End) → Acks leaving → can_send (lazied e).acknowledging ≡ true → Acknowledges (draft_as leaving e)
+draft_acks leaving e (inl all) due = subst (λ (l : Leaving). Acknowledges (draft_as l e)) (sym all) (subst (λ (b : Bool). Acknowledges (composed_if b (lazied e))) (sym due) (asking_acks (with_ack (no_frames (lazied e))) refl))
+draft_acks leaving e (inr only) due = subst (λ (l : Leaving). Acknowledges (draft_as l e)) (sym only) refl
 
 -- ---- a poll
 
 module _ (p : Policy) (e : End) (now : ℕ) (due : can_send e.acknowledging ≡ true) where
-  abbrev g : Gated
+  abbrev g : Ready
   g = ready_at e now
+
+  -- the end whose window and pacer were asked
+  abbrev gate : Gated
+  gate = gated (probed (with_pacing_timer (with_closing e (ticked e.closing now)) None))
 
   due_ready : can_send g.end.acknowledging ≡ true
   due_ready = ap can_send (ready_acks e now) ∙ due
 
-  -- something goes
+  due_gated : can_send gate.end.acknowledging ≡ true
+  due_gated = ap (λ (x : End). can_send x.acknowledging) (sym (search_leaves gate)) ∙ due_ready
+
+  -- all goes, or an ACK alone
+  acks : Acks g.leaving
+  acks = by_leaves gate (λ (r : Ready). Acks r.leaving) (record {
+    acks = λ held is. inr refl;
+    held = λ held none. absurd (both_ways (can_send gate.end.acknowledging) none due_gated);
+    all = λ free waiting. inl refl;
+    idle = λ free none. absurd (busy none);
+    asked = λ free none. absurd (busy none);
+    probes = λ size free none may is. absurd (busy none);
+  })
+    where
+      busy : waits gate.end ≡ false → ⊥
+      busy none = both_ways (waits gate.end) none (or_left (can_send gate.end.acknowledging) (asks_to_go gate.end) due_gated)
+
+  -- so something goes
   some : goes g ≡ true
-  some = or_left (can_send g.end.acknowledging) _ due_ready
+  some = elim acks [ inl all ↦ ap goes_as all | inr only ↦ ap goes_as only ]
 
   -- its frames have an ACK
   frames_acknowledge : list_any is_ack (frames_at e now) ≡ true
   frames_acknowledge =
       let parts = and_parts g.end.acknowledging.due (is_filled g.end.acknowledging.runs) due_ready in
       any_padded (draft_of g).frames _
-      ∙ draft_acks g.held (lazied g.end) (and_from (g.end.acknowledging.due || nat_lt lazy_threshold g.end.acknowledging.silent) (is_filled g.end.acknowledging.runs) (or_left g.end.acknowledging.due (nat_lt lazy_threshold g.end.acknowledging.silent) parts.0) parts.1)
+      ∙ draft_acks g.leaving g.end acks (and_from (g.end.acknowledging.due || nat_lt lazy_threshold g.end.acknowledging.silent) (is_filled g.end.acknowledging.runs) (or_left g.end.acknowledging.due (nat_lt lazy_threshold g.end.acknowledging.silent) parts.0) parts.1)
 
   polled_as : e.closing.state ≡ states.Open → polled p e now ≡ sends (can_number g.end.numbers) p g
   polled_as opened = ap (λ (s : State). polled_in s p e now) opened ∙ ap (λ (b : Bool). polled_if b p g) some

@@ -15,17 +15,16 @@ use Rattle.quic_machine.specs.declared.run.Answer.{Answer}
 use Rattle.quic_machine.specs.Policy.{Policy}
 use Rattle.quic_machine.specs.End.{End}
 use Rattle.quic_machine.specs.Receive.{asks_in, after_taken, Outcome}
-use Rattle.quic_machine.specs.Control.{Gated}
-use Rattle.quic_machine.specs.Poll.{Polled, Draft, lazied, polled, draft_if}
+use Rattle.quic_machine.specs.Poll.{Polled, Draft, polled, draft_as, lazied_as, Leaving, whole, alone, probe, nothing, Ready}
 use Rattle.quic_machine.specs.Machine.{after_call}
 use Rattle.quic_machine.specs.CallCases.{is_delivery, by_plain_call}
 use Rattle.quic_machine.specs.FrameCases.{begun}
-use Rattle.quic_machine.specs.PollCases.{ready_at, draft_at, by_poll_to}
-use Rattle.quic_machine.specs.DraftLaws.{by_leave, due_alone}
+use Rattle.quic_machine.specs.PollCases.{ready_at, draft_at, by_poll_to, may_leave_at}
+use Rattle.quic_machine.specs.DraftLaws.{by_leave, MayLeave}
 use Rattle.quic_headline.specs.Runs.{Packet, Intake}
 use Rattle.quic_headline.specs.AcksDue.{greatest_asking}
 use Rattle.quic_headline.proofs.Packets.Delivered.{Arrivals, arrived}
-use Rattle.quic_headline.proofs.Packets.Probes.{MayLeave, by_going, ready_acks}
+use Rattle.quic_headline.proofs.Packets.Probes.{by_going, ready_acks}
 use Rattle.quic_headline.proofs.Timers.AckMoments.{asks_same}
 use Rattle.quic_headline.proofs.Rest.Standing.{frames_acks, expired_acks}
 
@@ -39,16 +38,24 @@ Ruled p taken = (p.threshold ≡ 1) × (p.reordering ≡ 1) × (unwrap_or p.grea
 abbrev Keeps : List Packet → End → Type 0
 Keeps taken e = Ruled e.acknowledging taken
 
+-- an acknowledgement that became due leaves the rules
+lazied_ruled : (taken : List Packet) (leaving : Leaving) (e : End) → Keeps taken e → Keeps taken (lazied_as leaving e)
+lazied_ruled taken whole e i = i
+lazied_ruled taken alone e i = i
+lazied_ruled taken (probe size) e i = i
+lazied_ruled taken (nothing held) e i = i
+
 -- an ACK frame that goes leaves the rules too
-draft_ruled : (taken : List Packet) (held : Bool) (e : End) → MayLeave held e → Keeps taken e → Keeps taken (draft_if held e).end
-draft_ruled taken = by_leave (λ (d : Draft). Keeps taken d.end) (record {
+draft_ruled : (taken : List Packet) (leaving : Leaving) (e : End) → MayLeave leaving e → Keeps taken e → Keeps taken (draft_as leaving e).end
+draft_ruled taken leaving e due i = by_leave (λ (d : Draft). Keeps taken d.end) (record {
   ack = λ d filled may i. i;
   ping = λ d i. i;
+  probes = λ f size i. i;
   drops = λ d kind i. i;
   control = λ d kind f is i. i;
   message = λ d m ms is fit i. i;
   stream = λ d id h room found first some is counts i. i;
-})
+}) leaving e due (lazied_ruled taken leaving e i)
 
 ready_ruled : (taken : List Packet) (e : End) (now : ℕ) → Keeps taken e → Keeps taken (ready_at e now).end
 ready_ruled taken e now i = subst (λ (p : Pending). Ruled p taken) (sym (ready_acks e now)) i
@@ -60,8 +67,8 @@ polled_ruled taken p e now i = by_poll_to p e now (λ (q : Polled). Keeps taken 
   nothing = λ is none. ready_ruled taken e now i;
   used_up = ready_ruled taken e now i;
   gives = λ is may some.
-      let g : Gated = ready_at e now in
-      by_going (Keeps taken) p (draft_at e now) (λ pacing. draft_ruled taken g.held (lazied g.end) (due_alone g some) (ready_ruled taken e now i));
+      let g : Ready = ready_at e now in
+      by_going (Keeps taken) p (draft_at e now) (λ pacing. draft_ruled taken g.leaving g.end (may_leave_at e now) (ready_ruled taken e now i));
 })
 
 -- nor does its timer

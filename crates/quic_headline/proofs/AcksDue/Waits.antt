@@ -22,24 +22,24 @@ use Rattle.quic_machine.specs.Policy.{Policy}
 use Rattle.quic_machine.specs.Closing.{Closing, ticked}
 use Rattle.quic_machine.specs.End.{End, with_closing, with_ack_timer, with_loss_timer}
 use Rattle.quic_machine.specs.Receive.{asks_in, after_taken, timers_after, Outcome}
-use Rattle.quic_machine.specs.Control.{Gated}
-use Rattle.quic_machine.specs.Poll.{Polled, Draft, lazied, polled, draft_if}
+use Rattle.quic_machine.specs.Poll.{Polled, Draft, polled, draft_as, Leaving, Ready}
 use Rattle.quic_machine.specs.Timeouts.{Expiry, acks_expired, loss_expired, pacing_expired, expiry_at, timed_out_in}
 use Rattle.quic_machine.specs.Machine.{IsAnswer, after_call, fails, gave}
 use Rattle.quic_machine.specs.CallCases.{is_delivery, is_poll, by_plain_call}
 use Rattle.quic_machine.specs.LeaveCases.{at_expiry, by_expired}
 use Rattle.quic_machine.specs.FrameCases.{begun}
-use Rattle.quic_machine.specs.PollCases.{ready_at, ready_leaves, draft_at, frames_at, by_poll_to}
-use Rattle.quic_machine.specs.DraftLaws.{by_leave, due_alone}
+use Rattle.quic_machine.specs.PollCases.{ready_at, ready_leaves, draft_at, frames_at, by_poll_to, may_leave_at}
+use Rattle.quic_machine.specs.DraftLaws.{by_leave, MayLeave}
 use Rattle.quic_headline.specs.Runs.{Packet, Intake, In}
 use Rattle.quic_headline.specs.Observer.{Sent, Watch, first_watch, news}
 use Rattle.quic_headline.specs.Moments.{is_ack, acknowledges, arrivals_of, Debt, debt_told, first_debt}
+use Rattle.quic_headline.specs.Waited.{one_asks}
 use Rattle.quic_headline.proofs.Packets.Intakes.{folded_more}
 use Rattle.quic_headline.proofs.Packets.Delivered.{Arrivals, arrived}
 use Rattle.quic_headline.proofs.Packets.Watching.{none_new, one_new}
 use Rattle.quic_headline.proofs.Packets.Stays.{settles_losses}
 use Rattle.quic_headline.proofs.Packets.Group.{meets}
-use Rattle.quic_headline.proofs.Packets.Probes.{MayLeave, by_going}
+use Rattle.quic_headline.proofs.Packets.Probes.{by_going}
 use Rattle.quic_headline.proofs.Places.Told.{in_append}
 use Rattle.quic_headline.proofs.Places.Steps.{poll_answer}
 use Rattle.quic_headline.proofs.Places.Parties.{sent_by, sent_if, sents_by, told_of, Party, called, came_to, lens, watch_of}
@@ -47,7 +47,7 @@ use Rattle.quic_headline.proofs.Places.Groups.{Calls, Group}
 use Rattle.quic_headline.proofs.Places.Coming.{by_coming}
 use Rattle.quic_headline.proofs.Timers.Still.{was_open}
 use Rattle.quic_headline.proofs.Timers.Watched.{Observed, watch_behind, went_behind, came_before, came_behind, watched_behind}
-use Rattle.quic_headline.proofs.Timers.AckMoments.{judged_none, one_asks, frames_timer, asks_same, debt_of, owed_watch}
+use Rattle.quic_headline.proofs.Timers.AckMoments.{judged_none, frames_timer, asks_same, debt_of, owed_watch}
 use Rattle.quic_headline.proofs.Rest.Awaited.{AckComes, IsAwaited, call_awaited, first_comes}
 use Rattle.quic_headline.proofs.Rest.Standing.{frames_acks, expired_acks, Stands, none_padded, parts, call_stands}
 use Rattle.quic_headline.proofs.Rest.Unanswered.{taken_counts}
@@ -70,15 +70,16 @@ abbrev Leaves : End → End → Type 0
 Leaves e f = (f.timers.max_ack_delay ≡ e.timers.max_ack_delay) ⊎ (f.acknowledging ≡ after_timeout e.acknowledging)
 
 -- no ACK frame goes: the timer stays
-draft_timer : (held : Bool) (e : End) → MayLeave held e → list_any is_ack (draft_if held e).frames ≡ false → (draft_if held e).end.timers.max_ack_delay ≡ e.timers.max_ack_delay
-draft_timer held e alone = by_leave (λ (d : Draft). list_any is_ack d.frames ≡ false → d.end.timers.max_ack_delay ≡ e.timers.max_ack_delay) (record {
+draft_timer : (leaving : Leaving) (e : End) → MayLeave leaving e → list_any is_ack (draft_as leaving e).frames ≡ false → (draft_as leaving e).end.timers.max_ack_delay ≡ e.timers.max_ack_delay
+draft_timer leaving e due = by_leave (λ (d : Draft). list_any is_ack d.frames ≡ false → d.end.timers.max_ack_delay ≡ e.timers.max_ack_delay) (record {
   ack = λ d filled may i none. absurd (let some = (parts d.frames _ none).1 in cc);
   ping = λ d i none. i (parts d.frames _ none).0;
+  probes = λ f size i none. i refl;
   drops = λ d kind i. i;
   control = λ d kind f is i none. i (parts d.frames f none).0;
   message = λ d m ms is fit i none. i (parts d.frames _ none).0;
   stream = λ d id h room found first some is counts i none. i (parts d.frames _ none).0;
-}) held e alone (λ none. refl)
+}) leaving e due (λ none. refl)
 
 ready_timer : (e : End) (now : ℕ) → (ready_at e now).end.timers.max_ack_delay ≡ e.timers.max_ack_delay
 ready_timer e now = ap (λ (x : End). x.timers.max_ack_delay) (ready_leaves e now)
@@ -91,9 +92,9 @@ polled_timer p e now = by_poll_to p e now (λ (q : Polled). acknowledges (sent_i
   nothing = λ is quiet none opened. ready_timer e now;
   used_up = λ none opened. cc;
   gives = λ is may some none opened.
-      let g : Gated = ready_at e now in
+      let g : Ready = ready_at e now in
       by_going (λ (x : End). x.timers.max_ack_delay ≡ e.timers.max_ack_delay) p (draft_at e now) (λ pacing.
-      draft_timer g.held (lazied g.end) (due_alone g some) (none_padded (draft_at e now).frames _ (or_parts (list_any is_ack (frames_at e now)) false none).0) ∙ ready_timer e now);
+      draft_timer g.leaving g.end (may_leave_at e now) (none_padded (draft_at e now).frames _ (or_parts (list_any is_ack (frames_at e now)) false none).0) ∙ ready_timer e now);
 })
 
 -- timers that expire

@@ -195,6 +195,7 @@ module _ (t : Tally) where
   composed_tallies e i = by_writing (λ (d : Draft). Tallies t d.end.streams) (record {
     ack = λ d filled may j. j;
     ping = λ d j. j;
+    probes = λ f size j. j;
     drops = λ d kind j. j;
     control = λ d kind f is j. by_told (Tallies t) tallies_kept f d.end.streams j;
     message = λ d m ms is fit j. j;
@@ -240,6 +241,8 @@ module _ (t : Tally) where
     acked = λ m e i. by_stream_acked_where (Tallies t) tallies_kept e.streams e.waiting.frames m (λ h is none. acked_goes m.id h m) (λ h is none all. tt) (λ h all. inr all) i;
     lost = lost_tallies;
     again = λ carried e i. i;
+    searched = λ discovery e i. i;
+    shortens = λ most e i. i;
     tracked = λ u e i. i;
     measured = λ r first e i. i;
     marked = λ m marking e i. i;

@@ -10,18 +10,17 @@ use Rattle.quic_machine.specs.Policy.{Policy}
 use Rattle.quic_machine.specs.Closing.{Closing, ticked}
 use Rattle.quic_spaces.specs.Numbers.{Numbers, cut_against, kept_numbers, can_number}
 use Rattle.quic_machine.specs.End.{End, with_closing}
-use Rattle.quic_machine.specs.Poll.{Polled, after_given, lazied, goes, draft_of, sends, polled_if, polled_in, polled}
+use Rattle.quic_machine.specs.Poll.{Polled, after_given, goes, draft_of, sends, polled_if, polled_in, polled, Ready}
 use Rattle.quic_machine.specs.Machine.{after_call}
 use Rattle.quic_machine.specs.CallCases.{is_delivery, is_poll, by_plain_call}
 use Rattle.quic_machine.specs.LeaveCases.{at_losses, by_expired}
-use Rattle.quic_machine.specs.PollCases.{composes, ready_at, ready_leaves}
-use Rattle.quic_machine.specs.Control.{Gated}
-use Rattle.quic_machine.specs.DraftLaws.{due_alone}
+use Rattle.quic_machine.specs.PollCases.{composes, ready_at, ready_leaves, may_leave_at}
 use Rattle.quic_recovery_core.specs.PendingAcks.{Pending}
 use Rattle.quic_time.specs.Timers.{Timers}
 use Rattle.quic_headline.proofs.Packets.Stays.{settles_losses}
 use Rattle.quic_headline.specs.Causes.{AreUsedUp}
 use Rattle.quic_headline.proofs.Packets.Probes.{by_going}
+use Rattle.quic_machine.specs.DraftLaws.{MayLeave}
 
 -- an end is open, or isn't for a reason, as it was
 pub record Keeps (e f : End) : Type 0 where
@@ -37,21 +36,21 @@ pub data PollCloses (e : End) (q : Polled) : Type 0 where
 
 module _ (p : Policy) (e : End) (now : ℕ) where
   -- an end that is ready at this moment, from which something goes or doesn't
-  sends_case : (g : Gated) → g.end.closing ≡ ticked e.closing now → g.end.numbers ≡ e.numbers → e.closing.state ≡ states.Open → goes g ≡ true → (b : Bool) → can_number g.end.numbers ≡ b → PollCloses e (sends b p g)
-  sends_case g closing numbers still_open some true is =
-      let same : (after_given p (draft_of g)).closing ≡ ticked e.closing now = by_going (λ (x : End). x.closing ≡ ticked e.closing now) p (draft_of g) (λ pacing. (composes g.held (lazied g.end) (due_alone g some)).closing ∙ closing) in
+  sends_case : (g : Ready) → MayLeave g.leaving g.end → g.end.closing ≡ ticked e.closing now → g.end.numbers ≡ e.numbers → e.closing.state ≡ states.Open → goes g ≡ true → (b : Bool) → can_number g.end.numbers ≡ b → PollCloses e (sends b p g)
+  sends_case g due closing numbers still_open some true is =
+      let same : (after_given p (draft_of g)).closing ≡ ticked e.closing now = by_going (λ (x : End). x.closing ≡ ticked e.closing now) p (draft_of g) (λ pacing. (composes g.leaving g.end due).closing ∙ closing) in
       keeps (record { reason = ap (λ (c : Closing). c.reason) same; state = ap (λ (c : Closing). c.state) same })
-  sends_case g closing numbers still_open some false is = uses_up still_open (ap can_number (sym numbers) ∙ is) (ap (λ (n : Numbers). n.next) numbers) refl refl
+  sends_case g due closing numbers still_open some false is = uses_up still_open (ap can_number (sym numbers) ∙ is) (ap (λ (n : Numbers). n.next) numbers) refl refl
 
-  going_case : (g : Gated) → g.end.closing ≡ ticked e.closing now → g.end.numbers ≡ e.numbers → e.closing.state ≡ states.Open → (b : Bool) → goes g ≡ b → PollCloses e (polled_if b p g)
-  going_case g closing numbers still_open true some = sends_case g closing numbers still_open some (can_number g.end.numbers) refl
-  going_case g closing numbers still_open false none = keeps (record { reason = ap (λ (c : Closing). c.reason) closing; state = ap (λ (c : Closing). c.state) closing })
+  going_case : (g : Ready) → MayLeave g.leaving g.end → g.end.closing ≡ ticked e.closing now → g.end.numbers ≡ e.numbers → e.closing.state ≡ states.Open → (b : Bool) → goes g ≡ b → PollCloses e (polled_if b p g)
+  going_case g due closing numbers still_open true some = sends_case g due closing numbers still_open some (can_number g.end.numbers) refl
+  going_case g due closing numbers still_open false none = keeps (record { reason = ap (λ (c : Closing). c.reason) closing; state = ap (λ (c : Closing). c.state) closing })
 
   state_case : (state : State) → e.closing.state ≡ state → PollCloses e (polled_in state p e now)
   state_case states.Open still_open =
-      let g : Gated = ready_at e now in
+      let g : Ready = ready_at e now in
       let is = ready_leaves e now in
-      going_case g (ap (λ (y : End). y.closing) is) (ap (λ (y : End). y.numbers) is) still_open (goes g) refl
+      going_case g (may_leave_at e now) (ap (λ (y : End). y.closing) is) (ap (λ (y : End). y.numbers) is) still_open (goes g) refl
   state_case states.Closing is = keeps (record { reason = refl; state = refl })
   state_case states.Drained is = keeps (record { reason = refl; state = refl })
   state_case states.Failed is = keeps (record { reason = refl; state = refl })

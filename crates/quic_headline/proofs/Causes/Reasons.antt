@@ -13,19 +13,19 @@ use Rattle.quic_machine.specs.Policy.{Policy}
 use Rattle.quic_machine.specs.Closing.{ticked}
 use Rattle.quic_machine.specs.End.{End, with_closing, with_loss_timer}
 use Rattle.quic_machine.specs.Start.{AreStarted}
-use Rattle.quic_machine.specs.Poll.{Polled, Draft, lazied, polled, draft_if}
+use Rattle.quic_machine.specs.Poll.{Polled, Draft, polled, draft_as, lazied_as, Leaving, whole, alone, probe, nothing}
 use Rattle.quic_machine.specs.Timeouts.{Expiry, loss_judged, acks_expired, loss_expired, pacing_expired}
 use Rattle.quic_machine.specs.Machine.{World, Policies, HasStopped, after_call, view_of, Follows}
-use Rattle.quic_machine.specs.DraftLaws.{by_leave, due_alone}
+use Rattle.quic_machine.specs.DraftLaws.{by_leave, MayLeave}
 use Rattle.quic_machine.specs.LeaveCases.{at_expiry}
 use Rattle.quic_machine.specs.CallCases.{by_plain_call}
 use Rattle.quic_machine.specs.FrameCases.{Settling, Receives, named, acked_keeps, losses_keep, frame_keeps, frame_leaves, by_received}
-use Rattle.quic_machine.specs.PollCases.{ready_at, ready_leaves, by_poll_to, draft_at}
+use Rattle.quic_machine.specs.PollCases.{ready_at, ready_leaves, by_poll_to, draft_at, may_leave_at}
 use Rattle.quic_headline.specs.Runs.{Run, state_in}
 use Rattle.quic_headline.specs.Causes.{reason_in}
 use Rattle.quic_headline.specs.Headline.{IsHonest, IsRun}
 use Rattle.quic_headline.specs.Reasons.{Explains, ClosedHasAReason}
-use Rattle.quic_headline.proofs.Packets.Probes.{MayLeave, by_going}
+use Rattle.quic_headline.proofs.Packets.Probes.{by_going}
 use Rattle.quic_headline.proofs.Places.Placed.{start_is}
 use Rattle.quic_headline.proofs.Timers.BothEnds.{AtBoth, IsKept, step_keeps}
 
@@ -37,7 +37,7 @@ IsExplained e = Explains e.closing.state e.closing.reason
 
 -- acknowledged and lost packets close nothing
 settling : Settling IsExplained
-settling = record { known = λ n e i. i; reset = λ id e i. i; acked = λ m e i. i; lost = λ m e i. i; again = λ carried e i. i; tracked = λ t e i. i; measured = λ r first e i. i; marked = λ m marking e i. i }
+settling = record { known = λ n e i. i; reset = λ id e i. i; acked = λ m e i. i; lost = λ m e i. i; again = λ carried e i. i; searched = λ discovery e i. i; shortens = λ most e i. i; tracked = λ t e i. i; measured = λ r first e i. i; marked = λ m marking e i. i }
 
 -- a datagram that closes an end does so for a reason
 receives : Receives IsExplained
@@ -49,16 +49,24 @@ receives = record {
   closes = λ reason e i. tt;
 }
 
+-- an acknowledgement that became due leaves it
+lazied_keeps : (leaving : Leaving) (e : End) → IsExplained e → IsExplained (lazied_as leaving e)
+lazied_keeps whole e i = i
+lazied_keeps alone e i = i
+lazied_keeps (probe size) e i = i
+lazied_keeps (nothing held) e i = i
+
 -- what goes closes nothing
-draft_keeps : (held : Bool) (e : End) → MayLeave held e → IsExplained e → IsExplained (draft_if held e).end
-draft_keeps = by_leave (λ (d : Draft). IsExplained d.end) (record {
+draft_keeps : (leaving : Leaving) (e : End) → MayLeave leaving e → IsExplained e → IsExplained (draft_as leaving e).end
+draft_keeps leaving e due i = by_leave (λ (d : Draft). IsExplained d.end) (record {
   ack = λ d filled may i. i;
   ping = λ d i. i;
+  probes = λ f size i. i;
   drops = λ d kind i. i;
   control = λ d kind f is i. i;
   message = λ d m ms is fit i. i;
   stream = λ d id h room found first some is counts i. i;
-})
+}) leaving e due (lazied_keeps leaving e i)
 
 ready_keeps : (e : End) (now : ℕ) → IsExplained e → IsExplained (ready_at e now).end
 ready_keeps e now i = subst (λ (x : End). IsExplained x) (sym (ready_leaves e now)) i
@@ -70,7 +78,7 @@ polled_keeps p e now i = by_poll_to p e now (λ (q : Polled). IsExplained q.end)
   failed = i;
   nothing = λ is none. ready_keeps e now i;
   used_up = tt;
-  gives = λ is may some. by_going IsExplained p (draft_at e now) (λ pacing. draft_keeps (ready_at e now).held (lazied (ready_at e now).end) (due_alone (ready_at e now) some) (ready_keeps e now i));
+  gives = λ is may some. by_going IsExplained p (draft_at e now) (λ pacing. draft_keeps (ready_at e now).leaving (ready_at e now).end (may_leave_at e now) (ready_keeps e now i));
 })
 
 -- expired timers close nothing

@@ -5,6 +5,7 @@ use Rattle.std.specs.Option.{is_some}
 use Rattle.std.proofs.lemmas.Bool.{cond_both}
 use Rattle.quic_wire_core.specs.declared.stream_id.Side.{Side}
 use Rattle.quic_wire_core.specs.declared.stream_id.Dir.{Dir}
+use Rattle.quic_wire_core.specs.declared.stream_id.Dir.TheVariants.{Bi, Uni}
 use Rattle.quic_wire_core.specs.StreamId.{dir_of}
 use Rattle.quic_wire.specs.Value.{FrameValue, StopSendingValue, StreamCountValue, ack, stream, reset_stream, stop_sending, max_data, max_stream_data, max_streams, datagram}
 use Rattle.quic_assembler.specs.declared.assembler.Chunk.{Chunk}
@@ -13,12 +14,15 @@ use Rattle.quic_streams_parts.specs.declared.answers.Breach.{Breach}
 use Rattle.quic_streams_parts.specs.declared.answers.ReadError.{ReadError}
 use Rattle.quic_streams_parts.specs.declared.answers.ReadError.TheVariants as read_errors
 use Rattle.quic_streams_parts.specs.declared.answers.ReadableError.{ReadableError}
+use Rattle.quic_streams_parts.specs.declared.answers.StreamEvent.{StreamEvent}
+use Rattle.quic_streams_parts.specs.declared.answers.StreamEvent.TheVariants as stream_events
 use Rattle.quic_streams_parts.specs.declared.answers.WriteError.{WriteError}
 use Rattle.quic_streams_parts.specs.declared.answers.WriteError.TheVariants as write_errors
 use Rattle.quic_streams_parts.specs.declared.answers.FinishError.{FinishError}
 use Rattle.quic_streams_parts.specs.declared.answers.ClosedStream.{ClosedStream}
 use Rattle.quic_streams_parts.specs.declared.answers.Written.{Written}
-use Rattle.quic_streams_parts.specs.Dirs.{Counts, of, is_own, is_two_way}
+use Rattle.quic_streams_parts.specs.Dirs.{Counts, of, with_of, is_own, is_two_way}
+use Rattle.quic_streams_parts.specs.Events.{Events, with_event, after_event}
 use Rattle.quic_streams_parts.specs.SendHalf.{SendHalf, is_acked, half_acked}
 use Rattle.quic_streams_parts.specs.RecvHalf.{RecvHalf, after_frame, after_reset_stream}
 use Rattle.quic_streams_halves.specs.Halves.{is_done}
@@ -29,7 +33,7 @@ use Rattle.quic_streams_state.specs.Limits.{settled}
 use Rattle.quic_streams_state.specs.Opening.{opens, opened_by, after_open, after_accept, after_max_streams, sending_refusal}
 use Rattle.quic_streams_state.specs.Writing.{write_answer, grown_by, accepted_at, blocked_by_all, blocked_by_own, blocked_at, written_by, after_write, write_chunks_answer, chunks_accepted_at, after_write_chunks, finish_answer, ended_at, finished_by, reset_at, priority_at, replaced}
 use Rattle.quic_streams_state.specs.Reading.{Told, told_bytes, told_end, told_reset, read_answer, begun_at, begun_unless, next_answer, read_by, after_next, stopped_if, stopped_at, received_reset_answer, reset_told, with_stop}
-use Rattle.quic_streams_state.specs.Taking.{joined, writable_again, is_used_up, limited_half, limit_raised, limit_at, limit_unless, stop_at, stop_unless, sending_for, readable_if, ended_if, renewed}
+use Rattle.quic_streams_state.specs.Taking.{joined, writable_again, is_used_up, limited_half, limit_raised, limit_at, limit_unless, stopped_half, stop_at, stop_unless, sending_for, readable_if, ended_if, renewed}
 use Rattle.quic_streams_state.specs.Acked.{sent_half, finished, acked_on, acked_at, reset_acked_at, lost_at}
 use Rattle.quic_streams_state.specs.Telling.{Telling, passed, after_passing, told_behind, polled}
 use Rattle.quic_streams_laws.specs.KeepingLaws.{stream_cases, reset_cases}
@@ -47,7 +51,7 @@ use Rattle.quic_machine.specs.Poll.{Draft, composed, tracked}
 use Rattle.quic_machine.specs.Poll as poll
 use Rattle.quic_machine.specs.DraftLaws.{by_writing}
 use Rattle.quic_machine.specs.LeaveCases.{by_expired, by_event}
-use Rattle.quic_machine.specs.CallCases.{is_delivery, by_call}
+use Rattle.quic_machine.specs.CallCases.{is_delivery, asks_event, by_call}
 use Rattle.quic_machine.specs.FrameCases.{Settling, named, ack_taken, acked_keeps, losses_keep, message_leaves}
 use Rattle.quic_machine.specs.Machine.{IsAnswer, after_call}
 use Rattle.quic_headline.specs.Runs.{OpensStream}
@@ -56,96 +60,101 @@ use Rattle.quic_headline.proofs.Halves.Words.{CallWords, call_with}
 use Rattle.quic_headline.proofs.Halves.WordsCalls.{call_on_is}
 use Rattle.quic_headline.proofs.Packets.Probes.{poll_state}
 
--- a fact of an end's side, of how many streams it may open, and of how many the peer opened
-module _ (K : Side → Counts → Counts → Type 0) where
-  abbrev pub Counted : StreamsState → Type 0
-  Counted s = K s.side s.opening.own_limit s.opening.remote
+-- a fact of an end's side, of how many streams it may open, of how many the peer opened, and of
+-- what is to be told, which stays where more is
+module _ (K : Side → Counts → Counts → Events → Type 0) (more : (side : Side) (limits remote : Counts) (ev : Events) (event : StreamEvent) → K side limits remote ev → K side limits remote (with_event event ev)) where
+  abbrev pub Flagged : StreamsState → Type 0
+  Flagged s = K s.side s.opening.own_limit s.opening.remote s.events
+
+  -- something is to be told
+  one_event : (s : StreamsState) (event : StreamEvent) → Flagged s → Flagged (record s { events = with_event event s.events })
+  one_event s event i = more s.side s.opening.own_limit s.opening.remote s.events event i
 
   -- ---- small steps
 
-  either : (b : Bool) (x y : StreamsState) → Counted x → Counted y → Counted (if b then x else y)
+  either : (b : Bool) (x y : StreamsState) → Flagged x → Flagged y → Flagged (if b then x else y)
   either true x y i j = i
   either false x y i j = j
 
-  either_streams : (b : Bool) (x y : Streams) → Counted x.state → Counted y.state → Counted (if b then x else y).state
+  either_streams : (b : Bool) (x y : Streams) → Flagged x.state → Flagged y.state → Flagged (if b then x else y).state
   either_streams true x y i j = i
   either_streams false x y i j = j
 
-  done_counts : (b : Bool) (id : ℕ) (s : StreamsState) → Counted s → Counted (done_if b id s)
+  done_counts : (b : Bool) (id : ℕ) (s : StreamsState) → Flagged s → Flagged (done_if b id s)
   done_counts true id s i = i
   done_counts false id s i = i
 
   -- a half is done
-  sent_counts : (s : StreamsState) (id : ℕ) → Counted s → Counted (send_done s id)
+  sent_counts : (s : StreamsState) (id : ℕ) → Flagged s → Flagged (send_done s id)
   sent_counts s id i = done_counts (not (is_own s.side id) && is_done (receiving_status s id)) id (without_send s id) i
 
-  received_counts : (s : StreamsState) (id : ℕ) → Counted s → Counted (recv_done s id)
+  received_counts : (s : StreamsState) (id : ℕ) → Flagged s → Flagged (recv_done s id)
   received_counts s id i = done_counts (not (is_own s.side id) && (not (is_two_way (dir_of id)) || is_done (sending_status s id))) id _ i
 
   -- a stream is blocked
-  joined_counts : (s : StreamsState) (id : ℕ) (h : SendHalf) → Counted s → Counted (joined s id h)
+  joined_counts : (s : StreamsState) (id : ℕ) (h : SendHalf) → Flagged s → Flagged (joined s id h)
   joined_counts s id h i = either h.blocked s _ i i
 
   -- ---- calls of an application
 
-  open_counts : (b : Bool) (dir : Dir) (s : StreamsState) → Counted s → Counted (after_open b dir s)
-  open_counts true dir s i = cond_both {A = Option ℕ × Opening} (nat_lt (of dir s.opening.own) (of dir s.opening.own_limit)) _ _ (λ t. Counted (record s { opening = t.1 })) (λ is. i) (λ is. i)
+  open_counts : (b : Bool) (dir : Dir) (s : StreamsState) → Flagged s → Flagged (after_open b dir s)
+  open_counts true dir s i = cond_both {A = Option ℕ × Opening} (nat_lt (of dir s.opening.own) (of dir s.opening.own_limit)) _ _ (λ t. Flagged (record s { opening = t.1 })) (λ is. i) (λ is. i)
   open_counts false dir s i = i
 
-  accept_counts : (dir : Dir) (s : StreamsState) → Counted s → Counted (after_accept dir s)
-  accept_counts dir s i = cond_both {A = Option ℕ × Opening} (nat_lt (of dir s.opening.accepted) (of dir s.opening.remote)) _ _ (λ t. Counted (record s { opening = t.1 })) (λ is. i) (λ is. i)
+  accept_counts : (dir : Dir) (s : StreamsState) → Flagged s → Flagged (after_accept dir s)
+  accept_counts dir s i = cond_both {A = Option ℕ × Opening} (nat_lt (of dir s.opening.accepted) (of dir s.opening.remote)) _ _ (λ t. Flagged (record s { opening = t.1 })) (λ is. i) (λ is. i)
 
-  blocked_counts : (o : Option SendHalf) (s : StreamsState) (p : Retransmits) (id : ℕ) → Counted s → Counted (blocked_at o s p id).state
+  blocked_counts : (o : Option SendHalf) (s : StreamsState) (p : Retransmits) (id : ℕ) → Flagged s → Flagged (blocked_at o s p id).state
   blocked_counts None s p id i = i
   blocked_counts (Some h) s p id i = either_streams (room s.sending == 0) (blocked_by_all s p id h) (blocked_by_own s p id) (joined_counts s id h i) i
 
-  accepted_counts : (o : Option SendHalf) (s : StreamsState) (id : ℕ) (bytes : List ℕ) → Counted s → Counted (accepted_at o s id bytes)
+  accepted_counts : (o : Option SendHalf) (s : StreamsState) (id : ℕ) (bytes : List ℕ) → Flagged s → Flagged (accepted_at o s id bytes)
   accepted_counts None s id bytes i = i
   accepted_counts (Some h) s id bytes i = either (length bytes == 0) s (grown_by h s id bytes) i i
 
-  written_counts : (r : Result ℕ WriteError) (s : StreamsState) (p : Retransmits) (id : ℕ) (bytes : List ℕ) → Counted s → Counted (written_by r s p id bytes).state
+  written_counts : (r : Result ℕ WriteError) (s : StreamsState) (p : Retransmits) (id : ℕ) (bytes : List ℕ) → Flagged s → Flagged (written_by r s p id bytes).state
   written_counts (Ok n) s p id bytes i = accepted_counts (sending_half s id) s id (take n bytes) i
   written_counts (Err write_errors.Blocked) s p id bytes i = blocked_counts (sending_half s id) s p id i
   written_counts (Err (write_errors.Stopped code)) s p id bytes i = i
   written_counts (Err write_errors.ClosedStream) s p id bytes i = i
   written_counts (Err write_errors.Memory) s p id bytes i = i
 
-  write_counts : (b : Bool) (r : Result ℕ WriteError) (s : StreamsState) (p : Retransmits) (id : ℕ) (bytes : List ℕ) → Counted s → Counted (after_write b r s p id bytes).state
+  write_counts : (b : Bool) (r : Result ℕ WriteError) (s : StreamsState) (p : Retransmits) (id : ℕ) (bytes : List ℕ) → Flagged s → Flagged (after_write b r s p id bytes).state
   write_counts true r s p id bytes i = written_counts r s p id bytes i
   write_counts false r s p id bytes i = i
 
-  chunks_accepted_counts : (o : Option SendHalf) (s : StreamsState) (id n : ℕ) (cs : List (List ℕ)) → Counted s → Counted (chunks_accepted_at o s id n cs)
+  chunks_accepted_counts : (o : Option SendHalf) (s : StreamsState) (id n : ℕ) (cs : List (List ℕ)) → Flagged s → Flagged (chunks_accepted_at o s id n cs)
   chunks_accepted_counts None s id n cs i = i
   chunks_accepted_counts (Some h) s id zero cs i = i
   chunks_accepted_counts (Some h) s id (suc n) cs i = i
 
-  chunks_counts : (b : Bool) (r : Result Written WriteError) (s : StreamsState) (p : Retransmits) (id : ℕ) (cs : List (List ℕ)) → Counted s → Counted (after_write_chunks b r s p id cs).state
+  chunks_counts : (b : Bool) (r : Result Written WriteError) (s : StreamsState) (p : Retransmits) (id : ℕ) (cs : List (List ℕ)) → Flagged s → Flagged (after_write_chunks b r s p id cs).state
   chunks_counts true (Ok w) s p id cs i = chunks_accepted_counts (sending_half s id) s id w.bytes cs i
   chunks_counts true (Err e) s p id cs i = written_counts (Err e) s p id [] i
   chunks_counts false r s p id cs i = i
 
-  ended_counts : (o : Option SendHalf) (s : StreamsState) (id : ℕ) → Counted s → Counted (ended_at o s id)
+  ended_counts : (o : Option SendHalf) (s : StreamsState) (id : ℕ) → Flagged s → Flagged (ended_at o s id)
   ended_counts None s id i = i
   ended_counts (Some h) s id i = i
 
-  finished_counts : (r : Result (Unit {0}) FinishError) (s : StreamsState) (id : ℕ) → Counted s → Counted (finished_by r s id)
+  finished_counts : (r : Result (Unit {0}) FinishError) (s : StreamsState) (id : ℕ) → Flagged s → Flagged (finished_by r s id)
   finished_counts (Ok x) s id i = ended_counts (sending_half s id) s id i
   finished_counts (Err e) s id i = i
 
-  reset_counts : (o : Option SendHalf) (s : StreamsState) (p : Retransmits) (id code : ℕ) → Counted s → Counted (reset_at o s p id code).state
+  reset_counts : (o : Option SendHalf) (s : StreamsState) (p : Retransmits) (id code : ℕ) → Flagged s → Flagged (reset_at o s p id code).state
   reset_counts None s p id code i = i
   reset_counts (Some h) s p id code i = either_streams (is_some h.reset) _ _ i i
 
-  begun_counts : (r : Result (Unit {0}) ReadableError) (o : Option RecvHalf) (s : StreamsState) (id : ℕ) (ordered : Bool) → receiving_half s id ≡ o → Counted s → Counted (begun_unless r s id ordered)
+  begun_counts : (r : Result (Unit {0}) ReadableError) (o : Option RecvHalf) (s : StreamsState) (id : ℕ) (ordered : Bool) → receiving_half s id ≡ o → Flagged s → Flagged (begun_unless r s id ordered)
   begun_counts (Err e) o s id ordered is i = i
-  begun_counts (Ok x) o s id ordered is i = subst (λ (q : Option RecvHalf). Counted (begun_at q s id ordered)) (sym is) (go o ordered)
+  begun_counts (Ok x) o s id ordered is i = subst (λ (q : Option RecvHalf). Flagged (begun_at q s id ordered)) (sym is) (go o ordered)
     where
-      go : (o : Option RecvHalf) (b : Bool) → Counted (begun_at o s id b)
+      go : (o : Option RecvHalf) (b : Bool) → Flagged (begun_at o s id b)
       go None b = i
       go (Some h) true = i
       go (Some h) false = i
 
-  read_counts : (answer : Result (Option Chunk) ReadError) (o : Option RecvHalf) (s : StreamsState) (id most : ℕ) → Counted s → Counted (read_by answer o s id most)
+  read_counts : (answer : Result (Option Chunk) ReadError) (o : Option RecvHalf) (s : StreamsState) (id most : ℕ) → Flagged s → Flagged (read_by answer o s id most)
   read_counts answer None s id most i = i
   read_counts (Ok (Some chunk)) (Some h) s id most i = i
   read_counts (Ok None) (Some h) s id most i = received_counts s id i
@@ -153,29 +162,29 @@ module _ (K : Side → Counts → Counts → Type 0) where
   read_counts (Err read_errors.Blocked) (Some h) s id most i = i
   read_counts (Err read_errors.Memory) (Some h) s id most i = i
 
-  next_counts : (told : Told) (answer : Result (Option Chunk) ReadError) (s : StreamsState) (id most : ℕ) → Counted s → Counted (after_next told answer s id most)
+  next_counts : (told : Told) (answer : Result (Option Chunk) ReadError) (s : StreamsState) (id most : ℕ) → Flagged s → Flagged (after_next told answer s id most)
   next_counts told_bytes answer s id most i = read_counts answer (receiving_half s id) s id most i
   next_counts told_end answer s id most i = i
   next_counts (told_reset code) answer s id most i = i
 
-  stop_counts : (o : Option RecvHalf) (s : StreamsState) (p : Retransmits) (id code : ℕ) → Counted s → Counted (stopped_at o s p id code).state
+  stop_counts : (o : Option RecvHalf) (s : StreamsState) (p : Retransmits) (id code : ℕ) → Flagged s → Flagged (stopped_at o s p id code).state
   stop_counts None s p id code i = i
   stop_counts (Some h) s p id code i = either_streams h.stopped (streams_of s p) (settled (stopped_if (is_some h.final) s id h) (with_stop h.reset id code p)) i (go (is_some h.final))
     where
-      go : (b : Bool) → Counted (stopped_if b s id h)
+      go : (b : Bool) → Flagged (stopped_if b s id h)
       go true = received_counts _ id i
       go false = i
 
-  told_counts : (r : Result (Option ℕ) ClosedStream) (s : StreamsState) (p : Retransmits) (id : ℕ) → Counted s → Counted (reset_told r s p id).state
+  told_counts : (r : Result (Option ℕ) ClosedStream) (s : StreamsState) (p : Retransmits) (id : ℕ) → Flagged s → Flagged (reset_told r s p id).state
   told_counts (Ok (Some code)) s p id i = received_counts s id i
   told_counts (Ok None) s p id i = i
   told_counts (Err e) s p id i = i
 
-  priority_counts : (o : Option SendHalf) (s : StreamsState) (id : ℕ) → (priority : _) → Counted s → Counted (priority_at o s id priority)
+  priority_counts : (o : Option SendHalf) (s : StreamsState) (id : ℕ) → (priority : _) → Flagged s → Flagged (priority_at o s id priority)
   priority_counts None s id priority i = i
   priority_counts (Some h) s id priority i = i
 
-  words : CallWords (λ (done : ℕ → Wrote) (s : StreamsState). Counted s)
+  words : CallWords (λ (done : ℕ → Wrote) (s : StreamsState). Flagged s)
   words = record {
     writes = λ b w s p id bytes i. write_counts b (write_answer b s id (length bytes)) s p id bytes i;
     writes_chunks = λ b w s p id chunks i. chunks_counts b (write_chunks_answer b s id chunks) s p id chunks i;
@@ -193,125 +202,148 @@ module _ (K : Side → Counts → Counts → Type 0) where
 
   -- ---- what is told, and what goes
 
-  behind_counts : (o : Option ℕ) (s : StreamsState) → Counted s → Counted (told_behind o s).state
-  behind_counts (Some id) s i = i
-  behind_counts None s i = i
+  behind_counts : (o : Option ℕ) (s : StreamsState) → K s.side s.opening.own_limit s.opening.remote (after_event s.events) → Flagged s → Flagged (told_behind o s).state
+  behind_counts (Some id) s next i = i
+  behind_counts None s next i = next
 
-  polled_counts : (s : StreamsState) → Counted s → Counted (polled s).state
-  polled_counts s i = cond_both s.events.opened.bi _ _ (λ (t : Telling). Counted t.state) (λ is. i)
-      (λ is. cond_both s.events.opened.uni _ _ (λ (t : Telling). Counted t.state) (λ is. i)
-      (λ is. cond_both (room s.sending == 0) _ _ (λ (t : Telling). Counted t.state) (λ is. i) (λ is. behind_counts (passed s.sending.blocked s.sending.halves.live).found (after_passing s (passed s.sending.blocked s.sending.halves.live)) i)))
+  -- where it is told that the peer opened streams of a kind, or what came first, as is shown
+  pub polled_counts : (s : StreamsState) → ((dir : Dir) → K s.side s.opening.own_limit s.opening.remote (record s.events { opened = with_of dir false s.events.opened })) → K s.side s.opening.own_limit s.opening.remote (after_event s.events) → Flagged s → Flagged (polled s).state
+  polled_counts s untold next i = cond_both s.events.opened.bi _ _ (λ (t : Telling). Flagged t.state) (λ is. untold Bi)
+      (λ is. cond_both s.events.opened.uni _ _ (λ (t : Telling). Flagged t.state) (λ is. untold Uni)
+      (λ is. cond_both (room s.sending == 0) _ _ (λ (t : Telling). Flagged t.state) (λ is. next) (λ is. behind_counts (passed s.sending.blocked s.sending.halves.live).found (after_passing s (passed s.sending.blocked s.sending.halves.live)) next i)))
 
-  composed_counts : (e : End) → Counted e.streams → Counted (composed e).end.streams
-  composed_counts e i = by_writing (λ (d : Draft). Counted d.end.streams) (record {
+  composed_counts : (e : End) → Flagged e.streams → Flagged (composed e).end.streams
+  composed_counts e i = by_writing (λ (d : Draft). Flagged d.end.streams) (record {
     ack = λ d filled may j. j;
     ping = λ d j. j;
+    probes = λ f size j. j;
     drops = λ d kind j. j;
-    control = λ d kind f is j. by_tells Counted d.end.streams j j (λ id. j) (λ dir. j) f;
+    control = λ d kind f is j. by_tells Flagged d.end.streams j j (λ id. j) (λ dir. j) f;
     message = λ d m ms is fit j. j;
     stream = λ d id h room found first some is counts j. j;
   }) e i
 
-  poll_counts : (p : Policy) (e : End) (now : ℕ) → Counted e.streams → Counted (poll.polled p e now).end.streams
-  poll_counts p e now i = poll_state Counted p e now composed_counts i
+  poll_counts : (p : Policy) (e : End) (now : ℕ) → Flagged e.streams → Flagged (poll.polled p e now).end.streams
+  poll_counts p e now i = poll_state Flagged p e now composed_counts i
 
   -- ---- what is acknowledged or lost
 
-  lost_counts : (o : Option SendHalf) (s : StreamsState) (m : StreamMeta) → Counted s → Counted (lost_at o s m)
+  lost_counts : (o : Option SendHalf) (s : StreamsState) (m : StreamMeta) → Flagged s → Flagged (lost_at o s m)
   lost_counts None s m i = i
   lost_counts (Some h) s m i = either (is_some h.reset) s _ i i
 
-  acked_counts : (o : Option SendHalf) (s : StreamsState) (p : Retransmits) (m : StreamMeta) → Counted s → Counted (acked_at o s p m).state
+  acked_counts : (o : Option SendHalf) (s : StreamsState) (p : Retransmits) (m : StreamMeta) → Flagged s → Flagged (acked_at o s p m).state
   acked_counts None s p m i = i
   acked_counts (Some h) s p m i = either_streams (is_some h.reset) (streams_of s p) (acked_on h s p m) i
-      (either_streams (is_acked (half_acked h m)) (settled (finished (replaced s m.id (half_acked h m)) m.id) p) (streams_of (replaced s m.id (half_acked h m)) p) (sent_counts (replaced s m.id (half_acked h m)) m.id i) i)
+      (either_streams (is_acked (half_acked h m)) (settled (finished (replaced s m.id (half_acked h m)) m.id) p) (streams_of (replaced s m.id (half_acked h m)) p) (one_event (send_done (replaced s m.id (half_acked h m)) m.id) (stream_events.Finished m.id) (sent_counts (replaced s m.id (half_acked h m)) m.id i)) i)
 
-  reset_acked_counts : (o : Option SendHalf) (s : StreamsState) (p : Retransmits) (id : ℕ) → Counted s → Counted (reset_acked_at o s p id).state
+  reset_acked_counts : (o : Option SendHalf) (s : StreamsState) (p : Retransmits) (id : ℕ) → Flagged s → Flagged (reset_acked_at o s p id).state
   reset_acked_counts None s p id i = i
   reset_acked_counts (Some h) s p id i = either_streams (is_some h.reset) (settled (send_done s id) p) (streams_of s p) (sent_counts s id i) i
 
-  settling : Settling (λ (e : End). Counted e.streams)
+  settling : Settling (λ (e : End). Flagged e.streams)
   settling = record {
     known = λ n e i. i;
     reset = λ id e i. reset_acked_counts (sent_half e.streams id) e.streams e.waiting.frames id i;
     acked = λ m e i. acked_counts (sent_half e.streams m.id) e.streams e.waiting.frames m i;
     lost = λ m e i. lost_counts (sent_half e.streams m.id) e.streams m i;
     again = λ carried e i. i;
+    searched = λ discovery e i. i;
+    shortens = λ most e i. i;
     tracked = λ t e i. i;
     measured = λ r first e i. i;
     marked = λ m marking e i. i;
   }
 
   -- any call but a delivery
-  pub call_counts : (p : Policy) (e : End) (theirs : List (List ℕ)) (call : Call) (a : Answer) → is_delivery call ≡ false → IsAnswer p e theirs call a → Counted e.streams → Counted (after_call p e theirs call a).streams
-  call_counts p e theirs call a apart is i = go (is_on_streams call) refl
+  pub flagged_call : (p : Policy) (e : End) (theirs : List (List ℕ)) (call : Call) (a : Answer) → is_delivery call ≡ false → IsAnswer p e theirs call a → (asks_event call ≡ true → Flagged (polled e.streams).state) → Flagged e.streams → Flagged (after_call p e theirs call a).streams
+  flagged_call p e theirs call a apart is asked i = go (is_on_streams call) refl
     where
       nothing : ℕ → Wrote
       nothing id = record { bytes = []; ended = false; reset = None }
 
-      go : (b : Bool) → is_on_streams call ≡ b → Counted (after_call p e theirs call a).streams
+      go : (b : Bool) → is_on_streams call ≡ b → Flagged (after_call p e theirs call a).streams
       go true on =
           let c = call_on_is p e theirs call a on in
-          subst (λ (s : StreamsState). Counted s) (sym c.leaves) (call_with (λ (done : ℕ → Wrote) (s : StreamsState). Counted s) words (is_open e.closing.state) nothing (streams_at e) i call a (c.answer is))
-      go false off = by_call p e theirs (λ (f : End). Counted f.streams) call a (record {
+          subst (λ (s : StreamsState). Flagged s) (sym c.leaves) (call_with (λ (done : ℕ → Wrote) (s : StreamsState). Flagged s) words (is_open e.closing.state) nothing (streams_at e) i call a (c.answer is))
+      go false off = by_call p e theirs (λ (f : End). Flagged f.streams) call a (record {
         same = i;
         on_streams = λ on answer. cc;
         on_messages = λ on answer. i;
         pings = i;
         heard = λ path same. i;
-        times = λ now expiry set. by_expired e now (λ (f : End). Counted f.streams) (λ pending tracking timers runs packets. i) (λ pending timers runs. losses_keep (λ (x : End). Counted x.streams) settling (with_closing e (ticked e.closing now)) i) expiry;
+        times = λ now expiry set. by_expired e now (λ (f : End). Flagged f.streams) (λ pending tracking timers runs packets. i) (λ pending timers runs. losses_keep (λ (x : End). Flagged x.streams) settling (with_closing e (ticked e.closing now)) i) expiry;
         polls = λ now set. poll_counts p e now i;
         hears = λ arrival d set. cc;
-        tells = λ asks. by_event e (λ (f : End). Counted f.streams) i (λ told. polled_counts e.streams i);
+        tells = λ asks. by_event e (λ (f : End). Flagged f.streams) i (λ told. asked asks);
       })
 
   -- ---- what comes
 
   -- a part has another value
-  renewed_counts : (s : StreamsState) (id : ℕ) (old new : RecvHalf) (tells : Bool) → Counted (opened_by s id) → Counted (renewed s id old new tells)
+  renewed_counts : (s : StreamsState) (id : ℕ) (old new : RecvHalf) (tells : Bool) → Flagged (opened_by s id) → Flagged (renewed s id old new tells)
   renewed_counts s id old new tells i = readable (tells && not (old.stopped || opens s id)) (ended_if (new.stopped && is_some new.final) id (with_recv (opened_by s id) id new)) (ended (new.stopped && is_some new.final))
     where
-      readable : (b : Bool) (t : StreamsState) → Counted t → Counted (readable_if b id t)
-      readable true t j = j
+      readable : (b : Bool) (t : StreamsState) → Flagged t → Flagged (readable_if b id t)
+      readable true t j = one_event t (stream_events.Readable id) j
       readable false t j = j
 
-      ended : (b : Bool) → Counted (ended_if b id (with_recv (opened_by s id) id new))
+      ended : (b : Bool) → Flagged (ended_if b id (with_recv (opened_by s id) id new))
       ended true = received_counts (with_recv (opened_by s id) id new) id i
       ended false = i
 
   -- a half takes bytes again
-  again_counts : (t : StreamsState) (id : ℕ) (h : SendHalf) → Counted t → Counted (writable_again t id h)
-  again_counts t id h i = either (room t.sending == 0) (joined t id h) _ (joined_counts t id h i) i
+  again_counts : (t : StreamsState) (id : ℕ) (h : SendHalf) → Flagged t → Flagged (writable_again t id h)
+  again_counts t id h i = either (room t.sending == 0) (joined t id h) _ (joined_counts t id h i) (one_event t (stream_events.Writable id) i)
 
-  limit_counts : (o : Option SendHalf) (t : StreamsState) (id limit : ℕ) → Counted t → Counted (limit_at o t id limit)
+  limit_counts : (o : Option SendHalf) (t : StreamsState) (id limit : ℕ) → Flagged t → Flagged (limit_at o t id limit)
   limit_counts None t id limit i = i
   limit_counts (Some h) t id limit i = either (nat_lt h.limit limit) (limit_raised t id h limit) t
       (either (is_used_up h) (writable_again (with_send t id (limited_half h limit)) id (limited_half h limit)) (with_send t id (limited_half h limit)) (again_counts (with_send t id (limited_half h limit)) id (limited_half h limit) i) i) i
 
-  limit_unless_counts : (o : Option Breach) (s : StreamsState) (id limit : ℕ) → Counted s → Counted (opened_by s id) → Counted (limit_unless o s id limit)
+  limit_unless_counts : (o : Option Breach) (s : StreamsState) (id limit : ℕ) → Flagged s → Flagged (opened_by s id) → Flagged (limit_unless o s id limit)
   limit_unless_counts (Some b) s id limit i opened = i
   limit_unless_counts None s id limit i opened = limit_counts (sending_for s id) (opened_by s id) id limit opened
 
-  stop_at_counts : (o : Option SendHalf) (t : StreamsState) (id code : ℕ) → Counted t → Counted (stop_at o t id code)
+  stop_at_counts : (o : Option SendHalf) (t : StreamsState) (id code : ℕ) → Flagged t → Flagged (stop_at o t id code)
   stop_at_counts None t id code i = i
-  stop_at_counts (Some h) t id code i = either (is_some h.stopped) t _ i i
+  stop_at_counts (Some h) t id code i = either (is_some h.stopped) t _ i (one_event (with_send t id (stopped_half h code)) (stream_events.Stopped id code) i)
 
-  stop_unless_counts : (o : Option Breach) (s : StreamsState) (f : StopSendingValue) → Counted s → Counted (opened_by s f.id) → Counted (stop_unless o s f)
+  stop_unless_counts : (o : Option Breach) (s : StreamsState) (f : StopSendingValue) → Flagged s → Flagged (opened_by s f.id) → Flagged (stop_unless o s f)
   stop_unless_counts (Some b) s f i opened = i
   stop_unless_counts None s f i opened = stop_at_counts (sending_for s f.id) (opened_by s f.id) f.id f.code opened
 
   -- a frame, by what it opens and which count it tells
-  pub frame_counts : (f : FrameValue) (e : End) → ((id : ℕ) → OpensStream f id → Counted (opened_by e.streams id)) → ((g : StreamCountValue) → f ≡ max_streams g → Counted (after_max_streams (dir_named g.one_way) g.count e.streams)) → Counted e.streams → Counted (take_frame f e).end.streams
-  frame_counts (stream g) e opens tells i = stream_cases e.streams e.waiting.frames g Counted (λ b is. i) (λ within none. i) (λ h within part u. renewed_counts e.streams g.id h (after_frame h g) true (opens g.id refl))
-  frame_counts (reset_stream g) e opens tells i = reset_cases e.streams e.waiting.frames g Counted (λ b is. i) (λ within none. i) (λ h within part u. renewed_counts e.streams g.id h (after_reset_stream h g.code g.final_size) (not (is_some h.reset)) (opens g.id refl))
-  frame_counts (stop_sending g) e opens tells i = stop_unless_counts (sending_refusal e.streams g.id) e.streams g i (opens g.id refl)
-  frame_counts (max_data limit) e opens tells i = i
-  frame_counts (max_stream_data g) e opens tells i = limit_unless_counts (sending_refusal e.streams g.id) e.streams g.id g.limit i (opens g.id refl)
-  frame_counts (max_streams g) e opens tells i = tells g refl
-  frame_counts (ack a) e opens tells i = go (names_ungiven a e)
+  pub flagged_frame : (f : FrameValue) (e : End) → ((id : ℕ) → OpensStream f id → Flagged (opened_by e.streams id)) → ((g : StreamCountValue) → f ≡ max_streams g → Flagged (after_max_streams (dir_named g.one_way) g.count e.streams)) → Flagged e.streams → Flagged (take_frame f e).end.streams
+  flagged_frame (stream g) e opens tells i = stream_cases e.streams e.waiting.frames g Flagged (λ b is. i) (λ within none. i) (λ h within part u. renewed_counts e.streams g.id h (after_frame h g) true (opens g.id refl))
+  flagged_frame (reset_stream g) e opens tells i = reset_cases e.streams e.waiting.frames g Flagged (λ b is. i) (λ within none. i) (λ h within part u. renewed_counts e.streams g.id h (after_reset_stream h g.code g.final_size) (not (is_some h.reset)) (opens g.id refl))
+  flagged_frame (stop_sending g) e opens tells i = stop_unless_counts (sending_refusal e.streams g.id) e.streams g i (opens g.id refl)
+  flagged_frame (max_data limit) e opens tells i = i
+  flagged_frame (max_stream_data g) e opens tells i = limit_unless_counts (sending_refusal e.streams g.id) e.streams g.id g.limit i (opens g.id refl)
+  flagged_frame (max_streams g) e opens tells i = tells g refl
+  flagged_frame (ack a) e opens tells i = go (names_ungiven a e)
     where
-      go : (b : Bool) → Counted (ack_taken b a e).end.streams
+      go : (b : Bool) → Flagged (ack_taken b a e).end.streams
       go true = i
-      go false = acked_keeps (λ (x : End). Counted x.streams) settling (is_above e.numbers.largest_acked a.largest) a (named a e) i
-  frame_counts (datagram m) e opens tells i = message_leaves (λ (x : End). Counted x.streams) m e i (λ left. i)
-  frame_counts f e opens tells i = i
+      go false = acked_keeps (λ (x : End). Flagged x.streams) settling (is_above e.numbers.largest_acked a.largest) a (named a e) i
+  flagged_frame (datagram m) e opens tells i = message_leaves (λ (x : End). Flagged x.streams) m e i (λ left. i)
+  flagged_frame f e opens tells i = i
+
+-- a fact of an end's side, of how many streams it may open, and of how many the peer opened
+module _ (K : Side → Counts → Counts → Type 0) where
+  abbrev pub Counted : StreamsState → Type 0
+  Counted s = K s.side s.opening.own_limit s.opening.remote
+
+  abbrev AnyEvents : Side → Counts → Counts → Events → Type 0
+  AnyEvents side limits remote ev = K side limits remote
+
+  any_more : (side : Side) (limits remote : Counts) (ev : Events) (event : StreamEvent) → K side limits remote → K side limits remote
+  any_more side limits remote ev event i = i
+
+  -- any call but a delivery
+  pub call_counts : (p : Policy) (e : End) (theirs : List (List ℕ)) (call : Call) (a : Answer) → is_delivery call ≡ false → IsAnswer p e theirs call a → Counted e.streams → Counted (after_call p e theirs call a).streams
+  call_counts p e theirs call a apart is i = flagged_call AnyEvents any_more p e theirs call a apart is (λ asks. polled_counts AnyEvents any_more e.streams (λ dir. i) i i) i
+
+  -- a frame, by what it opens and which count it tells
+  pub frame_counts : (f : FrameValue) (e : End) → ((id : ℕ) → OpensStream f id → Counted (opened_by e.streams id)) → ((g : StreamCountValue) → f ≡ max_streams g → Counted (after_max_streams (dir_named g.one_way) g.count e.streams)) → Counted e.streams → Counted (take_frame f e).end.streams
+  frame_counts f e opens tells i = flagged_frame AnyEvents any_more f e opens tells i

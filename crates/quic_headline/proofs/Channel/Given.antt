@@ -1,12 +1,11 @@
 -- Frames that an end may give: of streams that it knows, and counts that it keeps; and so they stay, since streams only open and counts only grow.
-use Rattle.std.proofs.Common.{◌≡◌, ℕ, zero, suc, ◌+◌, ◌-◌, ◌≤◌, Bool, true, false, not, List, [], ◌∷◌, ◌++◌, length, replicate, Option, Some, None, refl, sym, ap, ◌∙◌, subst, inl, inr, arith}
+use Rattle.std.proofs.Common.{◌≡◌, ℕ, zero, suc, ◌+◌, ◌≤◌, Bool, true, false, not, List, [], ◌∷◌, ◌++◌, replicate, Option, Some, None, refl, sym, ap, ◌∙◌, subst, inl, inr, arith}
 use Rattle.std.specs.Prelude.{◌&&◌, ◌||◌}
 use Rattle.std.proofs.lemmas.Bool.{and_parts, cond_both}
 use Rattle.quic_wire_core.specs.declared.stream_id.Dir.{Dir}
 use Rattle.quic_wire_core.specs.declared.stream_id.Dir.TheVariants.{Bi, Uni}
 use Rattle.quic_wire_core.specs.declared.stream_id.Side.{Side}
 use Rattle.quic_wire_core.specs.StreamId.{dir_of, index_of}
-use Rattle.quic_packet.specs.Number.{truncated}
 use Rattle.quic_wire.specs.Value.{FrameValue, StopSendingValue, padding, ping, stream, datagram, reset_stream, stop_sending, max_stream_data, max_streams, stream_data_blocked, streams_blocked, new_token, handshake_done}
 use Rattle.quic_streams_parts.specs.Dirs.{of, is_own, is_two_way}
 use Rattle.quic_streams_parts.specs.Table.{at}
@@ -35,13 +34,12 @@ use Rattle.quic_streams_laws.specs.ShapeLaws.{OpensMore, opened_more, more_own, 
 use Rattle.quic_machine.specs.declared.run.Call.{Call}
 use Rattle.quic_machine.specs.declared.run.Answer.{Answer}
 use Rattle.quic_machine.specs.Policy.{Policy}
-use Rattle.quic_spaces.specs.Numbers.{cut_against}
 use Rattle.quic_machine.specs.Tracking.{TrackedPacket, dir_named}
 use Rattle.quic_headline.proofs.Packets.Probes.{ready_streams, ready_state}
-use Rattle.quic_machine.specs.End.{End, number_of}
+use Rattle.quic_machine.specs.End.{End}
 use Rattle.quic_machine.specs.Receive.{take_frame}
-use Rattle.quic_machine.specs.Poll.{Draft, lazied, draft_if, with_ack, no_frames}
-use Rattle.quic_machine.specs.DraftLaws.{by_writing}
+use Rattle.quic_machine.specs.Poll.{zeros_behind, Draft, lazied, draft_as, with_ack, no_frames, probe, alone, whole, Leaving, nothing}
+use Rattle.quic_machine.specs.DraftLaws.{Writing, by_writing}
 use Rattle.quic_machine.specs.PollCases.{ready_at, draft_at, frames_at}
 use Rattle.quic_machine.specs.FrameCases.{passed, frames_keep}
 use Rattle.quic_machine.specs.CallCases.{is_delivery}
@@ -225,11 +223,11 @@ module _ (s : StreamsState) where
   acked_goes : (d : Draft) → Goes s d → Goes s (with_ack d)
   acked_goes d g = record { shape = g.shape; back = g.back; stops = g.stops; frames = more_given d.frames _ g.frames tt }
 
-  draft_goes : (held : Bool) (e : End) → Goes s (no_frames e) → Goes s (draft_if held e)
-  draft_goes true e first = acked_goes (no_frames e) first
-  draft_goes false e first = by_writing (Goes s) (record {
+  goes_on : Writing (Goes s)
+  goes_on = record {
     ack = λ d filled may g. acked_goes d g;
     ping = λ d g. record { shape = g.shape; back = g.back; stops = g.stops; frames = more_given d.frames ping g.frames tt };
+    probes = λ f size g. record { shape = g.shape; back = g.back; stops = g.stops; frames = more_given [] ping g.frames tt };
     drops = λ d kind g. record { shape = g.shape; back = g.back; stops = fewer_stops d.end.streams kind d.end.waiting.frames g.stops; frames = g.frames };
     control = λ d kind f is g. (
         let t = told_goes d f g in
@@ -246,7 +244,13 @@ module _ (s : StreamsState) where
       stops = g.stops;
       frames = more_given d.frames (stream (frame_of id h room)) g.frames (given_grows d.end.streams s g.back (stream (frame_of id h room)) (live_sends d.end.streams g.shape id h found));
     };
-  }) e first
+  }
+
+  draft_goes : (leaving : Leaving) (e : End) → Goes s (no_frames e) → Goes s (draft_as leaving e)
+  draft_goes whole e first = by_writing (Goes s) goes_on (lazied e) (record { shape = first.shape; back = first.back; stops = first.stops; frames = first.frames })
+  draft_goes alone e first = acked_goes (no_frames (lazied e)) (record { shape = first.shape; back = first.back; stops = first.stops; frames = first.frames })
+  draft_goes (probe size) e first = goes_on.probes e size first
+  draft_goes (nothing held) e first = first
 
   padded_given : (fs : List FrameValue) (count : ℕ) → ((f : FrameValue) → In f fs → Given s f) → (f : FrameValue) → In f (fs ++ replicate count padding) → Given s f
   padded_given fs count all f i = elim (in_append f fs (replicate count padding) i) [ inl here ↦ all f here | inr behind ↦ zeros count behind ]
@@ -260,7 +264,7 @@ module _ (s : StreamsState) where
 pub polled_given : (e : End) (now : ℕ) → IsShaped e.streams → StopsHold e.streams e.waiting.frames → ((n : ℕ) (t : TrackedPacket) → In (n, t) e.tracking.packets → StopsHold e.streams t.carried.retransmits) → (f : FrameValue) → In f (frames_at e now) → Given e.streams f
 polled_given e now shape stops carried =
     let d : Draft = draft_at e now in
-    padded_given e.streams d.frames (4 - ((truncated (number_of d.end) (cut_against d.end.numbers)).width + length d.bytes)) (draft_goes e.streams (ready_at e now).held (lazied (ready_at e now).end) ready).frames
+    padded_given e.streams d.frames (zeros_behind d) (draft_goes e.streams (ready_at e now).leaving (ready_at e now).end ready).frames
   where
     -- what waits, with what a packet carried
     more : (n : ℕ) (t : TrackedPacket) → In (n, t) e.tracking.packets → StopsHold e.streams (merged e.waiting.frames t.carried.retransmits)
@@ -269,7 +273,7 @@ polled_given e now shape stops carried =
     stopped : StopsHold e.streams (ready_at e now).end.waiting.frames
     stopped = ready_streams (λ (t : Streams). StopsHold e.streams t.pending) e now stops more
 
-    ready : Goes e.streams (no_frames (lazied (ready_at e now).end))
+    ready : Goes e.streams (no_frames (ready_at e now).end)
     ready =
         let same : (ready_at e now).end.streams ≡ e.streams = ready_state e now in
         record {

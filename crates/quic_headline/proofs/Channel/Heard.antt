@@ -128,6 +128,7 @@ module _ (t : StreamsState) where
   composed_heard e i = by_writing (λ (d : Draft). Heard t d.end.streams) (record {
     ack = λ d filled may j. j;
     ping = λ d j. j;
+    probes = λ f size j. j;
     drops = λ d kind j. j;
     control = λ d kind f is j. by_told (Heard t) heard_kept f d.end.streams j;
     message = λ d m ms is fit j. j;
@@ -145,6 +146,8 @@ module _ (t : StreamsState) where
     acked = λ m e i. by_stream_acked_where (Heard t) heard_kept e.streams e.waiting.frames m (λ h is none a. a) (λ h is none all. tt) (λ h all. inr all) i;
     lost = λ m e i. by_stream_lost (Heard t) heard_kept e.streams m (λ h is none a. a) i;
     again = λ carried e i. i;
+    searched = λ discovery e i. i;
+    shortens = λ most e i. i;
     tracked = λ u e i. i;
     measured = λ r first e i. i;
     marked = λ m marking e i. i;

@@ -1,10 +1,9 @@
 -- Each message that an end sends is one that the other takes: it is told how long they may be, and refuses longer ones (RFC 9221, section 3).
-use Rattle.std.proofs.Common.{◌≡◌, ℕ, ◌-◌, min, Bool, true, false, ◌==◌, not, List, [], ◌∷◌, ◌++◌, length, replicate, zero, suc, Option, Some, None, Result, Ok, Err, refl, sym, ap, ◌∙◌, subst, inl, inr, arith}
+use Rattle.std.proofs.Common.{cond, ◌≡◌, ℕ, ◌-◌, min, Bool, true, false, ◌==◌, not, List, [], ◌∷◌, ◌++◌, length, replicate, zero, suc, Option, Some, None, Result, Ok, Err, refl, sym, ap, ◌∙◌, subst, inl, inr, arith}
 use Rattle.std.specs.Prelude.{if◌then◌else◌, nat_le, nat_lt, ◌||◌, is_none, is_ok, ◌+◌}
-use Rattle.std.specs.List.{AllByRecursion}
+use Rattle.std.specs.List.{filter, AllByRecursion}
 use Rattle.std.proofs.lemmas.Bool.{ltb-false, le-leb}
 use Rattle.quic_wire.specs.Value.{FrameValue, ack, padding, ping, stream, datagram}
-use Rattle.quic_packet.specs.Number.{truncated}
 use Rattle.quic_config.specs.Transport.{TransportSettings, told_frame_size}
 use Rattle.quic_parameters.specs.Parameters.{ParameterValues}
 use Rattle.quic_streams_parts.specs.SendHalf.{frame_of}
@@ -12,7 +11,7 @@ use Rattle.quic_streams_laws.specs.WrittenFrames.{all_append}
 use Rattle.quic_messages.specs.declared.errors.ReceivedError.{ReceivedError}
 use Rattle.quic_messages.specs.declared.errors.SendDatagramError.{SendDatagramError}
 use Rattle.quic_messages.specs.declared.errors.SendDatagramError.TheVariants.{Disabled, TooLarge, Blocked}
-use Rattle.quic_messages.specs.Messages.{Messages, bytes_of, is_taken, left_for, with_message, received_answer, after_received}
+use Rattle.quic_messages.specs.Messages.{is_within, Messages, bytes_of, is_taken, left_for, with_message, received_answer, after_received}
 use Rattle.quic_messages.specs.Sending.{max_size, has_room, sized_answer, send_answer, after_send}
 use Rattle.quic_machine.specs.declared.run.Call.{Call}
 use Rattle.quic_machine.specs.declared.run.Call.TheVariants as calls
@@ -20,19 +19,17 @@ use Rattle.quic_machine.specs.declared.run.Answer.{Answer}
 use Rattle.quic_machine.specs.declared.run.Answer.TheVariants as answers
 use Rattle.quic_machine.specs.Policy.{Policy}
 use Rattle.quic_machine.specs.Closing.{ticked}
-use Rattle.quic_spaces.specs.Numbers.{cut_against}
-use Rattle.quic_machine.specs.End.{End, number_of, with_closing}
+use Rattle.quic_machine.specs.End.{End, with_closing}
 use Rattle.quic_machine.specs.Receive.{is_above, names_ungiven, message_judged, take_frame}
 use Rattle.quic_machine.specs.Parts.{current_mtu}
-use Rattle.quic_machine.specs.Poll.{Draft, Polled, ack_of, lazied, polled, draft_if, draft_of}
-use Rattle.quic_machine.specs.DraftLaws.{by_leave}
+use Rattle.quic_machine.specs.Poll.{zeros_behind, Draft, Polled, ack_of, polled, draft_as, draft_of, Leaving, Ready}
+use Rattle.quic_machine.specs.DraftLaws.{by_leave, MayLeave}
 use Rattle.quic_machine.specs.PollCases.{frames_padded, frames_at, by_poll, at_poll}
 use Rattle.quic_machine.specs.MessageCalls.{limits_of, after_on_messages}
 use Rattle.quic_machine.specs.FrameCases.{Settling, named, ack_taken, acked_keeps, losses_keep, by_received}
 use Rattle.quic_machine.specs.LeaveCases.{by_expired, by_event}
 use Rattle.quic_machine.specs.CallCases.{by_call}
 use Rattle.quic_machine.specs.Machine.{IsAnswer, after_call, gave}
-use Rattle.quic_machine.specs.Control.{Gated}
 use Rattle.quic_headline.specs.Runs.{In}
 use Rattle.quic_headline.specs.Observer.{Sent}
 use Rattle.quic_headline.proofs.Packets.Growth.{in_more}
@@ -42,7 +39,7 @@ use Rattle.quic_headline.proofs.Places.Told.{in_append}
 use Rattle.quic_headline.proofs.Places.Steps.{poll_answer}
 use Rattle.quic_headline.proofs.Places.Parties.{Party, called, sent_by, sent_if, sents_by}
 use Rattle.quic_headline.proofs.Places.Groups.{Way, Calls, Group}
-use Rattle.quic_headline.proofs.Packets.Probes.{MayLeave, may_leave}
+use Rattle.quic_headline.proofs.Packets.Probes.{may_leave}
 
 -- ---- what an end takes
 
@@ -55,7 +52,7 @@ abbrev pub FramesTaken : Option ℕ → List FrameValue → Type 0
 FramesTaken window fs = (m : List ℕ) → In (datagram m) fs → is_taken window m ≡ true
 
 -- what waits at an end is what it takes
-abbrev Waits : Option ℕ → End → Type 0
+abbrev pub Waits : Option ℕ → End → Type 0
 Waits window e = AreTaken window e.messages.queues.outgoing
 
 -- how long messages may be that an end sends to one that keeps so many bytes unread
@@ -99,6 +96,15 @@ left_taken window room len (m ∷ ms) t = go (nat_le (bytes_of (m ∷ ms) + len)
     go true rest = t
     go false rest = rest
 
+-- and those that stay where some are left out
+some_taken : (window : Option ℕ) (keep : List ℕ → Bool) (ms : List (List ℕ)) → AreTaken window ms → AreTaken window (filter keep ms)
+some_taken window keep [] t = t
+some_taken window keep (m ∷ ms) t = go (keep m) (some_taken window keep ms t.1)
+  where
+    go : (b : Bool) → AreTaken window (filter keep ms) → AreTaken window (cond b (m ∷ filter keep ms) (filter keep ms))
+    go true rest = (t.0, rest)
+    go false rest = rest
+
 -- a message that an end doesn't refuse for its length is one of these
 abbrev pub TakesSized : Option ℕ → End → Type 0
 TakesSized window e = (room : Bool) (m : List ℕ) → is_ok (sized_answer (limits_of e).max_size room m) ≡ true → is_taken window m ≡ true
@@ -116,7 +122,7 @@ module _ (window : Option ℕ) (e : End) (sized_one : TakesSized window e) (i : 
           all_append (λ n. is_taken window n ≡ true) (left_for (limits_of e).send_buffer_size (length m) e.messages.queues.outgoing) (m ∷ []) (left_taken window (limits_of e).send_buffer_size (length m) e.messages.queues.outgoing i) (one, tt)
       go false refused = i
 
-  message_call_leaves : (call : Call) (a : Answer) → AreTaken window (after_on_messages e call a).queues.outgoing
+  pub message_call_leaves : (call : Call) (a : Answer) → AreTaken window (after_on_messages e call a).queues.outgoing
   message_call_leaves (calls.Send message makes_room) (answers.Send (Ok x)) = send_leaves makes_room message
   message_call_leaves (calls.Send message makes_room) a = i
   message_call_leaves calls.Recv a = i
@@ -137,10 +143,11 @@ one_more window fs f all one m i = elim (in_more (datagram m) f fs i) [ inl old 
 no_message : (f : FrameValue) (m : List ℕ) → IsControl f → datagram m ≡ f → ⊥
 no_message f m is same = subst IsControl (sym same) is
 
-draft_draws : (window : Option ℕ) (held : Bool) (e : End) → MayLeave held e → Waits window e → Draws window (draft_if held e)
-draft_draws window held e alone i = by_leave (Draws window) (record {
+draft_draws : (window : Option ℕ) (leaving : Leaving) (e : End) → MayLeave leaving e → Waits window e → Draws window (draft_as leaving e)
+draft_draws window leaving e due i = by_leave (Draws window) (record {
   ack = λ d filled may g. record { waiting = g.waiting; frames = one_more window d.frames (ack (ack_of d.end)) g.frames (λ m is. cc) };
   ping = λ d g. record { waiting = g.waiting; frames = one_more window d.frames ping g.frames (λ m is. cc) };
+  probes = λ f size g. record { waiting = g.waiting; frames = one_more window [] ping g.frames (λ m is. cc) };
   drops = λ d kind g. record { waiting = g.waiting; frames = g.frames };
   control = λ d kind f is g. record {
     waiting = g.waiting;
@@ -150,7 +157,7 @@ draft_draws window held e alone i = by_leave (Draws window) (record {
       let all : AreTaken window (m ∷ ms) = subst (AreTaken window) is g.waiting in
       record { waiting = all.1; frames = one_more window d.frames (datagram m) g.frames (λ n same. (let alike : n ≡ m = cc in rw alike all.0)) });
   stream = λ d id h room found first some is counts g. record { waiting = g.waiting; frames = one_more window d.frames (stream (frame_of id h room)) g.frames (λ m is. cc) };
-}) held e alone (record { waiting = i; frames = λ m j. absurd j })
+}) leaving e due (record { waiting = i; frames = λ m j. absurd j })
 
 -- PADDING has none
 padded_taken : (window : Option ℕ) (fs : List FrameValue) (count : ℕ) → FramesTaken window fs → FramesTaken window (fs ++ replicate count padding)
@@ -166,19 +173,18 @@ abbrev pub AllTaken : Option ℕ → List Sent → Type 0
 AllTaken window sents = (s : Sent) → In s sents → FramesTaken window s.frames
 
 -- what a poll leaves and gives
-poll_takes : (window : Option ℕ) (p : Policy) (e : End) (now : ℕ) → Waits window e → Waits window (polled p e now).end × AllTaken window (sent_if (gave (answers.Poll (polled p e now).answer)) (sent_by e now))
+pub poll_takes : (window : Option ℕ) (p : Policy) (e : End) (now : ℕ) → Waits window e → Waits window (polled p e now).end × AllTaken window (sent_if (gave (answers.Poll (polled p e now).answer)) (sent_by e now))
 poll_takes window p e now i = by_poll p e now (λ (q : Polled). Waits window q.end × AllTaken window (sent_if (gave (answers.Poll q.answer)) (sent_by e now))) (record {
   silent = (i, λ s j. absurd j);
   failed = (i, λ s j. absurd j);
-  nothing = λ tracked waits moment pacing limited. (i, λ s j. absurd j);
-  used_up = λ tracked waits moment pacing. (i, λ s j. absurd j);
-  gives = λ held tracked waits moment pacing paid tracking timers is may ready some. (
-      let there : End = at_poll e now tracked waits moment pacing e.path.app_limited in
-      let x : End = lazied there in
-      let d : Draft = draft_if held x in
-      let frames_are : frames_at e now ≡ frames_padded d = ap (λ (g : Gated). frames_padded (draft_of g)) ready in
-      let draws = draft_draws window held x (may_leave e now held there ready some) i in
-      (draws.waiting, λ s j m k. padded_taken window d.frames (4 - ((truncated (number_of d.end) (cut_against d.end.numbers)).width + length d.bytes)) draws.frames m (subst (In (datagram m)) frames_are (one s j m k))));
+  nothing = λ c. (i, λ s j. absurd j);
+  used_up = λ c. (i, λ s j. absurd j);
+  gives = λ leaving c left is may ready some. (
+      let there : End = at_poll e now c in
+      let d : Draft = draft_as leaving there in
+      let frames_are : frames_at e now ≡ frames_padded d = ap (λ (g : Ready). frames_padded (draft_of g)) ready in
+      let draws = draft_draws window leaving there (may_leave e now leaving there ready) i in
+      (draws.waiting, λ s j m k. padded_taken window d.frames (zeros_behind d) draws.frames m (subst (In (datagram m)) frames_are (one s j m k))));
 })
   where
     one : (s : Sent) → In s (sent_by e now ∷ []) → (m : List ℕ) → In (datagram m) s.frames → In (datagram m) (frames_at e now)
@@ -205,6 +211,8 @@ module _ (window : Option ℕ) where
     acked = λ m e i. i;
     lost = λ m e i. i;
     again = λ carried e i. i;
+    searched = λ discovery e i. i;
+    shortens = λ most e i. some_taken window (is_within most) e.messages.queues.outgoing i;
     tracked = λ t e i. i;
     measured = λ r first e i. i;
     marked = λ m marking e i. i;

@@ -159,6 +159,7 @@ module _ (Q : ℕ → Type 0) where
   composed_stops e i = by_writing (λ (d : Draft). StopsOf Q d.end.waiting.frames) (record {
     ack = λ d filled may j. j;
     ping = λ d j. j;
+    probes = λ f size j. j;
     drops = λ d kind j. fewer_stops kind d.end.waiting.frames j;
     control = λ d kind f is j. fewer_stops kind d.end.waiting.frames j;
     message = λ d m ms is fit j. j;
@@ -243,6 +244,8 @@ module _ (Q : ℕ → Type 0) where
     acked = λ c m e was among i. acked_stops (sent_half e.streams m.id) e.streams e.waiting.frames m i;
     lost = λ c m e was among i. i;
     again = λ c e was i. again_holds e.waiting.frames c.retransmits i (from_stops Q c was.sent.frames was.is (sent was.sent was.among));
+    searched = λ discovery e i. i;
+    shortens = λ most e i. i;
     tracked = λ t e i. i;
     measured = λ r first e i. i;
     marked = λ m marking e i. i;

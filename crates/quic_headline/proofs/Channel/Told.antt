@@ -1,6 +1,5 @@
 -- How far an end told its peer that it may come, on all streams and on each, the peer may come at it, whatever it does later (RFC 9000, sections 4.1, 19.9 and 19.10).
-use Rattle.std.proofs.Common.{◌≡◌, ℕ, zero, suc, ◌+◌, ◌-◌, ◌≤◌, Bool, List, [], ◌∷◌, ◌++◌, length, replicate, Option, Some, sym, ap, subst, inl, inr, arith}
-use Rattle.quic_packet.specs.Number.{truncated}
+use Rattle.std.proofs.Common.{◌≡◌, ℕ, zero, suc, ◌≤◌, List, [], ◌∷◌, ◌++◌, replicate, Option, Some, sym, ap, subst, inl, inr, arith}
 use Rattle.quic_wire.specs.Value.{FrameValue, padding, ping, stream, datagram, max_data, max_stream_data}
 use Rattle.quic_streams_parts.specs.Table.{at}
 use Rattle.quic_streams_parts.specs.TableLaws.{at-put}
@@ -19,15 +18,13 @@ use Rattle.quic_machine.specs.declared.run.Call.TheVariants as calls
 use Rattle.quic_machine.specs.declared.run.Answer.{Answer}
 use Rattle.quic_machine.specs.declared.run.Answer.TheVariants as answers
 use Rattle.quic_machine.specs.Policy.{Policy}
-use Rattle.quic_spaces.specs.Numbers.{cut_against}
-use Rattle.quic_machine.specs.End.{End, number_of}
+use Rattle.quic_machine.specs.End.{End}
 use Rattle.quic_machine.specs.Receive.{Outcome, take_frame}
-use Rattle.quic_machine.specs.Poll.{Draft, Polled, lazied, polled, draft_if, draft_of}
-use Rattle.quic_machine.specs.DraftLaws.{by_leave}
+use Rattle.quic_machine.specs.Poll.{zeros_behind, Draft, Polled, polled, draft_as, draft_of, Leaving, Ready}
+use Rattle.quic_machine.specs.DraftLaws.{by_leave, MayLeave}
 use Rattle.quic_machine.specs.PollCases.{frames_padded, frames_at, by_poll, at_poll}
 use Rattle.quic_machine.specs.FrameCases.{begun, passed, frames_keep}
 use Rattle.quic_machine.specs.Machine.{IsAnswer, after_call, gave}
-use Rattle.quic_machine.specs.Control.{Gated}
 use Rattle.quic_headline.specs.Runs.{In, Intake}
 use Rattle.quic_headline.specs.Observer.{Sent}
 use Rattle.quic_headline.proofs.Packets.Growth.{in_more}
@@ -43,7 +40,7 @@ use Rattle.quic_headline.proofs.Halves.QuietSteps.{frame_quiet, sent_within}
 use Rattle.quic_headline.proofs.Halves.ReadCalls.{IsKept, call_kept}
 use Rattle.quic_headline.proofs.Channel.Below.{frame_below, reset_below, read_below, begun_below, stopped_below}
 use Rattle.quic_headline.proofs.Channel.Received.{Allows, Stays, stays_self, stays_then, stays_kept}
-use Rattle.quic_headline.proofs.Packets.Probes.{MayLeave, may_leave}
+use Rattle.quic_headline.proofs.Packets.Probes.{may_leave}
 
 -- ---- calls and frames
 
@@ -115,10 +112,11 @@ record Tells (before : StreamsState) (d : Draft) : Type 0 where
 more_told : (s t : StreamsState) (fs : List FrameValue) (g : FrameValue) → Stays s t → ((f : FrameValue) → In f fs → IsTold s f) → IsTold t g → (f : FrameValue) → In f (fs ++ g ∷ []) → IsTold t f
 more_told s t fs g stays all one f i = elim (in_more f g fs i) [ inl old ↦ told_stays s t f stays (all f old) | inr new ↦ subst (IsTold t) (sym new) one ]
 
-draft_tells : (before : StreamsState) (held : Bool) (e : End) → MayLeave held e → Stays before e.streams → Tells before (draft_if held e)
-draft_tells before held e alone i = by_leave (Tells before) (record {
+draft_tells : (before : StreamsState) (leaving : Leaving) (e : End) → MayLeave leaving e → Stays before e.streams → Tells before (draft_as leaving e)
+draft_tells before leaving e alone i = by_leave (Tells before) (record {
   ack = λ d filled may t. record { stays = t.stays; frames = more_told d.end.streams d.end.streams d.frames _ (stays_self before d.end.streams t.stays) t.frames tt };
   ping = λ d t. record { stays = t.stays; frames = more_told d.end.streams d.end.streams d.frames ping (stays_self before d.end.streams t.stays) t.frames tt };
+  probes = λ f size t. record { stays = t.stays; frames = more_told f.streams f.streams [] ping (stays_self before f.streams t.stays) t.frames tt };
   drops = λ d kind t. record { stays = t.stays; frames = t.frames };
   control = λ d kind f is t. (
       let s : StreamsState = d.end.streams in
@@ -129,7 +127,7 @@ draft_tells before held e alone i = by_leave (Tells before) (record {
       let s : StreamsState = d.end.streams in
       let on = by_frame (Stays s) (stays_kept s) d.end.transport.send_fairness s id room h found tt (stays_self before s t.stays) in
       record { stays = stays_then before s _ t.stays on; frames = more_told s _ d.frames (stream (frame_of id h room)) on t.frames tt });
-}) held e alone (record { stays = i; frames = λ f j. absurd j })
+}) leaving e alone (record { stays = i; frames = λ f j. absurd j })
 
 -- PADDING tells nothing
 padded_told : (s : StreamsState) (fs : List FrameValue) (count : ℕ) → ((f : FrameValue) → In f fs → IsTold s f) → (f : FrameValue) → In f (fs ++ replicate count padding) → IsTold s f
@@ -149,15 +147,14 @@ poll_told : (p : Policy) (e : End) (now : ℕ) → Stays e.streams e.streams →
 poll_told p e now i = by_poll p e now (λ (q : Polled). AllTold q.end.streams (sent_if (gave (answers.Poll q.answer)) (sent_by e now))) (record {
   silent = λ t j. absurd j;
   failed = λ t j. absurd j;
-  nothing = λ tracked waits moment pacing limited t j. absurd j;
-  used_up = λ tracked waits moment pacing t j. absurd j;
-  gives = λ held tracked waits moment pacing paid tracking timers is may ready some t j f k. (
-      let there : End = at_poll e now tracked waits moment pacing e.path.app_limited in
-      let x : End = lazied there in
-      let d : Draft = draft_if held x in
-      let frames_are : frames_at e now ≡ frames_padded d = ap (λ (g : Gated). frames_padded (draft_of g)) ready in
+  nothing = λ c t j. absurd j;
+  used_up = λ c t j. absurd j;
+  gives = λ leaving c left is may ready some t j f k. (
+      let there : End = at_poll e now c in
+      let d : Draft = draft_as leaving there in
+      let frames_are : frames_at e now ≡ frames_padded d = ap (λ (g : Ready). frames_padded (draft_of g)) ready in
       let among : In f (frames_at e now) = one t j f k in
-      padded_told d.end.streams d.frames (4 - ((truncated (number_of d.end) (cut_against d.end.numbers)).width + length d.bytes)) (draft_tells e.streams held x (may_leave e now held there ready some) i).frames f (subst (In f) frames_are among));
+      padded_told d.end.streams d.frames (zeros_behind d) (draft_tells e.streams leaving there (may_leave e now leaving there ready) i).frames f (subst (In f) frames_are among));
 })
   where
     one : (t : Sent) → In t (sent_by e now ∷ []) → (f : FrameValue) → In f t.frames → In f (frames_at e now)

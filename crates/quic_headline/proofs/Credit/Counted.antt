@@ -117,7 +117,7 @@ reset_counted u id h code size most there among c = cond_both h.stopped _ _ (IsC
     (λ e. cond_both (is_some h.reset) _ _ (IsCounted u id) (λ g. c) (λ g. record { seen = most; halted = λ is. c.halted is; cut = λ is. there; listed = λ sized. among }))
 
 -- a half of which nothing more is read is in use
-live_of : (s : StreamsState) (id : ℕ) (h : RecvHalf) → receiving_half s id ≡ Some h → IsReadOut h → at s.receiving.halves.live id ≡ Some h
+pub live_of : (s : StreamsState) (id : ℕ) (h : RecvHalf) → receiving_half s id ≡ Some h → IsReadOut h → at s.receiving.halves.live id ≡ Some h
 live_of s id h e out = go (was_receiving s id h e)
   where
     fresh : (window : ℕ) → h ≡ new_recv_half window → IsReadOut h → ⊥

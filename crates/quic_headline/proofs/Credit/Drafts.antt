@@ -1,8 +1,6 @@
 -- What holds of the frames that go into a datagram, where something is known of the streams that each of them leaves known, and from which it follows of each limit.
-use Rattle.std.proofs.Common.{◌≡◌, ℕ, zero, suc, ◌+◌, ◌-◌, Bool, List, [], ◌∷◌, ◌++◌, length, replicate, Some, sym, subst, inl, inr}
-use Rattle.quic_packet.specs.Number.{truncated}
+use Rattle.std.proofs.Common.{◌≡◌, ℕ, zero, suc, Bool, List, [], ◌∷◌, ◌++◌, replicate, Some, sym, subst, inl, inr}
 use Rattle.quic_wire.specs.Value.{FrameValue, AckValue, StreamValue, padding, ack, ping, stream, datagram}
-use Rattle.quic_spaces.specs.Numbers.{cut_against}
 use Rattle.quic_streams_parts.specs.Table.{at}
 use Rattle.quic_streams_parts.specs.SendHalf.{SendHalf, frame_of}
 use Rattle.quic_retransmits.specs.Retransmits.{Retransmits}
@@ -12,14 +10,14 @@ use Rattle.quic_streams_state.specs.Control.{Goes, frame_told}
 use Rattle.quic_machine.specs.declared.answers.State.TheVariants as states
 use Rattle.quic_machine.specs.declared.run.Answer.TheVariants as answers
 use Rattle.quic_machine.specs.Policy.{Policy}
-use Rattle.quic_machine.specs.End.{End, number_of}
-use Rattle.quic_machine.specs.Poll.{Polled, Draft, ack_of, lazied, composed, polled, draft_if}
-use Rattle.quic_machine.specs.PollCases.{ready_at, draft_at, frames_padded, by_poll_to}
-use Rattle.quic_machine.specs.DraftLaws.{Writing, by_writing, by_leave, due_alone}
+use Rattle.quic_machine.specs.End.{End}
+use Rattle.quic_machine.specs.Poll.{Polled, Draft, ack_of, zeros_behind, composed, polled, draft_as, Leaving}
+use Rattle.quic_machine.specs.PollCases.{ready_at, draft_at, frames_padded, by_poll_to, may_leave_at}
+use Rattle.quic_machine.specs.DraftLaws.{Writing, by_writing, by_leave, MayLeave}
 use Rattle.quic_machine.specs.Machine.{gave}
 use Rattle.quic_headline.specs.Runs.{In}
 use Rattle.quic_headline.specs.Observer.{Sent}
-use Rattle.quic_headline.proofs.Packets.Probes.{MayLeave, ready_state, poll_state}
+use Rattle.quic_headline.proofs.Packets.Probes.{ready_state, poll_state}
 use Rattle.quic_headline.proofs.Places.Parties.{sent_by, sent_if}
 use Rattle.quic_headline.proofs.Places.Told.{in_append}
 
@@ -60,14 +58,15 @@ module _ (Known : StreamsState → Type 0) (Fine : FrameValue → Type 0) (k : A
   writing = record {
     ack = λ d filled may j. (j.0, and_fine d.frames (ack (ack_of d.end)) j.1 (k.acks (ack_of d.end)));
     ping = λ d j. (j.0, and_fine d.frames ping j.1 k.pings);
+    probes = λ f size j. (j.0, and_fine [] ping j.1 k.pings);
     drops = λ d kind j. j;
     control = λ d kind f is j. (k.told f d.end.streams j.0, and_fine d.frames f j.1 (k.limits d.end.waiting.frames d.end.streams f j.0 is.says));
     message = λ d m ms is fit j. (j.0, and_fine d.frames (datagram m) j.1 (k.messages m));
     stream = λ d id h room found first some is counts j. (k.sent d.end.transport.send_fairness d.end.streams id room h found j.0, and_fine d.frames (stream (frame_of id h room)) j.1 (k.streams (frame_of id h room)));
   }
 
-  draft_is : (held : Bool) (e : End) → MayLeave held e → Known e.streams → DraftIs (draft_if held e)
-  draft_is held e alone known = by_leave DraftIs writing held e alone (known, λ f i. absurd i)
+  draft_is : (leaving : Leaving) (e : End) → MayLeave leaving e → Known e.streams → DraftIs (draft_as leaving e)
+  draft_is leaving e due known = by_leave DraftIs writing leaving e due (known, λ f i. absurd i)
 
   -- what a poll gives is fine, where so much is known of an end that is open
   pub poll_fine : (p : Policy) (e : End) (now : ℕ) → (e.closing.state ≡ states.Open → Known e.streams) → (t : Sent) → In t (sent_if (gave (answers.Poll (polled p e now).answer)) (sent_by e now)) → (f : FrameValue) → In f t.frames → Fine f
@@ -79,8 +78,8 @@ module _ (Known : StreamsState → Type 0) (Fine : FrameValue → Type 0) (k : A
     gives = λ is numbered some t i f j. (
         let d : Draft = draft_at e now in
         let ready : Known (ready_at e now).end.streams = subst Known (sym (ready_state e now)) (known is) in
-        let all : DraftIs d = draft_is (ready_at e now).held (lazied (ready_at e now).end) (due_alone (ready_at e now) some) ready in
-        padded_fine d.frames (4 - ((truncated (number_of d.end) (cut_against d.end.numbers)).width + length d.bytes)) all.1 f (one t i f j));
+        let all : DraftIs d = draft_is (ready_at e now).leaving (ready_at e now).end (may_leave_at e now) ready in
+        padded_fine d.frames (zeros_behind d) all.1 f (one t i f j));
   })
     where
       one : (t : Sent) → In t (sent_by e now ∷ []) → (f : FrameValue) → In f t.frames → In f (frames_padded (draft_at e now))

@@ -119,7 +119,7 @@ pub ready_new : (e : End) (now number : ℕ) → IsNew e.tracking.packets number
 ready_new e now number new = by_ready (λ (x : End). IsNew x.tracking.packets number) e now new new (λ p among n t i. elim (in_put e.tracking.packets p.0 (without_record p.1) (n, t) i) [
   | inl old ↦ new n t old
   | inr same ↦ (λ is. new p.0 p.1 among (sym (ap (λ (x : ℕ × TrackedPacket). x.0) same) ∙ is))
-]) (λ moment pacing x i. i)
+]) (λ moment pacing discovery x i. i)
 
 -- what stands in a packet that goes, or in tracked ones, stands in what is tracked then, where none of the tail has it: one of the tail may be forgotten
 pub any_sent : (P : ℕ × TrackedPacket → Type 0) (t : Tracking) (n : ℕ) (p : TrackedPacket) → IsNew t.packets n → ((q : ℕ × TrackedPacket) → In q t.packets → is_behind t.greatest_asking q.0 ≡ true → P q → ⊥) → P (n, p) ⊎ AnyIn P t.packets → AnyIn P (after_sent t n p).packets

@@ -33,6 +33,7 @@ use Rattle.quic_headline.specs.Runs.{Packet, Intake, In}
 use Rattle.quic_headline.specs.Observer.{Sent}
 use Rattle.quic_headline.specs.InFlight.{is_max_data, is_max_streams, limits_in, again_in}
 use Rattle.quic_headline.specs.Duties.{Limited, AllData, StreamData, StreamCount, limit_frame, limit_waits, IsInFlight, LimitHasArrived}
+use Rattle.quic_headline.proofs.Packets.Searches.{by_losses}
 use Rattle.quic_headline.proofs.Packets.Carried.{carried_same}
 use Rattle.quic_headline.proofs.Packets.Delivered.{Arrivals, arrived}
 use Rattle.quic_headline.proofs.Packets.Named.{NamesTaken, Stands, by_frame}
@@ -113,6 +114,8 @@ module _ (what : Limited) where
     acked = λ m e w. acked_flags (WaitsIn what) (decides what) e.streams e.waiting.frames m w;
     lost = λ m e w. lost_keeps (WaitsIn what) (decides what) e.streams e.waiting.frames m w;
     again = λ c e w. waits_in what (streams_of e.streams (merged e.waiting.frames c.retransmits)) (merged_left what e.waiting.frames c.retransmits (waits_of what (streams_at e) w));
+    searched = λ discovery e w. w;
+    shortens = λ most e w. w;
     tracked = λ t e w. w;
     measured = λ r first e w. w;
     marked = λ m marking e w. w;
@@ -219,13 +222,13 @@ module _ (took : List Packet) (own : List Sent) (what : Limited) (value : ℕ) w
       here = (i.flies.sent.number, i.flies.packet)
 
       go : (lost : Bool) → is_lost (verdict e) here ≡ lost → LimitStands took own what value (losses_detected e)
-      go true is = inr (inl (losses_wait what (lost_by (verdict e) e.tracking.packets) e (inr (here.0, here.1, filter_has (is_lost (verdict e)) here e.tracking.packets i.flies.tracked is, i.again))))
-      go false is = inr (inr (inl (still e.tracking.packets (kept_by (verdict e) e.tracking.packets) i (filter_has (λ q. not (is_lost (verdict e) q)) here e.tracking.packets i.flies.tracked (ap not is)))))
+      go true is = by_losses (LimitStands took own what value) e (λ discovery queues. inr (inl (losses_wait what (lost_by (verdict e) e.tracking.packets) e (inr (here.0, here.1, filter_has (is_lost (verdict e)) here e.tracking.packets i.flies.tracked is, i.again)))))
+      go false is = by_losses (LimitStands took own what value) e (λ discovery queues. inr (inr (inl (still e.tracking.packets (kept_by (verdict e) e.tracking.packets) i (filter_has (λ q. not (is_lost (verdict e) q)) here e.tracking.packets i.flies.tracked (ap not is))))))
 
   pub detected_more : (e : End) → (limit_waits e.waiting.frames what ≡ true) ⊎ FliesFrom own e.tracking.packets what value ⊎ LimitHasArrived took what value → LimitStands took own what value (losses_detected e)
-  detected_more e (inl waits) = inr (inl (losses_wait what (lost_by (verdict e) e.tracking.packets) e (inl waits)))
+  detected_more e (inl waits) = by_losses (LimitStands took own what value) e (λ discovery queues. inr (inl (losses_wait what (lost_by (verdict e) e.tracking.packets) e (inl waits))))
   detected_more e (inr (inl flies)) = detected_flies e flies
-  detected_more e (inr (inr came)) = inr (inr (inr came))
+  detected_more e (inr (inr came)) = by_losses (LimitStands took own what value) e (λ discovery queues. inr (inr (inr came)))
 
   -- a round trip is measured, if one is
   sampled_flies : (o : Option TrackedPacket) (a : AckValue) (e : End) → FliesFrom own e.tracking.packets what value → FliesFrom own (sampled o a e).tracking.packets what value

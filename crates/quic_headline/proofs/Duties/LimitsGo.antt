@@ -1,12 +1,11 @@
 -- What a poll makes of limits that were said: one that waits goes, no less than it was said before; and each that goes is under way.
-use Rattle.std.proofs.Common.{◌≡◌, ℕ, zero, suc, ◌+◌, ◌-◌, ◌≤◌, Bool, true, false, List, [], ◌∷◌, ◌++◌, length, replicate, Option, Some, None, refl, sym, ap, ◌∙◌, subst, ◌⊎◌, inl, inr, arith}
+use Rattle.std.proofs.Common.{◌≡◌, ℕ, zero, suc, ◌≤◌, Bool, true, false, List, [], ◌∷◌, ◌++◌, length, replicate, Option, Some, None, refl, sym, ap, ◌∙◌, subst, ◌⊎◌, inl, inr, arith}
 use Rattle.std.specs.Prelude.{map, if◌then◌else◌, ◌&&◌}
 use Rattle.std.specs.Ordering.{nat_cmp}
 use Rattle.std.specs.BTreeMap.{is_at}
 use Rattle.std.proofs.lemmas.Bool.{or_parts, or_cases, cases_eq}
 use Rattle.quic_wire_core.specs.declared.stream_id.Dir.{Dir}
 use Rattle.quic_wire_core.specs.declared.stream_id.Dir.TheVariants.{Bi, Uni}
-use Rattle.quic_packet.specs.Number.{truncated}
 use Rattle.quic_wire.specs.Value.{FrameValue, padding, ack, ping, stream, max_data, max_stream_data, max_streams, asks, datagram}
 use Rattle.quic_wire.specs.FrameView.{is_one_way}
 use Rattle.quic_streams_parts.specs.Table.{Table, at, put}
@@ -38,14 +37,13 @@ use Rattle.quic_machine.specs.declared.run.Call.{Call}
 use Rattle.quic_machine.specs.declared.run.Answer.{Answer}
 use Rattle.quic_machine.specs.declared.run.Answer.TheVariants as answers
 use Rattle.quic_machine.specs.Policy.{Policy}
-use Rattle.quic_spaces.specs.Numbers.{cut_against}
 use Rattle.quic_machine.specs.Closing.{ticked}
 use Rattle.quic_machine.specs.Tracking.{Tracking, TrackedPacket, is_behind, after_sent, without_record}
 use Rattle.quic_machine.specs.End.{End, with_closing, streams_at, number_of}
 use Rattle.quic_machine.specs.Calls.{is_open}
-use Rattle.quic_machine.specs.Poll.{Polled, Draft, no_frames, ack_of, with_ping_frame, ping_if, with_control_frames, with_asking, with_ack, ack_fits, ack_if, composed_if, composed, asking, frame_room, lazied, packet_of, tracked, record_moved, polled, with_message_frames, goes, draft_if}
-use Rattle.quic_machine.specs.DraftLaws.{with_half_frame, by_streams, by_messages, by_leave, due_alone}
-use Rattle.quic_machine.specs.PollCases.{ready_at, ready_leaves, draft_at, frames_padded, by_poll_to, composes}
+use Rattle.quic_machine.specs.Poll.{zeros_behind, Polled, Draft, no_frames, ack_of, with_ping_frame, ping_if, with_control_frames, with_asking, with_ack, ack_fits, ack_if, composed_if, composed, asking, frame_room, lazied, packet_of, tracked, record_moved, polled, with_message_frames, goes, draft_as, whole, alone, probe, Leaving, nothing}
+use Rattle.quic_machine.specs.DraftLaws.{with_half_frame, by_streams, by_messages, by_leave, MayLeave}
+use Rattle.quic_machine.specs.PollCases.{ready_at, ready_leaves, draft_at, frames_padded, by_poll_to, composes, may_leave_at}
 use Rattle.quic_machine.specs.CallCases.{is_delivery, is_poll, by_call}
 use Rattle.quic_machine.specs.LeaveCases.{by_expired, by_event}
 use Rattle.quic_machine.specs.Machine.{IsAnswer, after_call, gave}
@@ -54,7 +52,7 @@ use Rattle.quic_headline.specs.Observer.{Sent}
 use Rattle.quic_headline.specs.Duties.{Limited, AllData, StreamData, StreamCount, limit_frame, limit_waits, AnyIn, LimitHasArrived}
 use Rattle.quic_headline.proofs.Packets.Growth.{in_more}
 use Rattle.quic_headline.proofs.Packets.Ascending.{Ascends}
-use Rattle.quic_headline.proofs.Packets.Probes.{by_ready, ready_state, draft_streams, MayLeave, by_going}
+use Rattle.quic_headline.proofs.Packets.Probes.{by_ready, ready_state, draft_streams, by_going}
 use Rattle.quic_headline.proofs.Packets.Given.{draft_number}
 use Rattle.quic_headline.proofs.Places.Told.{in_left, in_right, in_append}
 use Rattle.quic_headline.proofs.Places.Parties.{sent_by, sent_if}
@@ -256,10 +254,13 @@ module _ (e : End) (what : Limited) (value : ℕ) (told : IsTold e.streams (limi
       go true = asking_moved (with_ack (no_frames e)) (record { streams = refl; waits = refl })
       go false = late (ack_fits (with_asking (no_frames e))) (with_asking (no_frames e)) (asking_moved (no_frames e) (record { streams = refl; waits = refl }))
 
-  -- or a due ACK alone
-  draft_moved : (held : Bool) → IsMoved what value (draft_if held e)
-  draft_moved true = inl was
-  draft_moved false = composed_moved
+-- so it is of what goes, where that is composed, or is a due ACK or a probe of a size alone, and where nothing goes
+draft_moved : (e : End) (what : Limited) (value : ℕ) → IsTold e.streams (limit_frame what value) → Given e.streams (limit_frame what value) → Stays e.streams e.streams → AllReceiving (Knows what) e.streams
+    → limit_waits e.waiting.frames what ≡ true → (leaving : Leaving) → IsMoved what value (draft_as leaving e)
+draft_moved e what value told may stays knows was whole = composed_moved (lazied e) what value told may stays knows was
+draft_moved e what value told may stays knows was alone = inl was
+draft_moved e what value told may stays knows was (probe size) = inl was
+draft_moved e what value told may stays knows was (nothing held) = inl was
 
 -- ---- what goes is said of a half in use
 
@@ -268,10 +269,11 @@ record Sees (d : Draft) : Type 0 where
   shape : IsShaped d.end.streams
   frames : (id limit : ℕ) → In (limit_frame (StreamData id) limit) d.frames → AllReceiving (Knows (StreamData id)) d.end.streams
 
-draft_sees : (held : Bool) (e : End) → MayLeave held e → IsShaped e.streams → Sees (draft_if held e)
-draft_sees held e alone shape = by_leave Sees (record {
+draft_sees : (leaving : Leaving) (e : End) → MayLeave leaving e → IsShaped e.streams → Sees (draft_as leaving e)
+draft_sees leaving e may shape = by_leave Sees (record {
   ack = λ d filled may b. record { shape = b.shape; frames = λ id limit i. elim (in_more (limit_frame (StreamData id) limit) (ack (ack_of d.end)) d.frames i) [ inl old ↦ b.frames id limit old | inr new ↦ cc ] };
   ping = λ d b. record { shape = b.shape; frames = λ id limit i. elim (in_more (limit_frame (StreamData id) limit) ping d.frames i) [ inl old ↦ b.frames id limit old | inr new ↦ cc ] };
+  probes = λ f size b. record { shape = b.shape; frames = λ id limit i. elim (in_more (limit_frame (StreamData id) limit) ping [] i) [ inl old ↦ b.frames id limit old | inr new ↦ cc ] };
   drops = λ d kind b. record { shape = b.shape; frames = b.frames };
   control = λ d kind f is b. record {
     shape = by_told IsShaped shape_any f d.end.streams b.shape;
@@ -288,7 +290,7 @@ draft_sees held e alone shape = by_leave Sees (record {
       | inr new ↦ cc
     ];
   };
-}) held e alone (record { shape = shape; frames = λ id limit i. absurd i })
+}) leaving e may (record { shape = shape; frames = λ id limit i. absurd i })
 
 -- what is said of a limit in a draft is known
 said_known : (what : Limited) (value : ℕ) (d : Draft) → Sees d → In (limit_frame what value) d.frames → AllReceiving (Knows what) d.end.streams
@@ -380,7 +382,7 @@ module _ (took : List Packet) (own : List Sent) (what : Limited) (value : ℕ) w
   module _ (p : Policy) (e : End) (now : ℕ) (ascends : Ascends e) (before : AskBefore own e.tracking.greatest_asking) (new : IsNew e.tracking.packets (number_of e)) where
     -- where something waits for each probe: what a probe carries waits
     ready_stands : LimitStands took own what value e → LimitStands took own what value (ready_at e now).end
-    ready_stands i = by_ready (LimitStands took own what value) e now i i (λ q among. moved q among i) (λ moment pacing x j. j)
+    ready_stands i = by_ready (LimitStands took own what value) e now i i (λ q among. moved q among i) (λ moment pacing discovery x j. j)
       where
         moved : (q : ℕ × TrackedPacket) → In q e.tracking.packets → LimitStands took own what value e → LimitStands took own what value (record_moved (Some q) (with_closing e (ticked e.closing now)))
         moved q among (inl ends) = inl ends
@@ -396,7 +398,7 @@ module _ (took : List Packet) (own : List Sent) (what : Limited) (value : ℕ) w
 
     -- the end that is ready, and its draft
     abbrev r : End
-    r = lazied (ready_at e now).end
+    r = (ready_at e now).end
 
     abbrev d : Draft
     d = draft_at e now
@@ -408,14 +410,14 @@ module _ (took : List Packet) (own : List Sent) (what : Limited) (value : ℕ) w
     abbrev Goes : Type 0
     Goes = goes (ready_at e now) ≡ true
 
-    alone : Goes → MayLeave (ready_at e now).held r
-    alone some = due_alone (ready_at e now) some
+    may_go : Goes → MayLeave (ready_at e now).leaving r
+    may_go some = may_leave_at e now
 
     tracks : Goes → (ready_at e now).end.tracking ≡ d.end.tracking
-    tracks some = sym (composes (ready_at e now).held r (alone some)).tracking
+    tracks some = sym (composes (ready_at e now).leaving r (may_go some)).tracking
 
     number : Goes → (sent_by e now).number ≡ number_of d.end
-    number some = sym (draft_number (ready_at e now).held r (alone some) ∙ ap (λ (x : End). number_of x) (ready_leaves e now))
+    number some = sym (draft_number (ready_at e now).leaving r (may_go some) ∙ ap (λ (x : End). number_of x) (ready_leaves e now))
 
     fresh_number : Goes → IsNew d.end.tracking.packets (number_of d.end)
     fresh_number some = subst (λ (n : ℕ). IsNew d.end.tracking.packets n) (number some) (subst (λ (t : Tracking). IsNew t.packets (number_of e)) (tracks some) (ready_new e now (number_of e) new))
@@ -436,9 +438,9 @@ module _ (took : List Packet) (own : List Sent) (what : Limited) (value : ℕ) w
       where
         draft : Goes → LimitStands took own what value (ready_at e now).end → IsMoved what value d ⊎ FliesFrom own d.end.tracking.packets what value ⊎ LimitHasArrived took what value
         draft some (inl ends) =
-            inl (inr (inl (draft_streams (λ (t : Streams). AllReceiving (Ends what) t.state) (ready_at e now).held r (composed_quiet (AllReceiving (Ends what)) (is_quiet (AllReceiving (Ends what)) (lasting (Ends what) (ends_lasts what))) r) ends)))
+            inl (inr (inl (draft_streams (λ (t : Streams). AllReceiving (Ends what) t.state) (ready_at e now).leaving r (composed_quiet (AllReceiving (Ends what)) (is_quiet (AllReceiving (Ends what)) (lasting (Ends what) (ends_lasts what))) (lazied r)) ends)))
         draft some (inr (inl waits)) =
-            inl (draft_moved r what value (subst (λ t. IsTold t (limit_frame what value)) state told) (subst (λ t. Given t (limit_frame what value)) state may) (subst (λ t. Stays t t) state stays) (subst (AllReceiving (Knows what)) state knows) waits (ready_at e now).held)
+            inl (draft_moved r what value (subst (λ t. IsTold t (limit_frame what value)) state told) (subst (λ t. Given t (limit_frame what value)) state may) (subst (λ t. Stays t t) state stays) (subst (AllReceiving (Knows what)) state knows) waits (ready_at e now).leaving)
         draft some (inr (inr more)) = inr (subst (λ (x : Tracking). FliesFrom own x.packets what value ⊎ LimitHasArrived took what value) (tracks some) more)
 
     -- one that goes
@@ -460,11 +462,11 @@ module _ (took : List Packet) (own : List Sent) (what : Limited) (value : ℕ) w
         sends : Goes → In (limit_frame what value) (sent_by e now).frames → AllReceiving (Knows what) d.end.streams × LimitStands took (own ++ sent_by e now ∷ []) what value (tracked d)
         sends some said =
             let here : In (limit_frame what value) d.frames =
-            elim (in_append (limit_frame what value) d.frames (replicate (4 - ((truncated (number_of d.end) (cut_against d.end.numbers)).width + length d.bytes)) padding) said) [
+            elim (in_append (limit_frame what value) d.frames (replicate (zeros_behind d) padding) said) [
               | inl front ↦ front
               | inr behind ↦ absurd (not_padding what value _ behind)
             ] in
-            let known : AllReceiving (Knows what) d.end.streams = said_known what value d (draft_sees (ready_at e now).held r (alone some) (subst (λ t. IsShaped t) state shape)) here in (
+            let known : AllReceiving (Knows what) d.end.streams = said_known what value d (draft_sees (ready_at e now).leaving r (may_go some) (subst (λ t. IsShaped t) state shape)) here in (
               known,
               given_stands d (sent_by e now) (number some) refl (asked some) (fresh_number some) (inl (inr (inr (record { limit = value; said = here; enough = omega arith })))),
             )

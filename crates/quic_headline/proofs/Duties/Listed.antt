@@ -36,15 +36,15 @@ use Rattle.quic_machine.specs.declared.run.Answer.{Answer}
 use Rattle.quic_machine.specs.declared.run.Answer.TheVariants as answers
 use Rattle.quic_machine.specs.Policy.{Policy}
 use Rattle.quic_machine.specs.Closing.{ticked}
-use Rattle.quic_machine.specs.Tracking.{Tracking, TrackedPacket, Carried, retransmits_in, without_record, names, acked_by, is_lost, lost_by}
+use Rattle.quic_machine.specs.Tracking.{Tracking, TrackedPacket, Carried, retransmits_in, without_record, names, acked_by, is_lost, lost_by, after_detection}
 use Rattle.quic_machine.specs.End.{End, with_closing, with_streams, streams_at, number_of}
 use Rattle.quic_machine.specs.Calls.{after_nexts, is_open}
 use Rattle.quic_machine.specs.StreamCalls.{IsStreamAnswer, if_ok, after_on_streams}
 use Rattle.quic_machine.specs.Acked.{without_known, reset_acked, resets_acked, stream_acked, streams_acked, packet_acked, packets_acked, stream_lost, streams_lost, carried_lost, packets_lost, verdict, losses_detected, measured, sampled, without_acked, after_named, losses_taken}
 use Rattle.quic_machine.specs.Receive.{is_above, names_ungiven, take_frame, Outcome}
-use Rattle.quic_machine.specs.Poll.{Polled, Draft, no_frames, ack_of, with_ping_frame, ping_if, with_control_frames, with_asking, with_ack, ack_fits, ack_if, composed_if, composed, asking, frame_room, lazied, packet_of, tracked, record_moved, polled, with_message, with_message_frames, goes, draft_if}
-use Rattle.quic_machine.specs.DraftLaws.{with_half_frame, by_streams, by_messages, due_alone}
-use Rattle.quic_machine.specs.PollCases.{ready_at, ready_leaves, draft_at, by_poll_to, composes}
+use Rattle.quic_machine.specs.Poll.{Polled, Draft, no_frames, ack_of, with_ping_frame, ping_if, with_control_frames, with_asking, with_ack, ack_fits, ack_if, composed_if, composed, asking, frame_room, lazied, packet_of, tracked, record_moved, polled, with_message, with_message_frames, goes, draft_as, whole, alone, probe, Leaving, nothing}
+use Rattle.quic_machine.specs.DraftLaws.{with_half_frame, by_streams, by_messages, MayLeave}
+use Rattle.quic_machine.specs.PollCases.{ready_at, ready_leaves, draft_at, by_poll_to, composes, may_leave_at}
 use Rattle.quic_machine.specs.FrameCases.{OnStreams, named, ack_taken, begun, passed, frames_leave, by_marks}
 use Rattle.quic_machine.specs.CallCases.{is_delivery, by_call}
 use Rattle.quic_machine.specs.LeaveCases.{by_expired, by_event}
@@ -54,9 +54,10 @@ use Rattle.quic_headline.specs.Observer.{Sent}
 use Rattle.quic_headline.specs.Amounts.{stops_stream, was_stopped}
 use Rattle.quic_headline.specs.InFlight.{again_in}
 use Rattle.quic_headline.specs.Duties.{AnyIn, has_reset, has_stop}
+use Rattle.quic_headline.proofs.Packets.Searches.{by_losses}
 use Rattle.quic_headline.proofs.Packets.Invariant.{IsCarriedFrom, AreTracked, carried_again}
 use Rattle.quic_headline.proofs.Packets.Ascending.{Ascends}
-use Rattle.quic_headline.proofs.Packets.Probes.{by_ready, ready_tracked, MayLeave, by_going}
+use Rattle.quic_headline.proofs.Packets.Probes.{by_ready, ready_tracked, by_going}
 use Rattle.quic_headline.proofs.Packets.Given.{draft_number}
 use Rattle.quic_headline.proofs.Packets.Carried.{again_is}
 use Rattle.quic_headline.proofs.Packets.Delivered.{Arrivals, arrived}
@@ -67,6 +68,7 @@ use Rattle.quic_headline.proofs.Halves.PileSteps.{acked_same, reset_acked_same, 
 use Rattle.quic_headline.proofs.Halves.PileCalls.{write_same, chunks_same, finalize_same, received_reset_same}
 use Rattle.quic_headline.proofs.Duties.Carrier.{any_is, any_either, any_member, any_put, any_sent, IsNew, ready_new}
 use Rattle.quic_headline.proofs.Duties.Tail.{AskBefore, Quiet, tail_quiet, ready_before}
+use Rattle.quic_machine.specs.Sizes.{search_acked}
 
 -- ---- what waits in a list
 
@@ -237,8 +239,8 @@ module _ (what : Listed) where
   packets_wait [] e = refl
   packets_wait (p ∷ ps) e =
       let c : Carried = p.1.carried in
-      let knows : End = without_known c.largest_acked e in
-      packets_wait ps (packet_acked p.1 e) ∙ streams_wait c.stream_frames (resets_acked c.retransmits.reset_stream knows) ∙ resets_wait c.retransmits.reset_stream knows ∙ known_wait c.largest_acked e
+      let knows : End = without_known c.largest_acked (search_acked p e) in
+      packets_wait ps (packet_acked p e) ∙ streams_wait c.stream_frames (resets_acked c.retransmits.reset_stream knows) ∙ resets_wait c.retransmits.reset_stream knows ∙ known_wait c.largest_acked (search_acked p e)
 
   lost_wait : (ms : List StreamMeta) (e : End) → (streams_lost ms e).waiting ≡ e.waiting
   lost_wait [] e = refl
@@ -264,9 +266,15 @@ module _ (what : Listed) where
 module _ (took : List Packet) (what : Listed) where
   -- losses that are detected
   detected_stands : (e : End) → ListedStands took what e → ListedStands took what (losses_detected e)
-  detected_stands e (inl waits) = inl (losses_wait what (lost_by (verdict e) e.tracking.packets) e (inl waits))
-  detected_stands e (inr (inl flying)) = elim (any_either (HasIt what) (is_lost (verdict e)) e.tracking.packets flying) [ inl gone ↦ inl (losses_wait what (lost_by (verdict e) e.tracking.packets) e (inr gone)) | inr kept ↦ inr (inl kept) ]
-  detected_stands e (inr (inr came)) = inr (inr came)
+  detected_stands e i = by_losses (ListedStands took what) e (λ discovery queues. go i)
+    where
+      lost : Table TrackedPacket
+      lost = lost_by (verdict e) e.tracking.packets
+
+      go : ListedStands took what e → (listed_in what (packets_lost lost e).waiting.frames ≡ true) ⊎ AnyIn (HasIt what) (after_detection (verdict e) e.tracking).packets ⊎ Came took what
+      go (inl waits) = inl (losses_wait what lost e (inl waits))
+      go (inr (inl flying)) = elim (any_either (HasIt what) (is_lost (verdict e)) e.tracking.packets flying) [ inl gone ↦ inl (losses_wait what lost e (inr gone)) | inr kept ↦ inr (inl kept) ]
+      go (inr (inr came)) = inr (inr came)
 
   -- a round trip is measured, if one is
   sampled_stands : (o : Option TrackedPacket) (a : AckValue) (e : End) → ListedStands took what e → ListedStands took what (sampled o a e)
@@ -458,10 +466,12 @@ module _ (e : End) (ready : AreReady e.streams.sending.halves.live e.waiting.fra
       go true = asking_moved (with_ack (no_frames e)) (record { streams = refl; waits = refl })
       go false = late (ack_fits (with_asking (no_frames e))) (with_asking (no_frames e)) (asking_moved (no_frames e) (record { streams = refl; waits = refl }))
 
-  -- or a due ACK alone
-  draft_moved : (held : Bool) → IsMoved (draft_if held e)
-  draft_moved true = inl was
-  draft_moved false = composed_moved
+-- so it is of what goes, where that is composed, or is a due ACK or a probe of a size alone, and where nothing goes
+draft_moved : (e : End) (ready : AreReady e.streams.sending.halves.live e.waiting.frames) (what : Listed) (was : listed_in what e.waiting.frames ≡ true) → (leaving : Leaving) → IsMoved e ready what was (draft_as leaving e)
+draft_moved e ready what was whole = composed_moved (lazied e) ready what was
+draft_moved e ready what was alone = inl was
+draft_moved e ready what was (probe size) = inl was
+draft_moved e ready what was (nothing held) = inl was
 
 module _ (took : List Packet) (sents : List Sent) (what : Listed) where
   -- a packet of the tail has nothing of it
@@ -485,7 +495,7 @@ module _ (took : List Packet) (sents : List Sent) (what : Listed) where
   module _ (e : End) (now : ℕ) (ascends : Ascends e) (were : AreTracked sents e.tracking.packets) (before : AskBefore sents e.tracking.greatest_asking) (new : IsNew e.tracking.packets (number_of e)) where
     -- where something waits for each probe: what a probe carries waits
     ready_stands : ListedStands took what e → ListedStands took what (ready_at e now).end
-    ready_stands i = by_ready (ListedStands took what) e now i i (λ p among. moved p among i) (λ moment pacing x j. j)
+    ready_stands i = by_ready (ListedStands took what) e now i i (λ p among. moved p among i) (λ moment pacing discovery x j. j)
       where
         again : (p : ℕ × TrackedPacket) → (listed_in what e.waiting.frames ≡ true) ⊎ HasIt what p → listed_in what (merged e.waiting.frames p.1.carried.retransmits) ≡ true
         again p (inl waits) = merged_listed what e.waiting.frames p.1.carried.retransmits ∙ or_left (listed_in what e.waiting.frames) (listed_in what p.1.carried.retransmits) waits
@@ -511,19 +521,19 @@ module _ (took : List Packet) (sents : List Sent) (what : Listed) where
       where
         gives : goes (ready_at e now) ≡ true → ListedStands took what (tracked (draft_at e now))
         gives some =
-            let held : Bool = (ready_at e now).held in
+            let leaving : Leaving = (ready_at e now).leaving in
             let r : End = (ready_at e now).end in
             let d : Draft = draft_at e now in
-            let alone : MayLeave held (lazied r) = due_alone (ready_at e now) some in
-            let same = composes held (lazied r) alone in
+            let due : MayLeave leaving r = may_leave_at e now in
+            let same = composes leaving r due in
             let tracks : r.tracking ≡ d.end.tracking = sym same.tracking in
-            let number : number_of e ≡ number_of d.end = sym (draft_number held (lazied r) alone ∙ ap (λ (x : End). number_of x) (ready_leaves e now)) in
+            let number : number_of e ≡ number_of d.end = sym (draft_number leaving r due ∙ ap (λ (x : End). number_of x) (ready_leaves e now)) in
             given_stands d
             (subst (λ (t : Tracking). AreTracked sents t.packets) tracks (ready_tracked sents e now were))
             (subst (λ (t : Tracking). AskBefore sents t.greatest_asking) tracks (ready_before sents e now before))
             (subst (λ (n : ℕ). IsNew d.end.tracking.packets n) number (subst (λ (t : Tracking). IsNew t.packets (number_of e)) tracks (ready_new e now (number_of e) new)))
             (elim (ready_stands i) [
-              | inl waits ↦ inl (draft_moved (lazied r) ready what waits held)
+              | inl waits ↦ inl (draft_moved r ready what waits leaving)
               | inr more ↦ inr (subst (λ (x : Tracking). AnyIn (HasIt what) x.packets ⊎ Came took what) tracks more)
             ])
 

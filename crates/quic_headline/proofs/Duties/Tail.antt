@@ -12,19 +12,18 @@ use Rattle.quic_machine.specs.Policy.{Policy}
 use Rattle.quic_machine.specs.Closing.{ticked}
 use Rattle.quic_machine.specs.Tracking.{Tracking, TrackedPacket, is_behind, asking_sent, acked_by}
 use Rattle.quic_machine.specs.End.{End, with_closing, with_loss_timer, number_of}
-use Rattle.quic_machine.specs.Acked.{measured, without_acked, after_named, losses_taken}
+use Rattle.quic_machine.specs.Acked.{sampled, measured, without_acked, after_named, losses_taken}
 use Rattle.quic_machine.specs.Receive.{received}
-use Rattle.quic_machine.specs.Poll.{Polled, Draft, asking, lazied, polled, goes, tracked}
-use Rattle.quic_machine.specs.PollCases.{ready_at, ready_leaves, draft_at, by_poll_to, composes}
+use Rattle.quic_machine.specs.Poll.{Polled, Draft, asking, polled, goes, tracked, Ready}
+use Rattle.quic_machine.specs.PollCases.{ready_at, ready_leaves, draft_at, by_poll_to, composes, may_leave_at}
 use Rattle.quic_machine.specs.Timeouts.{Expiry, acks_expired, loss_judged, loss_expired, pacing_expired}
 use Rattle.quic_machine.specs.LeaveCases.{at_expiry}
 use Rattle.quic_machine.specs.FrameCases.{named, frame_keeps, frame_leaves, by_received, by_marks}
 use Rattle.quic_machine.specs.CallCases.{is_poll, by_plain_call}
 use Rattle.quic_machine.specs.Machine.{IsAnswer, after_call, fails, gave}
-use Rattle.quic_machine.specs.Control.{Gated}
-use Rattle.quic_machine.specs.DraftLaws.{due_alone}
 use Rattle.quic_headline.specs.Runs.{In}
 use Rattle.quic_headline.specs.Observer.{Sent, asks_of}
+use Rattle.quic_headline.proofs.Packets.Searches.{by_losses}
 use Rattle.quic_headline.proofs.Packets.Invariant.{IsCarriedFrom, AreTracked}
 use Rattle.quic_headline.proofs.Packets.Named.{sampled_tracking}
 use Rattle.quic_headline.proofs.Packets.Probes.{by_ready, by_going}
@@ -75,7 +74,7 @@ Stays greatest e = e.tracking.greatest_asking ≡ greatest
 -- an ACK frame that names these leaves it
 named_stays : (greatest : Option ℕ) (ps : Table TrackedPacket) (rises : Bool) (a : AckValue) (e : End) → Stays greatest e → Stays greatest (after_named ps rises a e)
 named_stays greatest [] rises a e i = i
-named_stays greatest (p ∷ ps) rises a e i = by_marks rises (length (p ∷ ps)) a (losses_taken (p ∷ ps) rises a e) (Stays greatest) (λ m marking. ap (λ (t : Tracking). t.greatest_asking) (sampled_tracking (measured rises a (p ∷ ps)) a (without_acked (p ∷ ps) a e)) ∙ i)
+named_stays greatest (p ∷ ps) rises a e i = by_marks rises (length (p ∷ ps)) a (losses_taken (p ∷ ps) rises a e) (Stays greatest) (λ m marking. by_losses (λ (x : End). x.tracking.greatest_asking ≡ greatest) (sampled (measured rises a (p ∷ ps)) a (without_acked (p ∷ ps) a e)) (λ discovery queues. ap (λ (t : Tracking). t.greatest_asking) (sampled_tracking (measured rises a (p ∷ ps)) a (without_acked (p ∷ ps) a e)) ∙ i))
 
 -- so does whatever comes
 received_stays : (greatest : Option ℕ) (p : Policy) (e : End) (arrival : Arrival) (d : List ℕ) → Stays greatest e → Stays greatest (received p e arrival d).end
@@ -100,7 +99,7 @@ expired_stays e now expiry = after expiry.acks expiry.pacing (loss_expired expir
 
     judges : (o : Option ℕ) → Stays e.tracking.greatest_asking (loss_judged o begins)
     judges None = refl
-    judges (Some moment) = refl
+    judges (Some moment) = by_losses (Stays e.tracking.greatest_asking) begins (λ discovery queues. refl)
 
     expires : (loss : Bool) → Stays e.tracking.greatest_asking (loss_expired loss begins)
     expires true = judges e.tracking.loss_time
@@ -152,7 +151,7 @@ before_none sents greatest before u i = elim (in_append u sents [] i) [ inl old 
 
 -- an end that is ready to give leaves the greatest that asks
 pub ready_before : (sents : List Sent) (e : End) (now : ℕ) → AskBefore sents e.tracking.greatest_asking → AskBefore sents (ready_at e now).end.tracking.greatest_asking
-ready_before sents e now before = by_ready (λ (x : End). AskBefore sents x.tracking.greatest_asking) e now before before (λ q i. before) (λ moment pacing x i. i)
+ready_before sents e now before = by_ready (λ (x : End). AskBefore sents x.tracking.greatest_asking) e now before before (λ q i. before) (λ moment pacing discovery x i. i)
 
 -- after a poll
 before_polled : (p : Policy) (e : End) (now : ℕ) (sents : List Sent) → ((s : Sent) → In s sents → s.number < e.numbers.next) → AskBefore sents e.tracking.greatest_asking
@@ -171,11 +170,11 @@ before_polled p e now sents below before =
 
     gives : goes (ready_at e now) ≡ true → AskBefore (sents ++ sent_by e now ∷ []) (tracked (draft_at e now)).tracking.greatest_asking
     gives some =
-        let g : Gated = ready_at e now in
+        let g : Ready = ready_at e now in
         let d : Draft = draft_at e now in
-        let number : number_of e ≡ number_of d.end = sym (draft_number g.held (lazied g.end) (due_alone g some) ∙ ap (λ (x : End). number_of x) (ready_leaves e now)) in
+        let number : number_of e ≡ number_of d.end = sym (draft_number g.leaving g.end (may_leave_at e now) ∙ ap (λ (x : End). number_of x) (ready_leaves e now)) in
         let near = (allocated_near e.filter e.numbers.next).0 in
-        let here : AskBefore sents d.end.tracking.greatest_asking = subst (λ (t : Tracking). AskBefore sents t.greatest_asking) (sym (composes g.held (lazied g.end) (due_alone g some)).tracking) ready in
+        let here : AskBefore sents d.end.tracking.greatest_asking = subst (λ (t : Tracking). AskBefore sents t.greatest_asking) (sym (composes g.leaving g.end (may_leave_at e now)).tracking) ready in
         before_sent sents (sent_by e now) (asking d.frames) (number_of d.end) d.end.closing.clock _ number (asking_padded d.frames _) (λ u i. (let less = below u i in omega arith)) here
 
 -- any call that lacks no memory

@@ -21,9 +21,9 @@ use Rattle.quic_machine.specs.Calls.{is_open}
 use Rattle.quic_machine.specs.StreamCalls.{is_on_streams}
 use Rattle.quic_machine.specs.Acked.{without_known, resets_acked, stream_acked, streams_acked, packet_acked, packets_acked, stream_lost, streams_lost, carried_lost, packets_lost, verdict, losses_detected, measured, sampled, without_acked, after_named, losses_taken}
 use Rattle.quic_machine.specs.Receive.{is_above, names_ungiven, take_frame, Outcome}
-use Rattle.quic_machine.specs.Poll.{Polled, Draft, ack_of, asking, lazied, packet_of, tracked, polled, goes, draft_if}
-use Rattle.quic_machine.specs.DraftLaws.{by_leave, due_alone}
-use Rattle.quic_machine.specs.PollCases.{ready_at, ready_leaves, draft_at, by_poll_to, composes}
+use Rattle.quic_machine.specs.Poll.{Polled, Draft, ack_of, asking, packet_of, tracked, polled, goes, draft_as, Leaving, with_least, no_frames}
+use Rattle.quic_machine.specs.DraftLaws.{by_leave, MayLeave}
+use Rattle.quic_machine.specs.PollCases.{ready_at, ready_leaves, draft_at, by_poll_to, composes, may_leave_at}
 use Rattle.quic_machine.specs.FrameCases.{OnStreams, named, ack_taken, begun, passed, resets_acked_keep, frames_leave, by_marks}
 use Rattle.quic_machine.specs.CallCases.{is_delivery, by_call}
 use Rattle.quic_machine.specs.LeaveCases.{by_expired, by_event}
@@ -31,9 +31,10 @@ use Rattle.quic_machine.specs.Machine.{IsAnswer, after_call}
 use Rattle.quic_headline.specs.Runs.{Intake, In}
 use Rattle.quic_headline.specs.Duties.{Duty, AnyIn, Carries}
 use Rattle.quic_headline.specs.Observer.{Sent}
+use Rattle.quic_headline.proofs.Packets.Searches.{by_losses}
 use Rattle.quic_headline.proofs.Packets.Invariant.{AreTracked, carried_streams}
 use Rattle.quic_headline.proofs.Packets.Ascending.{Ascends}
-use Rattle.quic_headline.proofs.Packets.Probes.{by_ready, ready_tracked, MayLeave, by_going}
+use Rattle.quic_headline.proofs.Packets.Probes.{by_ready, ready_tracked, by_going}
 use Rattle.quic_headline.proofs.Packets.Given.{draft_number}
 use Rattle.quic_headline.proofs.Packets.Delivered.{Arrivals, arrived}
 use Rattle.quic_headline.proofs.Packets.Named.{in_filter, by_frame, frame_fewer}
@@ -45,6 +46,7 @@ use Rattle.quic_headline.proofs.Duties.Flies.{flies_more, flies_went}
 use Rattle.quic_headline.proofs.Duties.InStreams.{AllFly, all_more, fly_kept, fly_calls, fly_acked, fly_lost}
 use Rattle.quic_headline.proofs.Duties.Carrier.{any_either, any_front, any_behind, any_put, any_sent, IsNew, ready_new, all_leave}
 use Rattle.quic_headline.proofs.Duties.Tail.{AskBefore, Quiet, tail_quiet, ready_before}
+use Rattle.quic_machine.specs.Sizes.{search_acked}
 
 -- ---- where it stands
 
@@ -103,16 +105,16 @@ module _ (done : ℕ → Wrote) where
   resets_stand F = resets_acked_keep (Stand F) (λ id e i. by_reset_acked (AllFly F done) (fly_kept F done) e.streams e.waiting.frames id i)
 
   -- an acknowledged packet
-  one_acked : (F : Duty → Type 0) (p : ℕ × TrackedPacket) (e : End) → EndsIn p → Stand (λ u. InPacket p u ⊎ F u) e → Stand F (packet_acked p.1 e)
+  one_acked : (F : Duty → Type 0) (p : ℕ × TrackedPacket) (e : End) → EndsIn p → Stand (λ u. InPacket p u ⊎ F u) e → Stand F (packet_acked p e)
   one_acked F p e ends i =
       let c : Carried = p.1.carried in
       let G : Duty → Type 0 = λ u. InPacket p u ⊎ F u in
-      all_leave End Duty StreamMeta Carries Ends Stand stand_more stream_acked frame_acked streams_acked (λ x. refl) (λ m ms x. refl) F c.stream_frames (resets_acked c.retransmits.reset_stream (without_known c.largest_acked e)) ends
-      (resets_stand G c.retransmits.reset_stream (without_known c.largest_acked e) (known_stands G c.largest_acked e i))
+      all_leave End Duty StreamMeta Carries Ends Stand stand_more stream_acked frame_acked streams_acked (λ x. refl) (λ m ms x. refl) F c.stream_frames (resets_acked c.retransmits.reset_stream (without_known c.largest_acked (search_acked p e))) ends
+      (resets_stand G c.retransmits.reset_stream (without_known c.largest_acked (search_acked p e)) (known_stands G c.largest_acked (search_acked p e) i))
 
   -- acknowledged packets
   packets_stand : (F : Duty → Type 0) (ps : Table TrackedPacket) (e : End) → ((p : ℕ × TrackedPacket) → In p ps → EndsIn p) → Stand (λ u. InPackets ps u ⊎ F u) e → Stand F (packets_acked ps e)
-  packets_stand = all_leave End Duty (ℕ × TrackedPacket) InPacket EndsIn Stand stand_more (λ p. packet_acked p.1) one_acked packets_acked (λ x. refl) (λ p ps x. refl)
+  packets_stand = all_leave End Duty (ℕ × TrackedPacket) InPacket EndsIn Stand stand_more packet_acked one_acked packets_acked (λ x. refl) (λ p ps x. refl)
 
   -- a lost packet
   one_lost : (F : Duty → Type 0) (p : ℕ × TrackedPacket) (e : End) → EndsIn p → Stand (λ u. InPacket p u ⊎ F u) e → Stand F (carried_lost p.1.carried e)
@@ -134,8 +136,8 @@ module _ (done : ℕ → Wrote) where
       let packets : Table TrackedPacket = e.tracking.packets in
       let lost : Table TrackedPacket = lost_by (verdict e) packets in
       let kept : Duty → Type 0 = InPackets (kept_by (verdict e) packets) in
-      losses_stand kept lost e (λ q j. ends q (in_filter (is_lost (verdict e)) q packets j))
-      (stand_more (InPackets packets) (λ u. InPackets lost u ⊎ kept u) e (λ u s. any_either (λ q. InPacket q u) (is_lost (verdict e)) packets s) i)
+      by_losses (Fly done) e (λ discovery queues. losses_stand kept lost e (λ q j. ends q (in_filter (is_lost (verdict e)) q packets j))
+      (stand_more (InPackets packets) (λ u. InPackets lost u ⊎ kept u) e (λ u s. any_either (λ q. InPacket q u) (is_lost (verdict e)) packets s) i))
 
   -- a round trip is measured, if one is
   sampled_fly : (o : Option TrackedPacket) (a : AckValue) (e : End) → TrackedEnds e.tracking.packets × Fly done e → TrackedEnds (sampled o a e).tracking.packets × Fly done (sampled o a e)
@@ -254,17 +256,18 @@ module _ (done : ℕ → Wrote) (F : Duty → Type 0) where
       (more_drafted d own d.end.streams i)
 
   -- whichever frames go
-  draft_drafted : (held : Bool) (e : End) → MayLeave held e → AllFly F done e.streams → Drafted (draft_if held e)
-  draft_drafted held e alone i = by_leave Drafted (record {
+  draft_drafted : (leaving : Leaving) (e : End) → MayLeave leaving e → AllFly F done e.streams → Drafted (draft_as leaving e)
+  draft_drafted leaving e alone i = by_leave Drafted (record {
     ack = λ d filled may b. more_drafted d (ack (ack_of d.end) ∷ []) d.end.streams b;
     ping = λ d b. more_drafted d (ping ∷ []) d.end.streams b;
+    probes = λ f size b. more_drafted (with_least (no_frames f) size) (ping ∷ []) f.streams b;
     drops = λ d kind b. b;
     control = λ d kind f is b. (
         let G : Duty → Type 0 = InDraft F (d.frames ++ f ∷ []) in
         by_told (AllFly G done) (fly_kept G done) f d.end.streams (more_drafted d (f ∷ []) d.end.streams b));
     message = λ d m ms is fit b. more_drafted d (datagram m ∷ []) d.end.streams b;
     stream = λ d id h room found first some is counts b. half_drafted d d.end.transport.send_fairness id room h found b;
-  }) held e alone (all_more F (InDraft F []) done e.streams (λ u f. inr f) i)
+  }) leaving e alone (all_more F (InDraft F []) done e.streams (λ u f. inr f) i)
 
 -- frames that don't ask have no STREAM frame among them
 none_asks : (fs : List FrameValue) (u : Duty) → asking fs ≡ false → InMetas (streams_in fs) u → ⊥
@@ -287,7 +290,7 @@ module _ (done : ℕ → Wrote) (sents : List Sent) (e : End) (now : ℕ) (ascen
   -- where something waits for each probe
   ready_fly : Fly done e → Fly done (ready_at e now).end
   ready_fly i = by_ready (Fly done) e now i i (λ p among. all_more (InPackets e.tracking.packets) (InPackets (put e.tracking.packets p.0 (without_record p.1))) done e.streams (λ u j.
-      elim (any_put (λ q. InPacket q u) ⊥ e.tracking.packets p (without_record p.1) ascends among (λ here. inl here) j) [ inl there ↦ there | inr none ↦ absurd none ]) i) (λ moment pacing x j. j)
+      elim (any_put (λ q. InPacket q u) ⊥ e.tracking.packets p (without_record p.1) ascends among (λ here. inl here) j) [ inl there ↦ there | inr none ↦ absurd none ]) i) (λ moment pacing discovery x j. j)
 
   -- after a poll
   polled_fly : (p : Policy) → Fly done e → Fly done (polled p e now).end
@@ -301,18 +304,18 @@ module _ (done : ℕ → Wrote) (sents : List Sent) (e : End) (now : ℕ) (ascen
     where
       gives : goes (ready_at e now) ≡ true → Fly done (tracked (draft_at e now))
       gives some =
-          let held : Bool = (ready_at e now).held in
+          let leaving : Leaving = (ready_at e now).leaving in
           let r : End = (ready_at e now).end in
           let d : Draft = draft_at e now in
-          let alone : MayLeave held (lazied r) = due_alone (ready_at e now) some in
-          let same = composes held (lazied r) alone in
+          let alone : MayLeave leaving r = may_leave_at e now in
+          let same = composes leaving r alone in
           let tracks : r.tracking ≡ d.end.tracking = sym same.tracking in
-          let number : number_of e ≡ number_of d.end = sym (draft_number held (lazied r) alone ∙ ap (λ (x : End). number_of x) (ready_leaves e now)) in
+          let number : number_of e ≡ number_of d.end = sym (draft_number leaving r alone ∙ ap (λ (x : End). number_of x) (ready_leaves e now)) in
           given_fly done sents d
           (subst (λ (t : Tracking). AreTracked sents t.packets) tracks (ready_tracked sents e now were))
           (subst (λ (t : Tracking). AskBefore sents t.greatest_asking) tracks (ready_before sents e now before))
           (subst (λ (n : ℕ). IsNew d.end.tracking.packets n) number (subst (λ (t : Tracking). IsNew t.packets (number_of e)) tracks (ready_new e now (number_of e) new)))
-          (subst (λ (t : Tracking). Drafted done (InPackets t.packets) d) tracks (draft_drafted done (InPackets r.tracking.packets) held (lazied r) alone (ready_fly i)))
+          (subst (λ (t : Tracking). Drafted done (InPackets t.packets) d) tracks (draft_drafted done (InPackets r.tracking.packets) leaving r alone (ready_fly i)))
 
 -- ---- any call
 

@@ -167,6 +167,8 @@ settles = record {
   lost = λ m e w. (let ids : List ℕ = e.waiting.frames.max_stream_data in
       waits_of ids _ (lost_keeps (Flagged ids) (decides ids) e.streams e.waiting.frames m (flags_of (streams_at e) w)) ((quiet (IsListed ids)).lost e.streams m w.each));
   again = λ c e w. waits_told (IsListed e.waiting.frames.max_stream_data) _ w.each (told_merged e.streams e.waiting.frames c.retransmits (told_of_waits (streams_at e) w));
+  searched = λ discovery e w. w;
+  shortens = λ most e w. w;
   tracked = λ t e w. w;
   measured = λ r first e w. w;
   marked = λ m marking e w. w;

@@ -123,6 +123,8 @@ module _ (took : List Packet) (sents : List Sent) (stands : Stands took sents) (
     acked = λ c m e was among i. finished_stream_acked arrived end_arrived wrote e.streams i e.waiting.frames m (b.came c m was among);
     lost = λ c m e was among i. (finished_words arrived end_arrived).lost wrote e.streams m (b.ended c m was among) i;
     again = λ c e was i. i;
+    searched = λ discovery e i. i;
+    shortens = λ most e i. i;
     tracked = λ t e i. i;
     measured = λ r first e i. i;
     marked = λ m marking e i. i;

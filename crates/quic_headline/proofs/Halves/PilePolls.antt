@@ -17,15 +17,15 @@ use Rattle.quic_machine.specs.Tracking.{Tracking, TrackedPacket, Carried, withou
 use Rattle.quic_machine.specs.Closing.{ticked}
 use Rattle.quic_machine.specs.End.{End, with_closing, with_ping, number_of}
 use Rattle.quic_machine.specs.Acked.{again}
-use Rattle.quic_machine.specs.Poll.{Polled, Draft, ack_of, packet_of, tracked, record_moved, lazied, polled, goes, draft_if}
-use Rattle.quic_machine.specs.PollCases.{ready_at, draft_at, by_poll_to, composes}
+use Rattle.quic_machine.specs.Poll.{Polled, Draft, ack_of, packet_of, tracked, record_moved, polled, goes, draft_as, Leaving, with_least, no_frames}
+use Rattle.quic_machine.specs.PollCases.{ready_at, draft_at, by_poll_to, composes, may_leave_at}
 use Rattle.quic_streams_laws.specs.QuietLaws.{told_sending}
-use Rattle.quic_machine.specs.DraftLaws.{by_leave, due_alone}
+use Rattle.quic_machine.specs.DraftLaws.{by_leave, MayLeave}
 use Rattle.quic_headline.specs.Runs.{In}
 use Rattle.quic_headline.specs.InFlight.{resets_in, stops_in}
 use Rattle.quic_headline.proofs.Packets.Carried.{carried_same}
 use Rattle.quic_headline.proofs.Packets.TrackedSteps.{in_sent, asking_packets}
-use Rattle.quic_headline.proofs.Packets.Probes.{in_put, by_ready, MayLeave, by_going, after_going, with_pacer}
+use Rattle.quic_headline.proofs.Packets.Probes.{in_put, by_ready, by_going, after_going, with_pacer}
 use Rattle.quic_headline.proofs.Packets.Ascending.{Splits, put_splits, Ascends}
 use Rattle.quic_headline.proofs.Places.Told.{in_left, in_right, in_append}
 use Rattle.quic_headline.proofs.Halves.InUse.{InUse, in_use_kept}
@@ -90,10 +90,11 @@ module _ (resets : List (ℕ × ℕ)) (stops : List StopSendingValue) where
       h.pile)
 
   -- whichever frames go
-  draft_holds : (held : Bool) (e : End) → MayLeave held e → Holds e resets stops → Drafts resets stops (draft_if held e)
-  draft_holds held e alone h = by_leave (Drafts resets stops) (record {
+  draft_holds : (leaving : Leaving) (e : End) → MayLeave leaving e → Holds e resets stops → Drafts resets stops (draft_as leaving e)
+  draft_holds leaving e alone h = by_leave (Drafts resets stops) (record {
     ack = λ d filled may g. other_frame d (ack (ack_of d.end)) _ refl refl (record { pile = g.pile; others = g.others });
     ping = λ d g. other_frame d ping _ refl refl (record { pile = g.pile; others = g.others });
+    probes = λ f size g. other_frame (with_least (no_frames f) size) ping _ refl refl (record { pile = g.pile; others = g.others });
     drops = λ d kind g. (
         let w : Retransmits = d.end.waiting.frames in
         let less = without_fewer kind w in
@@ -118,7 +119,7 @@ module _ (resets : List (ℕ × ℕ)) (stops : List StopSendingValue) where
       pile = record { once = g.pile.once; reset = λ r i. by_frame (InUse r) (in_use_kept r) d.end.transport.send_fairness d.end.streams id room h found (λ was. refl) (g.pile.reset r i); small = g.pile.small };
       others = g.others;
     });
-  }) held e alone h
+  }) leaving e alone (record { pile = h.pile; others = h.others })
 
 -- ---- what is tracked
 
@@ -372,7 +373,7 @@ pub ready_holds : (e : End) (now : ℕ) → Ascends e → HoldsAll e → HoldsAl
 ready_holds e now ascends h =
     let begins : End = with_closing e (ticked e.closing now) in
     let here : HoldsAll begins = again_all e begins refl refl refl h in
-    by_ready HoldsAll e now here (again_all begins (with_ping begins true) refl refl refl here) (λ p among. moved_holds p begins among ascends here) (λ moment pacing x i. again_all x (with_pacer x moment pacing) refl refl refl i)
+    by_ready HoldsAll e now here (again_all begins (with_ping begins true) refl refl refl here) (λ p among. moved_holds p begins among ascends here) (λ moment pacing discovery x i. again_all x (with_pacer x moment pacing discovery) refl refl refl i)
 
 -- what a poll leaves
 pub polled_holds : (p : Policy) (e : End) (now : ℕ) → Ascends e → HoldsAll e → HoldsAll (polled p e now).end
@@ -389,14 +390,14 @@ polled_holds p e now ascends h = by_poll_to p e now (λ (q : Polled). HoldsAll q
 
     gives : goes (ready_at e now) ≡ true → HoldsAll (tracked (draft_at e now))
     gives some =
-        let held : Bool = (ready_at e now).held in
-        let there : End = lazied (ready_at e now).end in
-        let alone : MayLeave held there = due_alone (ready_at e now) some in
+        let leaving : Leaving = (ready_at e now).leaving in
+        let there : End = (ready_at e now).end in
+        let alone : MayLeave leaving there = may_leave_at e now in
         let d : Draft = draft_at e now in
-        let same : d.end.tracking ≡ there.tracking = (composes held there alone).tracking in
+        let same : d.end.tracking ≡ there.tracking = (composes leaving there alone).tracking in
         let packets : d.end.tracking.packets ≡ there.tracking.packets = ap (λ (t : Tracking). t.packets) same in
         let went : Drafts (resets_of there.tracking.packets) (stops_of there.tracking.packets) d =
-        draft_holds (resets_of there.tracking.packets) (stops_of there.tracking.packets) held there alone (record { pile = ready.holds.pile; others = ready.holds.others }) in
+        draft_holds (resets_of there.tracking.packets) (stops_of there.tracking.packets) leaving there alone (record { pile = ready.holds.pile; others = ready.holds.others }) in
         let here : Drafts (resets_of d.end.tracking.packets) (stops_of d.end.tracking.packets) d = rw packets went in
         let none : CarryNothingElse d.end.tracking.packets = rw packets ready.carried in
         given_holds d here none

@@ -24,11 +24,13 @@ use Rattle.quic_machine.specs.Acked.{without_known, reset_acked, resets_acked, s
 use Rattle.quic_machine.specs.Receive.{take_frame, received}
 use Rattle.quic_machine.specs.FrameCases.{OnStreams, named, frame_keeps, by_received, by_marks}
 use Rattle.quic_headline.specs.Runs.{In, names}
+use Rattle.quic_headline.proofs.Packets.Searches.{by_losses}
 use Rattle.quic_headline.proofs.Packets.MayGo.{WasReset}
 use Rattle.quic_headline.proofs.Packets.Named.{in_filter}
 use Rattle.quic_headline.proofs.Places.Told.{in_left, in_right, in_append}
 use Rattle.quic_headline.proofs.Halves.InUse.{InUse, in_use_kept, acked_free}
 use Rattle.quic_headline.proofs.Halves.Pile.{times, times_append, times_in, IsPile, part_of, NothingElse, SamePile, else_same, resets_of, stops_of, times_split, resets_among, stops_among}
+use Rattle.quic_machine.specs.Sizes.{search_acked}
 
 -- ---- an end
 
@@ -126,10 +128,10 @@ packets_step (p ∷ ps) e resets stops h =
     (λ id. rw (append_assoc c.retransmits.reset_stream (resets_of ps) resets) (omega arith))
     (λ q i. rw (append_assoc c.retransmits.reset_stream (resets_of ps) resets) i)
     (λ s i. rw (append_assoc c.retransmits.stop_sending (stops_of ps) stops) (in_right s c.retransmits.stop_sending (stops_of ps ++ stops) i)) h in
-    let knows : End = without_known c.largest_acked e in
+    let knows : End = without_known c.largest_acked (search_acked p e) in
     let reset : End = resets_acked c.retransmits.reset_stream knows in
-    packets_step ps (packet_acked p.1 e) resets stops (streams_step c.stream_frames reset (resets_of ps ++ resets) (stops_of ps ++ stops)
-    (resets_step c.retransmits.reset_stream knows (resets_of ps ++ resets) (stops_of ps ++ stops) (known_step c.largest_acked e _ _ rest)))
+    packets_step ps (packet_acked p e) resets stops (streams_step c.stream_frames reset (resets_of ps ++ resets) (stops_of ps ++ stops)
+    (resets_step c.retransmits.reset_stream knows (resets_of ps ++ resets) (stops_of ps ++ stops) (known_step c.largest_acked (search_acked p e) _ _ (record { pile = rest.pile; others = rest.others }))))
 
 -- STREAM frames are lost
 lost_step : (ms : List StreamMeta) (e : End) (resets : List (ℕ × ℕ)) (stops : List StopSendingValue) → Holds e resets stops → Holds (streams_lost ms e) resets stops
@@ -211,10 +213,10 @@ acked_step ps a e is h = record {
 
 -- losses are detected
 pub losses_hold : (e : End) → HoldsAll e → HoldsAll (losses_detected e)
-losses_hold e h = record {
+losses_hold e h = by_losses HoldsAll e (λ discovery queues. record {
   holds = record { pile = settled.pile; others = settled.others };
   carried = λ n t i. h.carried n t (in_filter (λ q. not (lost_of q)) (n, t) packets i);
-}
+})
   where
     packets : Table TrackedPacket
     packets = e.tracking.packets

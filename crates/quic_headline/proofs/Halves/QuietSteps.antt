@@ -122,6 +122,8 @@ module _ (P : StreamsState → Type 0) (q : IsQuiet P) where
     acked = λ m e i. q.acked e.streams e.waiting.frames m i;
     lost = λ m e i. q.lost e.streams m i;
     again = λ carried e i. i;
+    searched = λ discovery e i. i;
+    shortens = λ most e i. i;
     tracked = λ t e i. i;
     measured = λ r first e i. i;
     marked = λ m marking e i. i;

@@ -125,7 +125,7 @@ module _ (done : ℕ → Wrote) (packets : List Packet) (told : List runs.Told) 
 -- ---- nothing is accepted
 
 -- a stream of the other side's isn't one that this end opens
-other_opens : (side : Side) (dir : Dir) (index : ℕ) → is_own side (stream_id (other_side side) dir index) ≡ false
+pub other_opens : (side : Side) (dir : Dir) (index : ℕ) → is_own side (stream_id (other_side side) dir index) ≡ false
 other_opens side dir index = ap (λ (s : Side). side_bit s == side_bit side) (initiator_of_stream_id (other_side side) dir index) ∙ go side
   where
     go : (side : Side) → (side_bit (other_side side) == side_bit side) ≡ false
@@ -133,7 +133,7 @@ other_opens side dir index = ap (λ (s : Side). side_bit s == side_bit side) (in
     go Server = refl
 
 -- whether one of the other side's is opened is told by its place
-opened_place : (s : StreamsState) (side : Side) (dir : Dir) (index : ℕ) → s.side ≡ side → is_opened s (stream_id (other_side side) dir index) ≡ nat_lt index (of dir s.opening.remote)
+pub opened_place : (s : StreamsState) (side : Side) (dir : Dir) (index : ℕ) → s.side ≡ side → is_opened s (stream_id (other_side side) dir index) ≡ nat_lt index (of dir s.opening.remote)
 opened_place s side dir index same =
     let id : ℕ = stream_id (other_side side) dir index in
     let theirs : is_own s.side id ≡ false = ap (λ (x : Side). is_own x id) same ∙ other_opens side dir index in

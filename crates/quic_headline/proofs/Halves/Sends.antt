@@ -1,8 +1,7 @@
 -- What an end composes says what was written on its streams, and leaves them holding it.
-use Rattle.std.proofs.Common.{ℕ, zero, suc, ◌-◌, ◌+◌, Bool, true, false, List, [], ◌∷◌, length, replicate, map, sym, subst, inl, inr, arith}
+use Rattle.std.proofs.Common.{ℕ, zero, suc, Bool, true, false, List, [], ◌∷◌, length, replicate, map, sym, subst, inl, inr, arith}
 use Rattle.std.specs.List.{AllByRecursion}
 use Rattle.quic_wire.specs.Value.{FrameValue, StreamValue, ping, padding, stream, datagram, reset_stream}
-use Rattle.quic_packet.specs.Number.{truncated}
 use Rattle.quic_retransmits.specs.Retransmits.{nothing_waits}
 use Rattle.quic_streams_state.specs.Control as control
 use Rattle.quic_streams_state.specs.Frames as of_streams
@@ -14,9 +13,8 @@ use Rattle.quic_streams_laws.specs.WrittenFrames.{all_append, stream_frames_say}
 use Rattle.quic_streams_laws.specs.WrittenHalves.{polled_holds}
 use Rattle.quic_streams_laws.specs.WrittenResets.{TellsResets, control_frames_say}
 use Rattle.quic_recovery_core.specs.PendingAcks.{can_send}
-use Rattle.quic_spaces.specs.Numbers.{cut_against}
-use Rattle.quic_machine.specs.End.{End, number_of, streams_at}
-use Rattle.quic_machine.specs.Poll.{Draft, frame_room, left, no_frames, no_stream_frames, ping_if, with_ping_frame, with_ack, ack_if, ack_fits, with_control_frames, with_message_frames, with_stream_frames, Kind, pings, controls, messages, streams, order, put, with_asking, composed, composed_if, draft_if}
+use Rattle.quic_machine.specs.End.{End, streams_at}
+use Rattle.quic_machine.specs.Poll.{lazied, zeros_behind, Draft, frame_room, left, no_frames, no_stream_frames, ping_if, with_ping_frame, with_ack, ack_if, ack_fits, with_control_frames, with_message_frames, with_stream_frames, Kind, pings, controls, messages, streams, order, put, with_asking, composed, composed_if, draft_as, probe, alone, whole, Leaving, nothing}
 use Rattle.quic_machine.specs.DraftLaws.{by_messages}
 use Rattle.quic_machine.specs.PollCases.{frames_padded}
 use Rattle.quic_headline.specs.Runs.{In}
@@ -131,13 +129,15 @@ module _ (done : ℕ → Wrote) where
       go true = asking_draws (with_ack (no_frames e)) (ack_draws (no_frames e) first)
       go false = late (with_asking (no_frames e)) (ack_fits (with_asking (no_frames e))) (asking_draws (no_frames e) first)
 
-  -- also where a due ACK goes alone
-  pub draft_draws : (held : Bool) (e : End) → Writes done (streams_at e) → Draws done (draft_if held e)
-  draft_draws true e w = ack_draws (no_frames e) (record { writes = w; says = tt })
-  draft_draws false e w = composed_draws e w
+  -- also where a due ACK or a probe of a size goes alone
+  pub draft_draws : (leaving : Leaving) (e : End) → Writes done (streams_at e) → Draws done (draft_as leaving e)
+  draft_draws whole e w = composed_draws (lazied e) w
+  draft_draws alone e w = ack_draws (no_frames (lazied e)) (record { writes = w; says = tt })
+  draft_draws (probe size) e w = record { writes = w; says = (tt, tt) }
+  draft_draws (nothing held) e w = record { writes = w; says = tt }
 
   -- its frames say what was written, those of PADDING too
   pub padded_say : (d : Draft) → Draws done d → AllSay done (frames_padded d)
   padded_say d w =
-      let count : ℕ = 4 - ((truncated (number_of d.end) (cut_against d.end.numbers)).width + length d.bytes) in
+      let count : ℕ = zeros_behind d in
       all_in (SaysOf done) (frames_padded d) (all_append (SaysOf done) d.frames (replicate count padding) w.says (padding_says done count))

@@ -233,6 +233,7 @@ module _ (F : (ℕ → Wrote) → StreamsState → Type 0) (w : Words F) where
   composed_on done e i = by_writing (λ (d : Draft). F done d.end.streams) (record {
     ack = λ d filled may f. f;
     ping = λ d f. f;
+    probes = λ x size f. f;
     drops = λ d kind f. f;
     control = λ d kind f is i. w.tells f done d.end.streams i;
     message = λ d m ms is fit f. f;

@@ -22,7 +22,7 @@ use Rattle.quic_machine.specs.Policy.{Policy}
 use Rattle.quic_machine.specs.Calls.{is_open}
 use Rattle.quic_machine.specs.End.{End, streams_at}
 use Rattle.quic_machine.specs.Receive.{Outcome}
-use Rattle.quic_machine.specs.Poll.{lazied, polled}
+use Rattle.quic_machine.specs.Poll.{polled}
 use Rattle.quic_machine.specs.PollCases.{ready_at, draft_at, frames_at}
 use Rattle.quic_machine.specs.StreamCalls.{is_on_streams, IsStreamAnswer, after_on_streams}
 use Rattle.quic_machine.specs.Machine.{IsAnswer, after_call, gave}
@@ -109,7 +109,7 @@ module _ (p : Policy) (e : End) (theirs : List (List ℕ)) (done : ℕ → Wrote
 
   -- what it gives says what was written
   pub poll_says : Says → (now : ℕ) → AllSay done (frames_at e now)
-  poll_says says now = padded_say done (draft_at e now) (draft_draws done (ready_at e now).held (lazied (ready_at e now).end) (ready_writes says now))
+  poll_says says now = padded_say done (draft_at e now) (draft_draws done (ready_at e now).leaving (ready_at e now).end (ready_writes says now))
 
   poll_writes : Says → (now : ℕ) → Writes done (streams_at (polled p e now).end)
   poll_writes says now = poll_streams (Writes done) p e now (λ x v. (composed_draws done x v).writes) w (ready_writes says now)

@@ -1,7 +1,7 @@
 -- Behind a poll that gave nothing and left its end open: what its end still has to give is held back, as the view shows.
 use Rattle.std.proofs.Common.{◌≡◌, ℕ, zero, suc, ◌+◌, ◌<◌, true, false, List, [], ◌∷◌, ◌++◌, take, Option, Some, None, Ok, Err, refl, sym, ap, ◌∙◌, subst, ◌⊎◌, inl, inr, arith}
-use Rattle.std.specs.Prelude.{slice_get, not, ◌&&◌}
-use Rattle.std.proofs.lemmas.Bool.{leb-true, or_parts}
+use Rattle.std.specs.Prelude.{slice_get}
+use Rattle.std.proofs.lemmas.Bool.{leb-true}
 use Rattle.quic_wire_core.specs.declared.stream_id.Side.{Side}
 use Rattle.quic_wire_core.specs.declared.stream_id.Side.TheVariants.{Client, Server}
 use Rattle.quic_wire_core.specs.StreamId.{other_side}
@@ -17,7 +17,7 @@ use Rattle.quic_machine.specs.declared.run.View.{View}
 use Rattle.quic_machine.specs.Parts.{current_mtu}
 use Rattle.quic_machine.specs.Policy.{Policy}
 use Rattle.quic_machine.specs.End.{End, with_window}
-use Rattle.quic_machine.specs.Control.{Control, Gated, after_told, bytes_in_flight, is_window_full}
+use Rattle.quic_machine.specs.Control.{Control, after_told, bytes_in_flight, is_window_full}
 use Rattle.quic_machine.specs.Poll.{Polled, asks_to_go, rests, polled, told_polled}
 use Rattle.quic_machine.specs.PollCases.{ready_at}
 use Rattle.quic_machine.specs.Machine.{World, Policies, IsStep, Follows, policy_at, end_at, control_at, view_of}
@@ -32,7 +32,7 @@ use Rattle.quic_headline.proofs.Places.Groups.{Way}
 use Rattle.quic_headline.proofs.Places.Placed.{party_at, Placed, placed_less, shown, watch_is}
 use Rattle.quic_headline.proofs.Timers.Watched.{timers_behind, open_behind}
 use Rattle.quic_headline.proofs.Held.Flight.{bytes_at}
-use Rattle.quic_headline.proofs.Held.Silent.{IsQuiet, quiet, quiet_tells, quiet_window, IsHeld, full, paced, rests_held}
+use Rattle.quic_headline.proofs.Held.Silent.{IsQuiet, quiet, quiet_tells, quiet_window, IsHeld, full, paced, rests_held, rests_none}
 
 -- ---- the last step
 
@@ -110,9 +110,7 @@ module _ (r : Run) (side : Side) (i now : ℕ) (v : View) (w : World) (leads : L
 
   -- and no acknowledgement is due
   pub none_due : can_send (end_at side w).acknowledging ≡ false
-  none_due =
-      let g : Gated = ready_at met now in
-      ap (λ (e : End). can_send e.acknowledging) at_rest ∙ (or_parts (can_send g.end.acknowledging) (not g.held && asks_to_go g.end) still.none).0
+  none_due = ap (λ (e : End). can_send e.acknowledging) at_rest ∙ rests_none met now still.none
 
   -- the view shows the window that it read
   pub window_at : window_in v side ≡ (end_at side w).path.window

@@ -120,10 +120,10 @@ polls_send_what_waits r end honest run =
     what_waits Known (record { packets = λ x y h. h.0.0.0.0.0.0; writes = λ x y h. h.0.0.0.0.0.1.0; flying = λ x y h. h.0.1; settled = λ x y h. h.1; sight = λ x y h. h.0.0.0.0.1 }) r end honest (placed Known known r end honest run)
 
 -- the packets, the streams and what observers know, and how long messages are
-abbrev Shortly : Way
+abbrev pub Shortly : Way
 Shortly = And (everything.All Ready ready) AreShort
 
-shortly : Group Nothing Shortly
+pub shortly : Group Nothing Shortly
 shortly = both Nothing (everything.All Ready ready) AreShort (everything.all Ready ready) (short_group (And Nothing (everything.All Ready ready)) (λ x y h. h.1.0.0))
 
 pub polls_send_messages : (r : Run) (end : World) → IsHonest r → IsRun r end → PollsSendMessages r

@@ -15,6 +15,7 @@ use Rattle.quic_headline.specs.Runs.{Run}
 use Rattle.quic_headline.specs.Observer.{Sent, asks_of, Watch}
 use Rattle.quic_headline.specs.Polls.{bytes_flying}
 use Rattle.quic_headline.specs.Headline.{IsHonest}
+use Rattle.quic_headline.specs.Telling.{bytes_asking}
 use Rattle.quic_headline.proofs.Packets.Waited.{IsWaited, AreWaited}
 use Rattle.quic_headline.proofs.Packets.Sight.{Sight}
 use Rattle.quic_headline.proofs.Places.Parties.{Party, watch_of}
@@ -27,14 +28,10 @@ and_true true = refl
 and_true false = refl
 
 -- a tracked packet is in flight on the first path where its datagram asks
-flies_same : (s : Sent) (p : ℕ × TrackedPacket) → IsWaited s p → flies 0 p ≡ asks_of s
+pub flies_same : (s : Sent) (p : ℕ × TrackedPacket) → IsWaited s p → flies 0 p ≡ asks_of s
 flies_same s p w = ap (λ (b : Bool). b && (p.1.generation == 0)) w.asks ∙ ap (λ (n : ℕ). asks_of s && (n == 0)) w.generation ∙ and_true (asks_of s)
 
 -- ---- all of them
-
--- the bytes of datagrams that ask
-abbrev pub bytes_asking : List Sent → ℕ
-bytes_asking ss = sum_by (λ (s : Sent). s.size) (filter asks_of ss)
 
 -- the bytes of packets that are in flight on the first path
 abbrev bytes_tracked : Table TrackedPacket → ℕ

@@ -9,9 +9,9 @@ use Rattle.quic_machine.specs.Closing.{ticked}
 use Rattle.quic_spaces.specs.Numbers.{can_number}
 use Rattle.quic_machine.specs.Policy.{Policy}
 use Rattle.quic_machine.specs.End.{End, with_closing}
-use Rattle.quic_machine.specs.Control.{is_window_full, pacer_answer, if_later, paced_until, pacer_asked, Gated, lets, holds, with_pacing_timer}
-use Rattle.quic_machine.specs.Poll.{probed, asks_to_go, is_gated, goes, rests, sends, polled_if, polled_in, polled, told_if, told_polled_in, told_polled}
-use Rattle.quic_machine.specs.PollCases.{ready_at, ready_leaves, by_gate}
+use Rattle.quic_machine.specs.Control.{is_window_full, pacer_answer, if_later, pacer_asked, Gated, lets, holds, with_pacing_timer}
+use Rattle.quic_machine.specs.Poll.{probed, asks_to_go, gated, goes, rests, sends, polled_if, polled_in, polled, told_if, told_polled_in, told_polled, Ready, leaves, waits}
+use Rattle.quic_machine.specs.PollCases.{ready_at, ready_leaves, by_gate, by_leaves}
 
 -- ---- a poll that gives nothing
 
@@ -24,7 +24,7 @@ pub record IsQuiet (p : Policy) (e : End) (now : ℕ) : Type 0 where
 pub quiet : (p : Policy) (e : End) (now : ℕ) → (polled p e now).answer ≡ Ok None → (polled p e now).end.closing.state ≡ states.Open → IsQuiet p e now
 quiet p e now = state_case e.closing.state refl
   where
-    g : Gated
+    g : Ready
     g = ready_at e now
 
     -- numbers are left, or the end closes
@@ -48,7 +48,7 @@ module _ (p : Policy) (e : End) (now : ℕ) (q : IsQuiet p e now) where
   -- it tells the controller nothing
   pub quiet_tells : told_polled e now ≡ []
   quiet_tells =
-      let g : Gated = ready_at e now in
+      let g : Ready = ready_at e now in
       ap (λ (s : State). told_polled_in s e now) q.opened ∙ ap (λ (b : Bool). told_if (b && can_number g.end.numbers) g) q.none
 
   -- it leaves the window as it was read
@@ -73,24 +73,57 @@ named_later now moment (Some m) is = go (nat_lt now m) refl is
 
 -- where nothing goes of an end that is ready, what asks is held back
 pub rests_held : (e : End) (now : ℕ) → goes (ready_at e now) ≡ false → asks_to_go (rests (ready_at e now)) ≡ true → IsHeld (rests (ready_at e now))
-rests_held e now = by_gate y (λ (g : Gated). goes g ≡ false → asks_to_go (rests g) ≡ true → IsHeld (rests g)) (record { free = free; full = when_full; lets = let_go; holds = held_back })
+rests_held e now = by_gate y (λ (g : Gated). Rests (leaves g)) (record {
+  free = λ is. let_go y;
+  full = λ gate is. by_leaves (holds y) Rests (record {
+    acks = λ held due none asks. cc;
+    held = λ held none goes asks. full is;
+    all = λ free some. cc;
+    idle = λ free none. cc;
+    asked = λ free none. cc;
+    probes = λ size free none. cc;
+  });
+  lets = λ gate room until. let_go (pacer_asked y);
+  holds = λ moment gate room until. by_leaves (holds (with_pacing_timer (pacer_asked y) (Some moment))) Rests (record {
+    acks = λ held due none asks. cc;
+    held = λ held none goes asks. paced moment refl (named_later y.closing.clock moment (pacer_answer y) until);
+    all = λ free some. cc;
+    idle = λ free none. cc;
+    asked = λ free none. cc;
+    probes = λ size free none. cc;
+  });
+})
   where
     y : End
     y = probed (with_pacing_timer (with_closing e (ticked e.closing now)) None)
 
-    -- what isn't held back would go
-    would_go : goes (lets y) ≡ false → asks_to_go y ≡ true → ⊥
-    would_go none asks = both_ways (asks_to_go y) (or_parts (can_send y.acknowledging) (asks_to_go y) none).1 asks
+    Rests : Ready → Type 0
+    Rests r = goes r ≡ false → asks_to_go (rests r) ≡ true → IsHeld (rests r)
 
-    free : is_gated y ≡ false → goes (lets y) ≡ false → asks_to_go (rests (lets y)) ≡ true → IsHeld (rests (lets y))
-    free is none asks = absurd (would_go none asks)
+    -- what isn't held back goes
+    silent : (x : End) → waits x ≡ false → asks_to_go x ≡ true → ⊥
+    silent x none asks = both_ways (asks_to_go x) (or_parts (can_send x.acknowledging) (asks_to_go x) none).1 asks
 
-    when_full : is_gated y ≡ true → is_window_full y ≡ true → goes (holds y) ≡ false → asks_to_go (rests (holds y)) ≡ true → IsHeld (rests (holds y))
-    when_full gate is none asks = full is
+    let_go : (x : End) → Rests (leaves (lets x))
+    let_go x = by_leaves (lets x) Rests (record {
+      acks = λ held due. cc;
+      held = λ held none. cc;
+      all = λ free some none asks. cc;
+      idle = λ free none goes asks. absurd (silent x none asks);
+      asked = λ free none goes asks. absurd (silent x none asks);
+      probes = λ size free none may named goes asks. cc;
+    })
 
-    let_go : is_gated y ≡ true → is_window_full y ≡ false → paced_until y ≡ None → goes (lets (pacer_asked y)) ≡ false → asks_to_go (rests (lets (pacer_asked y))) ≡ true → IsHeld (rests (lets (pacer_asked y)))
-    let_go gate room until none asks = absurd (would_go none asks)
-
-    held_back : (moment : ℕ) → is_gated y ≡ true → is_window_full y ≡ false → paced_until y ≡ Some moment → goes (holds (with_pacing_timer (pacer_asked y) (Some moment))) ≡ false → asks_to_go (rests (holds (with_pacing_timer (pacer_asked y) (Some moment)))) ≡ true
-        → IsHeld (rests (holds (with_pacing_timer (pacer_asked y) (Some moment))))
-    held_back moment gate room until none asks = paced moment refl (named_later y.closing.clock moment (pacer_answer y) until)
+-- where nothing goes of an end that is ready, no acknowledgement is due
+pub rests_none : (e : End) (now : ℕ) → goes (ready_at e now) ≡ false → can_send (rests (ready_at e now)).acknowledging ≡ false
+rests_none e now = by_leaves (gated y) (λ (r : Ready). goes r ≡ false → can_send (rests r).acknowledging ≡ false) (record {
+  acks = λ held due goes. cc;
+  held = λ held none goes. none;
+  all = λ free some goes. cc;
+  idle = λ free none goes. (or_parts (can_send (gated y).end.acknowledging) (asks_to_go (gated y).end) none).0;
+  asked = λ free none goes. (or_parts (can_send (gated y).end.acknowledging) (asks_to_go (gated y).end) none).0;
+  probes = λ size free none may named goes. cc;
+})
+  where
+    y : End
+    y = probed (with_pacing_timer (with_closing e (ticked e.closing now)) None)

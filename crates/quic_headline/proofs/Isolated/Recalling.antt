@@ -31,17 +31,17 @@ use Rattle.quic_machine.specs.End.{End, with_closing, with_numbers}
 use Rattle.quic_machine.specs.Control.{Control}
 use Rattle.quic_machine.specs.Opens.{own_id_length, in_phase, opens_behind, opens}
 use Rattle.quic_machine.specs.Receive.{Fault, Progress, Outcome, error_of, violation, is_empty, asks_in, take_frame, take_items, take_payload, dropped, ends_as, by_state, opened_to, opened_as, opening, drop_of, headed, received_in, received}
-use Rattle.quic_machine.specs.Poll.{Polled, Draft, lazied, polled, draft_if}
-use Rattle.quic_machine.specs.DraftLaws.{by_leave, due_alone}
+use Rattle.quic_machine.specs.Poll.{Polled, Draft, polled, draft_as, lazied_as, Leaving, whole, alone, probe, nothing}
+use Rattle.quic_machine.specs.DraftLaws.{by_leave, MayLeave}
 use Rattle.quic_machine.specs.FrameCases.{Settling, begun, named, losses_keep, acked_keeps, frame_keeps, frame_leaves, items_keep}
 use Rattle.quic_machine.specs.LeaveCases.{by_expired}
-use Rattle.quic_machine.specs.PollCases.{ready_at, ready_leaves, by_poll_to, draft_at}
+use Rattle.quic_machine.specs.PollCases.{ready_at, ready_leaves, by_poll_to, draft_at, may_leave_at}
 use Rattle.quic_machine.specs.CallCases.{is_delivery, by_plain_call, by_left}
 use Rattle.quic_machine.specs.Machine.{IsAnswer, IsDelivered, after_delivered, after_call, end_left, reads_window, fails}
 use Rattle.quic_headline.specs.Runs.{Intake, is_again, is_refused, packet_of, handed, expected_behind, and_opened, and_handed}
 use Rattle.quic_headline.specs.Isolated.{drops_whole, is_new}
 use Rattle.quic_headline.proofs.Packets.Intakes.{nothing_handed}
-use Rattle.quic_headline.proofs.Packets.Probes.{MayLeave, by_going}
+use Rattle.quic_headline.proofs.Packets.Probes.{by_going}
 use Rattle.quic_headline.proofs.Packets.Window.{is_duplicate-is}
 
 -- an open end recalls what came; it is open, or it is drained or has failed
@@ -66,17 +66,25 @@ module _ (i : Intake) where
   Still e = Keeps e i
 
   settling : Settling Still
-  settling = record { known = λ n e k. k; reset = λ id e k. k; acked = λ m e k. k; lost = λ m e k. k; again = λ carried e k. k; tracked = λ t e k. k; measured = λ r first e k. k; marked = λ m marking e k. k }
+  settling = record { known = λ n e k. k; reset = λ id e k. k; acked = λ m e k. k; lost = λ m e k. k; again = λ carried e k. k; searched = λ discovery e k. k; shortens = λ most e k. k; tracked = λ t e k. k; measured = λ r first e k. k; marked = λ m marking e k. k }
 
-  draft_still : (held : Bool) (e : End) → MayLeave held e → Still e → Still (draft_if held e).end
-  draft_still = by_leave (λ (d : Draft). Still d.end) (record {
+  -- an acknowledgement that became due leaves it
+  lazied_still : (leaving : Leaving) (e : End) → Still e → Still (lazied_as leaving e)
+  lazied_still whole e i = i
+  lazied_still alone e i = i
+  lazied_still (probe size) e i = i
+  lazied_still (nothing held) e i = i
+
+  draft_still : (leaving : Leaving) (e : End) → MayLeave leaving e → Still e → Still (draft_as leaving e).end
+  draft_still leaving e due k = by_leave (λ (d : Draft). Still d.end) (record {
     ack = λ d filled may k. k;
     ping = λ d k. k;
+    probes = λ f size k. k;
     drops = λ d kind k. k;
     control = λ d kind f is k. k;
     message = λ d m ms is fit k. k;
     stream = λ d id h room found first some is counts k. k;
-  })
+  }) leaving e due (lazied_still leaving e k)
 
   ready_still : (e : End) (now : ℕ) → Still e → Still (ready_at e now).end
   ready_still e now k = subst (λ (x : End). Still x) (sym (ready_leaves e now)) k
@@ -87,7 +95,7 @@ module _ (i : Intake) where
     failed = k;
     nothing = λ is none. ready_still e now k;
     used_up = let x : End = (ready_at e now).end in drained_keeps x.ids x.numbers.opened x.numbers.taken i;
-    gives = λ is may some. by_going Still p (draft_at e now) (λ pacing. draft_still (ready_at e now).held (lazied (ready_at e now).end) (due_alone (ready_at e now) some) (ready_still e now k));
+    gives = λ is may some. by_going Still p (draft_at e now) (λ pacing. draft_still (ready_at e now).leaving (ready_at e now).end (may_leave_at e now) (ready_still e now k));
   })
 
   call_still : (p : Policy) (e : End) (theirs : List (List ℕ)) (call : Call) (a : Answer) → is_delivery call ≡ false → Still e → Still (after_call p e theirs call a)
@@ -121,7 +129,7 @@ module _ (e : End) (n : ℕ) where
   Begun x = IsBegun e n x.ids x.numbers.opened x.numbers.taken x.closing.state
 
   begun_settles : Settling Begun
-  begun_settles = record { known = λ m x b. b; reset = λ id x b. b; acked = λ m x b. b; lost = λ m x b. b; again = λ carried x b. b; tracked = λ t x b. b; measured = λ r first x b. b; marked = λ m marking x b. b }
+  begun_settles = record { known = λ m x b. b; reset = λ id x b. b; acked = λ m x b. b; lost = λ m x b. b; again = λ carried x b. b; searched = λ discovery x b. b; shortens = λ most x b. b; tracked = λ t x b. b; measured = λ r first x b. b; marked = λ m marking x b. b }
 
   frame_begun : (f : FrameValue) (x : End) → Begun x → Begun (take_frame f x).end
   frame_begun = frame_keeps Begun (record { ack = λ rises a x b. acked_keeps Begun begun_settles rises a (named a x) b; on_streams = λ f x on b. frame_leaves Begun f x on (λ t. b); message = λ m x b. b })

@@ -10,10 +10,10 @@ use Rattle.quic_machine.specs.declared.run.Answer.TheVariants as answers
 use Rattle.quic_machine.specs.Policy.{Policy}
 use Rattle.quic_machine.specs.End.{End}
 use Rattle.quic_machine.specs.Receive.{Outcome, take_frame}
-use Rattle.quic_machine.specs.Poll.{Polled, Draft, lazied, polled, draft_if}
+use Rattle.quic_machine.specs.Poll.{Polled, Draft, polled, draft_as, Leaving}
 use Rattle.quic_machine.specs.MessageCalls.{limits_of}
 use Rattle.quic_machine.specs.Machine.{IsAnswer, after_call, fails}
-use Rattle.quic_machine.specs.DraftLaws.{by_leave}
+use Rattle.quic_machine.specs.DraftLaws.{by_leave, MayLeave}
 use Rattle.quic_machine.specs.FrameCases.{passed, frames_leave, begun}
 use Rattle.quic_machine.specs.PollCases.{by_poll, at_poll}
 use Rattle.quic_machine.specs.CallCases.{is_delivery}
@@ -25,20 +25,21 @@ use Rattle.quic_headline.proofs.Places.Parties.{told_of, Party, called, came_to,
 use Rattle.quic_headline.proofs.Places.Coming.{Meets, came_same, by_coming}
 use Rattle.quic_headline.proofs.Messages.Counted.{often, often_none, often_append, often_oldest, received_more, sent_leaves, messages_in, often_first, new_number, came, came_more, came_new}
 use Rattle.quic_headline.proofs.Messages.Kept.{frame_messages, call_messages}
-use Rattle.quic_headline.proofs.Packets.Probes.{MayLeave, may_leave}
+use Rattle.quic_headline.proofs.Packets.Probes.{may_leave}
 
 -- ---- calls that leave what is unread
 
 -- whichever frames go
-drafted : (held : Bool) (e : End) → MayLeave held e → (draft_if held e).end.messages.queues.incoming ≡ e.messages.queues.incoming
-drafted held e alone = by_leave (λ (d : Draft). d.end.messages.queues.incoming ≡ e.messages.queues.incoming) (record {
+drafted : (leaving : Leaving) (e : End) → MayLeave leaving e → (draft_as leaving e).end.messages.queues.incoming ≡ e.messages.queues.incoming
+drafted leaving e due = by_leave (λ (d : Draft). d.end.messages.queues.incoming ≡ e.messages.queues.incoming) (record {
   ack = λ d filled may i. i;
   ping = λ d i. i;
+  probes = λ f size i. i;
   drops = λ d kind i. i;
   control = λ d kind f is i. i;
   message = λ d x xs is fit i. i;
   stream = λ d id h room found first some is counts i. i;
-}) held e alone refl
+}) leaving e due refl
 
 -- a poll
 polled_leaves : (p : Policy) (e : End) (now : ℕ) → (polled p e now).end.messages.queues.incoming ≡ e.messages.queues.incoming
@@ -46,11 +47,11 @@ polled_leaves p e now = by_poll p e now (λ (q : Polled). q.end.messages.queues.
     (record {
       silent = refl;
       failed = refl;
-      nothing = λ t w moment pacing limited. refl;
-      used_up = λ t w moment pacing. refl;
-      gives = λ held t w moment pacing paid tracking timers is may ready some.
-          let x : End = at_poll e now t w moment pacing e.path.app_limited in
-          drafted held (lazied x) (may_leave e now held x ready some);
+      nothing = λ c. refl;
+      used_up = λ c. refl;
+      gives = λ leaving c left is may ready some.
+          let x : End = at_poll e now c in
+          drafted leaving x (may_leave e now leaving x ready);
     })
 
 -- whether a call reads a message
@@ -65,7 +66,7 @@ call_leaves p e theirs (calls.Send x makes_room) (answers.Send (Ok done)) apart 
 call_leaves p e theirs (calls.Send x makes_room) a apart unread = refl
 call_leaves p e theirs calls.Recv a apart unread = cc
 call_leaves p e theirs (calls.Deliver delivery) a apart unread = cc
-call_leaves p e theirs call a apart unread = call_messages (λ (q : Messages). q.incoming ≡ e.messages.queues.incoming) p e theirs call a refl refl refl refl
+call_leaves p e theirs call a apart unread = call_messages (λ (q : Messages). q.incoming ≡ e.messages.queues.incoming) (λ most q same. same) p e theirs call a refl refl refl refl
 
 -- ---- frames
 
@@ -76,7 +77,7 @@ module _ (m : List ℕ) (fs : List FrameValue) (e : End) where
 
   -- one frame
   frame_brings : (f : FrameValue) (left : List FrameValue) (x : End) → Most (f ∷ left) x.messages.queues → Most left (take_frame f x).end.messages.queues
-  frame_brings f left x before = frame_messages (Most left) f x quiet takes
+  frame_brings f left x before = frame_messages (Most left) (λ most q few. few) f x quiet takes
     where
       quiet : Most left x.messages.queues
       quiet = let parts = often_first m f left in omega arith

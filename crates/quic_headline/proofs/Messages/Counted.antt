@@ -10,8 +10,10 @@ use Rattle.quic_messages.specs.declared.limits.DatagramLimits.{DatagramLimits}
 use Rattle.quic_messages.specs.Messages.{Messages, bytes_of, oldest, left_for, with_message, after_received}
 use Rattle.quic_messages.specs.Sending.{send_answer, after_send}
 use Rattle.quic_messages.specs.History.{times}
+pub use Rattle.quic_headline.specs.Queue.{messages_in}
 use Rattle.quic_headline.specs.Runs.{In, is_again}
 use Rattle.quic_headline.specs.Observer.{Sent}
+use Rattle.std.specs.List.{filter}
 
 -- ---- how often
 
@@ -37,6 +39,15 @@ often_append m xs ys = sum_by-append (λ x. cond (bytes_eq m x) 1 0) xs ys
 -- one more behind others
 pub often_more : (m x : List ℕ) (xs : List (List ℕ)) → often m (x ∷ xs) ≡ often m (x ∷ []) + often m xs
 often_more m x xs = often_append m (x ∷ []) xs
+
+-- no message is there more often where some are left out
+pub often_filter : (m : List ℕ) (keep : List ℕ → Bool) (xs : List (List ℕ)) → often m (filter keep xs) ≤ often m xs
+often_filter m keep [] = omega arith
+often_filter m keep (x ∷ xs) = go (keep x) (often_filter m keep xs)
+  where
+    go : (b : Bool) → often m (filter keep xs) ≤ often m xs → often m (cond b (x ∷ filter keep xs) (filter keep xs)) ≤ often m (x ∷ xs)
+    go true less = let some = often_more m x (filter keep xs) in let all = often_more m x xs in omega arith
+    go false less = let all = often_more m x xs in omega arith
 
 -- ---- queues
 
@@ -98,12 +109,6 @@ sent_leaves limits makes_room x s = go (is_ok (send_answer limits makes_room x s
 
 -- ---- frames
 
--- the messages of DATAGRAM frames among frames
-abbrev pub messages_in : List FrameValue → List (List ℕ)
-messages_in [] = []
-messages_in (datagram m ∷ fs) = m ∷ messages_in fs
-messages_in (f ∷ fs) = messages_in fs
-
 -- those of frames, and of others behind them
 pub messages_append : (fs gs : List FrameValue) → messages_in (fs ++ gs) ≡ messages_in fs ++ messages_in gs
 messages_append [] gs = refl
@@ -111,7 +116,7 @@ messages_append (datagram m ∷ fs) gs = ap (λ (ms : List (List ℕ)). m ∷ ms
 messages_append (f ∷ fs) gs = messages_append fs gs
 
 -- PADDING has none
-padding_none : (count : ℕ) → messages_in (replicate count padding) ≡ []
+pub padding_none : (count : ℕ) → messages_in (replicate count padding) ≡ []
 padding_none zero = refl
 padding_none (suc count) = padding_none count
 

@@ -1,30 +1,24 @@
 -- The end that sends: a message went or waits to go at most as often as it was sent.
-use Rattle.std.proofs.Common.{◌≡◌, ℕ, ◌+◌, ◌-◌, ◌≤◌, false, List, [], ◌∷◌, ◌++◌, length, replicate, Option, Some, None, Ok, refl, sym, ap, ◌∙◌, subst, arith, Bool, true}
+use Rattle.std.proofs.Common.{◌≡◌, ℕ, ◌+◌, ◌≤◌, false, List, [], ◌∷◌, ◌++◌, replicate, Option, Some, None, Ok, refl, sym, ap, ◌∙◌, subst, arith, true}
 use Rattle.std.specs.Prelude.{slice_get}
 use Rattle.std.proofs.lemmas.List.{append_assoc, append-nil}
 use Rattle.quic_machine.specs.Arrival.{delivered_by}
 use Rattle.quic_machine.specs.declared.run.Delivery.{Delivery}
-use Rattle.quic_packet.specs.Number.{truncated}
 use Rattle.quic_wire.specs.Value.{FrameValue, padding, ping, ack, stream, datagram}
 use Rattle.quic_streams_parts.specs.SendHalf.{frame_of}
-use Rattle.quic_messages.specs.Messages.{Messages}
-use Rattle.quic_spaces.specs.Numbers.{cut_against}
-use Rattle.quic_congestion.specs.Pacer.{Pacing}
+use Rattle.quic_messages.specs.Messages.{is_within, without_longer, Messages}
 use Rattle.quic_machine.specs.declared.run.Call.{Call}
 use Rattle.quic_machine.specs.declared.run.Call.TheVariants as calls
 use Rattle.quic_machine.specs.declared.run.Answer.{Answer}
 use Rattle.quic_machine.specs.declared.run.Answer.TheVariants as answers
-use Rattle.quic_machine.specs.Parts.{Waiting}
-use Rattle.quic_machine.specs.Tracking.{Tracking}
 use Rattle.quic_machine.specs.Policy.{Policy}
-use Rattle.quic_machine.specs.End.{End, number_of}
-use Rattle.quic_machine.specs.Poll.{Polled, Draft, ack_of, lazied, polled, goes, draft_if, draft_of}
+use Rattle.quic_machine.specs.End.{End}
+use Rattle.quic_machine.specs.Poll.{zeros_behind, Polled, Draft, ack_of, polled, goes, draft_as, draft_of, Leaving, with_least, no_frames, Ready}
 use Rattle.quic_machine.specs.MessageCalls.{limits_of}
 use Rattle.quic_machine.specs.Machine.{IsAnswer, after_delivered, after_call, fails, gave}
-use Rattle.quic_machine.specs.DraftLaws.{by_leave}
+use Rattle.quic_machine.specs.DraftLaws.{by_leave, MayLeave}
 use Rattle.quic_machine.specs.FrameCases.{by_received}
-use Rattle.quic_machine.specs.PollCases.{ready_at, frames_padded, frames_at, by_poll, at_poll}
-use Rattle.quic_machine.specs.Control.{Gated}
+use Rattle.quic_machine.specs.PollCases.{ready_at, frames_padded, frames_at, by_poll, at_poll, PollChange}
 use Rattle.quic_headline.specs.Runs.{Told}
 use Rattle.quic_headline.specs.Observer.{Sent}
 use Rattle.quic_headline.specs.Messages as messages
@@ -32,14 +26,14 @@ use Rattle.quic_headline.specs.Messages.{sent_messages}
 use Rattle.quic_headline.proofs.Packets.Entries.{IsControl, control_of}
 use Rattle.quic_headline.proofs.Places.Steps.{poll_answer}
 use Rattle.quic_headline.proofs.Places.Parties.{sent_by, sent_if, sents_by, told_of}
-use Rattle.quic_headline.proofs.Messages.Counted.{often, often_none, often_append, often_more, sent_more, received_leaves, messages_in, often_last, often_padded, gone, gone_append}
+use Rattle.quic_headline.proofs.Messages.Counted.{often_filter, often, often_none, often_append, often_more, sent_more, received_leaves, messages_in, often_last, often_padded, gone, gone_append}
 use Rattle.quic_headline.proofs.Messages.Kept.{frame_messages, call_messages}
-use Rattle.quic_headline.proofs.Packets.Probes.{MayLeave, may_leave}
+use Rattle.quic_headline.proofs.Packets.Probes.{may_leave}
 
 -- ---- what a poll gives
 
 -- a frame of control has no message
-control_none : (f : FrameValue) → IsControl f → messages_in (f ∷ []) ≡ []
+pub control_none : (f : FrameValue) → IsControl f → messages_in (f ∷ []) ≡ []
 control_none (datagram m) is = absurd is
 control_none f is = refl
 
@@ -65,26 +59,35 @@ module _ (m : List ℕ) (e : End) where
       omega arith
 
 -- whichever frames go, a message goes or waits still as often as it waited
-drafted : (m : List ℕ) (held : Bool) (e : End) → MayLeave held e → often m (messages_in (draft_if held e).frames) + often m (draft_if held e).end.messages.queues.outgoing ≡ often m e.messages.queues.outgoing
-drafted m held e alone = by_leave (Same m e) (record {
+drafted : (m : List ℕ) (leaving : Leaving) (e : End) → MayLeave leaving e → often m (messages_in (draft_as leaving e).frames) + often m (draft_as leaving e).end.messages.queues.outgoing ≡ often m e.messages.queues.outgoing
+drafted m leaving e due = by_leave (Same m e) (record {
   ack = λ d filled may i. plain_goes m e d (ack (ack_of d.end)) refl i;
   ping = λ d i. plain_goes m e d ping refl i;
+  probes = λ f size i. plain_goes m e (with_least (no_frames f) size) ping refl i;
   drops = λ d kind i. i;
   control = λ d kind f is i. plain_goes m e d f (control_none f (control_of f kind is.of_kind)) i;
   message = λ d x xs is fit i. message_goes m e d x xs is i;
   stream = λ d id h room found first some is counts i. plain_goes m e d (stream (frame_of id h room)) refl i;
-}) held e alone (let none = often_none m in omega arith)
+}) leaving e due (let none = often_none m in omega arith)
 
--- what comes leaves the messages that wait to go
-delivery_leaves : (p : Policy) (e : End) (delivery : Delivery) (o : Option (List ℕ)) → (after_delivered p e delivery o).messages.queues.outgoing ≡ e.messages.queues.outgoing
-delivery_leaves p e delivery None = refl
-delivery_leaves p e delivery (Some d) = by_received (λ (f : End). f.messages.queues.outgoing ≡ e.messages.queues.outgoing) (record {
-  notes = λ n x same. same;
-  begins = λ moment n x same. same;
-  frame = λ f x same. frame_messages (λ (q : Messages). q.outgoing ≡ e.messages.queues.outgoing) f x same (λ y is. received_leaves x.transport.datagram_receive_buffer_size y x.messages.queues ∙ same);
-  takes = λ n asks mark x same. same;
-  closes = λ reason x same. same;
-}) p e (delivered_by delivery) d refl
+-- a message waits at most as often as it did
+abbrev FewWait : List ℕ → End → Messages → Type 0
+FewWait m e q = often m q.outgoing ≤ often m e.messages.queues.outgoing
+
+-- so it is where messages that are too long are dropped
+drop_fewer : (m : List ℕ) (e : End) (most : ℕ) (q : Messages) → FewWait m e q → FewWait m e (without_longer most q)
+drop_fewer m e most q few = let less = often_filter m (is_within most) q.outgoing in omega arith
+
+-- what comes leaves the messages that wait to go, or drops some
+delivery_leaves : (m : List ℕ) (p : Policy) (e : End) (delivery : Delivery) (o : Option (List ℕ)) → FewWait m e (after_delivered p e delivery o).messages.queues
+delivery_leaves m p e delivery None = omega arith
+delivery_leaves m p e delivery (Some d) = by_received (λ (f : End). FewWait m e f.messages.queues) (record {
+  notes = λ n x few. few;
+  begins = λ moment n x few. few;
+  frame = λ f x few. frame_messages (FewWait m e) (drop_fewer m e) f x few (λ y is. subst (λ (ms : List (List ℕ)). often m ms ≤ often m e.messages.queues.outgoing) (sym (received_leaves x.transport.datagram_receive_buffer_size y x.messages.queues)) few);
+  takes = λ n asks mark x few. few;
+  closes = λ reason x few. few;
+}) p e (delivered_by delivery) d (omega arith)
 
 -- ---- any call
 
@@ -99,11 +102,8 @@ module _ (m : List ℕ) where
       omega arith
 
   -- nothing goes
-  quiet_goes : (left before asked : List (List ℕ)) → left ≡ before → often m [] + often m left ≤ often m before + often m asked
-  quiet_goes left before asked is =
-      let none = often_none m in
-      let same : often m left ≡ often m before = ap (often m) is in
-      omega arith
+  quiet_goes : (left before asked : List (List ℕ)) → often m left ≤ often m before → often m [] + often m left ≤ often m before + often m asked
+  quiet_goes left before asked few = let none = often_none m in omega arith
 
   -- no more goes where more is sent
   less_goes : (went left before asked : List (List ℕ)) → often m went + often m left ≤ often m before → often m went + often m left ≤ often m before + often m asked
@@ -113,18 +113,18 @@ module _ (m : List ℕ) where
   polled_goes : (p : Policy) (e : End) (now : ℕ)
       → often m (gone (sent_if (gave (answers.Poll (polled p e now).answer)) (sent_by e now))) + often m (polled p e now).end.messages.queues.outgoing ≤ often m e.messages.queues.outgoing
   polled_goes p e now = by_poll p e now (λ (q : Polled). often m (gone (sent_if (gave (answers.Poll q.answer)) (sent_by e now))) + often m q.end.messages.queues.outgoing ≤ often m e.messages.queues.outgoing)
-      (record { silent = nothing; failed = nothing; nothing = λ t w moment pacing limited. nothing; used_up = λ t w moment pacing. nothing; gives = λ held t w moment pacing paid tracking timers is may. one held t w moment pacing })
+      (record { silent = nothing; failed = nothing; nothing = λ c. nothing; used_up = λ c. nothing; gives = λ leaving c left is may. one leaving c })
     where
       nothing : often m [] + often m e.messages.queues.outgoing ≤ often m e.messages.queues.outgoing
       nothing = let none = often_none m in omega arith
 
-      one : (held : Bool) (t : Tracking) (w : Waiting) (moment : Option ℕ) (pacing : Pacing) → ready_at e now ≡ record { held = held; end = at_poll e now t w moment pacing e.path.app_limited } → goes (ready_at e now) ≡ true
-          → often m (messages_in (frames_at e now) ++ []) + often m (draft_if held (lazied (at_poll e now t w moment pacing e.path.app_limited))).end.messages.queues.outgoing ≤ often m e.messages.queues.outgoing
-      one held t w moment pacing ready some =
-          let x : End = at_poll e now t w moment pacing e.path.app_limited in
-          let d : Draft = draft_if held (lazied x) in
-          let count : ℕ = 4 - ((truncated (number_of d.end) (cut_against d.end.numbers)).width + length d.bytes) in
-          given_goes d.frames (frames_at e now) count d.end.messages.queues.outgoing e.messages.queues.outgoing (ap (λ (g : Gated). frames_padded (draft_of g)) ready) (drafted m held (lazied x) (may_leave e now held x ready some))
+      one : (leaving : Leaving) (c : PollChange) → ready_at e now ≡ record { leaving = leaving; end = at_poll e now c } → goes (ready_at e now) ≡ true
+          → often m (messages_in (frames_at e now) ++ []) + often m (draft_as leaving (at_poll e now c)).end.messages.queues.outgoing ≤ often m e.messages.queues.outgoing
+      one leaving c ready some =
+          let x : End = at_poll e now c in
+          let d : Draft = draft_as leaving x in
+          let count : ℕ = zeros_behind d in
+          given_goes d.frames (frames_at e now) count d.end.messages.queues.outgoing e.messages.queues.outgoing (ap (λ (g : Ready). frames_padded (draft_of g)) ready) (drafted m leaving x (may_leave e now leaving x ready))
 
   -- what a call gives and what waits behind it waited before, or is sent by it
   goes_call : (p : Policy) (e : End) (theirs : List (List ℕ)) (call : Call) (a : Answer) → IsAnswer p e theirs call a → fails a ≡ false
@@ -136,14 +136,14 @@ module _ (m : List ℕ) where
       let more = sent_more m (limits_of e) makes_room x e.messages.queues in
       let none = often_none m in
       omega arith
-  goes_call p e theirs (calls.Send x makes_room) a is served = quiet_goes e.messages.queues.outgoing e.messages.queues.outgoing [] refl
-  goes_call p e theirs calls.Recv a is served = quiet_goes e.messages.queues.outgoing e.messages.queues.outgoing [] refl
+  goes_call p e theirs (calls.Send x makes_room) a is served = quiet_goes e.messages.queues.outgoing e.messages.queues.outgoing [] (omega arith)
+  goes_call p e theirs calls.Recv a is served = quiet_goes e.messages.queues.outgoing e.messages.queues.outgoing [] (omega arith)
   goes_call p e theirs (calls.Deliver delivery) a is served =
       let o : Option (List ℕ) = slice_get theirs delivery.index in
-      quiet_goes (after_delivered p e delivery o).messages.queues.outgoing e.messages.queues.outgoing [] (delivery_leaves p e delivery o)
+      quiet_goes (after_delivered p e delivery o).messages.queues.outgoing e.messages.queues.outgoing [] (delivery_leaves m p e delivery o)
   goes_call p e theirs call a is served =
       quiet_goes (after_call p e theirs call a).messages.queues.outgoing e.messages.queues.outgoing []
-      (call_messages (λ (q : Messages). q.outgoing ≡ e.messages.queues.outgoing) p e theirs call a refl refl refl refl)
+      (call_messages (FewWait m e) (drop_fewer m e) p e theirs call a refl refl refl (omega arith))
 
 -- ---- all of them
 

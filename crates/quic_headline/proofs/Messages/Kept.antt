@@ -2,7 +2,7 @@
 use Rattle.std.proofs.Common.{◌≡◌, ℕ, Bool, true, false, List, Result, Ok, Err, refl}
 use Rattle.quic_wire.specs.Value.{FrameValue, ack, datagram}
 use Rattle.quic_messages.specs.declared.errors.ReceivedError.{ReceivedError}
-use Rattle.quic_messages.specs.Messages.{Messages, received_answer, after_received}
+use Rattle.quic_messages.specs.Messages.{Messages, without_longer, received_answer, after_received}
 use Rattle.quic_machine.specs.declared.run.Call.{Call}
 use Rattle.quic_machine.specs.declared.run.Answer.{Answer}
 use Rattle.quic_machine.specs.Closing.{ticked}
@@ -15,10 +15,10 @@ use Rattle.quic_machine.specs.FrameCases.{Settling, losses_keep, named, ack_take
 use Rattle.quic_machine.specs.LeaveCases.{by_expired, by_event}
 use Rattle.quic_machine.specs.CallCases.{is_delivery, is_poll, by_call}
 
-module _ (P : Messages → Type 0) where
+module _ (P : Messages → Type 0) (drops : (most : ℕ) (q : Messages) → P q → P (without_longer most q)) where
   -- packets that are acknowledged or lost
   settles : Settling (λ (f : End). P f.messages.queues)
-  settles = record { known = λ n x p. p; reset = λ id x p. p; acked = λ m x p. p; lost = λ m x p. p; again = λ c x p. p; tracked = λ t x p. p; measured = λ r first x p. p; marked = λ m marking x p. p }
+  settles = record { known = λ n x p. p; reset = λ id x p. p; acked = λ m x p. p; lost = λ m x p. p; again = λ c x p. p; searched = λ discovery x p. p; shortens = λ most x p. drops most x.messages.queues p; tracked = λ t x p. p; measured = λ r first x p. p; marked = λ m marking x p. p }
 
   -- what holds of the messages, and where one more is taken, holds behind a frame
   pub frame_messages : (f : FrameValue) (e : End) → P e.messages.queues → ((m : List ℕ) → f ≡ datagram m → P (after_received e.transport.datagram_receive_buffer_size m e.messages.queues)) → P (take_frame f e).end.messages.queues

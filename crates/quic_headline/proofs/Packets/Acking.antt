@@ -18,16 +18,16 @@ use Rattle.quic_machine.specs.End.{End, with_closing}
 use Rattle.quic_machine.specs.Opens.{own_id_length}
 use Rattle.quic_machine.specs.Receive.{asks_in, received}
 use Rattle.quic_spaces.specs.Acknowledging.{with_due}
-use Rattle.quic_machine.specs.Poll.{Draft, lazied, Polled, polled, draft_if}
+use Rattle.quic_machine.specs.Poll.{Draft, Polled, polled, draft_as, Leaving, whole, alone, probe, nothing, lazied_as}
 use Rattle.quic_machine.specs.Machine.{after_call}
 use Rattle.quic_headline.specs.Runs.{Packet, Intake}
 use Rattle.quic_machine.specs.Start.{IsLawful}
-use Rattle.quic_machine.specs.DraftLaws.{by_leave}
+use Rattle.quic_machine.specs.DraftLaws.{by_leave, MayLeave}
 use Rattle.quic_headline.proofs.Packets.Invariant.{IsGiven, KnowsIn, AreTaken, CountsFit, Acks}
 use Rattle.quic_machine.specs.FrameCases.{begun}
 use Rattle.quic_headline.proofs.Packets.Delivered.{Arrivals, arrived, by_arrival}
 use Rattle.quic_headline.proofs.Packets.Stays.{Keeps, keeps_frames, settles_losses}
-use Rattle.quic_headline.proofs.Packets.Probes.{MayLeave, may_leave}
+use Rattle.quic_headline.proofs.Packets.Probes.{may_leave}
 use Rattle.quic_machine.specs.LeaveCases.{by_expired}
 use Rattle.quic_machine.specs.CallCases.{is_delivery, by_plain_call}
 use Rattle.quic_machine.specs.PollCases.{by_poll, at_poll}
@@ -121,20 +121,27 @@ taken_arrivals e now n frames i acks before = record {
 abbrev pub TellsAs : End → End → Type 0
 TellsAs e f = (f.acknowledging.runs ≡ e.acknowledging.runs) × (f.marks.came ≡ e.marks.came)
 
+-- they are the same where an acknowledgement becomes due
+lazied_tells : (leaving : Leaving) (e : End) → TellsAs e (lazied_as leaving e)
+lazied_tells whole e = (refl, refl)
+lazied_tells alone e = (refl, refl)
+lazied_tells (probe size) e = (refl, refl)
+lazied_tells (nothing held) e = (refl, refl)
+
 -- whichever frames go, they stay: an ACK that tells them may be lost
-draft_runs : (held : Bool) (e : End) → MayLeave held e → TellsAs e (draft_if held e).end
-draft_runs held e alone = by_leave (λ (d : Draft). TellsAs e d.end) (record { ack = λ d filled may same. same; ping = λ d same. same; drops = λ d kind same. same; control = λ d kind f is same. same; message = λ d m ms is fit same. same; stream = λ d id h room found first some is counts same. same }) held e alone (refl, refl)
+draft_runs : (leaving : Leaving) (e : End) → MayLeave leaving e → TellsAs e (draft_as leaving e).end
+draft_runs leaving e due = by_leave (λ (d : Draft). TellsAs e d.end) (record { ack = λ d filled may same. same; ping = λ d same. same; probes = λ f size same. same; drops = λ d kind same. same; control = λ d kind f is same. same; message = λ d m ms is fit same. same; stream = λ d id h room found first some is counts same. same }) leaving e due (lazied_tells leaving e)
 
 -- a poll leaves them
 polled_runs : (p : Policy) (e : End) (now : ℕ) → TellsAs e (polled p e now).end
 polled_runs p e now = by_poll p e now (λ (q : Polled). TellsAs e q.end) (record {
   silent = (refl, refl);
   failed = (refl, refl);
-  nothing = λ t w moment pacing limited. (refl, refl);
-  used_up = λ t w moment pacing. (refl, refl);
-  gives = λ held t w moment pacing paid tracking timers is may ready some.
-      let x : End = at_poll e now t w moment pacing e.path.app_limited in
-      draft_runs held (lazied x) (may_leave e now held x ready some);
+  nothing = λ c. (refl, refl);
+  used_up = λ c. (refl, refl);
+  gives = λ leaving c left is may ready some.
+      let x : End = at_poll e now c in
+      draft_runs leaving x (may_leave e now leaving x ready);
 })
 
 -- ---- any call

@@ -14,17 +14,16 @@ use Rattle.quic_machine.specs.Tracking.{Tracking, TrackedPacket, without_packet,
 use Rattle.quic_machine.specs.End.{End, with_closing, number_of}
 use Rattle.quic_machine.specs.Acked.{verdict, losses_detected, measured, sampled, without_acked, after_named, losses_taken}
 use Rattle.quic_machine.specs.Receive.{received}
-use Rattle.quic_machine.specs.Poll.{Polled, Draft, packet_of, tracked, lazied, polled, goes}
-use Rattle.quic_machine.specs.PollCases.{ready_at, by_poll_to, composes, draft_at}
+use Rattle.quic_machine.specs.Poll.{Polled, Draft, packet_of, tracked, polled, goes, Ready}
+use Rattle.quic_machine.specs.PollCases.{ready_at, by_poll_to, composes, draft_at, may_leave_at}
 use Rattle.quic_machine.specs.LeaveCases.{by_expired}
 use Rattle.quic_machine.specs.FrameCases.{named, frame_keeps, frame_leaves, by_received, by_marks}
 use Rattle.quic_machine.specs.CallCases.{by_plain_call}
 use Rattle.quic_machine.specs.Machine.{after_call}
 use Rattle.quic_machine.specs.declared.run.Call.{Call}
 use Rattle.quic_machine.specs.declared.run.Answer.{Answer}
-use Rattle.quic_machine.specs.Control.{Gated}
-use Rattle.quic_machine.specs.DraftLaws.{due_alone}
 use Rattle.quic_headline.specs.Runs.{In}
+use Rattle.quic_headline.proofs.Packets.Searches.{by_losses}
 use Rattle.quic_headline.proofs.Packets.Named.{sampled_tracking}
 use Rattle.quic_headline.proofs.Packets.Probes.{by_ready, by_going}
 use Rattle.quic_headline.proofs.Packets.TrackedSteps.{asking_packets}
@@ -123,7 +122,7 @@ Ascends e = Ascending 0 e.tracking.packets
 
 -- losses leave some
 pub ascends_losses : (e : End) → Ascends e → Ascends (losses_detected e)
-ascends_losses e a = ascends_filter (λ q. not (is_lost (verdict e) q)) 0 e.tracking.packets a
+ascends_losses e a = by_losses Ascends e (λ discovery queues. ascends_filter (λ q. not (is_lost (verdict e) q)) 0 e.tracking.packets a)
 
 -- an ACK frame that names these
 ascends_named : (ps : Table TrackedPacket) (rises : Bool) (k : AckValue) (e : End) → Ascends e → Ascends (after_named ps rises k e)
@@ -150,7 +149,7 @@ ascends_received = by_received Ascends (record {
 
 -- an end that is ready to give
 pub ascends_ready : (e : End) (now : ℕ) → Ascends e → Ascends (ready_at e now).end
-ascends_ready e now a = by_ready Ascends e now a a (λ p i. ascends_put 0 e.tracking.packets p.0 (without_record p.1) a) (λ moment pacing x b. b)
+ascends_ready e now a = by_ready Ascends e now a a (λ p i. ascends_put 0 e.tracking.packets p.0 (without_record p.1) a) (λ moment pacing discovery x b. b)
 
 -- one more is sent, before which the oldest may be forgotten
 ascends_sent : (t : Tracking) (n : ℕ) (p : TrackedPacket) → Ascending 0 t.packets → Ascending 0 (after_sent t n p).packets
@@ -172,7 +171,7 @@ ascends_polled p e now a = by_poll_to p e now (λ (q : Polled). Ascends q.end) (
   gives = λ is may some. by_going Ascends p d (λ pacing. gives some);
 })
   where
-    g : Gated
+    g : Ready
     g = ready_at e now
 
     ready : Ascends g.end
@@ -182,7 +181,7 @@ ascends_polled p e now a = by_poll_to p e now (λ (q : Polled). Ascends q.end) (
     d = draft_at e now
 
     gives : goes g ≡ true → Ascends (tracked d)
-    gives some = ascends_sent d.end.tracking (number_of d.end) (packet_of d) (subst (λ (t : Tracking). Ascending 0 t.packets) (sym (composes g.held (lazied g.end) (due_alone g some)).tracking) ready)
+    gives some = ascends_sent d.end.tracking (number_of d.end) (packet_of d) (subst (λ (t : Tracking). Ascending 0 t.packets) (sym (composes g.leaving g.end (may_leave_at e now)).tracking) ready)
 
 -- any call
 pub ascends_call : (p : Policy) (e : End) (theirs : List (List ℕ)) (call : Call) (answer : Answer) → Ascends e → Ascends (after_call p e theirs call answer)

@@ -1,19 +1,18 @@
 -- What an end composes spells the payload of its next datagram, whatever its frames mean (RFC 9000, sections 12.4 and 19).
-use Rattle.std.proofs.Common.{◌≡◌, ℕ, ◌+◌, ◌-◌, ◌<◌, ◌≤◌, ◌^◌, zero, suc, Bool, true, false, cond, ◌&&◌, ◌||◌, ◌==◌, min, List, [], ◌∷◌, ◌++◌, length, drop, replicate, Some, None, refl, sym, ap, ◌⊎◌, inl, inr, arith}
+use Rattle.std.proofs.Common.{◌≡◌, ℕ, ◌+◌, ◌-◌, ◌<◌, ◌≤◌, ◌^◌, zero, suc, Bool, true, false, cond, ◌&&◌, ◌||◌, ◌==◌, min, max, List, [], ◌∷◌, ◌++◌, length, drop, replicate, Some, None, refl, sym, subst, ap, ◌∙◌, ◌⊎◌, inl, inr, arith}
 use Rattle.std.specs.Prelude.{if◌then◌else◌, nat_le, nat_lt, ◌/◌}
 use Rattle.std.proofs.lemmas.Bool.{leb-true, ltb-false, and_parts}
 use Rattle.std.proofs.lemmas.List.{append-nil, append_assoc, length-append, length-take, length-drop}
 use Rattle.quic_wire_core.specs.Law.{length-shortest, varint_size_le}
-use Rattle.quic_packet.specs.Number.{truncated}
 use Rattle.quic_wire.specs.Value.{FrameValue, StreamValue, ack, padding, ping, stream, datagram}
 use Rattle.quic_wire.specs.Grammar.{Payload}
 use Rattle.quic_wire.specs.AckGrammar.{EcnFits, AckFits, has_ecn}
 use Rattle.quic_wire.specs.Writing.{spelling, stream_spelling, StreamFits, Fits, frame_size, width_of, offset_width}
-use Rattle.quic_wire.proofs.FrameWritten.{stream_form, spelling_form, stream_length}
-use Rattle.quic_wire.proofs.AckSet.{set_fits}
+use Rattle.quic_wire.proofs.FrameWritten.{stream_form, spelling_form, stream_length, spelling_length}
+use Rattle.quic_wire.proofs.AckSet.{set_fits, set_length}
 use Rattle.quic_send_buffer.specs.Buffered as buffered
 use Rattle.quic_send_buffer.specs.Buffered.{Buffered, next_start, sent_end, writes_length}
-use Rattle.quic_recovery_core.specs.PendingAcks.{lazy_threshold, is_filled, delay_of, can_send}
+use Rattle.quic_recovery_core.specs.PendingAcks.{lazy_threshold, most_ack_runs, is_filled, delay_of, can_send}
 use Rattle.quic_streams_parts.specs.Table.{at}
 use Rattle.quic_streams_parts.specs.SendHalf.{SendHalf, HasFrame, frame_of, frame_counts}
 use Rattle.quic_retransmits.specs.declared.retransmits.ControlKind.{ControlKind}
@@ -23,15 +22,16 @@ use Rattle.quic_streams_laws.specs.KindLaws.{GoesFirst}
 use Rattle.quic_streams_state.specs.Frames.{after_frame_sent}
 use Rattle.quic_spaces.specs.Marks.{Counts, told_counts}
 use Rattle.quic_spaces.specs.Acknowledging.{written_delay, delay_at}
-use Rattle.quic_spaces.specs.Numbers.{cut_against}
-use Rattle.quic_machine.specs.End.{End, number_of, streams_at, with_ping}
-use Rattle.quic_machine.specs.Poll.{Draft, no_frames, with_frame, frame_room, fits, left, ping_if, with_ping_frame, with_control_frames, with_message, with_message_frames, with_asking, ack_of, with_ack, ack_fits, ack_if, composed_if, payload_of, lazied, asks_to_go, waits, draft_if, draft_of}
-use Rattle.quic_machine.specs.Control.{Gated}
+use Rattle.quic_machine.specs.End.{End, streams_at, with_ping}
+use Rattle.quic_machine.specs.Poll.{asking, overhead, number_width, with_least, zeros_behind, Draft, no_frames, with_frame, frame_room, fits, left, ping_if, with_ping_frame, with_control_frames, with_message, with_message_frames, with_asking, ack_of, with_ack, ack_fits, ack_if, composed_if, payload_of, lazied, asks_to_go, waits, draft_as, draft_of, probe, alone, whole, Leaving, Ready, nothing, probing, composed, behind_control, least_left}
 use Rattle.quic_machine.specs.Parts.{current_mtu}
 use Rattle.quic_machine.specs.PollCases.{frames_padded}
-use Rattle.quic_machine.specs.DraftLaws.{SendsHalf, stream_room, with_entry, with_half_frame, by_entries, by_messages, by_streams}
+use Rattle.quic_machine.specs.DraftLaws.{SendsHalf, stream_room, with_entry, with_half_frame, by_messages, by_streams, MayLeave, HasRoom, room_most, entry_behind}
+use Rattle.quic_streams_state.specs.Control as control
 use Rattle.quic_headline.proofs.Packets.Invariant.{CountsFit, Acks}
-use Rattle.quic_headline.proofs.Packets.Probes.{MayLeave}
+use Rattle.quic_wire.proofs.FrameRange.{size_most}
+use Rattle.quic_retransmits.specs.Retransmits.{nothing_waits}
+use Rattle.quic_streams_laws.specs.ControlWalk.{GoesOn, by_control}
 
 -- ---- what is known of streams
 
@@ -45,9 +45,12 @@ pub record Spelling (K : Streams → Type 0) : Type 0 where
   pub stream : (fair : Bool) (t : Streams) (id : ℕ) (h : SendHalf) (room : ℕ) → at t.state.sending.halves.live id ≡ Some h → frame_counts h room ≡ true → K t → (id < 2 ^ 62) × HasFrame h room × K (streams_of (after_frame_sent fair t.state id h room) t.pending)
 
 -- what goes of an end that is ready has a form, and a frame
-pub record IsSpellable (g : Gated) : Type 0 where
+pub record IsSpellable (g : Ready) : Type 0 where
   pub spells : Payload (frames_padded (draft_of g)) (payload_of (draft_of g))
   pub some : 0 < length (draft_of g).frames
+  -- the frames don't take more than the room for them, and only a probe of a size has a least one
+  pub within : length (draft_of g).bytes ≤ frame_room (draft_of g).end
+  pub least : (draft_of g).least ≡ least_left g.leaving
 
 -- what waits waits still where an acknowledgement becomes due
 pub waits_lazied : (e : End) → waits e ≡ true → waits (lazied e) ≡ true
@@ -106,7 +109,7 @@ unsized_count b room e = go (writes_length b room) refl e
         omega arith
 
 -- how many bytes go
-bytes_count : (h : SendHalf) (id room : ℕ) → HasFrame h room → length (frame_of id h room).bytes ≡ sent_end h.buffer room - next_start h.buffer
+pub bytes_count : (h : SendHalf) (id room : ℕ) → HasFrame h room → length (frame_of id h room).bytes ≡ sent_end h.buffer room - next_start h.buffer
 bytes_count h id room f =
     let from : ℕ = next_start h.buffer - h.buffer.base in
     let to : ℕ = sent_end h.buffer room - h.buffer.base in
@@ -136,6 +139,31 @@ unsized_fills h id room f some off =
     let count = unsized_count h.buffer room off in
     let few = offset_narrow (next_start h.buffer) in
     omega arith
+
+-- behind a length there are at most so many
+sized_count : (b : Buffered) (room : ℕ) → writes_length b room ≡ true → sent_end b room - next_start b ≤ buffered.room_behind room (next_start b) - 8
+sized_count b room e = go (writes_length b room) refl e
+  where
+    go : (t : Bool) → writes_length b room ≡ t → t ≡ true → next_start b + min (buffered.next_count b) (cond t (buffered.room_behind room (next_start b) - 8) (buffered.room_behind room (next_start b))) - next_start b ≤ buffered.room_behind room (next_start b) - 8
+    go true is on = omega arith
+    go false is on = cc
+
+-- no frame of a half takes more than the room behind its type and id
+half_long : (h : SendHalf) (id room : ℕ) → HasFrame h room → 16 ≤ room → length (stream_spelling (writes_length h.buffer room) (frame_of id h room)) ≤ 1 + width_of id + room
+half_long h id room f some = go (writes_length h.buffer room) refl
+  where
+    go : (t : Bool) → writes_length h.buffer room ≡ t → length (stream_spelling t (frame_of id h room)) ≤ 1 + width_of id + room
+    go true on =
+        let long = stream_length true (frame_of id h room) in
+        let bytes = bytes_count h id room f in
+        let count = sized_count h.buffer room on in
+        let wide = offset_widths (next_start h.buffer) in
+        let few = offset_narrow (next_start h.buffer) in
+        let short = narrow (length (frame_of id h room).bytes) in
+        omega arith
+    go false off =
+        let long = unsized_fills h id room f (omega arith) off in
+        omega arith
 
 -- ---- the ACK frame
 
@@ -170,17 +198,29 @@ ack_some e =
     type true = let three : width_of 3 ≡ 1 = refl in omega arith
     type false = let two : width_of 2 ≡ 1 = refl in omega arith
 
+-- it leaves room for one more frame of control
+pub ack_leaves : (e : End) → Acks e.acknowledging e.marks.came → is_filled e.acknowledging.runs ≡ true → 1159 ≤ frame_room e → length (spelling (ack (ack_of e))) + 25 ≤ frame_room e
+ack_leaves e acks filled room =
+    let form : AckFits (ack_of e) = ack_form e acks filled in
+    let long = spelling_length (ack (ack_of e)) form in
+    let most = size_most (ack (ack_of e)) form in
+    let count = set_length e.acknowledging.runs in
+    let few = acks.runs.few in
+    let runs : most_ack_runs ≡ 64 = refl in
+    omega arith
+
 -- ---- drafts
 
 -- what is spelled behind the frames of a draft may follow them
 abbrev Behind : Draft → Type 0
 Behind d = (fs : List FrameValue) (rest : List ℕ) → Payload fs rest → Payload (d.frames ++ fs) (d.bytes ++ rest)
 
--- frames that take the whole room of a datagram
+-- frames that take the whole room of a datagram, which need not have more bytes
 record Full (d : Draft) : Type 0 where
   spells : Payload d.frames d.bytes
   full : frame_room d.end ≤ length d.bytes
   long : 4 ≤ length d.bytes
+  least : d.least ≡ 0
 
 -- frames that stand in a payload, whether or not they leave room
 abbrev Stands : Draft → Type 0
@@ -189,12 +229,15 @@ Stands d = Behind d ⊎ Full d
 -- bytes 0 may follow frames that don't take the whole room, and behind those that do there are none
 fills : (d : Draft) → Stands d → Payload (frames_padded d) (payload_of d)
 fills d (inl behind) =
-    let count : ℕ = 4 - ((truncated (number_of d.end) (cut_against d.end.numbers)).width + length d.bytes) in
+    let count : ℕ = zeros_behind d in
     behind (replicate count padding) (replicate count 0) (zeros_padding count)
 fills d (inr f) =
-    let long = f.long in
-    let none : 4 - ((truncated (number_of d.end) (cut_against d.end.numbers)).width + length d.bytes) ≡ 0 = omega arith in
+    let none : zeros_behind d ≡ 0 = go (d.end.transport.pad_to_mtu && asking d.frames) in
     rw (none, append-nil d.frames, append-nil d.bytes) f.spells
+  where
+    go : (pads : Bool) → max (4 - (number_width d + length d.bytes)) ((if pads then max d.least (current_mtu d.end.path) else d.least) - (overhead d + length d.bytes)) ≡ 0
+    go true = let full = f.full in let long = f.long in let least = f.least in omega arith
+    go false = let long = f.long in let least = f.least in omega arith
 
 -- one frame more, where what is spelled behind it may follow
 behind_more : (d : Draft) (f : FrameValue) (bytes : List ℕ) (e : End) → Behind d → ((fs : List FrameValue) (rest : List ℕ) → Payload fs rest → Payload (f ∷ fs) (bytes ++ rest)) → Behind (with_frame d f bytes e)
@@ -205,8 +248,8 @@ behind_fit : (d : Draft) (f : FrameValue) (e : End) → Behind d → Fits f → 
 behind_fit d f e before fits = behind_more d f (spelling f) e before (λ fs rest spells. spelled_before f fs rest fits spells)
 
 -- the frame of a half goes behind others, and takes the whole room where its length isn't written
-half_stands : (d : Draft) (id : ℕ) (h : SendHalf) (room : ℕ) → 25 ≤ left d → room ≡ stream_room d id → id < 2 ^ 62 → HasFrame h room → Behind d → Stands (with_half_frame d id h room)
-half_stands d id h room some is small has before = go (writes_length h.buffer room) refl
+half_stands : (d : Draft) (id : ℕ) (h : SendHalf) (room : ℕ) → d.least ≡ 0 → 25 ≤ left d → room ≡ stream_room d id → id < 2 ^ 62 → HasFrame h room → Behind d → Stands (with_half_frame d id h room)
+half_stands d id h room least some is small has before = go (writes_length h.buffer room) refl
   where
     frame : StreamValue
     frame = frame_of id h room
@@ -227,15 +270,8 @@ half_stands d id h room some is small has before = go (writes_length h.buffer ro
           spells = before (stream frame ∷ []) (stream_spelling false frame) (unsized_spelled frame form);
           full = omega arith;
           long = omega arith;
+          least = least;
         })
-
--- an ACK frame that fits has numbers, and the frames before it don't take the whole room
-ack_room : (d : Draft) → ack_fits d ≡ true → (is_filled d.end.acknowledging.runs ≡ true) × (length d.bytes < frame_room d.end)
-ack_room d fits =
-    let parts = and_parts (is_filled d.end.acknowledging.runs) (nat_le (length d.bytes + frame_size (ack (ack_of d.end))) (frame_room d.end)) fits in
-    let within = leb-true (length d.bytes + frame_size (ack (ack_of d.end))) (frame_room d.end) parts.1 in
-    let some = ack_some d.end in
-    (parts.0, omega arith)
 
 -- a message that fits is short
 pub message_form : (d : Draft) (m : List ℕ) → current_mtu d.end.path < 2 ^ 16 → fits d (datagram m) ≡ true → Fits (datagram m)
@@ -246,84 +282,161 @@ message_form d m sized fit =
 -- ---- all of them
 
 module _ (K : Streams → Type 0) (k : Spelling K) where
-  -- a draft of an end of which this is known, with frames that stand so
+  -- a draft of an end of which this is known, with frames that stand so, and take no more than the room
   record Goes (S : Draft → Type 0) (d : Draft) : Type 0 where
     streams : K (streams_at d.end)
     acks : Acks d.end.acknowledging d.end.marks.came
     sized : current_mtu d.end.path < 2 ^ 16
+    room : 1159 ≤ frame_room d.end
+    least : d.least ≡ 0
+    within : length d.bytes ≤ frame_room d.end
     stands : S d
 
-  -- PING goes
-  ping_goes : (d : Draft) → Goes Behind d → Goes Behind (with_ping_frame d)
-  ping_goes d g = go d.end.waiting.ping
+  -- PING goes, where there is room for it
+  ping_goes : (d : Draft) → length d.bytes + 25 ≤ frame_room d.end → Goes Behind d → Goes Behind (with_ping_frame d)
+  ping_goes d left g = go d.end.waiting.ping
     where
       go : (b : Bool) → Goes Behind (ping_if b d)
-      go true = record { streams = g.streams; acks = g.acks; sized = g.sized; stands = behind_fit d ping (with_ping d.end false) g.stands tt }
+      go true =
+          let long = length-append d.bytes (spelling ping) in
+          record { streams = g.streams; acks = g.acks; sized = g.sized; room = g.room; least = g.least; within = omega arith; stands = behind_fit d ping (with_ping d.end false) g.stands tt }
       go false = g
 
-  -- ACK goes, where there are numbers
-  ack_goes : (d : Draft) → is_filled d.end.acknowledging.runs ≡ true → Goes Behind d → Goes Behind (with_ack d)
-  ack_goes d filled g = record {
-    streams = g.streams;
-    acks = record { runs = g.acks.runs; small = g.acks.small; counts = g.acks.counts };
-    sized = g.sized;
-    stands = behind_fit d (ack (ack_of d.end)) (with_ack d).end g.stands (ack_form d.end g.acks filled);
-  }
+  -- ACK goes, where there are numbers, and room for it
+  ack_goes : (d : Draft) → is_filled d.end.acknowledging.runs ≡ true → length d.bytes + length (spelling (ack (ack_of d.end))) ≤ frame_room d.end → Goes Behind d → Goes Behind (with_ack d)
+  ack_goes d filled left g =
+      let long = length-append d.bytes (spelling (ack (ack_of d.end))) in
+      record {
+        streams = g.streams;
+        acks = record { runs = g.acks.runs; small = g.acks.small; counts = g.acks.counts };
+        sized = g.sized;
+        room = g.room;
+        least = g.least;
+        within = omega arith;
+        stands = behind_fit d (ack (ack_of d.end)) (with_ack d).end g.stands (ack_form d.end g.acks filled);
+      }
 
   -- what waits beside the bytes of streams goes
   entries_go : (d : Draft) → Goes Behind d → Goes Behind (with_control_frames d)
-  entries_go = by_entries (Goes Behind)
-      (λ d kind g. record { streams = k.drops (streams_at d.end) kind g.streams; acks = g.acks; sized = g.sized; stands = g.stands })
-      (λ d kind f is g. (
-      let one = k.control (streams_at d.end) kind f is g.streams in
-      record { streams = one.1; acks = g.acks; sized = g.sized; stands = behind_fit d f (with_entry d kind f).end g.stands one.0 }))
+  entries_go d g = (by_control (frame_room d.end) Fills steps (control.no_frames (length d.bytes) d.end.streams d.end.waiting.frames nothing_waits) first).0
+    where
+      -- how many bytes are used is known
+      Fills : control.Draft → Type 0
+      Fills c = Goes Behind (behind_control d c) × (c.used ≡ length (behind_control d c).bytes)
+
+      steps : GoesOn (frame_room d.end) Fills
+      steps = record {
+        drops = λ c kind e es is due q. (record { streams = k.drops (streams_at (behind_control d c).end) kind q.0.streams; acks = q.0.acks; sized = q.0.sized; room = q.0.room; least = q.0.least; within = q.0.within; stands = q.0.stands }, q.1);
+        sends = λ c kind f is room q. one c kind f is room q.0 q.1;
+      }
+        where
+          one : (c : control.Draft) (kind : ControlKind) (f : FrameValue) → GoesFirst kind c.pending c.state f → c.used + frame_size f ≤ frame_room d.end → Goes Behind (behind_control d c) → c.used ≡ length (behind_control d c).bytes → Fills (control.first_sent kind f c)
+          one c kind f is room q used =
+              let x : Draft = behind_control d c in
+              let went = k.control (streams_at x.end) kind f is q.streams in
+              let same = entry_behind d c kind f in
+              let long = spelling_length f went.0 in
+              let all = length-append x.bytes (spelling f) in
+              let bytes : length (behind_control d (control.first_sent kind f c)).bytes ≡ length x.bytes + frame_size f = ap (λ (y : Draft). length y.bytes) same ∙ all ∙ ap (λ (n : ℕ). length x.bytes + n) long in (
+                subst (Goes Behind) (sym same) (record { streams = went.1; acks = q.acks; sized = q.sized; room = q.room; least = q.least; within = omega arith; stands = behind_fit x f (with_entry x kind f).end q.stands went.0 }),
+                omega arith,
+              )
+
+      first : Fills (control.no_frames (length d.bytes) d.end.streams d.end.waiting.frames nothing_waits)
+      first = rw (append-nil d.frames, append-nil d.bytes) (g, refl)
 
   -- messages go
   messages_go : (d : Draft) → Goes Behind d → Goes Behind (with_message_frames d)
-  messages_go = by_messages (Goes Behind)
-      (λ d m ms is fit g. record { streams = g.streams; acks = g.acks; sized = g.sized; stands = behind_fit d (datagram m) (with_message d m ms).end g.stands (message_form d m g.sized fit) })
+  messages_go = by_messages (Goes Behind) (λ d m ms is fit g.
+      let form = message_form d m g.sized fit in
+      let long = spelling_length (datagram m) form in
+      let all = length-append d.bytes (spelling (datagram m)) in
+      let enough = leb-true (length d.bytes + frame_size (datagram m)) (frame_room d.end) fit in
+      record { streams = g.streams; acks = g.acks; sized = g.sized; room = g.room; least = g.least; within = omega arith; stands = behind_fit d (datagram m) (with_message d m ms).end g.stands form })
 
   -- frames of streams go
   half_goes : SendsHalf (Goes Stands)
   half_goes d id h room found first some is counts g =
       let one = k.stream d.end.transport.send_fairness (streams_at d.end) id h room found counts g.streams in
-      record { streams = one.2; acks = g.acks; sized = g.sized; stands = go g.stands one.0 one.1 }
+      let few = narrow id in
+      let enough : 16 ≤ room = omega arith in
+      let long = half_long h id room one.1 enough in
+      let all = length-append d.bytes (stream_spelling (writes_length h.buffer room) (frame_of id h room)) in
+      record { streams = one.2; acks = g.acks; sized = g.sized; room = g.room; least = g.least; within = omega arith; stands = go g.stands one.0 one.1 }
     where
       go : Stands d → id < 2 ^ 62 → HasFrame h room → Stands (with_half_frame d id h room)
-      go (inl before) small has = half_stands d id h room some is small has before
+      go (inl before) small has = half_stands d id h room g.least some is small has before
       go (inr f) small has = let full = f.full in absurd (omega arith)
 
-  -- what asks goes
-  asking_goes : (d : Draft) → Goes Behind d → Goes Stands (with_asking d)
-  asking_goes d g =
-      let before = messages_go (with_control_frames (with_ping_frame d)) (entries_go (with_ping_frame d) (ping_goes d g)) in
-      by_streams (Goes Stands) half_goes (with_message_frames (with_control_frames (with_ping_frame d))) (record { streams = before.streams; acks = before.acks; sized = before.sized; stands = inl before.stands })
+  -- what asks goes, where there is room
+  asking_goes : (d : Draft) → length d.bytes + 25 ≤ frame_room d.end → Goes Behind d → Goes Stands (with_asking d)
+  asking_goes d left g =
+      let before = messages_go (with_control_frames (with_ping_frame d)) (entries_go (with_ping_frame d) (ping_goes d left g)) in
+      by_streams (Goes Stands) half_goes (with_message_frames (with_control_frames (with_ping_frame d)))
+      (record { streams = before.streams; acks = before.acks; sized = before.sized; room = before.room; least = before.least; within = before.within; stands = inl before.stands })
 
   -- an ACK frame goes behind it where it fits
-  late_stands : (d : Draft) → Goes Stands d → (b : Bool) → ack_fits d ≡ b → Stands (ack_if b d)
-  late_stands d g true is = go g.stands
+  late_goes : (d : Draft) → Goes Stands d → (b : Bool) → ack_fits d ≡ b → Goes Stands (ack_if b d)
+  late_goes d g true is = go g.stands
     where
-      go : Stands d → Stands (with_ack d)
-      go (inl before) = inl (ack_goes d (ack_room d is).0 (record { streams = g.streams; acks = g.acks; sized = g.sized; stands = before })).stands
-      go (inr f) = let room = (ack_room d is).1 in let full = f.full in absurd (omega arith)
-  late_stands d g false is = g.stands
+      fit : (is_filled d.end.acknowledging.runs ≡ true) × (length d.bytes + frame_size (ack (ack_of d.end)) ≤ frame_room d.end)
+      fit =
+          let parts = and_parts (is_filled d.end.acknowledging.runs) (nat_le (length d.bytes + frame_size (ack (ack_of d.end))) (frame_room d.end)) is in
+          (parts.0, leb-true (length d.bytes + frame_size (ack (ack_of d.end))) (frame_room d.end) parts.1)
 
-  -- whether or not an ACK is due, and where a due one goes alone, what goes spells the payload
-  pub draft_spells : (held : Bool) (e : End) → MayLeave held e → Acks e.acknowledging e.marks.came → current_mtu e.path < 2 ^ 16 → K (streams_at e) → Payload (frames_padded (draft_if held e)) (payload_of (draft_if held e))
-  draft_spells held e may acks sized streams = fills (draft_if held e) (go held may)
+      left : length d.bytes + length (spelling (ack (ack_of d.end))) ≤ frame_room d.end
+      left = let long = spelling_length (ack (ack_of d.end)) (ack_form d.end g.acks fit.0) in let room = fit.1 in omega arith
+
+      go : Stands d → Goes Stands (with_ack d)
+      go (inl before) =
+          let x = ack_goes d fit.0 left (record { streams = g.streams; acks = g.acks; sized = g.sized; room = g.room; least = g.least; within = g.within; stands = before }) in
+          record { streams = x.streams; acks = x.acks; sized = x.sized; room = x.room; least = x.least; within = x.within; stands = inl x.stands }
+      go (inr f) = let some = ack_some d.end in let room = fit.1 in let full = f.full in absurd (omega arith)
+  late_goes d g false is = g
+
+  -- What goes spells the payload, takes no more than the room for it, and has this least size.
+  pub record Spells (least : ℕ) (d : Draft) : Type 0 where
+    pub spells : Payload (frames_padded d) (payload_of d)
+    pub within : length d.bytes ≤ frame_room d.end
+    pub least_is : d.least ≡ least
+
+  spelled : (d : Draft) → Goes Stands d → Spells 0 d
+  spelled d g = record { spells = fills d g.stands; within = g.within; least_is = g.least }
+
+  -- whether or not an ACK is due, where a due one goes alone, where a probe of a size goes, and where nothing does
+  pub draft_spells : (leaving : Leaving) (e : End) → MayLeave leaving e → Acks e.acknowledging e.marks.came → HasRoom e → K (streams_at e) → Spells (least_left leaving) (draft_as leaving e)
+  draft_spells leaving e may acks short streams = go leaving may
     where
-      first : Goes Behind (no_frames e)
-      first = record { streams = streams; acks = acks; sized = sized; stands = λ fs rest spells. spells }
+      x : End
+      x = lazied e
 
-      acked : can_send e.acknowledging ≡ true → Goes Behind (with_ack (no_frames e))
-      acked due = ack_goes (no_frames e) (and_parts e.acknowledging.due (is_filled e.acknowledging.runs) due).1 first
+      room : 1159 ≤ frame_room e
+      room = room_most e short
 
-      composes : (b : Bool) → can_send e.acknowledging ≡ b → Stands (composed_if b e)
-      composes true due = (asking_goes (with_ack (no_frames e)) (acked due)).stands
+      first : Goes Behind (no_frames x)
+      first = record { streams = streams; acks = record { runs = acks.runs; small = acks.small; counts = acks.counts }; sized = short.2; room = room; least = refl; within = omega arith; stands = λ fs rest spells. spells }
+
+      acked : can_send x.acknowledging ≡ true → Goes Behind (with_ack (no_frames x))
+      acked due =
+          let filled = (and_parts x.acknowledging.due (is_filled x.acknowledging.runs) due).1 in
+          let left = ack_leaves x first.acks filled room in
+          ack_goes (no_frames x) filled (omega arith) first
+
+      composes : (b : Bool) → can_send x.acknowledging ≡ b → Goes Stands (composed_if b x)
+      composes true due =
+          let filled = (and_parts x.acknowledging.due (is_filled x.acknowledging.runs) due).1 in
+          let left = ack_leaves x first.acks filled room in
+          asking_goes (with_ack (no_frames x)) (omega arith) (acked due)
       composes false due =
-          let asked = asking_goes (no_frames e) first in
-          late_stands (with_asking (no_frames e)) asked (ack_fits (with_asking (no_frames e))) refl
+          let most = first.room in
+          let asked = asking_goes (no_frames x) (omega (arith, most)) first in
+          late_goes (with_asking (no_frames x)) asked (ack_fits (with_asking (no_frames x))) refl
 
-      go : (b : Bool) → MayLeave b e → Stands (draft_if b e)
-      go true due = inl (acked (due refl)).stands
-      go false due = composes (can_send e.acknowledging) refl
+      stood : (d : Draft) → Goes Behind d → Spells 0 d
+      stood d g = record { spells = fills d (inl g.stands); within = g.within; least_is = g.least }
+
+      go : (b : Leaving) → MayLeave b e → Spells (least_left b) (draft_as b e)
+      go whole due = spelled (composed x) (composes (can_send x.acknowledging) refl)
+      go alone due = stood (with_ack (no_frames x)) (acked (due refl))
+      go (probe size) due = record { spells = fills (probing size e) (inl (behind_fit (with_least (no_frames e) size) ping e (λ fs rest spells. spells) tt)); within = (let enough = room in omega arith); least_is = refl }
+      go (nothing held) due = record { spells = fills (no_frames e) (inl (λ fs rest spells. spells)); within = omega arith; least_is = refl }

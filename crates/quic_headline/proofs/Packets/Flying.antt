@@ -12,6 +12,8 @@ use Rattle.quic_packet.proofs.Numbers.{newest_opens}
 use Rattle.quic_time.specs.Rtt.{Rtt, with_sample}
 use Rattle.quic_parameters.specs.Parameters.{ParameterValues}
 use Rattle.quic_config.specs.Transport.{TransportSettings}
+use Rattle.quic_send_buffer.specs.declared.stream_meta.StreamMeta.{StreamMeta}
+use Rattle.quic_congestion.specs.Search.{Discovery}
 use Rattle.quic_machine.specs.Policy.{Policy, CanOpen}
 use Rattle.quic_machine.specs.Closing.{Closing, ticked}
 use Rattle.quic_machine.specs.Opens.{own_id_length}
@@ -20,24 +22,28 @@ use Rattle.quic_spaces.specs.Marks.{Counts}
 use Rattle.quic_machine.specs.Parts.{Path, Messaging}
 use Rattle.quic_streams_parts.specs.Table.{Table, added, put}
 use Rattle.quic_machine.specs.Tracking.{Tracking, TrackedPacket, carried_in, without_record, asks_any, is_behind, tail_of, forgets, forgotten, oldest, without_packet, asking_sent, acked_by, not_acked_by, Verdict, verdict_at, lost_by, kept_by, loss_time_of, after_detection, after_answered, after_loss_timeout, moment_or, probe_moment, backed_off}
-use Rattle.quic_machine.specs.End.{End, number_of, with_messages, with_tracking, with_rtt, probe_timeout, with_told, with_marking}
-use Rattle.quic_machine.specs.Acked.{without_known, packet_acked, packets_acked, packets_lost, verdict, losses_detected, told_delay, measured, sampled, without_acked, after_named, losses_taken}
+use Rattle.quic_machine.specs.End.{End, number_of, with_messages, with_tracking, with_rtt, with_discovery, probe_timeout, with_told, with_marking}
+use Rattle.quic_machine.specs.Acked.{without_known, reset_acked, stream_acked, packet_acked, packets_acked, packets_lost, verdict, losses_detected, told_delay, measured, sampled, without_acked, after_named, losses_taken}
 use Rattle.quic_machine.specs.Receive.{is_above, names_ungiven, take_frame}
-use Rattle.quic_machine.specs.Poll.{Draft, asking, datagram_size, packet_of, after_given, draft_if}
+use Rattle.quic_machine.specs.Poll.{Draft, asking, datagram_size, packet_of, after_given, draft_as, Leaving}
 use Rattle.quic_machine.specs.Timeouts.{loss_judged, loss_expired}
 use Rattle.quic_machine.specs.FrameCases.{OnStreams, named, ack_taken, passed, streams_acked_keep, resets_acked_keep, packets_lost_keep, frame_leaves, frames_taken, by_marks}
 use Rattle.quic_machine.specs.PollCases.{ready_at, frames_padded, Composes, composes}
 use Rattle.quic_headline.specs.Runs.{In, names}
-use Rattle.quic_headline.specs.Observer.{Sent, Terms, terms_of, asks_of, Flight, latest, late_by, is_lost, after_losses, is_greatest, of_number, measures, rtt_behind, settled_by, after_ack, after_frames, is_behind_asked, unasked, without_oldest, kept_flying, and_sent, waited, probe_due, due_or, loss_due, expired_for, sent_as}
+use Rattle.quic_headline.specs.Observer.{Sent, Terms, terms_of, asks_of, Flight, latest, late_by, is_lost, after_losses, is_greatest, of_number, measures, rtt_behind, settled_by, after_ack, after_frames, is_behind_asked, unasked, without_oldest, kept_flying, and_sent, waited, probe_due, due_or, loss_due, most_probes, expired_for, sent_as}
+use Rattle.quic_headline.specs.Telling.{acked_flight}
+use Rattle.quic_headline.proofs.Packets.Searches.{by_losses}
 use Rattle.quic_headline.proofs.Packets.Invariant.{IsGiven}
 use Rattle.quic_headline.proofs.Packets.Carried.{carried_padded}
 use Rattle.quic_headline.proofs.Packets.Named.{in_filter, IsNoAck, by_frame}
-use Rattle.quic_headline.proofs.Packets.Probes.{by_ready, MayLeave, after_going, by_going}
+use Rattle.quic_headline.proofs.Packets.Probes.{by_ready, after_going, by_going}
 use Rattle.quic_headline.proofs.Packets.Given.{draft_number}
 use Rattle.quic_headline.proofs.Packets.Delivered.{shown_if, expands, opened_given, frames_of_payload}
 use Rattle.quic_headline.proofs.Packets.Numbered.{Lies, lies_remove, one_key, added_last, is_at_same}
 use Rattle.quic_headline.proofs.Packets.Waited.{IsWaited, AreWaited, waited_filter, waited_length, waited_asks, waited_put, waited_push, waited_oldest, IsFound, waited_found, waited_staying, waited_lost, waited_late}
 use Rattle.quic_headline.proofs.Timers.LossTimers.{OpenStands}
+use Rattle.quic_machine.specs.Sizes.{search_acked, search_lost}
+use Rattle.quic_machine.specs.DraftLaws.{MayLeave}
 
 -- ---- what an end waits for
 
@@ -75,11 +81,13 @@ pub record Tells (t : Terms) (now : ℕ) (f : Flight) (h : Held) : Type 0 where
   pub asked : IsAsked f.asked h.tracking
   pub rtt : f.rtt ≡ h.rtt
 
--- An end waits for what is in flight: and when the next may be lost by time, and how often the timer of losses expired, as far as that doubles the wait.
+-- An end waits for what is in flight: and when the next may be lost by time, how often the timer of losses expired, as far as that doubles the wait, and how many
+-- probes wait.
 pub record Waits (t : Terms) (now : ℕ) (f : Flight) (h : Held) : Type 0 where
   pub tells : Tells t now f h
   pub loss_time : f.loss_time ≡ h.tracking.loss_time
   pub expiries : min f.expiries 16 ≡ min h.tracking.timeouts 16
+  pub probes : f.probes ≡ h.tracking.probes
 
 -- ---- losses
 
@@ -89,7 +97,8 @@ lost_held ps e = packets_lost_keep (λ (x : End). held x ≡ held e) (λ m x i. 
 
 -- losses leave all but what is tracked
 pub detected_held : (e : End) → held (losses_detected e) ≡ record (held e) { tracking = after_detection (verdict e) e.tracking }
-detected_held e = ap (λ (h : Held). record h { tracking = after_detection (verdict e) e.tracking }) (lost_held (lost_by (verdict e) e.tracking.packets) e)
+detected_held e = by_losses (λ (x : End). held x ≡ record (held e) { tracking = after_detection (verdict e) e.tracking }) e
+    (λ discovery queues. ap (λ (h : Held). record h { tracking = after_detection (verdict e) e.tracking }) (lost_held (lost_by (verdict e) e.tracking.packets) e))
 
 -- the observer judges as the end does
 abbrev judged : Terms → ℕ → Flight → Verdict
@@ -113,7 +122,7 @@ losses_tell t now f e w = (
     asked = asked f.asked w.asked;
     rtt = w.rtt;
   }),
-  waited_late (late_by t f.rtt) (unwrap_or f.named 0) (after_losses t now f).flying (kept_by (judged t now f) e.tracking.packets) kept ∙ ap (λ (v : Verdict). loss_time_of v (kept_by v e.tracking.packets)) same,
+  by_losses (λ (x : End). (after_losses t now f).loss_time ≡ x.tracking.loss_time) e (λ discovery queues. waited_late (late_by t f.rtt) (unwrap_or f.named 0) (after_losses t now f).flying (kept_by (judged t now f) e.tracking.packets) kept ∙ ap (λ (v : Verdict). loss_time_of v (kept_by v e.tracking.packets)) same),
 )
   where
     same : judged t now f ≡ verdict e
@@ -127,29 +136,35 @@ losses_tell t now f e w = (
     asked (Some s) i = i
 
 -- those of the datagrams in flight that are lost, in step with the packets that are
-lost_waited : (t : Terms) (now : ℕ) (f : Flight) (e : End) → Tells t now f (held e) → AreWaited (filter (λ s. is_lost t (late_by t f.rtt) now (unwrap_or f.named 0) s) f.flying) (lost_by (verdict e) e.tracking.packets)
+pub lost_waited : (t : Terms) (now : ℕ) (f : Flight) (e : End) → Tells t now f (held e) → AreWaited (filter (λ s. is_lost t (late_by t f.rtt) now (unwrap_or f.named 0) s) f.flying) (lost_by (verdict e) e.tracking.packets)
 lost_waited t now f e w =
     subst (λ (v : Verdict). AreWaited (filter (λ s. is_lost t (late_by t f.rtt) now (unwrap_or f.named 0) s) f.flying) (lost_by v e.tracking.packets)) (judged_same t now f e w)
     (waited_lost t (late_by t f.rtt) now (unwrap_or f.named 0) f.flying e.tracking.packets w.waits)
 
 -- ---- an ACK frame
 
--- packets that are acknowledged leave what the observer knows of
-acked_held : (ps : Table TrackedPacket) (e : End) → held (packets_acked ps e) ≡ held e
-acked_held ps e = go ps e refl
+-- what holds of an end whichever search there is, and stays where numbers, resets and frames of streams are acknowledged, holds where packets are
+pub acked_keep : (P : End → Type 0) → ((d : Discovery) (e : End) → P e → P (with_discovery e d)) → ((n : ℕ) (e : End) → P e → P (without_known (Some n) e)) → ((id : ℕ) (e : End) → P e → P (reset_acked id e)) → ((m : StreamMeta) (e : End) → P e → P (stream_acked m e))
+    → (ps : Table TrackedPacket) (e : End) → P e → P (packets_acked ps e)
+acked_keep P searched knows resets acks = go
   where
-    knows : (o : Option ℕ) (x : End) → held x ≡ held e → held (without_known o x) ≡ held e
-    knows None x i = i
-    knows (Some n) x i = i
+    known : (o : Option ℕ) (e : End) → P e → P (without_known o e)
+    known None e i = i
+    known (Some n) e i = knows n e i
 
-    go : (qs : Table TrackedPacket) (x : End) → held x ≡ held e → held (packets_acked qs x) ≡ held e
-    go [] x i = i
-    go (q ∷ qs) x i =
-        go qs (packet_acked q.1 x) (streams_acked_keep (λ (y : End). held y ≡ held e) (λ m y j. j) q.1.carried.stream_frames _
-        (resets_acked_keep (λ (y : End). held y ≡ held e) (λ id y j. j) q.1.carried.retransmits.reset_stream (without_known q.1.carried.largest_acked x) (knows q.1.carried.largest_acked x i)))
+    go : (ps : Table TrackedPacket) (e : End) → P e → P (packets_acked ps e)
+    go [] e i = i
+    go (p ∷ ps) e i =
+        let heard : End = search_acked p e in
+        go ps (packet_acked p e) (streams_acked_keep P acks p.1.carried.stream_frames _
+        (resets_acked_keep P resets p.1.carried.retransmits.reset_stream (without_known p.1.carried.largest_acked heard) (known p.1.carried.largest_acked heard (searched heard.path.discovery e i))))
+
+-- packets that are acknowledged leave what the observer knows of
+pub acked_held : (ps : Table TrackedPacket) (e : End) → held (packets_acked ps e) ≡ held e
+acked_held ps e = acked_keep (λ (x : End). held x ≡ held e) (λ d x i. i) (λ n x i. i) (λ id x i. i) (λ m x i. i) ps e refl
 
 -- whether a number lies above all that were named
-above_same : (o : Option ℕ) (n : ℕ) → is_above o n ≡ is_greatest o n
+pub above_same : (o : Option ℕ) (n : ℕ) → is_above o n ≡ is_greatest o n
 above_same None n = refl
 above_same (Some m) n = refl
 
@@ -181,28 +196,18 @@ measured_tells t now f a e None (Some p) found w = absurd found
 measured_tells t now f a e (Some s) None found w = absurd found
 
 -- the end once packets are acknowledged, and the round trip is measured, before losses are detected
-abbrev timed : Table TrackedPacket → Bool → AckValue → End → End
+abbrev pub timed : Table TrackedPacket → Bool → AckValue → End → End
 timed ps rises a e = sampled (measured rises a ps) a (without_acked ps a e)
 
--- and what is in flight then
-abbrev settling : Terms → ℕ → AckValue → List Sent → List Sent → Flight → Flight
-settling t now a ss others f = record f {
-  named = Some (greatest_of f.named a.largest);
-  flying = others;
-  acked = f.acked ++ ss;
-  rtt = rtt_behind t now a (measures f.named a ss) f.rtt;
-  expiries = 0;
-}
-
 -- the greatest number that an ACK frame names counts
-abbrev counted : AckValue → Flight → Flight
+abbrev pub counted : AckValue → Flight → Flight
 counted a f = record f { named = Some (greatest_of f.named a.largest) }
 
-timed_tells : (t : Terms) (now : ℕ) (ss others : List Sent) (ps : Table TrackedPacket) (rises : Bool) (a : AckValue) (f : Flight) (e : End) → rises ≡ is_greatest f.named a.largest → AreWaited ss ps → AreWaited others (not_acked_by a e.tracking.packets)
-    → Tells t now (counted a f) (held e) → Tells t now (settling t now a ss others f) (held (timed ps rises a e))
+pub timed_tells : (t : Terms) (now : ℕ) (ss others : List Sent) (ps : Table TrackedPacket) (rises : Bool) (a : AckValue) (f : Flight) (e : End) → rises ≡ is_greatest f.named a.largest → AreWaited ss ps → AreWaited others (not_acked_by a e.tracking.packets)
+    → Tells t now (counted a f) (held e) → Tells t now (acked_flight t now a ss others f) (held (timed ps rises a e))
 timed_tells t now ss others ps rises a f e is acked stay w =
-    measured_tells t now (record f { named = Some (greatest_of f.named a.largest); flying = others; acked = f.acked ++ ss; expiries = 0 }) a (without_acked ps a e) (measures f.named a ss) (measured rises a ps) (measured_found f.named rises a ss ps is acked)
-    (subst (λ (h : Held). Tells t now (record f { named = Some (greatest_of f.named a.largest); flying = others; acked = f.acked ++ ss; expiries = 0 }) (record h { tracking = record e.tracking { packets = not_acked_by a e.tracking.packets } })) (sym (acked_held ps e))
+    measured_tells t now (record f { named = Some (greatest_of f.named a.largest); flying = others; acked = f.acked ++ ss; expiries = 0; probes = 0 }) a (without_acked ps a e) (measures f.named a ss) (measured rises a ps) (measured_found f.named rises a ss ps is acked)
+    (subst (λ (h : Held). Tells t now (record f { named = Some (greatest_of f.named a.largest); flying = others; acked = f.acked ++ ss; expiries = 0; probes = 0 }) (record h { tracking = record e.tracking { packets = not_acked_by a e.tracking.packets } })) (sym (acked_held ps e))
     (record { terms = w.terms; clock = w.clock; named = w.named; waits = stay; asked = asked f.asked w.asked; rtt = w.rtt }))
   where
     asked : (o : Option Sent) → IsAsked o e.tracking → IsAsked o (record e.tracking { packets = not_acked_by a e.tracking.packets })
@@ -214,12 +219,13 @@ named_waits : (t : Terms) (now : ℕ) (ss others : List Sent) (ps : Table Tracke
     → Waits t now (counted a f) (held e) → Waits t now (settled_by t now a ss others f) (held (after_named ps rises a e))
 named_waits t now [] others [] rises a f e is acked stay w = w
 named_waits t now (s ∷ ss) others (p ∷ ps) rises a f e is acked stay w = by_marks rises (length (p ∷ ps)) a (losses_taken (p ∷ ps) rises a e) (λ (x : End). Waits t now (settled_by t now a (s ∷ ss) others f) (held x)) (λ m marking.
-    let found = losses_tell t now (settling t now a (s ∷ ss) others f) (timed (p ∷ ps) rises a e) (timed_tells t now (s ∷ ss) others (p ∷ ps) rises a f e is acked stay w.tells) in
+    let found = losses_tell t now (acked_flight t now a (s ∷ ss) others f) (timed (p ∷ ps) rises a e) (timed_tells t now (s ∷ ss) others (p ∷ ps) rises a f e is acked stay w.tells) in
     let told = found.0 in
     record {
       tells = record { terms = told.terms; clock = told.clock; named = told.named; waits = told.waits; asked = asked f.asked told.asked; rtt = told.rtt };
       loss_time = found.1;
       expiries = refl;
+      probes = refl;
     })
   where
     left : Tracking
@@ -237,6 +243,8 @@ named_waits t now (s ∷ ss) others [] rises a f e is acked stay w = absurd acke
 pub record Loses (P : List Sent → List Sent → End → Type 0) : Type 0 where
   -- other packets are tracked
   pub tracked : (flying acked : List Sent) (t : Tracking) (e : End) → P flying acked e → P flying acked (with_tracking e t)
+  -- the search for a size learns of packets that are lost
+  pub searches : (flying acked : List Sent) (lost : Table TrackedPacket) (e : End) → P flying acked e → P flying acked (search_lost lost e)
   -- of the datagrams in flight some are lost, which are tracked as these packets, and others stay
   pub loses : (flying acked gone left : List Sent) (ps : Table TrackedPacket) (e : End) → ((s : Sent) → In s gone → In s flying) → ((s : Sent) → In s left → In s flying) → AreWaited gone ps → P flying acked e → P left acked (packets_lost ps e)
 
@@ -261,8 +269,9 @@ losses_fly P c t now f acked e w i =
     let greatest : ℕ = unwrap_or f.named 0 in
     let gone : List Sent = filter (λ s. is_lost t delay now greatest s) f.flying in
     let ps : Table TrackedPacket = lost_by (verdict e) e.tracking.packets in
-    c.tracked (after_losses t now f).flying acked (after_detection (verdict e) e.tracking) (packets_lost ps e)
-    (c.loses f.flying acked gone (after_losses t now f).flying ps e (λ s j. in_filter (λ s. is_lost t delay now greatest s) s f.flying j) (λ s j. in_filter (λ s. not (is_lost t delay now greatest s)) s f.flying j) (lost_waited t now f e w) i)
+    c.searches (after_losses t now f).flying acked ps (with_tracking (packets_lost ps e) (after_detection (verdict e) e.tracking))
+    (c.tracked (after_losses t now f).flying acked (after_detection (verdict e) e.tracking) (packets_lost ps e)
+    (c.loses f.flying acked gone (after_losses t now f).flying ps e (λ s j. in_filter (λ s. is_lost t delay now greatest s) s f.flying j) (λ s j. in_filter (λ s. not (is_lost t delay now greatest s)) s f.flying j) (lost_waited t now f e w) i))
 
 -- the first frame, and then the others
 first_flight : (t : Terms) (now : ℕ) (f : FrameValue) (fs : List FrameValue) (x : Flight) → after_frames t now (f ∷ fs) x ≡ after_frames t now fs (after_frames t now (f ∷ []) x)
@@ -297,7 +306,7 @@ module _ (t : Terms) (now : ℕ) (frames : List FrameValue) (P : List Sent → L
       let taken : End = losses_taken ps' rises a e in
       let kept : P (settled_by t now a ss' others x).flying (x.acked ++ ss') taken =
       c.losing.tracked (settled_by t now a ss' others x).flying (x.acked ++ ss') (after_answered found.tracking) found
-      (losses_fly P c.losing t now (settling t now a ss' others x) (x.acked ++ ss') (timed ps' rises a e) (timed_tells t now ss' others ps' rises a x e is acked stay w)
+      (losses_fly P c.losing t now (acked_flight t now a ss' others x) (x.acked ++ ss') (timed ps' rises a e) (timed_tells t now ss' others ps' rises a x e is acked stay w)
       (sampled_flies others (x.acked ++ ss') (measured rises a ps') a left (c.losing.tracked others (x.acked ++ ss') left.tracking (packets_acked ps' e) (c.acks x.flying x.acked ss' others ps' e inside stays acked i)))) in
       by_marks rises (length ps') a taken (P (settled_by t now a ss' others x).flying (x.acked ++ ss')) (λ m marking. c.marked (settled_by t now a ss' others x).flying (x.acked ++ ss') m marking taken kept)
   named_flies [] others (p ∷ ps) rises x a e is inside stays acked stay w i = absurd acked
@@ -336,6 +345,7 @@ module _ (t : Terms) (now : ℕ) (frames : List FrameValue) (P : List Sent → L
             tells = record { terms = w.terms; clock = w.clock; named = ap (λ (o : Option ℕ). Some (greatest_of o a.largest)) w.named; waits = w.waits; asked = w.asked; rtt = w.rtt };
             loss_time = f.waits.loss_time;
             expiries = f.waits.expiries;
+            probes = f.waits.probes;
           }
 
   -- a frame that is no ACK frame leaves what the end waits for
@@ -365,7 +375,7 @@ module _ (t : Terms) (now : ℕ) (frames : List FrameValue) (P : List Sent → L
 -- so it waits for them, whatever else holds
 pub frames_wait : (t : Terms) (now : ℕ) (frames : List FrameValue) (x : Flight) (e : End) → (passed frames e).fault ≡ None → Waits t now x (held e) → Waits t now (after_frames t now frames x) (held (passed frames e).end)
 frames_wait t now frames x e none w = (frames_fly t now frames (λ flying acked g. Unit {0}) (record {
-  losing = record { tracked = λ flying acked u g i. tt; loses = λ flying acked gone left ps g inside stays lost i. tt };
+  losing = record { tracked = λ flying acked u g i. tt; searches = λ flying acked lost g i. tt; loses = λ flying acked gone left ps g inside stays lost i. tt };
   names = λ flying acked a g among i. tt;
   acks = λ flying acked ss left ps g inside stays all i. tt;
   measured = λ flying acked r first g i. tt;
@@ -460,7 +470,7 @@ given_waits : (t : Terms) (now : ℕ) (tr : Tracking) (n next : ℕ) (p : Tracke
     → tr ≡ asking_sent p.asks n p.time_sent (record h.tracking { packets = added (without_packet (forgotten h.tracking p) h.tracking.packets) n p }) → Waits t now (and_sent s f) (record h { tracking = tr; numbers = numbers })
 given_waits t now tr n next p s f h is lies above w numbers same tracks =
     subst (λ (u : Tracking). Waits t now (and_sent s f) (record h { tracking = u; numbers = numbers })) (sym tracks)
-    (subst (λ (b : Bool). Waits t now (record f { flying = kept_flying (asks_of s) f ++ s ∷ []; asked = if b then Some s else f.asked }) (record h { tracking = asking_sent p.asks n p.time_sent (record h.tracking { packets = added kept n p }); numbers = numbers })) is.asks
+    (subst (λ (b : Bool). Waits t now (record f { flying = kept_flying (asks_of s) f ++ s ∷ []; asked = if b then Some s else f.asked; probes = if b then f.probes - 1 else f.probes }) (record h { tracking = asking_sent p.asks n p.time_sent (record h.tracking { packets = added kept n p }); numbers = numbers })) is.asks
     (go p.asks))
   where
     kept : Table TrackedPacket
@@ -482,28 +492,30 @@ given_waits t now tr n next p s f h is lies above w numbers same tracks =
     asked None i = i
     asked (Some u) i = i
 
-    go : (b : Bool) → Waits t now (record f { flying = kept_flying (asks_of s) f ++ s ∷ []; asked = if b then Some s else f.asked }) (record h { tracking = asking_sent b n p.time_sent (record h.tracking { packets = added kept n p }); numbers = numbers })
+    go : (b : Bool) → Waits t now (record f { flying = kept_flying (asks_of s) f ++ s ∷ []; asked = if b then Some s else f.asked; probes = if b then f.probes - 1 else f.probes }) (record h { tracking = asking_sent b n p.time_sent (record h.tracking { packets = added kept n p }); numbers = numbers })
     go true = record {
       tells = record { terms = w.tells.terms; clock = w.tells.clock; named = w.tells.named ∙ sym same; waits = all; asked = (ap (λ (m : ℕ). Some m) is.number, is.time); rtt = w.tells.rtt };
       loss_time = w.loss_time;
       expiries = w.expiries;
+      probes = ap (λ (m : ℕ). m - 1) w.probes;
     }
     go false = record {
       tells = record { terms = w.tells.terms; clock = w.tells.clock; named = w.tells.named ∙ sym same; waits = all; asked = asked f.asked w.tells.asked; rtt = w.tells.rtt };
       loss_time = w.loss_time;
       expiries = w.expiries;
+      probes = w.probes;
     }
 
 -- what an end gives is in flight, and waited for
-pub draft_waits : (p : Policy) (t : Terms) (now : ℕ) (b : Bool) (e : End) (s : Sent) (f : Flight) → MayLeave b e → e.path.generation ≡ 0 → s.number ≡ number_of e → s.moment ≡ e.closing.clock → s.frames ≡ frames_padded (draft_if b e) → s.size ≡ datagram_size (draft_if b e)
-    → Lies 0 e.numbers.next e.tracking.packets → e.numbers.next ≤ number_of e → Waits t now f (held e) → Waits t now (and_sent s f) (held (after_given p (draft_if b e)))
+pub draft_waits : (p : Policy) (t : Terms) (now : ℕ) (b : Leaving) (e : End) (s : Sent) (f : Flight) → MayLeave b e → e.path.generation ≡ 0 → s.number ≡ number_of e → s.moment ≡ e.closing.clock → s.frames ≡ frames_padded (draft_as b e) → s.size ≡ datagram_size (draft_as b e)
+    → Lies 0 e.numbers.next e.tracking.packets → e.numbers.next ≤ number_of e → Waits t now f (held e) → Waits t now (and_sent s f) (held (after_given p (draft_as b e)))
 draft_waits p t now b e s f may path number moment frames size lies above w = by_going (λ (x : End). Waits t now (and_sent s f) (held x)) p d (λ pacing.
     let x : End = after_going p d pacing in
     given_waits t now x.tracking (number_of d.end) e.numbers.next (packet_of d) s f (held d.end) is (subst (λ (x : Tracking). Lies 0 e.numbers.next x.packets) (sym c.tracking) lies) (subst (λ (n : ℕ). e.numbers.next ≤ n) (sym given) above)
     (subst (λ (h : Held). Waits t now f h) same w) x.numbers refl refl)
   where
     d : Draft
-    d = draft_if b e
+    d = draft_as b e
 
     c : Composes e d.end
     c = composes b e may
@@ -533,6 +545,7 @@ ticked_waits t before now f h w = record {
   tells = record { terms = w.tells.terms; clock = ap (λ (n : ℕ). max n now) w.tells.clock; named = w.tells.named; waits = w.tells.waits; asked = w.tells.asked; rtt = w.tells.rtt };
   loss_time = w.loss_time;
   expiries = w.expiries;
+  probes = w.probes;
 }
 
 -- other numbers stand, but the greatest that was named
@@ -541,6 +554,7 @@ numbers_wait t now f h numbers same w = record {
   tells = record { terms = w.tells.terms; clock = w.tells.clock; named = w.tells.named ∙ sym same; waits = w.tells.waits; asked = w.tells.asked; rtt = w.tells.rtt };
   loss_time = w.loss_time;
   expiries = w.expiries;
+  probes = w.probes;
 }
 
 -- an end that is ready waits as before: a probe may take the record of a packet
@@ -556,7 +570,8 @@ ready_waits t before now f e lies i = by_ready (λ (x : End). Waits t (max befor
   };
   loss_time = w.loss_time;
   expiries = w.expiries;
-}) (λ moment pacing x j. j)
+  probes = w.probes;
+}) (λ moment pacing discovery x j. j)
   where
     w : Waits t (max before now) f (record (held e) { closing = ticked e.closing now })
     w = ticked_waits t before now f (held e) i
@@ -573,12 +588,13 @@ judged_waits t now f e w None = record {
   tells = record { terms = w.tells.terms; clock = w.tells.clock; named = w.tells.named; waits = w.tells.waits; asked = asked f.asked w.tells.asked; rtt = w.tells.rtt };
   loss_time = w.loss_time;
   expiries = let same = w.expiries in omega (arith, same);
+  probes = ap (λ (n : ℕ). min (n + 2) most_probes) w.probes;
 }
   where
     asked : (o : Option Sent) → IsAsked o e.tracking → IsAsked o (after_loss_timeout e.tracking)
     asked None i = i
     asked (Some s) i = i
-judged_waits t now f e w (Some moment) = let found = losses_tell t now f e w.tells in record { tells = found.0; loss_time = found.1; expiries = w.expiries }
+judged_waits t now f e w (Some moment) = let found = losses_tell t now f e w.tells in record { tells = found.0; loss_time = found.1; expiries = by_losses (λ (x : End). min f.expiries 16 ≡ min x.tracking.timeouts 16) e (λ discovery queues. w.expiries); probes = by_losses (λ (x : End). f.probes ≡ x.tracking.probes) e (λ discovery queues. w.probes) }
 
 -- where it expired
 pub expired_waits : (t : Terms) (now : ℕ) (f : Flight) (e : End) → Waits t now f (held e) → (b : Bool) → Waits t now (if b then expired_for f.loss_time t now f else f) (held (loss_expired b e))

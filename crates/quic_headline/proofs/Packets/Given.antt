@@ -13,27 +13,23 @@ use Rattle.quic_machine.specs.declared.run.Answer.TheVariants as answers
 use Rattle.quic_machine.specs.Ids.{Ids}
 use Rattle.quic_spaces.specs.Numbers.{Numbers, cut_against, kept_numbers, can_number, number_given}
 use Rattle.quic_spaces.specs.Filter.{Filter, is_skipped, allocated, after_skipped, after_allocated}
-use Rattle.quic_machine.specs.Parts.{Waiting}
-use Rattle.quic_machine.specs.Tracking.{Tracking}
 use Rattle.quic_machine.specs.Policy.{Policy}
 use Rattle.quic_machine.specs.End.{End, number_of}
 use Rattle.quic_headline.specs.Runs.{In}
-use Rattle.quic_congestion.specs.Pacer.{Pacing}
-use Rattle.quic_machine.specs.Control.{Gated}
-use Rattle.quic_machine.specs.DraftLaws.{due_alone}
-use Rattle.quic_machine.specs.Poll.{Polled, Draft, padded, payload_of, datagram_of, lazied, goes, draft_if, draft_of, polled}
+use Rattle.quic_machine.specs.DraftLaws.{MayLeave}
+use Rattle.quic_machine.specs.Poll.{zeros_behind, Polled, Draft, number_width, payload_of, datagram_of, goes, draft_as, draft_of, polled, Leaving, Ready}
 use Rattle.quic_machine.specs.Machine.{IsAnswer, after_call, gives, fails, gave}
 use Rattle.quic_machine.specs.CallCases.{is_poll}
-use Rattle.quic_machine.specs.PollCases.{at_poll, ready_at, frames_padded, frames_at, given_as, gives_as, by_poll, composes}
+use Rattle.quic_machine.specs.PollCases.{at_poll, ready_at, frames_padded, frames_at, given_as, gives_as, by_poll, composes, PollChange}
 use Rattle.quic_headline.specs.Observer.{Sent}
 use Rattle.quic_headline.proofs.Packets.Invariant.{IsGiven, IsSent, IsBehind, IsLeftOut, Gives}
 use Rattle.quic_headline.proofs.Packets.Growth.{in_more, step_push}
 use Rattle.quic_headline.proofs.Packets.Rising.{rising_push, next_push}
 use Rattle.quic_headline.proofs.Packets.Stays.{stays_call}
 use Rattle.quic_headline.proofs.Packets.Composed.{IsSpellable}
-use Rattle.quic_headline.proofs.Packets.Probes.{MayLeave}
 use Rattle.quic_headline.proofs.Places.Parties.{sent_by, sent_if, sents_by}
 use Rattle.quic_headline.proofs.Places.Steps.{poll_answer}
+use Rattle.quic_headline.proofs.Packets.Probes.{may_leave}
 
 -- ---- one datagram
 
@@ -46,20 +42,20 @@ allocated_near f next = go (is_skipped f next)
     go false = (omega arith, omega arith)
 
 -- what goes does so under the number that is next
-pub draft_number : (held : Bool) (e : End) → MayLeave held e → number_of (draft_if held e).end ≡ number_of e
-draft_number held e may =
-    let c = composes held e may in
-    ap (λ (f : Filter). allocated f (draft_if held e).end.numbers.next) c.filter ∙ ap (λ (x : Numbers). allocated e.filter x.next) c.numbers
+pub draft_number : (leaving : Leaving) (e : End) → MayLeave leaving e → number_of (draft_as leaving e).end ≡ number_of e
+draft_number leaving e may =
+    let c = composes leaving e may in
+    ap (λ (f : Filter). allocated f (draft_as leaving e).end.numbers.next) c.filter ∙ ap (λ (x : Numbers). allocated e.filter x.next) c.numbers
 
 -- number and payload have four bytes at least
-padded_four : (width : ℕ) (spelled : List ℕ) → 4 ≤ width + length (padded width spelled)
-padded_four width spelled =
-    let all = length-append spelled (replicate (4 - (width + length spelled)) 0) in
-    let zeros : length (replicate {A = ℕ} (4 - (width + length spelled)) 0) ≡ 4 - (width + length spelled) = length-replicate (4 - (width + length spelled)) 0 in
+padded_four : (d : Draft) → 4 ≤ number_width d + length (payload_of d)
+padded_four d =
+    let all = length-append d.bytes (replicate (zeros_behind d) 0) in
+    let zeros : length (replicate {A = ℕ} (zeros_behind d) 0) ≡ zeros_behind d = length-replicate (zeros_behind d) 0 in
     omega arith
 
 -- a number that may be given is small, and near the greatest acknowledged, even where one is left out before it
-number_small : (f : Filter) (numbers : Numbers) → can_number numbers ≡ true → (allocated f numbers.next < 2 ^ 62) × (allocated f numbers.next - cut_against numbers < 2 ^ 31)
+pub number_small : (f : Filter) (numbers : Numbers) → can_number numbers ≡ true → (allocated f numbers.next < 2 ^ 62) × (allocated f numbers.next - cut_against numbers < 2 ^ 31)
 number_small f numbers may =
     let parts = and_parts (nat_lt (numbers.next + kept_numbers) (2 ^ 62)) (nat_lt (numbers.next - cut_against numbers + kept_numbers) (2 ^ 31)) may in
     let small = ltb-true (numbers.next + kept_numbers) (2 ^ 62) parts.0 in
@@ -68,27 +64,26 @@ number_small f numbers may =
     (omega arith, omega arith)
 
 -- what goes of an end that is ready does so in a datagram of its number
-pub datagram_given : (p : Policy) (g : Gated) → can_number g.end.numbers ≡ true → goes g ≡ true → IsSpellable g → IsGiven p g.end.ids.active.id (number_of g.end) (cut_against g.end.numbers) (frames_padded (draft_of g)) (datagram_of p (draft_of g))
-datagram_given p g may waiting spellable =
-    let e : End = lazied g.end in
-    let alone : MayLeave g.held e = due_alone g waiting in
-    let c = composes g.held e alone in
+pub datagram_given : (p : Policy) (g : Ready) → can_number g.end.numbers ≡ true → MayLeave g.leaving g.end → IsSpellable g → IsGiven p g.end.ids.active.id (number_of g.end) (cut_against g.end.numbers) (frames_padded (draft_of g)) (datagram_of p (draft_of g))
+datagram_given p g may alone spellable =
+    let e : End = g.end in
+    let c = composes g.leaving e alone in
     let d : Draft = draft_of g in
     let some = spellable.some in
     let reference : cut_against d.end.numbers ≡ cut_against e.numbers = ap (λ (x : Numbers). cut_against x) c.numbers in
-    let count : ℕ = 4 - ((truncated (number_of d.end) (cut_against d.end.numbers)).width + length d.bytes) in
+    let count : ℕ = zeros_behind d in
     let long = length-append d.frames (replicate count padding) in
-    let four = padded_four (truncated (number_of d.end) (cut_against d.end.numbers)).width d.bytes in
+    let four = padded_four d in
     let small = number_small e.filter e.numbers may in
     record {
       payload = payload_of d;
       spells = spellable.spells;
       some = omega arith;
-      four = subst (λ (n : ℕ). 4 ≤ (truncated n (cut_against e.numbers)).width + length (payload_of d)) (draft_number g.held e alone)
+      four = subst (λ (n : ℕ). 4 ≤ (truncated n (cut_against e.numbers)).width + length (payload_of d)) (draft_number g.leaving e alone)
           (subst (λ (r : ℕ). 4 ≤ (truncated (number_of d.end) r).width + length (payload_of d)) reference four);
       near = small.1;
       small = small.0;
-      is = ap (λ (n : ℕ). sent p.header p.packet n (cut_against d.end.numbers) d.end.ids.active.id (payload_of d)) (draft_number g.held e alone)
+      is = ap (λ (n : ℕ). sent p.header p.packet n (cut_against d.end.numbers) d.end.ids.active.id (payload_of d)) (draft_number g.leaving e alone)
           ∙ ap (λ (r : ℕ). sent p.header p.packet (number_of e) r d.end.ids.active.id (payload_of d)) reference
           ∙ ap (λ (x : Ids). sent p.header p.packet (number_of e) (cut_against e.numbers) x.active.id (payload_of d)) c.ids;
     }
@@ -165,7 +160,7 @@ polled_gives : (p : Policy) (e : End) (now : ℕ) (id : List ℕ) (sents : List 
     → Gives p id (polled p e now).end.numbers (polled p e now).end.filter.last (sents ++ sent_if (gave (answers.Poll (polled p e now).answer)) (sent_by e now)) (given ++ given_as (polled p e now).answer (polled p e now).datagram)
 polled_gives p e now id sents given active spellable before =
     by_poll p e now (λ (q : Polled). Gives p id q.end.numbers q.end.filter.last (sents ++ sent_if (gave (answers.Poll q.answer)) (sent_by e now)) (given ++ given_as q.answer q.datagram))
-    (record { silent = nothing; failed = nothing; nothing = λ t w moment pacing limited. nothing; used_up = λ t w moment pacing. nothing; gives = λ held t w moment pacing paid tracking timers is. one held t w moment pacing })
+    (record { silent = nothing; failed = nothing; nothing = λ c. nothing; used_up = λ c. nothing; gives = λ leaving c left is. one leaving c })
   where
     nothing : Gives p id e.numbers e.filter.last (sents ++ []) (given ++ [])
     nothing = gives_quiet p id e.numbers e.numbers e.filter.last sents given refl (λ b. b) before
@@ -174,17 +169,17 @@ polled_gives p e now id sents given active spellable before =
     OneMore : List ℕ → Filter → Numbers → Type 0
     OneMore d f numbers = Gives p id (number_given numbers (allocated f numbers.next)) (after_allocated f numbers.next (p.words f.drawn)).last (sents ++ sent_by e now ∷ []) (given ++ d ∷ [])
 
-    one : (held : Bool) (t : Tracking) (w : Waiting) (moment : Option ℕ) (pacing : Pacing) → can_number e.numbers ≡ true → ready_at e now ≡ record { held = held; end = at_poll e now t w moment pacing e.path.app_limited } → goes (ready_at e now) ≡ true
-        → (let d : Draft = draft_if held (lazied (at_poll e now t w moment pacing e.path.app_limited)) in OneMore (datagram_of p d) d.end.filter d.end.numbers)
-    one held t w moment pacing may ready some =
-        let there : End = at_poll e now t w moment pacing e.path.app_limited in
-        let g : Gated = record { held = held; end = there } in
+    one : (leaving : Leaving) (c : PollChange) → can_number e.numbers ≡ true → ready_at e now ≡ record { leaving = leaving; end = at_poll e now c } → goes (ready_at e now) ≡ true
+        → (let d : Draft = draft_as leaving (at_poll e now c) in OneMore (datagram_of p d) d.end.filter d.end.numbers)
+    one leaving c may ready some =
+        let there : End = at_poll e now c in
+        let g : Ready = record { leaving = leaving; end = there } in
         let d : List ℕ = datagram_of p (draft_of g) in
         let frames : List FrameValue = frames_padded (draft_of g) in
-        let waits : goes g ≡ true = ap (λ (x : Gated). goes x) (sym ready) ∙ some in
-        let c = composes held (lazied there) (due_alone g waits) in
-        let frames_are : frames_at e now ≡ frames = ap (λ (x : Gated). frames_padded (draft_of x)) ready in
-        let given_now : IsGiven p e.ids.active.id (number_of e) (cut_against e.numbers) frames d = datagram_given p g may waits (subst IsSpellable ready (spellable some)) in
+        let due : MayLeave leaving there = may_leave e now leaving there ready in
+        let c = composes leaving there due in
+        let frames_are : frames_at e now ≡ frames = ap (λ (x : Ready). frames_padded (draft_of x)) ready in
+        let given_now : IsGiven p e.ids.active.id (number_of e) (cut_against e.numbers) frames d = datagram_given p g may due (subst IsSpellable ready (spellable some)) in
         let here : IsGiven p id (number_of e) (cut_against e.numbers) (frames_at e now) d =
         subst (λ (fs : List FrameValue). IsGiven p id (number_of e) (cut_against e.numbers) fs d) (sym frames_are) (subst (λ (i : List ℕ). IsGiven p i (number_of e) (cut_against e.numbers) frames d) active given_now) in
         let more : OneMore d e.filter e.numbers = gives_more p id e.filter (p.words e.filter.drawn) e.numbers sents given (sent_by e now) d refl here before in

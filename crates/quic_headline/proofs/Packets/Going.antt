@@ -28,12 +28,12 @@ use Rattle.quic_messages.specs.Messages.{fitting, frame_bytes}
 use Rattle.quic_spaces.specs.Numbers.{cut_against}
 use Rattle.quic_machine.specs.Ids.{Ids}
 use Rattle.quic_machine.specs.End.{End, number_of, streams_at}
-use Rattle.quic_machine.specs.Poll.{Draft, no_frames, frame_room, least_room, fits, left, no_stream_frames, ping_if, with_control_frames, with_message, with_messages_of, with_message_frames, with_stream_frames, with_asking, ack_of, with_ack, ack_fits, ack_if, composed_if, composed, lazied, message_waits, asks_to_go, waits, draft_if, goes}
-use Rattle.quic_machine.specs.Control.{Gated}
-use Rattle.quic_machine.specs.PollCases.{ready_at, ready_leaves}
+use Rattle.quic_machine.specs.Poll.{Draft, no_frames, frame_room, least_room, fits, left, no_stream_frames, ping_if, with_control_frames, with_message, with_messages_of, with_message_frames, with_stream_frames, with_asking, ack_of, with_ack, ack_fits, ack_if, composed_if, composed, lazied, message_waits, asks_to_go, waits, draft_as, goes, probe, alone, whole, Leaving, with_least, Ready, nothing, goes_as}
+use Rattle.quic_machine.specs.PollCases.{ready_at, ready_leaves, whole_waits, may_leave_at}
 use Rattle.quic_machine.specs.Parts.{current_mtu}
-use Rattle.quic_machine.specs.DraftLaws.{Writing, HasRoom, room_most, without_entry, by_entries, by_messages, by_streams, by_asking, due_alone}
+use Rattle.quic_machine.specs.DraftLaws.{Writing, HasRoom, room_most, without_entry, by_entries, by_messages, by_streams, by_asking}
 use Rattle.quic_headline.specs.Runs.{In}
+use Rattle.quic_headline.proofs.Packets.Searches.{ready_size}
 use Rattle.quic_headline.proofs.Packets.Invariant.{Acks}
 use Rattle.quic_headline.proofs.Packets.Entries.{control_of, control_short}
 use Rattle.quic_headline.proofs.Packets.Composed.{Spelling, IsSpellable, waits_lazied, draft_spells}
@@ -119,7 +119,7 @@ first_goes (suc n) fair most t id h some room first found counts =
     rw (fits, first, found, counts) (halves_more n fair most (frame_sent fair most t id h) (omega arith))
 
 -- a draft has a frame
-abbrev HasFrames : Draft → Type 0
+abbrev pub HasFrames : Draft → Type 0
 HasFrames d = 0 < length d.frames
 
 -- so it is where one more goes
@@ -131,6 +131,7 @@ frames_stay : Writing HasFrames
 frames_stay = record {
   ack = λ d filled may some. one_more d (ack (ack_of d.end));
   ping = λ d some. one_more d ping;
+  probes = λ f size some. one_more (with_least (no_frames f) size) ping;
   drops = λ d kind some. some;
   control = λ d kind f is some. one_more d f;
   message = λ d m ms is fit some. one_more d (datagram m);
@@ -294,7 +295,7 @@ module _ (K : Streams → Type 0) (k : Spelling K) (c : Bringing K) where
       kinds_go (frame_room d.end) control_kinds (control.no_frames (length d.bytes) d.end.streams d.end.waiting.frames nothing_waits) kinds_apart (record { streams = i; room = room }) (any_waits (streams_at d.end) i waits)
 
   -- where something waits that asks, a frame goes
-  asking_goes : (e : End) → 1159 ≤ frame_room e → K (streams_at e) → asks_to_go e ≡ true → HasFrames (with_asking (no_frames e))
+  pub asking_goes : (e : End) → 1159 ≤ frame_room e → K (streams_at e) → asks_to_go e ≡ true → HasFrames (with_asking (no_frames e))
   asking_goes e room i asks = pinged e.waiting.ping asks
     where
       -- messages and frames of streams go behind others
@@ -338,17 +339,24 @@ module _ (K : Streams → Type 0) (k : Spelling K) (c : Bringing K) where
       go false on = late (ack_fits (with_asking (no_frames e))) (asking_goes e (room_most e short) i on)
 
   -- so what goes of an end that is ready has a form, and a frame
-  spellable : (g : Gated) → goes g ≡ true → Acks g.end.acknowledging g.end.marks.came → HasRoom g.end → K (streams_at g.end) → IsSpellable g
-  spellable g waits acks short i = record { spells = draft_spells K k g.held (lazied g.end) (due_alone g waits) (record { runs = acks.runs; small = acks.small; counts = acks.counts }) short.2 i; some = go g.held waits }
+  spellable : (e : End) (now : ℕ) → (let g = ready_at e now in goes g ≡ true → Acks g.end.acknowledging g.end.marks.came → HasRoom g.end → K (streams_at g.end) → IsSpellable g)
+  spellable e now some acks short i =
+      let d = draft_spells K k g.leaving g.end (may_leave_at e now) (record { runs = acks.runs; small = acks.small; counts = acks.counts }) short i in
+      record { spells = d.spells; some = go g.leaving refl some; within = d.within; least = d.least_is }
     where
-      go : (held : Bool) → goes (record { held = held; end = g.end }) ≡ true → HasFrames (draft_if held (lazied g.end))
-      go true on = omega arith
-      go false on = composed_some (lazied g.end) short i (waits_lazied g.end on)
+      g : Ready
+      g = ready_at e now
+
+      go : (leaving : Leaving) → g.leaving ≡ leaving → goes_as leaving ≡ true → HasFrames (draft_as leaving g.end)
+      go whole is on = composed_some (lazied g.end) short i (waits_lazied g.end (whole_waits e now is))
+      go alone is on = omega arith
+      go (probe size) is on = omega arith
+      go (nothing held) is on = cc
 
   -- at any moment
   pub spellable_next : (e : End) → Acks e.acknowledging e.marks.came → HasRoom e → ((now : ℕ) → K (streams_at (ready_at e now).end)) → (now : ℕ) → goes (ready_at e now) ≡ true → IsSpellable (ready_at e now)
   spellable_next e acks short i now waits =
       let ids : (ready_at e now).end.ids ≡ e.ids = ap (λ (x : End). x.ids) (ready_leaves e now) in
-      let size : current_mtu (ready_at e now).end.path ≡ current_mtu e.path = ap (λ (x : End). current_mtu x.path) (ready_leaves e now) in
+      let size : current_mtu (ready_at e now).end.path ≡ current_mtu e.path = ready_size e now in
       let room : HasRoom (ready_at e now).end = (subst (λ (x : Ids). length x.active.id ≤ 20) (sym ids) short.0, subst (λ (n : ℕ). 1200 ≤ n) (sym size) short.1, subst (λ (n : ℕ). n < 2 ^ 16) (sym size) short.2) in
-      spellable (ready_at e now) waits (subst (λ (x : End). Acks x.acknowledging x.marks.came) (sym (ready_leaves e now)) (record { runs = acks.runs; small = acks.small; counts = acks.counts })) room (i now)
+      spellable e now waits (subst (λ (x : End). Acks x.acknowledging x.marks.came) (sym (ready_leaves e now)) (record { runs = acks.runs; small = acks.small; counts = acks.counts })) room (i now)

@@ -1,5 +1,5 @@
 -- What holds of the packets between two ends, as one group: what the one gave, and what the other took of it.
-use Rattle.std.proofs.Common.{◌≡◌, ℕ, ◌<◌, ◌≤◌, ◌^◌, List, [], ◌∷◌, ◌++◌, length, false, refl, sym, ap, ◌∙◌, subst, arith, Bool, true}
+use Rattle.std.proofs.Common.{◌≡◌, ℕ, ◌<◌, ◌^◌, List, [], ◌∷◌, ◌++◌, length, false, refl, sym, ap, ◌∙◌, subst, arith, true}
 use Rattle.std.proofs.lemmas.List.{length-append}
 use Rattle.quic_machine.specs.declared.run.Call.{Call}
 use Rattle.quic_machine.specs.declared.run.Answer.{Answer}
@@ -9,15 +9,16 @@ use Rattle.quic_recovery_core.specs.PendingAcks.{Pending}
 use Rattle.quic_time.specs.Timers.{Timers}
 use Rattle.quic_machine.specs.declared.answers.State.{State}
 use Rattle.quic_machine.specs.Closing.{Closing, ticked}
-use Rattle.quic_config.specs.Transport.{IsInRange, transport_of, parameters_of}
-use Rattle.quic_machine.specs.PathLaws.{first_size}
-use Rattle.quic_machine.specs.Parts.{current_mtu}
+use Rattle.quic_config.specs.declared.mtu_discovery.TheConstants.{MAX_UDP_PAYLOAD}
+use Rattle.quic_config.specs.Transport.{transport_of, parameters_of}
 use Rattle.quic_machine.specs.Opens.{own_id_length}
-use Rattle.quic_machine.specs.DraftLaws.{HasRoom}
+use Rattle.quic_machine.specs.DraftLaws.{HasRoom, MayLeave}
 use Rattle.quic_machine.specs.Policy.{Policy}
-use Rattle.quic_machine.specs.End.{End, with_closing, number_of}
+use Rattle.quic_wire_core.specs.declared.stream_id.Side.{Side}
+use Rattle.quic_machine.specs.Start.{Making, IsMaking}
+use Rattle.quic_machine.specs.End.{End, new_end, with_closing, number_of}
 use Rattle.quic_machine.specs.Receive.{Outcome}
-use Rattle.quic_machine.specs.Poll.{Polled, lazied, polled, goes, draft_if}
+use Rattle.quic_machine.specs.Poll.{Polled, polled, goes, draft_as, Leaving}
 use Rattle.quic_machine.specs.Machine.{after_call, gives}
 use Rattle.quic_machine.specs.CallCases.{is_delivery, by_plain_call}
 use Rattle.quic_machine.specs.LeaveCases.{at_losses, by_expired}
@@ -28,6 +29,8 @@ use Rattle.quic_headline.proofs.Packets.Invariant.{IsSent, Gives, KnowsIn, Acks,
 use Rattle.quic_headline.proofs.Packets.Growth.{step_of}
 use Rattle.quic_headline.proofs.Packets.Intakes.{count_more, took_more}
 use Rattle.quic_headline.proofs.Packets.Delivered.{Arrivals}
+use Rattle.quic_congestion.proofs.SizedSearch.{sized_first}
+use Rattle.quic_headline.proofs.Packets.Sizes.{HasSize, sized_call}
 use Rattle.quic_headline.proofs.Packets.Stays.{settles_losses, placed_call}
 use Rattle.quic_headline.proofs.Packets.Knowing.{knows_first, knows_given, expects_in, knows_arrivals}
 use Rattle.quic_headline.proofs.Packets.Acking.{acks_first, acks_step, acks_arrivals, taken_step, taken_arrivals}
@@ -37,19 +40,18 @@ use Rattle.quic_headline.proofs.Packets.TrackedSteps.{tracked_step}
 use Rattle.quic_headline.proofs.Packets.Ascending.{Ascends, ascends_call}
 use Rattle.quic_headline.proofs.Packets.Naming.{were_sent_more, sent_arrivals, name_taken_on, name_taken_step}
 use Rattle.quic_headline.proofs.Places.Steps.{gives_count}
-use Rattle.quic_headline.proofs.Places.Parties.{sents_by, told_of, Party, called, came_to, AreJoined, Beginning, new_as}
+use Rattle.quic_headline.proofs.Places.Parties.{sents_by, told_of, Party, called, came_to, AreJoined}
 use Rattle.quic_headline.proofs.Places.Groups.{Way, Before, Early}
 use Rattle.quic_headline.proofs.Places.Coming.{Meets, by_coming, came_ids}
-use Rattle.quic_headline.proofs.Packets.Probes.{MayLeave, may_leave}
+use Rattle.quic_headline.proofs.Packets.Probes.{may_leave}
 
 -- x gives, and y takes.
 pub record PacketsHold (x y : Party) : Type 0 where
   -- the datagrams that were given, as they were sent
   pub gives : Gives x.policy y.id x.end.numbers x.end.filter.last x.sents x.given
-  -- they go to the id of y, on a path that takes as many bytes as when x was made
+  -- they go to the id of y, in datagrams of 1200 bytes at least, and no more than a UDP payload has
   pub active : x.end.ids.active.id ≡ y.id
-  pub size : current_mtu x.end.path ≡ current_mtu x.made.path
-  pub sized : (1200 ≤ current_mtu x.made.path) × (current_mtu x.made.path < 2 ^ 16)
+  pub sized : HasSize 1200 MAX_UDP_PAYLOAD x.end
   pub count : length x.given ≡ count_given x.told
   -- what x waits for was sent
   pub tracked : AreTracked x.sents x.end.tracking.packets
@@ -72,14 +74,15 @@ meets x y p = record { each = p.gives.each; known = p.known; knows = p.knows }
 pub has_room : (x y : Party) → PacketsHold x y → length y.id ≡ own_id_length → HasRoom x.end
 has_room x y p long =
     let id : length x.end.ids.active.id ≡ own_id_length = ap (λ (bytes : List ℕ). length bytes) p.active ∙ long in
-    (omega arith, subst (λ (n : ℕ). 1200 ≤ n) (sym p.size) p.sized.0, subst (λ (n : ℕ). n < 2 ^ 16) (sym p.size) p.sized.1)
+    let least = p.sized.between.size in
+    let most = p.sized.size in
+    (omega arith, least, omega arith)
 
--- an end that is made begins with datagrams of 1200 bytes at least, since its peer takes so many, and of no more than a UDP payload has
-made_sized : (x y : Beginning) → IsInRange x.making.settings → (1200 ≤ current_mtu (new_as x y).path) × (current_mtu (new_as x y).path < 2 ^ 16)
-made_sized x y range =
-    let size = first_size x.making.validated (transport_of x.making.settings) (parameters_of y.making.settings).max_udp_payload_size x.making.windows x.making.moment in
-    let initial = range.initial_mtu in
-    (omega arith, omega arith)
+-- the datagrams of an end that is made have 1200 bytes at least, since its peer takes so many, and no more than a UDP payload has
+pub made_sized : (side : Side) (m other : Making) → IsMaking m → HasSize 1200 MAX_UDP_PAYLOAD (new_end side m.settings m.windows (parameters_of other.settings) m.id other.id m.moment m.validated m.word)
+made_sized side m other made =
+    let initial = made.range.bounds.initial in
+    sized_first 1200 MAX_UDP_PAYLOAD (transport_of m.settings) (omega arith) made.range.bounds.least made.sizes made.range.search
 
 -- ---- the end that takes
 
@@ -96,16 +99,16 @@ knows_poll p e now i k =
     by_poll p e now (λ (q : Polled). KnowsIn q.end.closing.state q.end.numbers i) (record {
       silent = k;
       failed = k;
-      nothing = λ t w moment pacing limited. k;
-      used_up = λ t w moment pacing. expects_in e.closing.state e.numbers i k;
-      gives = λ held t w moment pacing paid tracking timers is may ready some. gives held (at_poll e now t w moment pacing e.path.app_limited) refl refl (may_leave e now held (at_poll e now t w moment pacing e.path.app_limited) ready some);
+      nothing = λ c. k;
+      used_up = λ c. expects_in e.closing.state e.numbers i k;
+      gives = λ leaving c left is may ready some. gives leaving (at_poll e now c) refl refl (may_leave e now leaving (at_poll e now c) ready);
     })
   where
-    gives : (held : Bool) (x : End) → x.closing.state ≡ e.closing.state → x.numbers ≡ e.numbers → MayLeave held (lazied x)
-        → (let d : End = (draft_if held (lazied x)).end in KnowsIn d.closing.state (number_given d.numbers (number_of d)) i)
-    gives held x state numbers alone =
-        let c = composes held (lazied x) alone in
-        let d : End = (draft_if held (lazied x)).end in
+    gives : (leaving : Leaving) (x : End) → x.closing.state ≡ e.closing.state → x.numbers ≡ e.numbers → MayLeave leaving x
+        → (let d : End = (draft_as leaving x).end in KnowsIn d.closing.state (number_given d.numbers (number_of d)) i)
+    gives leaving x state numbers alone =
+        let c = composes leaving x alone in
+        let d : End = (draft_as leaving x).end in
         subst (λ (s : State). KnowsIn s (number_given d.numbers (number_of d)) i) (sym (ap (λ (y : Closing). y.state) c.closing ∙ state))
         (subst (λ (y : Numbers). KnowsIn e.closing.state (number_given y (number_of d)) i) (sym (c.numbers ∙ numbers)) (knows_given e.closing.state e.numbers (number_of d) i k))
 
@@ -182,8 +185,7 @@ module _ (B : Way) (spells : (x y : Party) → AreJoined x y → B x y → B y x
       record {
         gives = gives_step x.policy x.end y.given a y.id x.given x.sents call c.answer c.served p.active (spells x y c.joined c.gives c.takes p back) p.gives;
         active = ap (λ (ids : Ids). ids.active.id) placed.ids ∙ p.active;
-        size = placed.size ∙ p.size;
-        sized = p.sized;
+        sized = sized_call 1200 MAX_UDP_PAYLOAD x.policy x.end y.given call a p.sized;
         count = counted B x y call a c p.count;
         tracked = tracked_step x.policy x.end y.given call a x.sents c.answer c.served p.tracked;
         ascends = ascends_call x.policy x.end y.given call a p.ascends;
@@ -204,7 +206,6 @@ module _ (B : Way) (spells : (x y : Party) → AreJoined x y → B x y → B y x
       record {
         gives = back.gives;
         active = back.active;
-        size = back.size;
         sized = back.sized;
         count = back.count;
         tracked = back.tracked;
@@ -223,8 +224,7 @@ module _ (B : Way) (spells : (x y : Party) → AreJoined x y → B x y → B y x
     first = λ x y m. record {
       gives = record { rising = tt; below = λ s i. absurd i; next = refl; behind = omega arith; left_out = tt; each = tt };
       active = refl;
-      size = refl;
-      sized = made_sized x y m.x_is.range;
+      sized = made_sized x.side x.making y.making m.x_is;
       count = refl;
       tracked = λ n t is. absurd is;
       ascends = tt;
@@ -240,7 +240,6 @@ module _ (B : Way) (spells : (x y : Party) → AreJoined x y → B x y → B y x
     shows = λ x y here there p. record {
       gives = p.gives;
       active = p.active;
-      size = p.size;
       sized = p.sized;
       count = p.count;
       tracked = p.tracked;

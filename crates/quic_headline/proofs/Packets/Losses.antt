@@ -12,6 +12,7 @@ use Rattle.quic_machine.specs.Acked.{stream_lost, streams_lost, again, carried_l
 use Rattle.quic_machine.specs.LeaveCases.{at_losses}
 use Rattle.quic_machine.specs.PollCases.{ready_at}
 use Rattle.quic_headline.specs.Runs.{In}
+use Rattle.quic_headline.proofs.Packets.Searches.{by_losses}
 use Rattle.quic_headline.proofs.Packets.Named.{in_filter}
 use Rattle.quic_headline.proofs.Packets.Probes.{ready_streams}
 
@@ -37,7 +38,7 @@ module _ (packets : Table TrackedPacket) (P : Streams → Type 0) (l : Losing pa
 module _ (P : Streams → Type 0) (e : End) (l : Losing e.tracking.packets P) (i : P (streams_at e)) where
   -- losses are detected
   pub losses_stay : P (streams_at (losses_detected e))
-  losses_stay = some_lost e.tracking.packets P l (lost_by (verdict e) e.tracking.packets) e (λ n t j. in_filter (is_lost (verdict e)) (n, t) e.tracking.packets j) i
+  losses_stay = by_losses (λ (x : End). P (streams_at x)) e (λ discovery queues. some_lost e.tracking.packets P l (lost_by (verdict e) e.tracking.packets) e (λ n t j. in_filter (is_lost (verdict e)) (n, t) e.tracking.packets j) i)
 
 module _ (P : Streams → Type 0) (e : End) (now : ℕ) (l : Losing e.tracking.packets P) (i : P (streams_at e)) where
   -- by a timeout

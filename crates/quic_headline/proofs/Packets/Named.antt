@@ -13,14 +13,18 @@ use Rattle.quic_machine.specs.Tracking.{Tracking, TrackedPacket, Carried, acked_
 use Rattle.quic_machine.specs.LeaveCases.{at_losses}
 use Rattle.quic_spaces.specs.Marks.{Counts}
 use Rattle.quic_machine.specs.Parts.{Messaging}
-use Rattle.quic_machine.specs.End.{End, with_closing, with_messages, with_tracking, with_rtt, with_told, with_marking}
+use Rattle.quic_machine.specs.End.{with_discovery, with_queued, End, with_closing, with_messages, with_tracking, with_rtt, with_told, with_marking}
 use Rattle.quic_machine.specs.Acked.{without_known, reset_acked, resets_acked, stream_acked, streams_acked, packet_acked, packets_acked, stream_lost, streams_lost, again, carried_lost, packets_lost, verdict, losses_detected, measured, sampled, without_acked, after_named, losses_taken}
 use Rattle.quic_machine.specs.Receive.{Progress, is_above, names_ungiven, take_message, take_frame, received}
 use Rattle.quic_machine.specs.FrameCases.{OnStreams, named, ack_taken, passed, message_leaves, frame_keeps, frame_leaves, frames_leave, by_received, by_marks}
 use Rattle.quic_headline.specs.Runs.{Packet, In, IsTaken, names}
 use Rattle.quic_headline.specs.Observer.{Sent}
+use Rattle.quic_congestion.specs.Search.{Discovery}
+use Rattle.quic_messages.specs.Messages.{without_longer}
+use Rattle.quic_headline.proofs.Packets.Searches.{by_losses, losses_searched}
 use Rattle.quic_headline.proofs.Packets.Invariant.{IsCarriedFrom, AreTracked, RisingFrom, WereSent}
 use Rattle.quic_headline.proofs.Packets.Rising.{one_number}
+use Rattle.quic_machine.specs.Sizes.{search_acked}
 
 -- ---- fewer packets
 
@@ -55,7 +59,7 @@ sampled_tracking (Some p) a e = refl
 
 -- so it is where losses are detected
 pub losses_fewer : (e : End) → WaitsForFewer e (losses_detected e)
-losses_fewer e n t i = in_filter (λ q. not (is_lost (verdict e) q)) (n, t) e.tracking.packets i
+losses_fewer e = by_losses (λ (x : End). WaitsForFewer e x) e (λ discovery queues n t i. in_filter (λ q. not (is_lost (verdict e) q)) (n, t) e.tracking.packets i)
 
 -- and after an ACK frame that names these
 named_fewer : (ps : Table TrackedPacket) (rises : Bool) (a : AckValue) (e : End) → WaitsForFewer e (after_named ps rises a e)
@@ -149,6 +153,9 @@ pub record SettlesOn (took : List Packet) (sents : List Sent) (P : End → Type 
   -- a STREAM frame is lost, and what else a packet carried
   pub lost : (c : Carried) (m : StreamMeta) (e : End) → IsCarriedBy sents c → In m c.stream_frames → P e → P (stream_lost m e)
   pub again : (c : Carried) (e : End) → IsCarriedBy sents c → P e → P (again c e)
+  -- the search for a size learns of it, and messages that are too long are dropped
+  pub searched : (d : Discovery) (e : End) → P e → P (with_discovery e d)
+  pub shortens : (most : ℕ) (e : End) → P e → P (with_queued e (without_longer most e.messages.queues))
   -- fewer packets are tracked
   pub tracked : (t : Tracking) (e : End) → P e → P (with_tracking e t)
   -- the round trip is measured
@@ -183,10 +190,11 @@ module _ (took : List Packet) (sents : List Sent) (P : End → Type 0) (s : Sett
   packets_on (p ∷ ps) e was i =
       let c : Carried = p.1.carried in
       let here : WasCarried took c = was p.0 p.1 (inl refl) in
-      let knows : End = without_known c.largest_acked e in
+      let heard : End = search_acked p e in
+      let knows : End = without_known c.largest_acked heard in
       let reset : End = resets_acked c.retransmits.reset_stream knows in
-      packets_on ps (packet_acked p.1 e) (λ n t j. was n t (inr j))
-      (acked_on c here c.stream_frames reset (λ m j. j) (resets_on c here c.retransmits.reset_stream knows (λ r j. j) (known_on c.largest_acked e i)))
+      packets_on ps (packet_acked p e) (λ n t j. was n t (inr j))
+      (acked_on c here c.stream_frames reset (λ m j. j) (resets_on c here c.retransmits.reset_stream knows (λ r j. j) (known_on c.largest_acked heard (s.searched heard.path.discovery e i))))
 
   -- and lost
   losses_on : (ps : Table TrackedPacket) (e : End) → ((n : ℕ) (t : TrackedPacket) → In (n, t) ps → IsCarriedBy sents t.carried) → P e → P (packets_lost ps e)
@@ -200,7 +208,7 @@ module _ (took : List Packet) (sents : List Sent) (P : End → Type 0) (s : Sett
   pub detected_on : (e : End) → AreTracked sents e.tracking.packets → P e → P (losses_detected e)
   detected_on e tracked i =
       let lost = lost_by (verdict e) e.tracking.packets in
-      s.tracked (after_detection (verdict e) e.tracking) (packets_lost lost e) (losses_on lost e (lost_carried sents (verdict e) e.tracking.packets tracked) i)
+      losses_searched P s.searched s.shortens e (s.tracked (after_detection (verdict e) e.tracking) (packets_lost lost e) (losses_on lost e (lost_carried sents (verdict e) e.tracking.packets tracked) i))
 
   -- a round trip is measured, if one is
   sampled_on : (o : Option TrackedPacket) (a : AckValue) (e : End) → P e → P (sampled o a e)

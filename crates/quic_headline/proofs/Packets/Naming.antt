@@ -1,10 +1,9 @@
 -- ACK frames name numbers of packets that their giver took, and those alone are to be acknowledged.
-use Rattle.std.proofs.Common.{◌≡◌, ℕ, zero, suc, ◌+◌, ◌-◌, inl, inr, Bool, true, false, nat_le, ◌&&◌, ◌||◌, List, [], ◌∷◌, ◌++◌, length, replicate, refl, sym, ap, ◌∙◌, subst, arith}
+use Rattle.std.proofs.Common.{◌≡◌, ℕ, zero, suc, inl, inr, Bool, true, false, nat_le, ◌&&◌, ◌||◌, List, [], ◌∷◌, ◌++◌, replicate, refl, sym, ap, ◌∙◌, subst, arith}
 use Rattle.std.specs.List.{list_any}
 use Rattle.std.proofs.lemmas.Bool.{leb-true, le-leb, and_parts}
 use Rattle.std.proofs.lemmas.List.{append-nil}
 use Rattle.quic_sets.specs.Runs.{Run, Has}
-use Rattle.quic_packet.specs.Number.{truncated}
 use Rattle.quic_wire.specs.Value.{FrameValue, AckValue, ack, stream, datagram, ping, padding}
 use Rattle.quic_wire.specs.Grammar.{Payload}
 use Rattle.quic_wire.specs.AckGrammar.{InRanges, GoDown}
@@ -14,15 +13,14 @@ use Rattle.quic_recovery_core.specs.PendingAcks.{Pending}
 use Rattle.quic_machine.specs.declared.run.Call.{Call}
 use Rattle.quic_machine.specs.declared.run.Call.TheVariants as calls
 use Rattle.quic_machine.specs.declared.run.Answer.{Answer}
-use Rattle.quic_spaces.specs.Numbers.{cut_against}
-use Rattle.quic_machine.specs.End.{End, number_of}
-use Rattle.quic_machine.specs.Poll.{Draft, ack_of, lazied, draft_if, with_ack, no_frames}
+use Rattle.quic_machine.specs.End.{End}
+use Rattle.quic_machine.specs.Poll.{zeros_behind, Draft, ack_of, lazied, draft_as, with_ack, no_frames, probe, alone, whole, Leaving, nothing}
 use Rattle.quic_streams_parts.specs.SendHalf.{frame_of}
 use Rattle.quic_headline.proofs.Packets.Entries.{IsControl, control_of}
 use Rattle.quic_headline.specs.Runs.{Packet, Intake, In, names}
 use Rattle.quic_headline.specs.Observer.{Sent}
 use Rattle.quic_machine.specs.Machine.{gave}
-use Rattle.quic_machine.specs.DraftLaws.{by_writing}
+use Rattle.quic_machine.specs.DraftLaws.{Writing, by_writing}
 use Rattle.quic_headline.proofs.Packets.Invariant.{SentAs, NameTaken, WereSent, AreTaken, Acks}
 use Rattle.quic_headline.proofs.Packets.Growth.{in_more}
 use Rattle.quic_machine.specs.PollCases.{ready_at, frames_at, draft_at}
@@ -93,16 +91,22 @@ acked_acknowledges runs d k = record {
 }
 
 -- whichever frames go, ACK frames have them
-draft_acknowledges : (held : Bool) (e : End) → Acknowledges e.acknowledging.runs (draft_if held e)
-draft_acknowledges true e = acked_acknowledges e.acknowledging.runs (no_frames e) (record { frames = λ a i. absurd i; same = refl })
-draft_acknowledges false e = by_writing (Acknowledges e.acknowledging.runs) (record {
-  ack = λ d filled may k. acked_acknowledges e.acknowledging.runs d k;
-  ping = λ d k. record { frames = ack_more e.acknowledging.runs d.frames ping k.frames (λ a is. cc); same = k.same };
+acknowledges : (runs : List Run) → Writing (Acknowledges runs)
+acknowledges runs = record {
+  ack = λ d filled may k. acked_acknowledges runs d k;
+  ping = λ d k. record { frames = ack_more runs d.frames ping k.frames (λ a is. cc); same = k.same };
+  probes = λ f size k. record { frames = ack_more runs [] ping k.frames (λ a is. cc); same = k.same };
   drops = λ d kind k. record { frames = k.frames; same = k.same };
-  control = λ d kind f is k. record { frames = ack_more e.acknowledging.runs d.frames f k.frames (λ a ack_is. absurd (no_ack f a (control_of f kind is.of_kind) ack_is)); same = k.same };
-  message = λ d m ms is fit k. record { frames = ack_more e.acknowledging.runs d.frames (datagram m) k.frames (λ a is. cc); same = k.same };
-  stream = λ d id h room found first some is counts k. record { frames = ack_more e.acknowledging.runs d.frames (stream (frame_of id h room)) k.frames (λ a is. cc); same = k.same };
-}) e (record { frames = λ a i. absurd i; same = refl })
+  control = λ d kind f is k. record { frames = ack_more runs d.frames f k.frames (λ a ack_is. absurd (no_ack f a (control_of f kind is.of_kind) ack_is)); same = k.same };
+  message = λ d m ms is fit k. record { frames = ack_more runs d.frames (datagram m) k.frames (λ a is. cc); same = k.same };
+  stream = λ d id h room found first some is counts k. record { frames = ack_more runs d.frames (stream (frame_of id h room)) k.frames (λ a is. cc); same = k.same };
+}
+
+draft_acknowledges : (leaving : Leaving) (e : End) → Acknowledges e.acknowledging.runs (draft_as leaving e)
+draft_acknowledges whole e = by_writing (Acknowledges e.acknowledging.runs) (acknowledges e.acknowledging.runs) (lazied e) (record { frames = λ a i. absurd i; same = refl })
+draft_acknowledges alone e = acked_acknowledges e.acknowledging.runs (no_frames (lazied e)) (record { frames = λ a i. absurd i; same = refl })
+draft_acknowledges (probe size) e = (acknowledges e.acknowledging.runs).probes e size (record { frames = λ a i. absurd i; same = refl })
+draft_acknowledges (nothing held) e = record { frames = λ a i. absurd i; same = refl }
 
 -- PADDING behind frames has none
 ack_zeros : (runs : List Run) (frames : List FrameValue) (count : ℕ) → AckOf runs frames → AckOf runs (frames ++ replicate count padding)
@@ -115,10 +119,10 @@ ack_zeros runs (f ∷ frames) count all a (inr i) = ack_zeros runs frames count 
 -- a number that an ACK frame names is one that its giver has to acknowledge
 pub names_kept : (e : End) (now : ℕ) (a : AckValue) (k : ℕ) → Acks e.acknowledging e.marks.came → In (ack a) (frames_at e now) → names a k ≡ true → Has e.acknowledging.runs k
 names_kept e now a k acks i named =
-    let ready = lazied (ready_at e now).end in
+    let ready = (ready_at e now).end in
     let d = draft_at e now in
-    let acknowledges = draft_acknowledges (ready_at e now).held ready in
-    let count : ℕ = 4 - ((truncated (number_of d.end) (cut_against d.end.numbers)).width + length d.bytes) in
+    let acknowledges = draft_acknowledges (ready_at e now).leaving ready in
+    let count : ℕ = zeros_behind d in
     let ranges : a.ranges ≡ ranges_of_set ready.acknowledging.runs = ack_zeros ready.acknowledging.runs d.frames count acknowledges.frames a i in
     let same : a.ranges ≡ ranges_of_set e.acknowledging.runs = ranges ∙ ap (λ (p : Pending). ranges_of_set p.runs) (ready_acks e now) in
     (set_numbers e.acknowledging.runs k acks.runs.runs).1 (subst (λ (rs : List (ℕ × ℕ)). InRanges rs k) same (in_ranges a.ranges k named))

@@ -12,23 +12,23 @@ use Rattle.quic_spaces.specs.Records.{first_record}
 use Rattle.quic_machine.specs.Closing.{ticked}
 use Rattle.quic_machine.specs.Tracking.{TrackedPacket, without_record}
 use Rattle.quic_congestion.specs.Pacer.{Pacing}
-use Rattle.quic_recovery_core.specs.PendingAcks.{can_send}
 use Rattle.quic_machine.specs.End.{End, with_closing, with_ping, with_number_given, with_loss_timer, streams_at}
 use Rattle.quic_machine.specs.Acked.{again}
 use Rattle.quic_machine.specs.Control.{Gated, pacer_asked, paid, with_pacing_timer, with_app_limited}
-use Rattle.quic_machine.specs.Poll.{Polled, Draft, asking, datagram_size, tracked, paid_if, after_given, record_moved, probed, composed, lazied, goes, draft_if, polled}
+use Rattle.quic_machine.specs.Poll.{Polled, Draft, asking, datagram_size, tracked, paid_if, after_given, record_moved, probed, gated, composed, lazied, draft_as, polled, probe, alone, whole, Leaving, Ready, nothing, leaves}
 use Rattle.quic_machine.specs.Policy.{Policy}
-use Rattle.quic_machine.specs.PollCases.{ready_at, draft_at, by_probed, by_gate, ready_leaves, by_poll_to}
-use Rattle.quic_machine.specs.DraftLaws.{due_alone}
+use Rattle.quic_machine.specs.PollCases.{ready_at, draft_at, by_probed, by_gate, search_leaves, ready_leaves, by_poll_to, may_leave_at}
+use Rattle.quic_machine.specs.DraftLaws.{MayLeave}
 use Rattle.quic_headline.specs.Runs.{In}
 use Rattle.quic_headline.specs.Observer.{Sent}
+use Rattle.quic_congestion.specs.Search.{Discovery}
 use Rattle.quic_headline.proofs.Packets.Invariant.{IsCarriedFrom, AreTracked, carried_without}
 
 -- ---- the pacer
 
--- an end with another pacer, whose timer may be set
-abbrev pub with_pacer : End → Option ℕ → Pacing → End
-with_pacer e moment pacing = record e { timers = record e.timers { pacing = moment }; path = record e.path { pacing = pacing } }
+-- an end with another pacer, whose timer may be set, and another search for a size
+abbrev pub with_pacer : End → Option ℕ → Pacing → Discovery → End
+with_pacer e moment pacing discovery = record e { timers = record e.timers { pacing = moment }; path = record e.path { pacing = pacing; discovery = discovery } }
 
 -- ---- tables of packets
 
@@ -57,16 +57,16 @@ in_put {A} (e ∷ es) id v x i = go (nat_cmp id e.0) refl i (in_put es id v x)
 -- ---- an end that is ready to give
 
 -- What holds of an end at a moment holds where it is made ready, if it holds whether or not PING waits, where the record of a tracked packet waits again, and
--- whatever its pacer holds and its timer is set to.
+-- whatever its pacer and its search hold and its timer is set to.
 pub by_ready : (P : End → Type 0) (e : End) (now : ℕ) → P (with_closing e (ticked e.closing now)) → P (with_ping (with_closing e (ticked e.closing now)) true)
     → ((p : ℕ × TrackedPacket) → In p e.tracking.packets → P (record_moved (Some p) (with_closing e (ticked e.closing now))))
-    → ((moment : Option ℕ) (pacing : Pacing) (x : End) → P x → P (with_pacer x moment pacing)) → P (ready_at e now).end
-by_ready P e now same pings moves paces = by_gate x (λ (g : Gated). P g.end) (record {
+    → ((moment : Option ℕ) (pacing : Pacing) (discovery : Discovery) (x : End) → P x → P (with_pacer x moment pacing discovery)) → P (ready_at e now).end
+by_ready P e now same pings moves paces = subst P (sym (search_leaves g)) (paces g.end.timers.pacing g.end.path.pacing (leaves g).end.path.discovery g.end (by_gate x (λ (g : Gated). P g.end) (record {
   free = λ is. waits;
   full = λ asks is. waits;
-  lets = λ asks room is. paces x.timers.pacing (pacer_asked x).path.pacing x waits;
-  holds = λ moment asks room is. paces (Some moment) (pacer_asked x).path.pacing x waits;
-})
+  lets = λ asks room is. paces x.timers.pacing (pacer_asked x).path.pacing x.path.discovery x waits;
+  holds = λ moment asks room is. paces (Some moment) (pacer_asked x).path.pacing x.path.discovery x waits;
+})))
   where
     begun : End
     begun = with_closing e (ticked e.closing now)
@@ -74,16 +74,19 @@ by_ready P e now same pings moves paces = by_gate x (λ (g : Gated). P g.end) (r
     x : End
     x = probed (with_pacing_timer begun None)
 
+    g : Gated
+    g = gated x
+
     -- the timer of the pacer is stopped
     stops : (f : End) → P f → P (with_pacing_timer f None)
-    stops f i = paces None f.path.pacing f i
+    stops f i = paces None f.path.pacing f.path.discovery f i
 
     waits : P x
     waits = by_probed (with_pacing_timer begun None) P (stops begun same) (stops (with_ping begun true) pings) (λ p probes is. stops (record_moved (Some p) begun) (moves p (first_record_in e.streams e.tracking.packets p is)))
 
 -- what holds of streams and of what waits beside their bytes, if it stays where what has to be sent again of a tracked packet waits again
 pub ready_streams : (P : Streams → Type 0) (e : End) (now : ℕ) → P (streams_at e) → ((n : ℕ) (t : TrackedPacket) → In (n, t) e.tracking.packets → P (streams_at (again t.carried e))) → P (streams_at (ready_at e now).end)
-ready_streams P e now same moves = by_ready (λ (x : End). P (streams_at x)) e now same same (λ p i. moves p.0 p.1 i) (λ moment pacing x i. i)
+ready_streams P e now same moves = by_ready (λ (x : End). P (streams_at x)) e now same same (λ p i. moves p.0 p.1 i) (λ moment pacing discovery x i. i)
 
 -- the streams themselves stay
 pub ready_state : (e : End) (now : ℕ) → (ready_at e now).end.streams ≡ e.streams
@@ -91,13 +94,9 @@ ready_state e now = ap (λ (x : End). x.streams) (ready_leaves e now)
 
 -- ---- what goes
 
--- where what asks is held back, an ACK is due
-abbrev pub MayLeave : Bool → End → Type 0
-MayLeave held e = held ≡ true → can_send e.acknowledging ≡ true
-
--- so it is where something goes of an end that is ready
-pub may_leave : (e : End) (now : ℕ) (held : Bool) (x : End) → ready_at e now ≡ record { held = held; end = x } → goes (ready_at e now) ≡ true → MayLeave held (lazied x)
-may_leave e now held x is some = due_alone (record { held = held; end = x }) (ap (λ (g : Gated). goes g) (sym is) ∙ some)
+-- where an ACK goes alone of an end that is ready, it is due
+pub may_leave : (e : End) (now : ℕ) (leaving : Leaving) (x : End) → ready_at e now ≡ record { leaving = leaving; end = x } → MayLeave leaving x
+may_leave e now leaving x is = subst (λ (g : Ready). MayLeave g.leaving g.end) is (may_leave_at e now)
 
 -- the end after a draft went: its packet is tracked, and its pacer holds this
 abbrev pub after_going : Policy → Draft → Pacing → End
@@ -116,15 +115,17 @@ by_going P p d each = go (asking d.frames)
     go true = each (paid x (datagram_size d)).path.pacing
     go false = each x.path.pacing
 
--- what goes leaves streams, and what waits beside their bytes, as what is composed does, or, where an ACK goes alone, as they were
-pub draft_streams : (P : Streams → Type 0) (held : Bool) (e : End) → (P (streams_at e) → P (streams_at (composed e).end)) → P (streams_at e) → P (streams_at (draft_if held e).end)
-draft_streams P true e composes i = i
-draft_streams P false e composes i = composes i
+-- what goes leaves streams, and what waits beside their bytes, as what is composed does, or, where an ACK or a probe of a size goes alone, or nothing, as they were
+pub draft_streams : (P : Streams → Type 0) (leaving : Leaving) (e : End) → (P (streams_at (lazied e)) → P (streams_at (composed (lazied e)).end)) → P (streams_at e) → P (streams_at (draft_as leaving e).end)
+draft_streams P whole e composes i = composes i
+draft_streams P alone e composes i = i
+draft_streams P (probe size) e composes i = i
+draft_streams P (nothing held) e composes i = i
 
 -- A poll keeps what is so of them, if what is composed does.
 pub poll_streams : (P : Streams → Type 0) (p : Policy) (e : End) (now : ℕ) → ((x : End) → P (streams_at x) → P (streams_at (composed x).end)) → P (streams_at e) → P (streams_at (ready_at e now).end) → P (streams_at (polled p e now).end)
 poll_streams P p e now composes same ready =
-    by_poll_to p e now (λ (q : Polled). P (streams_at q.end)) (record { silent = same; failed = same; nothing = λ is none. ready; used_up = ready; gives = λ is may some. by_going (λ (x : End). P (streams_at x)) p (draft_at e now) (λ pacing. draft_streams P (ready_at e now).held (lazied (ready_at e now).end) (composes (lazied (ready_at e now).end)) ready) })
+    by_poll_to p e now (λ (q : Polled). P (streams_at q.end)) (record { silent = same; failed = same; nothing = λ is none. ready; used_up = ready; gives = λ is may some. by_going (λ (x : End). P (streams_at x)) p (draft_at e now) (λ pacing. draft_streams P (ready_at e now).leaving (ready_at e now).end (composes (lazied (ready_at e now).end)) ready) })
 
 -- so it is of what is so of streams alone
 pub poll_state : (P : StreamsState → Type 0) (p : Policy) (e : End) (now : ℕ) → ((x : End) → P x.streams → P (composed x).end.streams) → P e.streams → P (polled p e now).end.streams
@@ -138,7 +139,7 @@ ready_acks e now = ap (λ (x : End). x.acknowledging) (ready_leaves e now)
 
 -- each tracked packet was given still, and carries what its frames say
 pub ready_tracked : (sents : List Sent) (e : End) (now : ℕ) → AreTracked sents e.tracking.packets → AreTracked sents (ready_at e now).end.tracking.packets
-ready_tracked sents e now tracked = by_ready (λ (x : End). AreTracked sents x.tracking.packets) e now tracked tracked moved (λ moment pacing x i. i)
+ready_tracked sents e now tracked = by_ready (λ (x : End). AreTracked sents x.tracking.packets) e now tracked tracked moved (λ moment pacing discovery x i. i)
   where
     moved : (p : ℕ × TrackedPacket) → In p e.tracking.packets → AreTracked sents (put e.tracking.packets p.0 (without_record p.1))
     moved p among n t i = elim (in_put e.tracking.packets p.0 (without_record p.1) (n, t) i) [

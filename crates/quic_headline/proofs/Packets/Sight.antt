@@ -12,7 +12,7 @@ use Rattle.quic_machine.specs.Policy.{Policy}
 use Rattle.quic_spaces.specs.Numbers.{cut_against}
 use Rattle.quic_machine.specs.End.{End}
 use Rattle.quic_machine.specs.Receive.{Outcome}
-use Rattle.quic_machine.specs.Poll.{Polled, datagram_of, lazied, polled, draft_if}
+use Rattle.quic_machine.specs.Poll.{Polled, datagram_of, polled, draft_as}
 use Rattle.quic_machine.specs.Machine.{IsAnswer, after_call, gives, fails, gave}
 use Rattle.quic_machine.specs.CallCases.{is_delivery, is_poll, is_timeout}
 use Rattle.quic_machine.specs.PollCases.{given_as, gives_as, by_poll, at_poll}
@@ -51,7 +51,7 @@ sight_first x y = record { left = λ rest whole. sym whole; own = refl; watched 
     e = new_as x y
 
     first : Waits (terms_of e) x.making.moment (no_flight e.transport.initial_rtt) (held e)
-    first = record { tells = record { terms = refl; clock = refl; named = refl; waits = tt; asked = refl; rtt = refl }; loss_time = refl; expiries = refl }
+    first = record { tells = record { terms = refl; clock = refl; named = refl; waits = tt; asked = refl; rtt = refl }; loss_time = refl; expiries = refl; probes = refl }
 
 -- ---- what a poll gives
 
@@ -71,9 +71,9 @@ poll_gives : (p : Policy) (e : End) (now : ℕ) (d : List ℕ) → (polled p e n
 poll_gives p e now d = by_poll p e now (λ (r : Polled). r.datagram ≡ Some d → IsGivenBy r d) (record {
   silent = λ is. cc;
   failed = λ is. cc;
-  nothing = λ t w moment pacing limited is. cc;
-  used_up = λ t w moment pacing is. cc;
-  gives = λ held t w moment pacing paid tracking timers s n ready some is. (let same : datagram_of p (draft_if held (lazied (at_poll e now t w moment pacing e.path.app_limited))) ≡ d = cc in record { gave = refl; given = ap (λ (x : List ℕ). x ∷ []) same });
+  nothing = λ c is. cc;
+  used_up = λ c is. cc;
+  gives = λ leaving c left s n ready some is. (let same : datagram_of p (draft_as leaving (at_poll e now c)) ≡ d = cc in record { gave = refl; given = ap (λ (x : List ℕ). x ∷ []) same });
 })
 
 -- ---- any call

@@ -1,4 +1,4 @@
--- What a delivery leaves as it was, whatever its frames say: ids, path and clock, the next number to give, and what is still to acknowledge.
+-- What a delivery leaves as it was, whatever its frames say: ids, the place of the path and the clock, the next number to give, and what is still to acknowledge.
 use Rattle.std.proofs.Common.{◌≡◌, ℕ, Bool, true, false, List, [], ◌∷◌, Option, Some, None, refl, sym, ap, ◌∙◌, subst, arith}
 use Rattle.std.specs.Prelude.{max, nat_le, unwrap_or}
 use Rattle.std.proofs.lemmas.Bool.{leb-false, or_parts}
@@ -12,8 +12,7 @@ use Rattle.quic_machine.specs.declared.run.Call.{Call}
 use Rattle.quic_machine.specs.declared.run.Call.TheVariants as calls
 use Rattle.quic_machine.specs.declared.run.Answer.{Answer}
 use Rattle.quic_spaces.specs.Numbers.{Numbers, cut_against, greatest_of}
-use Rattle.quic_congestion.specs.Search.{Discovery}
-use Rattle.quic_machine.specs.Parts.{Path, current_mtu}
+use Rattle.quic_machine.specs.Parts.{Path}
 use Rattle.quic_machine.specs.Policy.{Policy}
 use Rattle.quic_parameters.specs.Parameters.{ParameterValues}
 use Rattle.quic_config.specs.Transport.{TransportSettings}
@@ -24,7 +23,7 @@ use Rattle.quic_machine.specs.Closing.{Closing, ticked}
 use Rattle.quic_machine.specs.End.{End, with_closing}
 use Rattle.quic_machine.specs.Acked.{losses_detected, after_acked}
 use Rattle.quic_machine.specs.Receive.{is_above, names_ungiven, take_frame, received}
-use Rattle.quic_machine.specs.Poll.{Polled, lazied}
+use Rattle.quic_machine.specs.Poll.{Polled}
 use Rattle.quic_machine.specs.Machine.{after_call}
 use Rattle.quic_machine.specs.FrameCases.{Settling, losses_keep, named, ack_taken, passed, acked_keeps, message_leaves, frame_keeps, frame_leaves, frames_keep, frames_taken, by_received}
 use Rattle.quic_machine.specs.LeaveCases.{at_timeout, at_losses, at_event, by_expired}
@@ -40,12 +39,11 @@ use Rattle.quic_headline.proofs.Packets.Probes.{may_leave}
 acks_above : (p : Pending) (came : Counts) (n : ℕ) → Acks p came → Acks (after_subtract p n) came
 acks_above p came n acks = record { runs = above_kept p.runs n acks.runs; small = λ k h. acks.small k (in_above n k p.runs h).0; counts = acks.counts }
 
--- the parts of an end that no ACK frame changes but by what it names: ids, of the path its place and its size, the clock, how it sends, what the peer told, and
--- which numbers are left out; and the numbers, what is to be acknowledged, and with which marks packets came
+-- the parts of an end that no ACK frame changes but by what it names: ids, the place of the path, the clock, how it sends, what the peer told, and which numbers
+-- are left out; and the numbers, what is to be acknowledged, and with which marks packets came
 pub record Kept : Type 0 where
   pub ids : Ids
   pub generation : ℕ
-  pub size : ℕ
   pub closing : Closing
   pub transport : TransportSettings
   pub peer : ParameterValues
@@ -59,7 +57,6 @@ abbrev pub kept : End → Kept
 kept e = record {
   ids = e.ids;
   generation = e.path.generation;
-  size = current_mtu e.path;
   closing = e.closing;
   transport = e.transport;
   peer = e.peer_params;
@@ -73,7 +70,6 @@ kept e = record {
 pub record AreSettled (e f : Kept) : Type 0 where
   pub ids : f.ids ≡ e.ids
   pub generation : f.generation ≡ e.generation
-  pub size : f.size ≡ e.size
   pub closing : f.closing ≡ e.closing
   pub transport : f.transport ≡ e.transport
   pub peer : f.peer ≡ e.peer
@@ -88,7 +84,7 @@ Settles e f = AreSettled (kept e) (kept f)
 
 -- nothing changed
 settles_same : (e : End) → Settles e e
-settles_same e = record { ids = refl; generation = refl; size = refl; closing = refl; transport = refl; peer = refl; filter = refl; numbers = refl; acks = λ acks. acks; came = refl; fewer = λ k h. h }
+settles_same e = record { ids = refl; generation = refl; closing = refl; transport = refl; peer = refl; filter = refl; numbers = refl; acks = λ acks. acks; came = refl; fewer = λ k h. h }
 
 -- each step of an ACK frame
 settling : (e : End) → Settling (Settles e)
@@ -96,7 +92,6 @@ settling e = record {
   known = λ n x s. record {
     ids = s.ids;
     generation = s.generation;
-    size = s.size;
     closing = s.closing;
     transport = s.transport;
     peer = s.peer;
@@ -110,6 +105,8 @@ settling e = record {
   acked = λ m x s. s;
   lost = λ m x s. s;
   again = λ c x s. s;
+  searched = λ discovery x s. s;
+  shortens = λ most x s. s;
   tracked = λ t x s. s;
   measured = λ r first x s. s;
   marked = λ counts marking x s. s;
@@ -129,7 +126,6 @@ settles_losses e = losses_keep (Settles e) (settling e) e (settles_same e)
 pub record AreKept (e f : Kept) : Type 0 where
   pub ids : f.ids ≡ e.ids
   pub generation : f.generation ≡ e.generation
-  pub size : f.size ≡ e.size
   pub closing : f.closing ≡ e.closing
   pub transport : f.transport ≡ e.transport
   pub peer : f.peer ≡ e.peer
@@ -143,7 +139,7 @@ Keeps e f = AreKept (kept e) (kept f)
 
 -- nothing changed
 pub keeps_same : (e : End) → Keeps e e
-keeps_same e = record { ids = refl; generation = refl; size = refl; closing = refl; transport = refl; peer = refl; filter = refl; numbers = refl; acks = λ acks. acks; fewer = λ k h. h }
+keeps_same e = record { ids = refl; generation = refl; closing = refl; transport = refl; peer = refl; filter = refl; numbers = refl; acks = λ acks. acks; fewer = λ k h. h }
 
 -- an ACK frame changes of the numbers only the greatest that was named
 keeps_ack : (e : End) (rises : Bool) (a : AckValue) (x : End) → Keeps e x → Keeps e (after_acked rises a (named a x))
@@ -152,7 +148,6 @@ keeps_ack e rises a x k =
     record {
       ids = s.ids ∙ k.ids;
       generation = s.generation ∙ k.generation;
-      size = s.size ∙ k.size;
       closing = s.closing ∙ k.closing;
       transport = s.transport ∙ k.transport;
       peer = s.peer ∙ k.peer;
@@ -208,12 +203,11 @@ named_frames fs e none =
 
 -- ---- any call but a poll
 
--- Ids, the path, how an end sends, what its peer told and which numbers are left out are as they were; and so is the next number to give, which is cut against no
--- greater one.
+-- Ids, the place of the path, how an end sends, what its peer told and which numbers are left out are as they were; and so is the next number to give, which is cut
+-- against no greater one.
 pub record AreStaying (e f : Kept) : Type 0 where
   pub ids : f.ids ≡ e.ids
   pub generation : f.generation ≡ e.generation
-  pub size : f.size ≡ e.size
   pub transport : f.transport ≡ e.transport
   pub peer : f.peer ≡ e.peer
   pub filter : f.filter ≡ e.filter
@@ -225,14 +219,13 @@ Stays e f = AreStaying (kept e) (kept f)
 
 -- nothing changed
 pub stays_same : (e : End) → Stays e e
-stays_same e = record { ids = refl; generation = refl; size = refl; transport = refl; peer = refl; filter = refl; next = refl; behind = λ b. b }
+stays_same e = record { ids = refl; generation = refl; transport = refl; peer = refl; filter = refl; next = refl; behind = λ b. b }
 
 -- the same, whatever clock, tracked packets, streams and timers there are
-stays_like : (e x f : End) → f.ids ≡ x.ids → f.path.generation ≡ x.path.generation → current_mtu f.path ≡ current_mtu x.path → f.transport ≡ x.transport → f.peer_params ≡ x.peer_params → f.filter ≡ x.filter → f.numbers ≡ x.numbers → Stays e x → Stays e f
-stays_like e x f ids generation size transport peer filter numbers s = record {
+stays_like : (e x f : End) → f.ids ≡ x.ids → f.path.generation ≡ x.path.generation → f.transport ≡ x.transport → f.peer_params ≡ x.peer_params → f.filter ≡ x.filter → f.numbers ≡ x.numbers → Stays e x → Stays e f
+stays_like e x f ids generation transport peer filter numbers s = record {
   ids = ids ∙ s.ids;
   generation = generation ∙ s.generation;
-  size = size ∙ s.size;
   transport = transport ∙ s.transport;
   peer = peer ∙ s.peer;
   filter = filter ∙ s.filter;
@@ -251,11 +244,10 @@ stays_ack : (b : Bool) (a : AckValue) (e x : End) → names_ungiven a x ≡ b �
 stays_ack true a e x is s = s
 stays_ack false a e x is s =
     let t = settles_ack (is_above x.numbers.largest_acked a.largest) a (named a x) in
-    stays_like e (named a x) (after_acked (is_above x.numbers.largest_acked a.largest) a (named a x)) t.ids t.generation t.size t.transport t.peer t.filter t.numbers
+    stays_like e (named a x) (after_acked (is_above x.numbers.largest_acked a.largest) a (named a x)) t.ids t.generation t.transport t.peer t.filter t.numbers
     (record {
       ids = s.ids;
       generation = s.generation;
-      size = s.size;
       transport = s.transport;
       peer = s.peer;
       filter = s.filter;
@@ -272,11 +264,11 @@ stays_frame e f x s = s
 -- whatever comes leaves them
 pub stays_received : (p : Policy) (e : End) (arrival : Arrival) (d : List ℕ) → Stays e (received p e arrival d).end
 stays_received p e arrival d = by_received (Stays e) (record {
-  notes = λ n x s. record { ids = s.ids; generation = s.generation; size = s.size; transport = s.transport; peer = s.peer; filter = s.filter; next = s.next; behind = s.behind };
-  begins = λ now n x s. record { ids = s.ids; generation = s.generation; size = s.size; transport = s.transport; peer = s.peer; filter = s.filter; next = s.next; behind = s.behind };
+  notes = λ n x s. record { ids = s.ids; generation = s.generation; transport = s.transport; peer = s.peer; filter = s.filter; next = s.next; behind = s.behind };
+  begins = λ now n x s. record { ids = s.ids; generation = s.generation; transport = s.transport; peer = s.peer; filter = s.filter; next = s.next; behind = s.behind };
   frame = stays_frame e;
-  takes = λ n asks mark x s. record { ids = s.ids; generation = s.generation; size = s.size; transport = s.transport; peer = s.peer; filter = s.filter; next = s.next; behind = s.behind };
-  closes = λ reason x s. record { ids = s.ids; generation = s.generation; size = s.size; transport = s.transport; peer = s.peer; filter = s.filter; next = s.next; behind = s.behind };
+  takes = λ n asks mark x s. record { ids = s.ids; generation = s.generation; transport = s.transport; peer = s.peer; filter = s.filter; next = s.next; behind = s.behind };
+  closes = λ reason x s. record { ids = s.ids; generation = s.generation; transport = s.transport; peer = s.peer; filter = s.filter; next = s.next; behind = s.behind };
 }) p e arrival d (stays_same e)
 
 -- losses that are detected at a moment leave them
@@ -284,7 +276,7 @@ stays_losses : (e : End) (now : ℕ) (acks : Pending) (timers : Timers) → Stay
 stays_losses e now acks timers =
     let begins : End = with_closing e (ticked e.closing now) in
     let t = settles_losses begins in
-    stays_like e begins (at_losses e now acks timers) t.ids t.generation t.size t.transport t.peer t.filter t.numbers (record { ids = refl; generation = refl; size = refl; transport = refl; peer = refl; filter = refl; next = refl; behind = λ b. b })
+    stays_like e begins (at_losses e now acks timers) t.ids t.generation t.transport t.peer t.filter t.numbers (record { ids = refl; generation = refl; transport = refl; peer = refl; filter = refl; next = refl; behind = λ b. b })
 
 -- only a poll gives numbers
 pub stays_call : (p : Policy) (e : End) (theirs : List (List ℕ)) (call : Call) (a : Answer) → is_poll call ≡ false → Stays e (after_call p e theirs call a)
@@ -293,20 +285,19 @@ stays_call p e theirs call a other = by_plain_call p e theirs (Stays e) call a (
   on_streams = λ t. stays_same e;
   on_messages = λ m. stays_same e;
   pings = stays_same e;
-  heard = λ path same. stays_like e e (record e { path = path }) refl same.generation (ap (λ (d : Discovery). d.size) same.discovery) refl refl refl refl (stays_same e);
-  times = λ now expiry is. by_expired e now (Stays e) (λ pending tracking timers runs packets. stays_like e e (at_timeout e now pending tracking timers) refl refl refl refl refl refl refl (stays_same e)) (λ pending timers runs. stays_losses e now pending timers) expiry;
+  heard = λ path same. stays_like e e (record e { path = path }) refl same.generation refl refl refl refl (stays_same e);
+  times = λ now expiry is. by_expired e now (Stays e) (λ pending tracking timers runs packets. stays_like e e (at_timeout e now pending tracking timers) refl refl refl refl refl refl (stays_same e)) (λ pending timers runs. stays_losses e now pending timers) expiry;
   polls = λ now is. cc;
   hears = λ arrival d is. stays_received p e arrival d;
-  tells = λ told. stays_like e e (at_event e told) refl refl refl refl refl refl refl (stays_same e);
+  tells = λ told. stays_like e e (at_event e told) refl refl refl refl refl refl (stays_same e);
 })
 
 -- ---- any call
 
--- An end whose ids and path are those of another, which sends as it did and to a peer that told the same.
+-- An end whose ids and place of the path are those of another, which sends as it did and to a peer that told the same.
 pub record ArePlaced (e f : Kept) : Type 0 where
   pub ids : f.ids ≡ e.ids
   pub generation : f.generation ≡ e.generation
-  pub size : f.size ≡ e.size
   pub transport : f.transport ≡ e.transport
   pub peer : f.peer ≡ e.peer
 
@@ -316,13 +307,13 @@ IsPlaced e f = ArePlaced (kept e) (kept f)
 -- no call changes them
 pub placed_call : (p : Policy) (e : End) (theirs : List (List ℕ)) (call : Call) (a : Answer) → IsPlaced e (after_call p e theirs call a)
 placed_call p e theirs (calls.Poll now) a = by_poll p e now (λ (q : Polled). IsPlaced e q.end) (record {
-  silent = record { ids = refl; generation = refl; size = refl; transport = refl; peer = refl };
-  failed = record { ids = refl; generation = refl; size = refl; transport = refl; peer = refl };
-  nothing = λ t w moment pacing limited. record { ids = refl; generation = refl; size = refl; transport = refl; peer = refl };
-  used_up = λ t w moment pacing. record { ids = refl; generation = refl; size = refl; transport = refl; peer = refl };
-  gives = λ held t w moment pacing paid tracking timers is may ready some.
-      let x : End = at_poll e now t w moment pacing e.path.app_limited in
-      let c = composes held (lazied x) (may_leave e now held x ready some) in
-      record { ids = c.ids; generation = ap (λ (p : Path). p.generation) c.path; size = ap current_mtu c.path; transport = c.transport; peer = c.peer };
+  silent = record { ids = refl; generation = refl; transport = refl; peer = refl };
+  failed = record { ids = refl; generation = refl; transport = refl; peer = refl };
+  nothing = λ c. record { ids = refl; generation = refl; transport = refl; peer = refl };
+  used_up = λ c. record { ids = refl; generation = refl; transport = refl; peer = refl };
+  gives = λ leaving c left is may ready some.
+      let x : End = at_poll e now c in
+      let c = composes leaving x (may_leave e now leaving x ready) in
+      record { ids = c.ids; generation = ap (λ (p : Path). p.generation) c.path; transport = c.transport; peer = c.peer };
 })
-placed_call p e theirs call a = let s = stays_call p e theirs call a refl in record { ids = s.ids; generation = s.generation; size = s.size; transport = s.transport; peer = s.peer }
+placed_call p e theirs call a = let s = stays_call p e theirs call a refl in record { ids = s.ids; generation = s.generation; transport = s.transport; peer = s.peer }

@@ -1,29 +1,25 @@
 -- What calls leave of the tracked packets: each was given, and carries what its frames say.
-use Rattle.std.proofs.Common.{◌≡◌, ℕ, ◌+◌, ◌-◌, Bool, true, false, cond, Option, Some, None, List, [], ◌∷◌, ◌++◌, length, refl, sym, ap, ◌∙◌, subst, ◌⊎◌, inl, inr}
+use Rattle.std.proofs.Common.{◌≡◌, ℕ, Bool, true, false, cond, Option, Some, None, List, [], ◌∷◌, ◌++◌, refl, sym, ap, ◌∙◌, subst, ◌⊎◌, inl, inr}
 use Rattle.std.specs.Ordering.{nat_cmp, match_ordering}
 use Rattle.std.specs.BTreeMap.{is_at}
 use Rattle.std.specs.declared.cmp.Ordering.{Ordering}
 use Rattle.std.specs.declared.cmp.Ordering.TheVariants.{Less, Equal, Greater}
 use Rattle.std.proofs.lemmas.Cmp.{ranked}
-use Rattle.quic_packet.specs.Number.{truncated}
 use Rattle.quic_streams_parts.specs.Table.{Table, added, without}
 use Rattle.quic_machine.specs.declared.run.Call.{Call}
 use Rattle.quic_machine.specs.declared.run.Call.TheVariants as calls
 use Rattle.quic_machine.specs.declared.run.Answer.{Answer}
 use Rattle.quic_machine.specs.declared.run.Answer.TheVariants as answers
-use Rattle.quic_spaces.specs.Numbers.{cut_against}
 use Rattle.quic_machine.specs.Policy.{Policy}
 use Rattle.quic_machine.specs.Tracking.{Tracking, TrackedPacket, without_packet, forgotten, asking_sent, after_sent, carried_in}
 use Rattle.quic_machine.specs.End.{End, with_closing, number_of}
 use Rattle.quic_machine.specs.Closing.{ticked}
 use Rattle.quic_machine.specs.Receive.{received}
-use Rattle.quic_machine.specs.Poll.{Polled, Draft, packet_of, tracked, after_given, lazied, polled, goes}
+use Rattle.quic_machine.specs.Poll.{zeros_behind, Polled, Draft, packet_of, tracked, after_given, polled, goes, Ready}
 use Rattle.quic_machine.specs.Machine.{IsAnswer, after_call, fails, gave}
-use Rattle.quic_machine.specs.PollCases.{ready_at, ready_leaves, draft_at, frames_padded, by_poll_to, composes}
+use Rattle.quic_machine.specs.PollCases.{ready_at, ready_leaves, draft_at, frames_padded, by_poll_to, composes, may_leave_at}
 use Rattle.quic_machine.specs.LeaveCases.{by_expired}
 use Rattle.quic_machine.specs.CallCases.{is_poll, by_plain_call}
-use Rattle.quic_machine.specs.Control.{Gated}
-use Rattle.quic_machine.specs.DraftLaws.{due_alone}
 use Rattle.quic_headline.specs.Runs.{In}
 use Rattle.quic_headline.specs.Observer.{Sent}
 use Rattle.quic_headline.proofs.Packets.Invariant.{AreTracked}
@@ -92,7 +88,7 @@ tracked_given d sents s number frames i n t is = elim (in_sent d.end.tracking (n
       let carried : t.carried ≡ carried_in d.frames = ap (λ (x : ℕ × TrackedPacket). x.1.carried) new in (
         s,
         (in_last s sents, number ∙ sym same),
-        inl (carried ∙ sym (carried_padded d.frames (4 - ((truncated (number_of d.end) (cut_against d.end.numbers)).width + length d.bytes))) ∙ ap carried_in (sym frames)),
+        inl (carried ∙ sym (carried_padded d.frames (zeros_behind d)) ∙ ap carried_in (sym frames)),
       ))
 ]
 
@@ -113,11 +109,11 @@ tracked_polled p e now sents i =
 
     gives : goes (ready_at e now) ≡ true → AreTracked (sents ++ sent_by e now ∷ []) (after_given p (draft_at e now)).tracking.packets
     gives some =
-        let g : Gated = ready_at e now in
-        let before : End = lazied g.end in
+        let g : Ready = ready_at e now in
+        let before : End = g.end in
         let d : Draft = draft_at e now in
-        let number : number_of e ≡ number_of d.end = sym (draft_number g.held before (due_alone g some) ∙ ap (λ (x : End). number_of x) (ready_leaves e now)) in
-        let packets : AreTracked sents d.end.tracking.packets = subst (λ (x : Tracking). AreTracked sents x.packets) (sym (composes g.held before (due_alone g some)).tracking) ready in
+        let number : number_of e ≡ number_of d.end = sym (draft_number g.leaving before (may_leave_at e now) ∙ ap (λ (x : End). number_of x) (ready_leaves e now)) in
+        let packets : AreTracked sents d.end.tracking.packets = subst (λ (x : Tracking). AreTracked sents x.packets) (sym (composes g.leaving before (may_leave_at e now)).tracking) ready in
         by_going (λ (x : End). AreTracked (sents ++ sent_by e now ∷ []) x.tracking.packets) p d (λ pacing. tracked_given d sents (sent_by e now) number refl packets)
 
 -- another call than a poll gives nothing that is tracked

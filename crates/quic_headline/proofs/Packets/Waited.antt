@@ -52,12 +52,16 @@ waited_length (s ∷ ss) (p ∷ ps) w = ap (λ (n : ℕ). suc n) (waited_length 
 waited_length [] (p ∷ ps) w = absurd w
 waited_length (s ∷ ss) [] w = absurd w
 
+-- one of both passes
+pub waited_any : (f : Sent → Bool) (g : ℕ × TrackedPacket → Bool) → ((s : Sent) (p : ℕ × TrackedPacket) → IsWaited s p → f s ≡ g p) → (ss : List Sent) (ps : Table TrackedPacket) → AreWaited ss ps → list_any f ss ≡ list_any g ps
+waited_any f g agree [] [] w = refl
+waited_any f g agree (s ∷ ss) (p ∷ ps) w = ap (λ (b : Bool). b || list_any f ss) (agree s p w.0) ∙ ap (λ (b : Bool). g p || b) (waited_any f g agree ss ps w.1)
+waited_any f g agree [] (p ∷ ps) w = absurd w
+waited_any f g agree (s ∷ ss) [] w = absurd w
+
 -- one of both asks
 pub waited_asks : (ss : List Sent) (ps : Table TrackedPacket) → AreWaited ss ps → list_any asks_of ss ≡ asks_any ps
-waited_asks [] [] w = refl
-waited_asks (s ∷ ss) (p ∷ ps) w = ap (λ (b : Bool). b || list_any asks_of ss) (sym w.0.asks) ∙ ap (λ (b : Bool). p.1.asks || b) (waited_asks ss ps w.1)
-waited_asks [] (p ∷ ps) w = absurd w
-waited_asks (s ∷ ss) [] w = absurd w
+waited_asks ss ps w = waited_any asks_of (λ p. p.1.asks) (λ s p i. sym i.asks) ss ps w
 
 -- what is in flight is tracked, and the other way round
 pub waited_there : (ss : List Sent) (ps : Table TrackedPacket) (s : Sent) → AreWaited ss ps → In s ss → (p : ℕ × TrackedPacket) × In p ps × IsWaited s p

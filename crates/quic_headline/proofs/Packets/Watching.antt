@@ -27,12 +27,10 @@ use Rattle.quic_machine.specs.Tracking.{Tracking}
 use Rattle.quic_machine.specs.End.{End, number_of, with_closing, closed_by, with_numbers, with_loss_timer}
 use Rattle.quic_machine.specs.Timeouts.{acks_expired, loss_judged, loss_expired, pacing_expired, timed_out_in, timed_out}
 use Rattle.quic_machine.specs.Receive.{asks_in, after_taken}
-use Rattle.quic_machine.specs.Poll.{Polled, Draft, payload_of, datagram_of, datagram_size, after_given, lazied, goes, rests, sends, polled_if, polled_in, polled}
-use Rattle.quic_machine.specs.Control.{Gated}
-use Rattle.quic_machine.specs.DraftLaws.{due_alone}
+use Rattle.quic_machine.specs.Poll.{Polled, Draft, payload_of, datagram_of, datagram_size, after_given, goes, rests, sends, polled_if, polled_in, polled, Ready}
 use Rattle.quic_machine.specs.Machine.{after_call, fails, gave}
 use Rattle.quic_machine.specs.CallCases.{is_delivery, is_poll, is_timeout, by_plain_call}
-use Rattle.quic_machine.specs.PollCases.{at_poll, ready_at, ready_leaves, draft_at, frames_at, given_as, Composes, composes}
+use Rattle.quic_machine.specs.PollCases.{ready_at, ready_leaves, draft_at, frames_at, given_as, Composes, composes, poll_left, may_leave_at}
 use Rattle.quic_machine.specs.FrameCases.{begun}
 use Rattle.quic_headline.specs.Runs.{Told, Packet, Intake, acknowledged, and_handed, and_told, folded}
 use Rattle.quic_headline.specs.Observer.{Sent, Terms, loss_due, is_past, expired_for, after_packets, and_sent, and_all_sent, Watch, news, has_opened, moment_of, clock_behind, sent_as, after_frames, watch_sent, Lens, watch_given, is_timely, watch_moment, watch_came, watch_told}
@@ -40,12 +38,13 @@ use Rattle.quic_headline.proofs.Packets.Invariant.{IsGiven, KnowsIn, IsBehind}
 use Rattle.quic_headline.proofs.Packets.Intakes.{nothing_handed, none_handed}
 use Rattle.quic_headline.proofs.Packets.Stays.{keeps_frames}
 use Rattle.quic_headline.proofs.Packets.Delivered.{Arrivals, arrived, with_taken}
-use Rattle.quic_headline.proofs.Packets.Probes.{MayLeave, by_going}
+use Rattle.quic_headline.proofs.Packets.Probes.{by_going}
 use Rattle.quic_headline.proofs.Packets.Given.{allocated_near, draft_number}
 use Rattle.quic_headline.proofs.Packets.Waited.{AreWaited}
 use Rattle.quic_headline.proofs.Packets.Flying.{Held, held, IsAsked, Waits, Loses, detected_held, timer_is, frames_wait, sent_read, draft_waits, ticked_waits, numbers_wait, ready_waits, expired_waits, expired_flies}
 use Rattle.quic_headline.proofs.Timers.LossTimers.{OpenStands, LossStands, ready_stands}
 use Rattle.quic_headline.proofs.Places.Parties.{sent_by, sent_if, told_of}
+use Rattle.quic_machine.specs.DraftLaws.{MayLeave}
 
 -- ---- the observer
 
@@ -89,7 +88,7 @@ watched_intake l (t ∷ told) w =
     ∙ ap (λ (i : Intake). folded (and_told l.own l.peer_gave) told i) (given_intake (gave t.answer) l (timed_with l t w) ∙ ap (λ (v : Watch). v.intake) (moment_leaves (is_timely t.state t.call) l.terms (came_with l t w)))
 
 -- between an intake and itself, no packet opened
-none_opened : (i : Intake) → has_opened i i ≡ false
+pub none_opened : (i : Intake) → has_opened i i ≡ false
 none_opened i = le-ltb (length i.opened) (length i.opened) (omega arith)
 
 -- and none was taken
@@ -97,7 +96,7 @@ pub none_new : (i : Intake) → news i i ≡ []
 none_new i = let none : length i.took - length i.took ≡ 0 = omega arith in ap (λ (n : ℕ). take n i.took) none
 
 -- where one packet more was taken, one opened
-one_opened : (i : Intake) (n : ℕ) (frames : List FrameValue) → has_opened i (with_taken i n frames) ≡ true
+pub one_opened : (i : Intake) (n : ℕ) (frames : List FrameValue) → has_opened i (with_taken i n frames) ≡ true
 one_opened i n frames = lt-ltb (length i.opened) (length (n ∷ i.opened)) (omega arith)
 
 -- and it alone was taken
@@ -243,19 +242,19 @@ module _ (l : Lens) (id : List ℕ) (rest : List (List ℕ)) (lawful : IsLawful 
   one_goes_on : (now : ℕ) → e.closing.state ≡ states.Open → goes (ready_at e now) ≡ true → GoesOn now states.Open (sends true l.own (ready_at e now))
   one_goes_on now opened some given left = (ap (λ (v : Watch). v.own) is, subst (λ (v : Watch). IsWatched l.terms v (after_given l.own draft)) (sym is) after)
     where
-      g : Gated
+      g : Ready
       g = ready_at e now
 
       before : End
-      before = lazied g.end
+      before = g.end
 
       draft : Draft
       draft = draft_at e now
 
-      may : MayLeave g.held before
-      may = due_alone g some
+      may : MayLeave g.leaving before
+      may = may_leave_at e now
 
-      ready : g.end ≡ at_poll e now g.end.tracking g.end.waiting g.end.timers.pacing g.end.path.pacing e.path.app_limited
+      ready : g.end ≡ poll_left e now g.end
       ready = ready_leaves e now
 
       d : List ℕ
@@ -277,11 +276,11 @@ module _ (l : Lens) (id : List ℕ) (rest : List (List ℕ)) (lawful : IsLawful 
       moment = ap (λ (n : ℕ). max n now) (watched_before.flight opened).tells.clock
 
       c : Composes before draft.end
-      c = composes g.held before may
+      c = composes g.leaving before may
 
       -- it has as many bytes as was told of it
       number : number_of draft.end ≡ number_of e
-      number = draft_number g.held before may ∙ ap (λ (x : End). number_of x) ready
+      number = draft_number g.leaving before may ∙ ap (λ (x : End). number_of x) ready
 
       cut : cut_against draft.end.numbers ≡ cut_against e.numbers
       cut = ap (λ (x : Numbers). cut_against x) c.numbers ∙ ap (λ (x : End). cut_against x.numbers) ready
@@ -290,7 +289,7 @@ module _ (l : Lens) (id : List ℕ) (rest : List (List ℕ)) (lawful : IsLawful 
       near = rw (number, cut) was.near
 
       size : length d ≡ datagram_size draft
-      size = sent_length l.own.header l.own.packet lawful.width lawful.tag (number_of draft.end) (cut_against draft.end.numbers) draft.end.ids.active.id (payload_of draft) near
+      size = let long = sent_length l.own.header l.own.packet lawful.width lawful.tag (number_of draft.end) (cut_against draft.end.numbers) draft.end.ids.active.id (payload_of draft) near in omega arith
 
       above : cut_against e.numbers ≤ number_of e
       above = let more = (allocated_near e.filter e.numbers.next).0 in let less : cut_against e.numbers ≤ e.numbers.next = behind in omega arith
@@ -314,7 +313,7 @@ module _ (l : Lens) (id : List ℕ) (rest : List (List ℕ)) (lawful : IsLawful 
         path = by_going (λ (x : End). x.path.generation ≡ 0) l.own draft (λ pacing. ap (λ (x : Path). x.generation) c.path ∙ ready_path now);
         flight = λ still.
             let open_still : g.end.closing.state ≡ states.Open = ap (λ (x : End). x.closing.state) ready ∙ opened in
-            draft_waits l.own l.terms (max w.clock now) g.held before s w.flight may (ready_path now) (ap (λ (x : End). number_of x) (sym ready)) (ap (λ (x : End). x.closing.clock) (sym ready)) refl refl
+            draft_waits l.own l.terms (max w.clock now) g.leaving before s w.flight may (ready_path now) (ap (λ (x : End). number_of x) (sym ready)) (ap (λ (x : End). x.closing.clock) (sym ready)) refl refl
             (ready_stands e now stands open_still).stands.lies (allocated_near before.filter before.numbers.next).0 ((moment_watched now opened).flight open_still);
       }
 
@@ -355,7 +354,7 @@ expired_path true e = go e.tracking.loss_time
     go (Some moment) = ap (λ (h : Held). h.generation) (detected_held e)
 
 -- the observer says with the end whether its timer of losses expires
-timer_expires : (t : Terms) (w : Watch) (e : End) (now : ℕ) → OpenStands e → Waits t w.clock w.flight (held e) → has_come e.timers.loss_detection (max e.closing.clock now) ≡ is_past (loss_due t w.flight) (max w.clock now)
+pub timer_expires : (t : Terms) (w : Watch) (e : End) (now : ℕ) → OpenStands e → Waits t w.clock w.flight (held e) → has_come e.timers.loss_detection (max e.closing.clock now) ≡ is_past (loss_due t w.flight) (max w.clock now)
 timer_expires t w e now s i =
     past_same e.timers.loss_detection (max e.closing.clock now)
     ∙ ap (λ (o : Option ℕ). is_past o (max e.closing.clock now)) (timer_is t w.clock w.flight e s i)
@@ -489,6 +488,7 @@ leaves_watched t w e f l i = record {
         };
         loss_time = before.loss_time ∙ ap (λ (x : Tracking). x.loss_time) (sym l.tracking);
         expiries = before.expiries ∙ ap (λ (x : Tracking). min x.timeouts 16) (sym l.tracking);
+        probes = before.probes ∙ ap (λ (x : Tracking). x.probes) (sym l.tracking);
       };
 }
 

@@ -13,6 +13,8 @@ use Rattle.quic_headline.specs.Moments.{LossMoments, LossTimerQuiet, AckMoments}
 use Rattle.quic_headline.specs.Resets.{ResetsAreTold}
 use Rattle.quic_headline.specs.Ids.{IdsAreNew, AcceptedWereOpened}
 use Rattle.quic_headline.specs.Polls.{AskingGoesWhereLet, ProbesPass}
+use Rattle.quic_headline.specs.Sizes.{SizesMove, DatagramsAreSized}
+use Rattle.quic_headline.specs.Telling.{ControllersAreTold}
 use Rattle.quic_machine.specs.PollCases.{ready_at}
 use Rattle.quic_headline.proofs.Packets.Probes.{ready_state}
 use Rattle.quic_headline.proofs.Packets.MayGo.{AreReady}
@@ -47,6 +49,12 @@ use Rattle.quic_headline.proofs.Grown.Clause.{GrownWait, grown_group}
 use Rattle.quic_headline.proofs.Grown.Clause as grown
 use Rattle.quic_headline.proofs.Steps.Probes as probes
 use Rattle.quic_headline.proofs.Steps.Asking as asking
+use Rattle.quic_headline.proofs.Steps.Sized as sized
+use Rattle.quic_headline.proofs.Timers.Watched.{Observed}
+use Rattle.quic_headline.proofs.Timers.Quiet.{Unnamed, quiet_group}
+use Rattle.quic_headline.proofs.Sizes.Probed.{KnowsSearch, search_group}
+use Rattle.quic_headline.proofs.Sizes.Moves as moves
+use Rattle.quic_headline.proofs.Tellings.Clause as tellings
 
 -- what waits to go of streams, as a group over the packets and what is written
 pub record IsReadying (Ready : Way) : Type 1 where
@@ -63,7 +71,7 @@ module _ (Ready : Way) (ready : IsReadying Ready) where
   rest : Group (And PacketsHold WritesHold) Rest
   rest = beside (And PacketsHold WritesHold) KnowsLimit Ready (over PacketsHold (And PacketsHold WritesHold) KnowsLimit (λ x y h. h.0) (early_group PacketsHold KnowsLimit limit_group)) ready.group
 
-  goes : (x y : Party) → PacketsHold x y → Rest x y → (now : ℕ) → GoesWell (ready_at x.end now).end
+  pub goes : (x y : Party) → PacketsHold x y → Rest x y → (now : ℕ) → GoesWell (ready_at x.end now).end
   goes x y p h now = record { limit = subst HasSmallLimit (sym (ready_state x.end now)) h.0.small; waits = ready.probes x y p h.1 now }
 
   -- the streams of an end that writes
@@ -76,6 +84,11 @@ module _ (Ready : Way) (ready : IsReadying Ready) where
 
   pub all : Group Nothing All
   all = together.sighted Streams (streams_spell Rest goes) (streams_group Rest goes rest)
+
+  -- and what of it the search for a size made
+  pub all_searched : Group Nothing (And All (And KnowsSearch Unnamed))
+  all_searched = both Nothing All (And KnowsSearch Unnamed) all
+      (beside (And Nothing All) KnowsSearch Unnamed (search_group (And Nothing All) (λ x y h. h.1.0.0)) (over Observed (And Nothing All) Unnamed (λ x y h. (h.1.0.0, h.1.1)) quiet_group))
 
   -- ---- what is read
 
@@ -229,6 +242,15 @@ module _ (Ready : Way) (ready : IsReadying Ready) where
 
     pub asking_goes_where_let : AskingGoesWhereLet r
     asking_goes_where_let = asking.asking_goes_where_let Streams all r end honest run
+
+    pub sizes_move : SizesMove r
+    sizes_move = moves.sizes_move (And All (And KnowsSearch Unnamed)) all_searched (λ x y h. h.0.0.0) (λ x y h. h.0.1) (λ x y h. h.1.0) (λ x y h. h.1.1) r end honest run
+
+    pub controllers_are_told : ControllersAreTold r
+    controllers_are_told = tellings.controllers_are_told (And All (And KnowsSearch Unnamed)) all_searched (λ x y h. h.0.0.0) (λ x y h. h.0.1) (λ x y h. h.1.0) (λ x y h. h.1.1) r end honest run
+
+    pub datagrams_are_sized : DatagramsAreSized r
+    datagrams_are_sized = sized.datagrams_are_sized Streams (streams_spell Rest goes) all r end honest run
 
     pub probes_pass : ProbesPass r
     probes_pass = probes.probes_pass Streams (streams_spell Rest goes) all r end honest run

@@ -8,9 +8,11 @@ use Rattle.quic_wire_core.specs.declared.stream_id.Side.TheVariants.{Client, Ser
 use Rattle.quic_machine.specs.declared.answers.State.{State}
 use Rattle.quic_machine.specs.declared.run.RunEvent.{RunEvent}
 use Rattle.quic_machine.specs.declared.run.Answer.{Answer}
+use Rattle.quic_machine.specs.declared.run.EndView.{EndView}
 use Rattle.quic_machine.specs.declared.run.View.{View}
 use Rattle.quic_machine.specs.Machine.{World, Policies, IsStep, end_at, end_met, control_at, changed, gives, policy_at, fails, Follows, view_of}
 use Rattle.quic_headline.specs.Runs.{Told, told_by, told_at, state_in, state_behind}
+use Rattle.quic_headline.specs.Polls.{end_in, seen_of, seen_behind}
 
 -- what both ends gave, the first of all that they give
 pub record Grown (w end : World) : Type 0 where
@@ -66,6 +68,24 @@ last_view k (suc i) w end (e ∷ events) (a ∷ answers) (u ∷ views) v f there
 pub state_shown : (side : Side) (w : World) → state_in (view_of w) side ≡ (end_at side w).closing.state
 state_shown Client w = refl
 state_shown Server w = refl
+
+-- and what is seen of an end
+seen_shown : (side : Side) (w : World) → end_in (view_of w) side ≡ seen_of side w
+seen_shown Client w = refl
+seen_shown Server w = refl
+
+-- what the views show of an end at a place is what is to be seen of it there
+pub last_seen : (side : Side) (k : Policies) (i : ℕ) (w end : World) (events : List RunEvent) (answers : List Answer) (views : List View) → Follows k w (take i events) (take i answers) (take i views) end → seen_behind side (seen_of side w) i views ≡ seen_of side end
+last_seen side k zero w end events answers views f = ap (λ (v : World). seen_of side v) (sym f)
+last_seen side k (suc i) w end [] [] [] f = ap (λ (v : World). seen_of side v) (sym f)
+last_seen side k (suc i) w end (e ∷ events) [] [] f = ap (λ (v : World). seen_of side v) (sym f)
+last_seen side k (suc i) w end [] [] (v ∷ views) f = absurd f
+last_seen side k (suc i) w end (e ∷ events) [] (v ∷ views) f = absurd f
+last_seen side k (suc i) w end [] (a ∷ answers) views f = absurd f
+last_seen side k (suc i) w end (e ∷ events) (a ∷ answers) [] f = absurd f
+last_seen side k (suc i) w end (e ∷ events) (a ∷ answers) (v ∷ views) f =
+    ap (λ (s : EndView). seen_behind side s i views) (ap (λ (u : View). end_in u side) f.2 ∙ seen_shown side f.0)
+    ∙ last_seen side k i f.0 end events answers views f.3
 
 -- what one more event tells, and what is told behind it, as the view behind it shows the state
 told_further : (side : Side) (state : State) (told : List Told) (event : RunEvent) (a : Answer) (events : List RunEvent) (answers : List Answer) (v : View) (views : List View) (next : World) → v ≡ view_of next

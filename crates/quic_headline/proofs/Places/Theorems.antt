@@ -10,11 +10,14 @@ use Rattle.quic_headline.specs.Moments.{LossMoments, LossTimerQuiet, AckMoments}
 use Rattle.quic_headline.specs.Resets.{ResetsAreTold}
 use Rattle.quic_headline.specs.Ids.{IdsAreNew, AcceptedWereOpened}
 use Rattle.quic_headline.specs.Polls.{PacerSetsItsTimer, AskingGoesWhereLet, ProbesPass, WindowIsOfHistory}
+use Rattle.quic_headline.specs.Sizes.{SizeIsOfHistory, SizesMove, DatagramsAreSized}
+use Rattle.quic_headline.specs.Telling.{ControllersAreTold}
 use Rattle.quic_headline.specs.Headline.{IsHonest, IsRun, OrderedPrefix, Slices, Once, EndAfterAll, BlockedOnlyWithoutBytes, AcceptsAll, FinishedMeansArrived, AcknowledgedWereTaken, NamesWereTaken, OpensExactly, NewestOpens, NumbersRise}
 use Rattle.quic_headline.proofs.Halves.Ready.{Ready, ready_probes, ready_group}
 use Rattle.quic_headline.proofs.Places.Everything as everything
 use Rattle.quic_headline.proofs.Steps.Pacing as pacing
 use Rattle.quic_headline.proofs.Steps.Windows as windows
+use Rattle.quic_headline.proofs.Steps.Resized as resized
 
 -- what waits to go of streams may go
 pub ready : everything.IsReadying Ready
@@ -107,8 +110,20 @@ pacer_sets_its_timer r end honest run = pacing.pacer_sets_its_timer r
 pub window_is_of_history : (r : Run) (end : World) → IsHonest r → IsRun r end → WindowIsOfHistory r
 window_is_of_history r end honest run = windows.window_is_of_history r end run
 
+pub size_is_of_history : (r : Run) (end : World) → IsHonest r → IsRun r end → SizeIsOfHistory r
+size_is_of_history r end honest run = resized.size_is_of_history r end run
+
+pub controllers_are_told : (r : Run) (end : World) → IsHonest r → IsRun r end → ControllersAreTold r
+controllers_are_told = everything.controllers_are_told Ready ready
+
 pub asking_goes_where_let : (r : Run) (end : World) → IsHonest r → IsRun r end → AskingGoesWhereLet r
 asking_goes_where_let = everything.asking_goes_where_let Ready ready
+
+pub sizes_move : (r : Run) (end : World) → IsHonest r → IsRun r end → SizesMove r
+sizes_move = everything.sizes_move Ready ready
+
+pub datagrams_are_sized : (r : Run) (end : World) → IsHonest r → IsRun r end → DatagramsAreSized r
+datagrams_are_sized = everything.datagrams_are_sized Ready ready
 
 pub probes_pass : (r : Run) (end : World) → IsHonest r → IsRun r end → ProbesPass r
 probes_pass = everything.probes_pass Ready ready

@@ -1,12 +1,11 @@
 -- At an open end where a packet that asks came since the last acknowledgement went, one is due, or the timer of acknowledgements is set: each call keeps that.
-use Rattle.std.proofs.Common.{◌≡◌, ℕ, ◌<◌, ◌≤◌, ◌⊎◌, Bool, true, false, not, ◌||◌, ◌&&◌, cond, max, List, Option, Some, None, refl, sym, ap, ◌∙◌, subst, inl, inr, arith}
+use Rattle.std.proofs.Common.{◌≡◌, ℕ, ◌<◌, ◌⊎◌, Bool, true, false, not, ◌||◌, ◌&&◌, cond, List, Option, Some, None, refl, sym, ap, ◌∙◌, subst, inl, inr, arith, ◌≤◌, max}
 use Rattle.std.specs.Prelude.{if◌then◌else◌, nat_lt, is_none}
 use Rattle.std.specs.Option.{is_some}
 use Rattle.std.proofs.lemmas.Bool.{and_parts, or_left, lt-ltb}
 use Rattle.quic_spaces.specs.Marks.{is_congested}
 use Rattle.quic_recovery_core.specs.Duplicates.{Seen}
-use Rattle.quic_recovery_core.specs.PendingAcks.{Pending, none_pending, is_filled, after_insert, asking_counted, starts_wait, after_packet}
-use Rattle.quic_recovery_core.specs.declared.spaces.pending_acks.TheConstants.{LAZY_ACK_THRESHOLD}
+use Rattle.quic_recovery_core.specs.PendingAcks.{lazy_threshold, Pending, none_pending, is_filled, after_insert, asking_counted, starts_wait, after_packet}
 use Rattle.quic_time.specs.Timers.{Timers}
 use Rattle.quic_wire_core.specs.declared.stream_id.Side.TheVariants.{Client, Server}
 use Rattle.quic_machine.specs.declared.answers.State.TheVariants as states
@@ -22,17 +21,17 @@ use Rattle.quic_machine.specs.Start.{AreStarted}
 use Rattle.quic_machine.specs.End.{End, with_closing, closed_by, with_ack_timer, with_loss_timer}
 use Rattle.quic_machine.specs.Receive.{timers_after}
 use Rattle.quic_spaces.specs.Acknowledging.{ack_due, with_due}
-use Rattle.quic_machine.specs.Poll.{Polled, Draft, lazied, polled, draft_if}
+use Rattle.quic_machine.specs.Poll.{Polled, Draft, polled, draft_as, lazied_as, Leaving, whole, alone, probe, nothing}
 use Rattle.quic_machine.specs.Timeouts.{Expiry, loss_judged, acks_expired, loss_expired, pacing_expired}
 use Rattle.quic_machine.specs.Machine.{World, Policies, after_call, Follows}
-use Rattle.quic_machine.specs.DraftLaws.{by_leave, due_alone}
+use Rattle.quic_machine.specs.DraftLaws.{by_leave, MayLeave}
 use Rattle.quic_machine.specs.LeaveCases.{at_expiry}
 use Rattle.quic_machine.specs.CallCases.{by_plain_call}
 use Rattle.quic_machine.specs.FrameCases.{Settling, Receives, named, acked_keeps, losses_keep, frame_keeps, frame_leaves, by_received}
-use Rattle.quic_machine.specs.PollCases.{ready_at, ready_leaves, by_poll_to, draft_at}
+use Rattle.quic_machine.specs.PollCases.{ready_at, ready_leaves, by_poll_to, draft_at, may_leave_at}
 use Rattle.quic_headline.proofs.Places.Placed.{start_is}
 use Rattle.quic_headline.proofs.Timers.BothEnds.{AtBoth, run_keeps}
-use Rattle.quic_headline.proofs.Packets.Probes.{MayLeave, by_going}
+use Rattle.quic_headline.proofs.Packets.Probes.{by_going}
 
 -- Where packets that ask were counted, an acknowledgement is due or the timer is set; it was set only for such a packet, and to 25 ms behind the clock at the latest.
 pub record Comes (due : Bool) (asking : ℕ) (since timer : Option ℕ) (clock : ℕ) : Type 0 where
@@ -86,7 +85,7 @@ packet_comes false t p now n s c = c
 
 -- acknowledged and lost packets change neither
 settling : Settling IsAwaited
-settling = record { known = λ n e i. i; reset = λ id e i. i; acked = λ m e i. i; lost = λ m e i. i; again = λ carried e i. i; tracked = λ t e i. i; measured = λ r first e i. i; marked = λ m marking e i. i }
+settling = record { known = λ n e i. i; reset = λ id e i. i; acked = λ m e i. i; lost = λ m e i. i; again = λ carried e i. i; searched = λ discovery e i. i; shortens = λ most e i. i; tracked = λ t e i. i; measured = λ r first e i. i; marked = λ m marking e i. i }
 
 receives : Receives IsAwaited
 receives = record {
@@ -100,19 +99,24 @@ receives = record {
 
 -- ---- a poll
 
+-- an acknowledgement may become due where something goes
+lazied_awaited : (leaving : Leaving) (e : End) → IsAwaited e → IsAwaited (lazied_as leaving e)
+lazied_awaited whole e i opened = more_due (nat_lt lazy_threshold e.acknowledging.silent) e.acknowledging e.timers.max_ack_delay e.closing.clock (i opened)
+lazied_awaited alone e i opened = more_due (nat_lt lazy_threshold e.acknowledging.silent) e.acknowledging e.timers.max_ack_delay e.closing.clock (i opened)
+lazied_awaited (probe size) e i opened = i opened
+lazied_awaited (nothing held) e i opened = i opened
+
 -- an ACK that goes answers all, and no other frame changes what is awaited
-draft_awaited : (held : Bool) (e : End) → MayLeave held e → IsAwaited e → IsAwaited (draft_if held e).end
-draft_awaited = by_leave (λ (d : Draft). IsAwaited d.end) (record {
+draft_awaited : (leaving : Leaving) (e : End) → MayLeave leaving e → IsAwaited e → IsAwaited (draft_as leaving e).end
+draft_awaited leaving e due i = by_leave (λ (d : Draft). IsAwaited d.end) (record {
   ack = λ d filled may i opened. record { waits = λ some. absurd (omega arith); counted = λ some. cc; known = λ set. cc; soon = λ moment set. cc };
   ping = λ d i. i;
+  probes = λ f size i. i;
   drops = λ d kind i. i;
   control = λ d kind f is i. i;
   message = λ d m ms is fit i. i;
   stream = λ d id h room found first some is counts i. i;
-})
-
-lazied_awaited : (e : End) → IsAwaited e → IsAwaited (lazied e)
-lazied_awaited e i opened = more_due (nat_lt LAZY_ACK_THRESHOLD e.acknowledging.silent) e.acknowledging e.timers.max_ack_delay e.closing.clock (i opened)
+}) leaving e due (lazied_awaited leaving e i)
 
 ready_awaited : (e : End) (now : ℕ) → IsAwaited e → IsAwaited (ready_at e now).end
 ready_awaited e now i = subst (λ (x : End). IsAwaited x) (sym (ready_leaves e now)) (λ opened. later e.acknowledging e.timers.max_ack_delay e.closing.clock now (i opened))
@@ -123,7 +127,7 @@ polled_awaited p e now i = by_poll_to p e now (λ (q : Polled). IsAwaited q.end)
   failed = i;
   nothing = λ is none. ready_awaited e now i;
   used_up = closed_awaited reasons.NumberLimit (ready_at e now).end;
-  gives = λ is may some. by_going IsAwaited p (draft_at e now) (λ pacing. draft_awaited (ready_at e now).held (lazied (ready_at e now).end) (due_alone (ready_at e now) some) (lazied_awaited (ready_at e now).end (ready_awaited e now i)));
+  gives = λ is may some. by_going IsAwaited p (draft_at e now) (λ pacing. draft_awaited (ready_at e now).leaving (ready_at e now).end (may_leave_at e now) (ready_awaited e now i));
 })
 
 -- ---- any call

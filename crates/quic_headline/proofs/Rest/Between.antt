@@ -22,7 +22,7 @@ pub record AreSame (side : Side) (w next : World) : Type 0 where
   pub control : control_at side next ≡ control_at side w
 
 -- a step of the other end leaves it as it is
-step_leaves : (side : Side) (k : Policies) (w next : World) (event : RunEvent) (a : Answer) → same_side event.side side ≡ false → IsStep k w event a next → AreSame side w next
+pub step_leaves : (side : Side) (k : Policies) (w next : World) (event : RunEvent) (a : Answer) → same_side event.side side ≡ false → IsStep k w event a next → AreSame side w next
 step_leaves side k w next event a other s = go side event.side event.call other s
   where
     go : (side by : Side) (call : Call) → same_side by side ≡ false → IsStep k w (record { side = by; call = call }) a next → AreSame side w next
@@ -32,7 +32,7 @@ step_leaves side k w next event a other s = go side event.side event.call other 
     go Server Client call other s = record { end = ap (λ (v : World). v.server) s.others; control = ap (λ (v : World). v.server_control) s.others }
 
 -- the same side
-side_is : (a b : Side) → same_side a b ≡ true → a ≡ b
+pub side_is : (a b : Side) → same_side a b ≡ true → a ≡ b
 side_is Client Client is = refl
 side_is Server Server is = refl
 side_is Client Server is = cc

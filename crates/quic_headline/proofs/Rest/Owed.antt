@@ -12,7 +12,7 @@ use Rattle.quic_machine.specs.Machine.{World, end_at}
 use Rattle.quic_headline.specs.Runs.{Run as Run_of, Packet, Intake, In, IsNamed, folded, until, given_of}
 use Rattle.quic_headline.specs.Observer.{Sent, Watch, first_watch, lens_of, took, sents_until}
 use Rattle.quic_headline.specs.Headline.{IsHonest, IsRun}
-use Rattle.quic_headline.specs.Rest.{unanswered_told, none_unanswered, HasNothingLeft, IsUnacknowledged, NothingOwedAtRest}
+use Rattle.quic_headline.specs.Rest.{unanswered_told, none_unanswered, HasNothingLeft, NothingOwedAtRest, IsUnacknowledged}
 use Rattle.quic_headline.proofs.Packets.Watching.{watched_intake}
 use Rattle.quic_headline.proofs.Places.Parties.{Party, came_to, lens}
 use Rattle.quic_headline.proofs.Places.Groups.{Way, Nothing, And, Group, both, over}

@@ -10,6 +10,7 @@ use Rattle.quic_streams_parts.specs.Table.{Table}
 use Rattle.quic_machine.specs.Tracking.{TrackedPacket, Carried, acked_in, acked_by, lost_by}
 use Rattle.quic_machine.specs.End.{End}
 use Rattle.quic_machine.specs.Acked.{without_known, resets_acked, packet_acked, packets_acked, verdict, measured, sampled, without_acked, losses_taken, after_named}
+use Rattle.quic_machine.specs.Sizes.{search_acked}
 use Rattle.quic_machine.specs.Receive.{is_above, names_ungiven, take_frame}
 use Rattle.quic_machine.specs.FrameCases.{named, ack_taken, passed, streams_acked_keep, resets_acked_keep, packets_lost_keep, by_marks, frame_leaves, frames_leave}
 use Rattle.quic_headline.specs.Runs.{Packet, In, IsNamed, names}
@@ -17,6 +18,7 @@ use Rattle.quic_headline.specs.Observer.{Sent}
 use Rattle.quic_headline.specs.InFlight.{first_acknowledged}
 use Rattle.quic_headline.proofs.Packets.Invariant.{AreTracked, carried_acks}
 use Rattle.quic_headline.proofs.Packets.Carried.{acknowledged_same}
+use Rattle.quic_headline.proofs.Packets.Searches.{losses_searched}
 use Rattle.quic_headline.proofs.Packets.Named.{in_filter, filter_chose, frame_fewer, by_frame}
 
 -- ---- numbers to acknowledge
@@ -113,9 +115,10 @@ module _ (sents : List Sent) (took : List Packet) (number : ℕ) (frames : List 
   acked_reached [] e acked i = i
   acked_reached (q ∷ ps) e acked i =
       let c : Carried = q.1.carried in
-      let knows : End = without_known c.largest_acked e in
-      acked_reached ps (packet_acked q.1 e) (λ x j. acked x (inr j))
-      (streams_acked_keep Here (λ m x j. j) c.stream_frames (resets_acked c.retransmits.reset_stream knows) (resets_acked_keep Here (λ id x j. j) c.retransmits.reset_stream knows (known_reached q (acked q (inl refl)) c.largest_acked refl e i)))
+      let heard : End = search_acked q e in
+      let knows : End = without_known c.largest_acked heard in
+      acked_reached ps (packet_acked q e) (λ x j. acked x (inr j))
+      (streams_acked_keep Here (λ m x j. j) c.stream_frames (resets_acked c.retransmits.reset_stream knows) (resets_acked_keep Here (λ id x j. j) c.retransmits.reset_stream knows (known_reached q (acked q (inl refl)) c.largest_acked refl heard i)))
 
   sampled_reached : (o : Option TrackedPacket) (a : AckValue) (e : End) → Here e → Here (sampled o a e)
   sampled_reached None a e i = i
@@ -130,7 +133,7 @@ module _ (sents : List Sent) (took : List Packet) (number : ℕ) (frames : List 
       let timed : End = sampled o a left in
       let taken : End = losses_taken (p ∷ ps) rises a e in
       let stays : Here timed = sampled_reached o a left (acked_reached (p ∷ ps) e acked i) in
-      let kept : Here taken = packets_lost_keep Here (λ m x j. j) (λ c x j. j) (lost_by (verdict timed) timed.tracking.packets) timed stays in
+      let kept : Here taken = losses_searched Here (λ d x j. j) (λ most x j. j) timed (packets_lost_keep Here (λ m x j. j) (λ c x j. j) (lost_by (verdict timed) timed.tracking.packets) timed stays) in
       by_marks rises (length (p ∷ ps)) a taken Here (λ counts marking. kept)
 
   -- it names only packets that were sent

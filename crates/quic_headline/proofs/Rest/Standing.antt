@@ -7,7 +7,7 @@ use Rattle.std.specs.List.{list_any}
 use Rattle.std.proofs.lemmas.Bool.{or_parts, or_left, lt-ltb}
 use Rattle.std.proofs.lemmas.List.Folds.{list_any-append}
 use Rattle.quic_wire.specs.Value.{FrameValue, padding}
-use Rattle.quic_recovery_core.specs.PendingAcks.{lazy_threshold, Pending, above, after_timeout}
+use Rattle.quic_recovery_core.specs.PendingAcks.{lazy_threshold, Pending, above, after_timeout, after_lazy}
 use Rattle.quic_machine.specs.declared.run.Call.{Call}
 use Rattle.quic_machine.specs.declared.run.Call.TheVariants as calls
 use Rattle.quic_machine.specs.declared.run.Answer.{Answer}
@@ -15,26 +15,27 @@ use Rattle.quic_machine.specs.declared.run.Answer.TheVariants as answers
 use Rattle.quic_machine.specs.Policy.{Policy}
 use Rattle.quic_machine.specs.Closing.{ticked}
 use Rattle.quic_machine.specs.Tracking.{lost_by}
-use Rattle.quic_machine.specs.End.{End, with_closing, with_loss_timer}
 use Rattle.quic_machine.specs.Acked.{verdict}
-use Rattle.quic_machine.specs.Control.{Gated}
-use Rattle.quic_machine.specs.Poll.{Polled, Draft, lazied, polled, draft_if}
+use Rattle.quic_machine.specs.End.{End, with_closing, with_loss_timer}
+use Rattle.quic_machine.specs.Poll.{Polled, Draft, polled, draft_as, lazied_as, Leaving, whole, alone, probe, nothing, Ready}
+use Rattle.quic_machine.specs.Receive.{take_frame}
 use Rattle.quic_machine.specs.Timeouts.{Expiry, loss_judged, acks_expired, loss_expired, pacing_expired}
 use Rattle.quic_machine.specs.Machine.{IsAnswer, after_call, fails, gave}
 use Rattle.quic_machine.specs.CallCases.{is_delivery, is_poll, by_plain_call}
 use Rattle.quic_machine.specs.LeaveCases.{at_expiry}
 use Rattle.quic_machine.specs.FrameCases.{Settling, named, passed, acked_keeps, frame_keeps, frame_leaves, frames_keep, packets_lost_keep}
-use Rattle.quic_machine.specs.PollCases.{ready_at, draft_at, frames_at, by_poll_to}
-use Rattle.quic_machine.specs.DraftLaws.{by_leave, due_alone}
+use Rattle.quic_machine.specs.PollCases.{ready_at, draft_at, frames_at, by_poll_to, may_leave_at}
+use Rattle.quic_machine.specs.DraftLaws.{by_leave, MayLeave}
 use Rattle.quic_headline.specs.Moments.{is_ack, acknowledges}
-use Rattle.quic_headline.proofs.Packets.Probes.{MayLeave, by_going, ready_acks}
+use Rattle.quic_headline.proofs.Packets.Searches.{losses_searched}
+use Rattle.quic_headline.proofs.Packets.Probes.{by_going, ready_acks}
 use Rattle.quic_headline.proofs.Places.Steps.{poll_answer}
 use Rattle.quic_headline.proofs.Places.Parties.{sent_by, sent_if, sents_by}
 
 -- ---- frames that come
 
 -- of what is to be acknowledged, the numbers alone are others
-abbrev OnlyRuns : End → End → Type 0
+abbrev pub OnlyRuns : End → End → Type 0
 OnlyRuns e f = f.acknowledging ≡ record e.acknowledging { runs = f.acknowledging.runs }
 
 -- so it is where packets are acknowledged or lost
@@ -45,25 +46,32 @@ settling e = record {
   acked = λ m x i. i;
   lost = λ m x i. i;
   again = λ carried x i. i;
+  searched = λ discovery x i. i;
+  shortens = λ most x i. i;
   tracked = λ t x i. i;
   measured = λ r first x i. i;
   marked = λ m marking x i. i;
 }
 
--- and so it is behind all frames of a packet
-pub frames_acks : (fs : List FrameValue) (e : End) → (passed fs e).end.acknowledging ≡ record e.acknowledging { runs = (passed fs e).end.acknowledging.runs }
-frames_acks fs e = frames_keep (OnlyRuns e) (frame_keeps (OnlyRuns e) (record {
+-- so it is behind a frame
+pub frame_acks : (e : End) (f : FrameValue) (x : End) → OnlyRuns e x → OnlyRuns e (take_frame f x).end
+frame_acks e = frame_keeps (OnlyRuns e) (record {
   ack = λ rises a x i. acked_keeps (OnlyRuns e) (settling e) rises a (named a x) i;
   on_streams = λ f x on i. frame_leaves (OnlyRuns e) f x on (λ t. i);
   message = λ m x i. i;
-})) fs e refl
+})
+
+-- and so it is behind all frames of a packet
+pub frames_acks : (fs : List FrameValue) (e : End) → (passed fs e).end.acknowledging ≡ record e.acknowledging { runs = (passed fs e).end.acknowledging.runs }
+frames_acks fs e = frames_keep (OnlyRuns e) (frame_acks e) fs e refl
 
 -- ---- a timeout
 
 -- losses leave it
 judged_acks : (o : Option ℕ) (e : End) → (loss_judged o e).acknowledging ≡ e.acknowledging
 judged_acks None e = refl
-judged_acks (Some moment) e = packets_lost_keep (λ (x : End). x.acknowledging ≡ e.acknowledging) (λ m x i. i) (λ c x i. i) (lost_by (verdict e) e.tracking.packets) e refl
+judged_acks (Some moment) e = losses_searched (λ (x : End). x.acknowledging ≡ e.acknowledging) (λ d x i. i) (λ most x i. i) e
+    (packets_lost_keep (λ (x : End). x.acknowledging ≡ e.acknowledging) (λ m x i. i) (λ c x i. i) (lost_by (verdict e) e.tracking.packets) e refl)
 
 -- so timers change it only where that of acknowledgements expires
 pub expired_acks : (e : End) (now : ℕ) (expiry : Expiry) → (at_expiry e now expiry).acknowledging ≡ (if expiry.acks then after_timeout e.acknowledging else e.acknowledging)
@@ -84,21 +92,9 @@ expired_acks e now expiry = go expiry.acks expiry.loss expiry.pacing
 
 -- ---- a call that gives no ACK frame
 
--- as many packets that ask are counted, and what was due for them is due
-abbrev pub Stands : Pending → Pending → Type 0
-Stands p q = (q.asking ≡ p.asking) × (0 < p.asking → p.due ≡ true → q.due ≡ true)
-
--- nothing changed
-stands_same : (p : Pending) → Stands p p
-stands_same p = (refl, λ some due. due)
-
 -- PADDING is no ACK
 pub none_padded : (fs : List FrameValue) (count : ℕ) → list_any is_ack (fs ++ replicate count padding) ≡ false → list_any is_ack fs ≡ false
 none_padded fs count none = (or_parts (list_any is_ack fs) (list_any is_ack (replicate count padding)) (sym (list_any-append is_ack fs (replicate count padding)) ∙ none)).0
-
--- where no frame of a draft is an ACK, it stands
-abbrev Leaves : End → Draft → Type 0
-Leaves e d = list_any is_ack d.frames ≡ false → Stands e.acknowledging d.end.acknowledging
 
 -- one more frame: those before it have none either
 pub parts : (fs : List FrameValue) (f : FrameValue) → list_any is_ack (fs ++ f ∷ []) ≡ false → (list_any is_ack fs ≡ false) × (is_ack f ≡ false)
@@ -106,51 +102,71 @@ parts fs f none =
     let both = or_parts (list_any is_ack fs) (is_ack f || false) (sym (list_any-append is_ack fs (f ∷ [])) ∙ none) in
     (both.0, (or_parts (is_ack f) false both.1).0)
 
-draft_stands : (held : Bool) (e : End) → MayLeave held (lazied e) → Leaves e (draft_if held (lazied e))
-draft_stands held e alone = by_leave (Leaves e) (record {
-  ack = λ d filled may i none. absurd (let some = (parts d.frames _ none).1 in cc);
-  ping = λ d i none. i (parts d.frames _ none).0;
-  drops = λ d kind i. i;
-  control = λ d kind f is i none. i (parts d.frames f none).0;
-  message = λ d m ms is fit i none. i (parts d.frames _ none).0;
-  stream = λ d id h room found first some is counts i none. i (parts d.frames _ none).0;
-}) held (lazied e) alone (λ none. (refl, λ some due. or_left e.acknowledging.due (nat_lt lazy_threshold e.acknowledging.silent) due))
+-- What holds of what is to be acknowledged holds behind such a call that is no delivery, if it holds too once many came that don't ask, and once the timer expired.
+module _ (P : Pending → Type 0) (e : End) (same : P e.acknowledging) (lazy : P (after_lazy e.acknowledging)) (expires : P (after_timeout e.acknowledging)) where
+  -- where no frame of a draft is an ACK
+  abbrev Leaves : Draft → Type 0
+  Leaves d = list_any is_ack d.frames ≡ false → P d.end.acknowledging
 
-ready_stands : (e : End) (now : ℕ) → Stands e.acknowledging (ready_at e now).end.acknowledging
-ready_stands e now = subst (λ (p : Pending). Stands e.acknowledging p) (sym (ready_acks e now)) (stands_same e.acknowledging)
+  draft_leaves : (leaving : Leaving) (x : End) → MayLeave leaving x → x.acknowledging ≡ e.acknowledging → Leaves (draft_as leaving x)
+  draft_leaves leaving x due is = by_leave Leaves (record {
+    ack = λ d filled may i none. absurd (let some = (parts d.frames _ none).1 in cc);
+    ping = λ d i none. i (parts d.frames _ none).0;
+    probes = λ f size i none. i refl;
+    drops = λ d kind i. i;
+    control = λ d kind f is i none. i (parts d.frames f none).0;
+    message = λ d m ms is fit i none. i (parts d.frames _ none).0;
+    stream = λ d id h room found first some is counts i none. i (parts d.frames _ none).0;
+  }) leaving x due (λ none. begins leaving)
+    where
+      begins : (l : Leaving) → P (lazied_as l x).acknowledging
+      begins whole = subst (λ (p : Pending). P (after_lazy p)) (sym is) lazy
+      begins alone = subst (λ (p : Pending). P (after_lazy p)) (sym is) lazy
+      begins (probe size) = subst P (sym is) same
+      begins (nothing held) = subst P (sym is) same
 
-polled_stands : (p : Policy) (e : End) (now : ℕ) → acknowledges (sent_if (gave (answers.Poll (polled p e now).answer)) (sent_by e now)) ≡ false → Stands e.acknowledging (polled p e now).end.acknowledging
-polled_stands p e now = by_poll_to p e now (λ (q : Polled). acknowledges (sent_if (gave (answers.Poll q.answer)) (sent_by e now)) ≡ false → Stands e.acknowledging q.end.acknowledging) (record {
-  silent = λ none. stands_same e.acknowledging;
-  failed = λ none. stands_same e.acknowledging;
-  nothing = λ is quiet none. ready_stands e now;
-  used_up = λ none. ready_stands e now;
-  gives = λ is may some none.
-      let g : Gated = ready_at e now in
-      by_going (λ (x : End). Stands e.acknowledging x.acknowledging) p (draft_at e now) (λ pacing.
-      subst (λ (q : Pending). Stands q (draft_at e now).end.acknowledging) (ready_acks e now) (draft_stands g.held g.end (due_alone g some) (none_padded (draft_at e now).frames _ (or_parts (list_any is_ack (frames_at e now)) false none).0)));
-})
+  ready_same : (now : ℕ) → P (ready_at e now).end.acknowledging
+  ready_same now = subst P (sym (ready_acks e now)) same
 
--- a call that is neither a poll nor a delivery
-quiet_stands : (p : Policy) (e : End) (theirs : List (List ℕ)) (call : Call) (a : Answer) → is_delivery call ≡ false → is_poll call ≡ false → Stands e.acknowledging (after_call p e theirs call a).acknowledging
-quiet_stands p e theirs call a apart silent = by_plain_call p e theirs (λ (x : End). Stands e.acknowledging x.acknowledging) call a (record {
-  same = stands_same e.acknowledging;
-  on_streams = λ t. stands_same e.acknowledging;
-  on_messages = λ m. stands_same e.acknowledging;
-  pings = stands_same e.acknowledging;
-  heard = λ path same. stands_same e.acknowledging;
-  times = λ now expiry is. subst (λ (q : Pending). Stands e.acknowledging q) (sym (expired_acks e now expiry)) (expired_stands expiry.acks e.acknowledging);
-  polls = λ now is. (let clash : true ≡ false = sym is ∙ silent in cc);
-  hears = λ arrival d is. (let clash : true ≡ false = sym is ∙ apart in cc);
-  tells = λ told. stands_same e.acknowledging;
-})
-  where
-    expired_stands : (b : Bool) (q : Pending) → Stands q (if b then after_timeout q else q)
-    expired_stands true q = (refl, λ some due. lt-ltb 0 q.asking some)
-    expired_stands false q = stands_same q
+  polled_leaves : (p : Policy) (now : ℕ) → acknowledges (sent_if (gave (answers.Poll (polled p e now).answer)) (sent_by e now)) ≡ false → P (polled p e now).end.acknowledging
+  polled_leaves p now = by_poll_to p e now (λ (q : Polled). acknowledges (sent_if (gave (answers.Poll q.answer)) (sent_by e now)) ≡ false → P q.end.acknowledging) (record {
+    silent = λ none. same;
+    failed = λ none. same;
+    nothing = λ is quiet none. ready_same now;
+    used_up = λ none. ready_same now;
+    gives = λ is may some none.
+        let g : Ready = ready_at e now in
+        by_going (λ (x : End). P x.acknowledging) p (draft_at e now) (λ pacing. draft_leaves g.leaving g.end (may_leave_at e now) (ready_acks e now) (none_padded (draft_at e now).frames _ (or_parts (list_any is_ack (frames_at e now)) false none).0));
+  })
 
+  -- one that is no poll either
+  quiet_leaves : (p : Policy) (theirs : List (List ℕ)) (call : Call) (a : Answer) → is_delivery call ≡ false → is_poll call ≡ false → P (after_call p e theirs call a).acknowledging
+  quiet_leaves p theirs call a apart silent = by_plain_call p e theirs (λ (x : End). P x.acknowledging) call a (record {
+    same = same;
+    on_streams = λ t. same;
+    on_messages = λ m. same;
+    pings = same;
+    heard = λ path is. same;
+    times = λ now expiry is. subst P (sym (expired_acks e now expiry)) (expired expiry.acks);
+    polls = λ now is. (let clash : true ≡ false = sym is ∙ silent in cc);
+    hears = λ arrival d is. (let clash : true ≡ false = sym is ∙ apart in cc);
+    tells = λ told. same;
+  })
+    where
+      expired : (b : Bool) → P (if b then after_timeout e.acknowledging else e.acknowledging)
+      expired true = expires
+      expired false = same
+
+  pub call_leaves : (p : Policy) (theirs : List (List ℕ)) (call : Call) (a : Answer) → is_delivery call ≡ false → IsAnswer p e theirs call a → fails a ≡ false → acknowledges (sents_by e call a) ≡ false → P (after_call p e theirs call a).acknowledging
+  call_leaves p theirs (calls.Poll now) a apart is served none = polled_leaves p now (ap (λ (b : Answer). acknowledges (sent_if (gave b) (sent_by e now))) (sym (poll_answer p e now a is served)) ∙ none)
+  call_leaves p theirs (calls.Deliver delivery) a apart is served none = cc
+  call_leaves p theirs call a apart is served none = quiet_leaves p theirs call a refl refl
+
+-- as many packets that ask are counted, and what was due for them is due
+abbrev pub Stands : Pending → Pending → Type 0
+Stands p q = (q.asking ≡ p.asking) × (0 < p.asking → p.due ≡ true → q.due ≡ true)
+
+-- so it is behind such a call
 pub call_stands : (p : Policy) (e : End) (theirs : List (List ℕ)) (call : Call) (a : Answer) → is_delivery call ≡ false → IsAnswer p e theirs call a → fails a ≡ false → acknowledges (sents_by e call a) ≡ false
     → Stands e.acknowledging (after_call p e theirs call a).acknowledging
-call_stands p e theirs (calls.Poll now) a apart is served none = polled_stands p e now (ap (λ (b : Answer). acknowledges (sent_if (gave b) (sent_by e now))) (sym (poll_answer p e now a is served)) ∙ none)
-call_stands p e theirs (calls.Deliver delivery) a apart is served none = cc
-call_stands p e theirs call a apart is served none = quiet_stands p e theirs call a refl refl
+call_stands p e theirs call a = call_leaves (Stands e.acknowledging) e (refl, λ some due. due) (refl, λ some due. or_left e.acknowledging.due (nat_lt lazy_threshold e.acknowledging.silent) due) (refl, λ some due. lt-ltb 0 e.acknowledging.asking some) p theirs call a

@@ -24,6 +24,7 @@ use Rattle.quic_headline.proofs.Halves.Finished.{finished_words, finished_grows}
 use Rattle.quic_headline.proofs.Settled.Half.{Known, KnowsMore, settles_follow, knows_same}
 use Rattle.quic_headline.proofs.Settled.Acked.{KnowsAcked, telling, settles_acked}
 use Rattle.quic_headline.proofs.Settled.Words.{Settling, is_reset, lost_settled, reset_acked_settled}
+use Rattle.quic_machine.specs.Sizes.{search_acked}
 
 -- ---- what is known of datagrams that were sent, and of those that were acknowledged
 
@@ -158,20 +159,20 @@ module _ (arrived : ℕ → ℕ → Type 0) (end_arrived : ℕ → Type 0) (n : 
       (acked_holds k (with_meta m k) m e (record { sent = λ id o s. s; end_sent = λ id s. s; acked = λ id o a. a; end_acked = λ id a. a; was_sent = λ o a from below. x.offsets o from below; end_was_sent = λ a fin. x.end fin }) x.came i)
 
   -- a datagram is, that is tracked as this packet
-  packet_holds : (s : Sent) (p : ℕ × TrackedPacket) → IsWaited s p → (k : Known) (e : End) → ((m : StreamMeta) → In m (all_offsets s.frames) → MetaSent k m) → Holds k e → Holds (with_metas (all_offsets s.frames) k) (packet_acked p.1 e)
+  packet_holds : (s : Sent) (p : ℕ × TrackedPacket) → IsWaited s p → (k : Known) (e : End) → ((m : StreamMeta) → In m (all_offsets s.frames) → MetaSent k m) → Holds k e → Holds (with_metas (all_offsets s.frames) k) (packet_acked p e)
   packet_holds s p waited k e sent i =
       let c : Carried = p.1.carried in
-      let known : End = without_known c.largest_acked e in
+      let known : End = without_known c.largest_acked (search_acked p e) in
       let resets : End = resets_acked c.retransmits.reset_stream known in
       subst (λ (ms : List StreamMeta). Holds (with_metas (all_offsets s.frames) k) (streams_acked ms resets)) (sym (waited_offsets s p waited))
-      (metas_hold (all_offsets s.frames) k resets sent (resets_acked_keep (Holds k) (reset_holds k) c.retransmits.reset_stream known (knows_holds k c.largest_acked e i)))
+      (metas_hold (all_offsets s.frames) k resets sent (resets_acked_keep (Holds k) (reset_holds k) c.retransmits.reset_stream known (knows_holds k c.largest_acked (search_acked p e) i)))
 
   -- datagrams are
   pub sents_hold : (ss : List Sent) (ps : Table TrackedPacket) → AreWaited ss ps → (k : Known) (e : End) → ((s : Sent) → In s ss → (m : StreamMeta) → In m (all_offsets s.frames) → MetaSent k m) → Holds k e → Holds (with_sents ss k) (packets_acked ps e)
   sents_hold [] [] waited k e sent i = i
   sents_hold (s ∷ ss) (p ∷ ps) waited k e sent i =
       let keep = metas_keep (all_offsets s.frames) k in
-      sents_hold ss ps waited.1 (with_metas (all_offsets s.frames) k) (packet_acked p.1 e) (λ t j m a. (let y = sent t (inr j) m a in record { offsets = λ o from below. keep.sent m.id o (y.offsets o from below); end = λ fin. keep.end_sent m.id (y.end fin); came = y.came }))
+      sents_hold ss ps waited.1 (with_metas (all_offsets s.frames) k) (packet_acked p e) (λ t j m a. (let y = sent t (inr j) m a in record { offsets = λ o from below. keep.sent m.id o (y.offsets o from below); end = λ fin. keep.end_sent m.id (y.end fin); came = y.came }))
       (packet_holds s p waited.0 k e (sent s (inl refl)) i)
   sents_hold [] (p ∷ ps) waited k e sent i = absurd waited
   sents_hold (s ∷ ss) [] waited k e sent i = absurd waited

@@ -57,6 +57,7 @@ use Rattle.quic_headline.proofs.Packets.Losses.{Losing, expiry_stays}
 use Rattle.quic_headline.proofs.Packets.Waited.{IsWaited, AreWaited, waited_there}
 use Rattle.quic_headline.proofs.Packets.Flying.{Waits, held, Loses, Flies, frames_fly, ticked_waits, numbers_wait}
 use Rattle.quic_headline.proofs.Packets.Watching.{came_with, timed_with, watched_intake, none_new, none_comes, packet_delivered}
+use Rattle.quic_headline.proofs.Packets.Searches.{search_keeps}
 use Rattle.quic_headline.proofs.Packets.Group.{PacketsHold, meets}
 use Rattle.quic_headline.proofs.Packets.Sight.{Sight}
 use Rattle.quic_headline.proofs.Places.Told.{in_right}
@@ -155,7 +156,7 @@ told_event id None c = go (loss_to_tell c)
 -- ---- what the observer counts
 
 -- those that were acknowledged in flight, once this came by a call
-abbrev acked_with : Terms → State → Call → Watch → Intake → List Sent
+abbrev pub acked_with : Terms → State → Call → Watch → Intake → List Sent
 acked_with t state call w i = (watch_came t i (clock_behind w.clock (moment_of state (has_opened w.intake i) call)) w).flight.acked
 
 abbrev pub acks : Party → Party → List Sent
@@ -194,7 +195,7 @@ module _ (x y : Party) where
   seen_intake = watched_intake (lens x y) x.told (first_watch (x.id ∷ []) x.final x.began x.initial_rtt)
 
   -- behind a call
-  acks_behind : (call : Call) (a : Answer) → acks (called x y.given call a) y ≡ acked_with x.terms x.end.closing.state call seen (came_to (called x y.given call a) y)
+  pub acks_behind : (call : Call) (a : Answer) → acks (called x y.given call a) y ≡ acked_with x.terms x.end.closing.state call seen (came_to (called x y.given call a) y)
   acks_behind call a =
       let t : Told = told_of call a x.end.closing.state in
       ap (λ (w : Watch). w.flight.acked) (folded_more (watch_told (lens x y)) x.told t (first_watch (x.id ∷ []) x.final x.began x.initial_rtt))
@@ -203,13 +204,13 @@ module _ (x y : Party) where
       ∙ ap (λ (i : Intake). acked_with x.terms x.end.closing.state call seen i) (ap (λ (i : Intake). and_told x.policy y.final t i) seen_intake ∙ sym (came_more x y call a))
 
   -- where nothing came
-  acked_here : (call : Call) → acked_with x.terms x.end.closing.state call seen (came_to x y) ≡ acks x y
+  pub acked_here : (call : Call) → acked_with x.terms x.end.closing.state call seen (came_to x y) ≡ acks x y
   acked_here call =
       ap (λ (i : Intake). acked_with x.terms x.end.closing.state call seen i) (sym seen_intake)
       ∙ ap (λ (ps : List Packet). (after_packets x.terms (clock_behind seen.clock (moment_of x.end.closing.state (has_opened seen.intake seen.intake) call)) ps seen.flight).acked) (none_new seen.intake)
 
   -- where an open end took a packet
-  acked_then : (call : Call) (delivery : Delivery) → call ≡ calls.Deliver delivery → x.end.closing.state ≡ states.Open → (n : ℕ) (frames : List FrameValue)
+  pub acked_then : (call : Call) (delivery : Delivery) → call ≡ calls.Deliver delivery → x.end.closing.state ≡ states.Open → (n : ℕ) (frames : List FrameValue)
       → acked_with x.terms x.end.closing.state call seen (with_taken (came_to x y) n frames) ≡ (after_frames x.terms (max seen.clock delivery.now) frames seen.flight).acked
   acked_then call delivery is opened n frames =
       ap (λ (c : Call). acked_with x.terms x.end.closing.state c seen (with_taken (came_to x y) n frames)) is
@@ -298,6 +299,7 @@ module _ (sents : List Sent) (w : ℕ → Wrote) (says : (s : Sent) → In s sen
   open_loses : (n : ℕ → ℕ) → Loses (λ flying acked e. AllSent sents flying × Open sents w n acked e)
   open_loses n = record {
     tracked = λ flying acked t e i. i;
+    searches = λ flying acked lost e i. search_keeps (λ (x : End). AllSent sents flying × Open sents w n acked x) (λ d x j. j) (λ most x j. j) lost e i;
     loses = λ flying acked gone left ps e inside stays waits i. (
       (λ s j. i.0 s (stays s j)),
       lost_all (λ id o. HoldsOffset acked id o) (λ id. HoldsEnd acked id) (known_of sents acked) n ps e (flying_ended flying gone ps i.0 inside waits) i.1,
@@ -337,6 +339,8 @@ module _ (took : List Packet) (sents : List Sent) (n : ℕ → ℕ) (w : ℕ →
     acked = λ c m e was among i. acked_holds Any AnyEnd n w nothing_known nothing_known m e (knows_none m) (record { bytes = λ o from below. tt; end = λ fin. tt; ended = carried_ended c m was among }) i;
     lost = λ c m e was among i. lost_holds Any AnyEnd n w nothing_known m e (sent_ended sents w says was.sent was.among m (carried_stream c was.sent.frames was.is m among)) i;
     again = λ c e was i. i;
+    searched = λ discovery e i. i;
+    shortens = λ most e i. i;
     tracked = λ t e i. i;
     measured = λ r first e i. i;
     marked = λ m marking e i. i;

@@ -21,11 +21,10 @@ use Rattle.quic_streams_laws.specs.AcknowledgedLaws.{half_arrived}
 use Rattle.quic_machine.specs.declared.run.Answer.TheVariants as answers
 use Rattle.quic_machine.specs.Policy.{Policy}
 use Rattle.quic_machine.specs.End.{End}
-use Rattle.quic_machine.specs.Poll.{Draft, Polled, lazied, polled, draft_if, draft_of}
+use Rattle.quic_machine.specs.Poll.{Draft, Polled, polled, draft_as, draft_of, Leaving, Ready}
 use Rattle.quic_machine.specs.PollCases.{frames_padded, by_poll, at_poll}
-use Rattle.quic_machine.specs.DraftLaws.{by_leave}
+use Rattle.quic_machine.specs.DraftLaws.{Writing, by_leave, MayLeave}
 use Rattle.quic_machine.specs.Machine.{gave}
-use Rattle.quic_machine.specs.Control.{Gated}
 use Rattle.quic_headline.specs.Runs.{In}
 use Rattle.quic_headline.specs.Observer.{Sent}
 use Rattle.quic_headline.proofs.Places.Parties.{sent_by, sent_if}
@@ -39,7 +38,7 @@ use Rattle.quic_headline.proofs.Settled.Half.{Known, KnowsMore, Tells, UnusedSet
 use Rattle.quic_headline.proofs.Settled.Acked.{telling}
 use Rattle.quic_headline.proofs.Settled.Words.{Settling, is_reset, retold}
 use Rattle.quic_headline.proofs.Settled.Carried.{known_of}
-use Rattle.quic_headline.proofs.Packets.Probes.{MayLeave, may_leave}
+use Rattle.quic_headline.proofs.Packets.Probes.{may_leave}
 
 -- a frame is no STREAM frame
 abbrev pub IsNoStream : FrameValue → Type 0
@@ -117,14 +116,15 @@ module _ (arrived : ℕ → ℕ → Type 0) (end_arrived : ℕ → Type 0) (n : 
   holds_less k l s more i = let t : Tells = telling n (is_reset w) s in (i.0, settles_follow k l t t more s (record { times = λ id. refl; reset = λ id. refl }) i.1)
 
   module _ (K : List FrameValue → Known) (g : GoesKnown K) where
-    abbrev Drafts : Draft → Type 0
+    abbrev pub Drafts : Draft → Type 0
     Drafts d = Settling arrived end_arrived (K d.frames) n w d.end.streams
 
     -- whichever frames go
-    pub draft_settles : (held : Bool) (e : End) → MayLeave held e → Settling arrived end_arrived (K []) n w e.streams → Drafts (draft_if held e)
-    draft_settles held e alone i = by_leave Drafts (record {
+    pub drafts_write : Writing Drafts
+    drafts_write = record {
       ack = λ d filled may x. holds_less (K d.frames) (K (d.frames ++ _ ∷ [])) d.end.streams (g.apart d.frames _ tt) x;
       ping = λ d x. holds_less (K d.frames) (K (d.frames ++ _ ∷ [])) d.end.streams (g.apart d.frames _ tt) x;
+      probes = λ f size x. holds_less (K []) (K ([] ++ _ ∷ [])) f.streams (g.apart [] _ tt) x;
       drops = λ d kind x. x;
       control = λ d kind f is x.
           let s = d.end.streams in
@@ -139,7 +139,10 @@ module _ (arrived : ℕ → ℕ → Type 0) (end_arrived : ℕ → Type 0) (n : 
             (finished_words arrived end_arrived).sends d.end.transport.send_fairness w s id h room found x.0,
             settles_sent (K d.frames) (K (d.frames ++ stream (frame_of id h room) ∷ [])) (telling n (is_reset w) s) s d.end.transport.send_fairness id h room found lawful (g.stream d.frames (frame_of id h room)) x.1,
           );
-    }) held e alone i
+    }
+
+    pub draft_settles : (leaving : Leaving) (e : End) → MayLeave leaving e → Settling arrived end_arrived (K []) n w e.streams → Drafts (draft_as leaving e)
+    draft_settles leaving e alone i = by_leave Drafts drafts_write leaving e alone i
 
 -- ---- what a poll gives
 
@@ -232,11 +235,11 @@ module _ (arrived : ℕ → ℕ → Type 0) (end_arrived : ℕ → Type 0) (n : 
   poll_settles_nothing i = by_poll p e now (λ (r : Polled). Settling arrived end_arrived nothing_known n w r.end.streams) (record {
     silent = i;
     failed = i;
-    nothing = λ t waiting moment pacing limited. i;
-    used_up = λ t waiting moment pacing. i;
-    gives = λ held t waiting moment pacing paid tracking timers is may ready some.
-        let x : End = at_poll e now t waiting moment pacing e.path.app_limited in
-        draft_settles arrived end_arrived n w (λ fs. nothing_known) nothing_goes held (lazied x) (may_leave e now held x ready some) i;
+    nothing = λ c. i;
+    used_up = λ c. i;
+    gives = λ leaving c left is may ready some.
+        let x : End = at_poll e now c in
+        draft_settles arrived end_arrived n w (λ fs. nothing_known) nothing_goes leaving x (may_leave e now leaving x ready) i;
   })
 
   -- what it gives is known besides
@@ -245,15 +248,15 @@ module _ (arrived : ℕ → ℕ → Type 0) (end_arrived : ℕ → Type 0) (n : 
   poll_settles sents acks i = by_poll p e now (λ (r : Polled). Settling arrived end_arrived (known_of (sents ++ sent_if (gave (answers.Poll r.answer)) (sent_by e now)) acks) n w r.end.streams) (record {
     silent = same;
     failed = same;
-    nothing = λ t waiting moment pacing limited. same;
-    used_up = λ t waiting moment pacing. same;
-    gives = λ held t waiting moment pacing paid tracking timers is may ready some.
-        let x : End = at_poll e now t waiting moment pacing e.path.app_limited in
-        let d : Draft = draft_if held (lazied x) in
+    nothing = λ c. same;
+    used_up = λ c. same;
+    gives = λ leaving c left is may ready some.
+        let x : End = at_poll e now c in
+        let d : Draft = draft_as leaving x in
         let first = holds_less arrived end_arrived n w (known_of sents acks) (known_of (sents ++ drafted [] ∷ []) acks) e.streams (none_drafted sents acks) i in
         holds_less arrived end_arrived n w (known_of (sents ++ drafted d.frames ∷ []) acks) (known_of (sents ++ sent_by e now ∷ []) acks) d.end.streams
-        (padded_less sents acks (sent_by e now) d.frames _ (ap (λ (g : Gated). frames_padded (draft_of g)) ready))
-        (draft_settles arrived end_arrived n w (λ fs. known_of (sents ++ drafted fs ∷ []) acks) (drafts_go sents acks) held (lazied x) (may_leave e now held x ready some) first);
+        (padded_less sents acks (sent_by e now) d.frames _ (ap (λ (g : Ready). frames_padded (draft_of g)) ready))
+        (draft_settles arrived end_arrived n w (λ fs. known_of (sents ++ drafted fs ∷ []) acks) (drafts_go sents acks) leaving x (may_leave e now leaving x ready) first);
   })
     where
       same : Settling arrived end_arrived (known_of (sents ++ []) acks) n w e.streams

@@ -1,59 +1,34 @@
--- What asks for an acknowledgement and is no probe goes only where the window has room for it, and the pacer names no later moment (RFC 9002, sections 7 and 7.7).
-use Rattle.std.proofs.Common.{◌≡◌, ℕ, ◌+◌, ◌<◌, [], ◌∷◌, Bool, true, false, Some, None, Ok, sym, ap, ◌∙◌, subst, inl, inr, arith}
-use Rattle.std.specs.Prelude.{Option, Result, ◌==◌}
-use Rattle.std.proofs.lemmas.Bool.{le-ltb, leb-false, eq-eqb, and_cases, and_parts, and_from, or_cases, or_left, both_ways}
-use Rattle.std.proofs.lemmas.List.{append_cancel_left}
-use Rattle.quic_wire_core.specs.StreamId.{other_side}
-use Rattle.quic_recovery_core.specs.PendingAcks.{Pending, is_filled, can_send, after_lazy}
-use Rattle.quic_machine.specs.declared.answers.State.TheVariants as states
-use Rattle.quic_machine.specs.declared.answers.Failed.{Failed}
-use Rattle.quic_machine.specs.declared.answers.Transmit.{Transmit}
+-- What asks for an acknowledgement goes, where no probe of losses waits, only where the window has room for it and the pacer names no later moment (RFC 9002, sections 7 and
+-- 7.7), or as a probe of a size.
+use Rattle.std.proofs.Common.{◌≡◌, ℕ, ◌+◌, ◌<◌, [], Bool, true, false, Some, None, Ok, refl, sym, ap, ◌∙◌, subst, ◌⊎◌, inl, inr}
+use Rattle.std.specs.Prelude.{◌==◌}
+use Rattle.std.proofs.lemmas.Bool.{leb-false, eq-eqb, and_cases, or_cases, both_ways}
+use Rattle.quic_recovery_core.specs.PendingAcks.{can_send}
 use Rattle.quic_machine.specs.declared.run.Call.TheVariants as calls
 use Rattle.quic_machine.specs.declared.run.Answer.TheVariants as answers
-use Rattle.quic_machine.specs.Policy.{Policy}
+use Rattle.quic_machine.specs.declared.run.EndView.{EndView}
 use Rattle.quic_machine.specs.Parts.{current_mtu}
 use Rattle.quic_machine.specs.End.{End, with_window}
-use Rattle.quic_machine.specs.Control.{bytes_in_flight, paced_until, Gated, lets}
-use Rattle.quic_machine.specs.Poll.{Polled, composed, asking, probe_if, probed, lazied, asks_to_go, is_gated, gated, goes, draft_of, polled}
-use Rattle.quic_machine.specs.Machine.{World, end_at, control_at, policy_at}
-use Rattle.quic_machine.specs.PollCases.{ready_at, draft_at, by_gate, by_poll_to}
+use Rattle.quic_machine.specs.Control.{bytes_in_flight, paced_until, pacer_asked, with_pacing_timer, Gated, lets, holds}
+use Rattle.quic_machine.specs.Poll.{waits, asking, probed, lazied, composed, asks_to_go, is_gated, gated, Ready, leaves, goes, draft_of}
+use Rattle.quic_machine.specs.Machine.{World, end_at, control_at}
+use Rattle.quic_machine.specs.DraftLaws.{lazy_due}
+use Rattle.quic_machine.specs.PollCases.{ready_at, draft_at, by_gate, by_leaves}
 use Rattle.quic_headline.specs.Runs.{Run}
-use Rattle.quic_headline.specs.Observer.{Sent, asks_of, Watch, sents_until}
+use Rattle.quic_headline.specs.Observer.{Sent, asks_of, watch}
 use Rattle.quic_headline.specs.Headline.{IsHonest, IsRun}
-use Rattle.quic_headline.specs.Polls.{bytes_flying, AskingGoesWhereLet}
+use Rattle.quic_headline.specs.Polls.{bytes_flying, pacer_names, IsMade, GaveAsking, AreLetting, AskingGoesWhereLet}
 use Rattle.quic_headline.proofs.Packets.Invariant.{Acks}
 use Rattle.quic_headline.proofs.Packets.Flying.{asking_padded}
 use Rattle.quic_headline.proofs.Packets.Group.{PacketsHold}
 use Rattle.quic_headline.proofs.Packets.Sight.{Sight}
-use Rattle.quic_headline.proofs.Places.Parties.{sent_by, Party, watch_of}
 use Rattle.quic_headline.proofs.Places.Groups.{Way, Nothing, And, Group}
-use Rattle.quic_headline.proofs.Places.Placed.{party_at}
-use Rattle.quic_headline.proofs.Places.Steps.{poll_answer}
-use Rattle.quic_headline.proofs.Held.Flight.{bytes_asking, bytes_of_end}
-use Rattle.quic_headline.proofs.Steps.Made.{made_served, polling, PollHolds, poll_holds, observed_poll, sents_more}
+use Rattle.quic_headline.proofs.Steps.Made.{one_behind, served_before, made_at}
 use Rattle.quic_headline.proofs.Steps.Probes.{begun}
 use Rattle.quic_headline.proofs.Steps.Idle.{mute_composed}
-
--- ---- a poll that gives a datagram
-
--- It comes of an open end, of which something goes.
-record IsGiving (e : End) (now : ℕ) : Type 0 where
-  opened : e.closing.state ≡ states.Open
-  some : goes (ready_at e now) ≡ true
-
--- two polls that are answered alike
-same_answer : (a b : Result (Option Transmit) Failed) → answers.Poll a ≡ answers.Poll b → b ≡ a
-same_answer a b is = cc
-
--- a poll that is answered so gives one
-giving : (p : Policy) (e : End) (now : ℕ) (t : Transmit) → (polled p e now).answer ≡ Ok (Some t) → IsGiving e now
-giving p e now t = by_poll_to p e now (λ (q : Polled). q.answer ≡ Ok (Some t) → IsGiving e now) (record {
-  silent = λ is. cc;
-  failed = λ is. cc;
-  nothing = λ opened none is. cc;
-  used_up = λ is. cc;
-  gives = λ opened may some is. record { opened = opened; some = some };
-})
+use Rattle.quic_headline.proofs.Steps.Probing.{IsProbing, unprobed}
+use Rattle.quic_headline.proofs.Steps.Probing as probing
+use Rattle.quic_wire_core.specs.declared.stream_id.Side.{Side}
 
 -- ---- window and pacer
 
@@ -62,28 +37,38 @@ record IsLet (e : End) : Type 0 where
   room : bytes_in_flight e + current_mtu e.path < e.path.window
   unpaced : paced_until e ≡ None
 
--- a due ACK stays due
-lazy_due : (p : Pending) → can_send p ≡ true → can_send (after_lazy p) ≡ true
-lazy_due p due = let both = and_parts p.due (is_filled p.runs) due in and_from (after_lazy p).due (is_filled p.runs) (or_left p.due _ both.0) both.1
-
--- where no probe waits and what goes asks, both let it
-let_go : (e : End) → Acks e.acknowledging e.marks.came → e.tracking.probes ≡ 0 → goes (gated e) ≡ true → asking (draft_of (gated e)).frames ≡ true → IsLet e
-let_go e acks none = by_gate e (λ (g : Gated). goes g ≡ true → asking (draft_of g).frames ≡ true → IsLet e) (record {
-  free = λ is some asks. absurd (idle (nothing is) some asks);
-  full = λ gate is some asks. (let clash : ◌≡◌ {A = Bool} false true = asks in cc);
-  lets = λ gate room unpaced some asks. record { room = leb-false e.path.window (bytes_in_flight e + current_mtu e.path) room; unpaced = unpaced };
-  holds = λ moment gate room is some asks. (let clash : ◌≡◌ {A = Bool} false true = asks in cc);
+-- where no probe of losses waits and what goes asks, both let it, or it is a probe of a size
+let_go : (e : End) → Acks e.acknowledging e.marks.came → e.tracking.probes ≡ 0 → goes (leaves (gated e)) ≡ true → asking (draft_of (leaves (gated e))).frames ≡ true → IsLet e ⊎ IsProbing e (leaves (gated e))
+let_go e acks none = by_gate e (λ (g : Gated). Goes (leaves g)) (record {
+  free = λ is. freely (quiet is);
+  full = λ gate is. alone_goes e;
+  lets = λ gate room unpaced some asks. inl (record { room = leb-false e.path.window (bytes_in_flight e + current_mtu e.path) room; unpaced = unpaced });
+  holds = λ moment gate room is. alone_goes (with_pacing_timer (pacer_asked e) (Some moment));
 })
   where
-    nothing : is_gated e ≡ false → asks_to_go e ≡ false
-    nothing is = elim (and_cases (asks_to_go e) (e.tracking.probes == 0) is) [
+    Goes : Ready → Type 0
+    Goes g = goes g ≡ true → asking (draft_of g).frames ≡ true → IsLet e ⊎ IsProbing e g
+
+    -- what is held back doesn't go
+    alone_goes : (x : End) → Goes (leaves (holds x))
+    alone_goes x = by_leaves (holds x) Goes (record {
+      acks = λ held due some asks. (let clash : ◌≡◌ {A = Bool} false true = asks in cc);
+      held = λ held none some asks. cc;
+      all = λ free some. cc;
+      idle = λ free none. cc;
+      asked = λ free none. cc;
+      probes = λ size free none. cc;
+    })
+
+    quiet : is_gated e ≡ false → asks_to_go e ≡ false
+    quiet is = elim (and_cases (asks_to_go e) (e.tracking.probes == 0) is) [
       | inl silent ↦ silent
       | inr probes ↦ absurd (both_ways (e.tracking.probes == 0) probes (eq-eqb e.tracking.probes 0 none))
     ]
 
     -- where nothing asks to go, an ACK goes alone
-    idle : asks_to_go e ≡ false → goes (lets e) ≡ true → asking (composed (lazied e)).frames ≡ true → ⊥
-    idle silent some asks = both_ways (asking (composed (lazied e)).frames) (mute_composed (lazied e) (record { runs = acks.runs; small = acks.small; counts = acks.counts }) (lazy_due e.acknowledging due) silent) asks
+    mute : asks_to_go e ≡ false → waits e ≡ true → asking (composed (lazied e)).frames ≡ true → ⊥
+    mute silent some asks = both_ways (asking (composed (lazied e)).frames) (mute_composed (lazied e) (record { runs = acks.runs; small = acks.small; counts = acks.counts }) (lazy_due e due) silent) asks
       where
         due : can_send e.acknowledging ≡ true
         due = elim (or_cases (can_send e.acknowledging) (asks_to_go e) some) [
@@ -91,66 +76,54 @@ let_go e acks none = by_gate e (λ (g : Gated). goes g ≡ true → asking (draf
           | inr is ↦ absurd (both_ways (asks_to_go e) silent is)
         ]
 
--- where no probe waits, nothing changes for one
-unprobed : (e : End) → e.tracking.probes ≡ 0 → probed e ≡ e
-unprobed e none = ap (λ (b : Bool). probe_if b e) (le-ltb 0 e.tracking.probes (omega arith))
-
--- one in a list of one
-only_one : (s t : Sent) → s ∷ [] ≡ t ∷ [] → t ≡ s
-only_one s t is = cc
+    freely : asks_to_go e ≡ false → Goes (leaves (lets e))
+    freely silent = by_leaves (lets e) Goes (record {
+      acks = λ held due. cc;
+      held = λ held none. cc;
+      all = λ free some went asks. absurd (mute silent some asks);
+      idle = λ free none some asks. cc;
+      asked = λ free none some asks. cc;
+      probes = λ size free idle may named some asks. inr (record { size = size; is = refl; idle = idle; may = may; named = named });
+    })
 
 -- ---- the clause
 
 module _ (H : Way) (g : Group Nothing (And (And PacketsHold H) Sight)) (r : Run) (end : World) (honest : IsHonest r) (run : IsRun r end) where
-  -- what asks and is no probe goes only where the window has room for it beside what is in flight, and the pacer names no later moment
+  module _ (side : Side) (i now : ℕ) (gave : GaveAsking r side i now) (w next : World) (m : IsMade r i side (calls.Poll now) (answers.Poll (Ok (Some gave.one.transmit))) w next) (none : (watch r side i).flight.probes ≡ 0) where
+    abbrev e : End
+    e = with_window (end_at side w) (control_at side w [])
+
+    asks : asking (draft_at e now).frames ≡ true
+    asks = sym (asking_padded (draft_at e now).frames _) ∙ ap (λ (s : Sent). asks_of s) (probing.same H g r end honest run side i now gave.one w next m) ∙ gave.asks
+
+    -- the end has no probe of losses that waits, so that nothing changes for one
+    no_probe : e.tracking.probes ≡ 0
+    no_probe = sym (probing.probes H g r end honest run side i now gave.one w next m) ∙ none
+
+    quiet : probed (begun e now) ≡ begun e now
+    quiet = unprobed (begun e now) no_probe
+
+    acks : Acks e.acknowledging e.marks.came
+    acks = (probing.h H g r end honest run side i now gave.one w next m).takes.0.0.acks
+
+    free : IsLet (begun e now) ⊎ IsProbing (begun e now) (ready_at e now)
+    free = subst (λ (z : End). IsLet z ⊎ IsProbing z (ready_at e now)) quiet
+        (let_go (probed (begun e now)) (subst (λ (z : End). Acks z.acknowledging z.marks.came) (sym quiet) (record { runs = acks.runs; small = acks.small; counts = acks.counts })) (ap (λ (z : End). z.tracking.probes) quiet ∙ no_probe) (probing.gives H g r end honest run side i now gave.one w next m).some asks)
+
+    -- what lets the end give it, is seen before
+    lets_it : IsLet (begun e now) → AreLetting r side i now
+    lets_it is = record {
+      room = subst (λ (u : EndView). bytes_flying r side i + u.current_mtu < u.window) (sym (probing.seen H g r end honest run side i now gave.one w next m))
+          (subst (λ (n : ℕ). n + current_mtu (end_at side w).path < control_at side w []) (probing.flight H g r end honest run side i now gave.one w next m) is.room);
+      unpaced = λ v leads. subst (λ (x : World). pacer_names side x now ≡ None) (one_behind r i w v (served_before r.answers i gave.one.served) m.leads leads) (ap (λ (z : End). paced_until z) quiet ∙ is.unpaced);
+    }
+
+  -- where no probe of losses waits, what asks goes only where the window has room for it beside what is in flight and the pacer names no later moment, or as a probe of a
+  -- size
   pub asking_goes_where_let : AskingGoesWhereLet r
-  asking_goes_where_let side i now w next gave none = (
-    subst (λ (n : ℕ). n + current_mtu e.path < control_at side w []) flight room,
-    free.unpaced,
-  )
-    where
-      h : PollHolds (And (And PacketsHold H) Sight) r i side now (answers.Poll (Ok (Some gave.transmit))) w
-      h = poll_holds (And (And PacketsHold H) Sight) g r end honest run i side now (answers.Poll (Ok (Some gave.transmit))) w next gave.made
-
-      x : Party
-      x = polling r i w side h.sents
-
-      y : Party
-      y = party_at r i w (other_side side) h.theirs
-
-      p : Policy
-      p = policy_at side r.keys
-
-      e : End
-      e = with_window (end_at side w) (control_at side w [])
-
-      said : answers.Poll (Ok (Some gave.transmit)) ≡ answers.Poll (polled p e now).answer
-      said = poll_answer p e now (answers.Poll (Ok (Some gave.transmit))) gave.made.step.answer (made_served r i side (calls.Poll now) (answers.Poll (Ok (Some gave.transmit))) w next gave.made)
-
-      gives : IsGiving e now
-      gives = giving p e now gave.transmit (same_answer (Ok (Some gave.transmit)) (polled p e now).answer said)
-
-      -- it went as the end says
-      went : gave.sent ∷ [] ≡ sent_by e now ∷ []
-      went = append_cancel_left (sents_until r side i) (gave.sent ∷ []) (sent_by e now ∷ []) (sym gave.went ∙ sents_more r i side now (answers.Poll (Ok (Some gave.transmit))) w (observed_poll H r i side now (answers.Poll (Ok (Some gave.transmit))) w h))
-
-      same : sent_by e now ≡ gave.sent
-      same = only_one gave.sent (sent_by e now) went
-
-      asks : asking (draft_at e now).frames ≡ true
-      asks = sym (asking_padded (draft_at e now).frames _) ∙ ap (λ (s : Sent). asks_of s) same ∙ gave.asks
-
-      quiet : probed (begun e now) ≡ begun e now
-      quiet = unprobed (begun e now) none
-
-      free : IsLet (probed (begun e now))
-      free = let_go (probed (begun e now)) (subst (λ (z : End). Acks z.acknowledging z.marks.came) (sym quiet) h.takes.0.0.acks) (ap (λ (z : End). z.tracking.probes) quiet ∙ none) gives.some asks
-
-      room : bytes_in_flight e + current_mtu e.path < control_at side w []
-      room = subst (λ (z : End). bytes_in_flight z + current_mtu z.path < z.path.window) quiet free.room
-
-      -- the observer counts the bytes in flight as the end does
-      flight : bytes_in_flight e ≡ bytes_flying r side i
-      flight =
-          bytes_of_end e (watch_of x y).flight.flying h.gives.1.watched.path (h.gives.1.watched.flight gives.opened).tells.waits
-          ∙ ap (λ (v : Watch). bytes_asking v.flight.flying) (sym h.seen)
+  asking_goes_where_let side i now gave none =
+      let at = made_at (And (And PacketsHold H) Sight) g r end honest run i side (calls.Poll now) (answers.Poll (Ok (Some gave.one.transmit))) gave.one.poll gave.one.served in
+      elim (free side i now gave at.before at.behind at.made none) [
+        | inl is ↦ inl (lets_it side i now gave at.before at.behind at.made none is)
+        | inr is ↦ inr (probing.is_probe H g r end honest run side i now gave.one at.before at.behind at.made is at.leads)
+      ]

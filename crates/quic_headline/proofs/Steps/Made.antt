@@ -13,11 +13,13 @@ use Rattle.quic_machine.specs.declared.run.Call.{Call}
 use Rattle.quic_machine.specs.declared.run.Call.TheVariants as calls
 use Rattle.quic_machine.specs.declared.run.Answer.{Answer}
 use Rattle.quic_machine.specs.declared.run.View.{View}
+use Rattle.quic_machine.specs.End.{End, with_window}
+use Rattle.quic_machine.specs.Control.{Control}
 use Rattle.quic_machine.specs.Machine.{World, Policies, IsLeft, IsStep, after_call, reads_window, gives, end_at, control_at, given_by, policy_at, changed, fails, Follows}
 use Rattle.quic_machine.specs.RunLaws.{one_world, one_run, as_many_views}
-use Rattle.quic_headline.specs.Runs.{Run, Told, given_of, told_by, told_at, until, state_in, state_behind, state_at, folded}
+use Rattle.quic_headline.specs.Runs.{Run, Told, given_of, told_by, told_at, until, state_in, state_behind, state_at, AreServed, LeadsTo, folded}
 use Rattle.quic_headline.specs.Observer.{Sent, Watch, first_watch, watch_told, watch, sents_until}
-use Rattle.quic_headline.specs.Headline.{IsHonest, IsRun}
+use Rattle.quic_headline.specs.Headline.{IsHonest, IsRun, IsAt, used, CodeIsSmall}
 use Rattle.quic_headline.specs.Polls.{IsMade}
 use Rattle.quic_headline.proofs.Packets.Group.{PacketsHold}
 use Rattle.quic_headline.proofs.Packets.Sight.{Sight}
@@ -26,6 +28,7 @@ use Rattle.quic_headline.proofs.Places.Groups.{Way, Nothing, And, Calls, Group}
 use Rattle.quic_headline.proofs.Places.Moments.{Grown, grown, told_none}
 use Rattle.quic_headline.proofs.Places.Placed.{party_at, Placed, placed, first_left, watch_is}
 use Rattle.quic_headline.proofs.Timers.Watched.{Observed}
+use Rattle.quic_headline.proofs.Held.Behind.{last_step}
 
 -- ---- the answers of a run
 
@@ -46,7 +49,7 @@ served_before (b ∷ answers) (suc i) served =
 -- ---- what is told
 
 -- what one more answer tells
-told_next : (side : Side) (state : State) (i : ℕ) (events : List RunEvent) (answers : List Answer) (views : List View) (event : RunEvent) (a : Answer) → slice_get events i ≡ Some event → slice_get answers i ≡ Some a → length views ≡ length answers
+pub told_next : (side : Side) (state : State) (i : ℕ) (events : List RunEvent) (answers : List Answer) (views : List View) (event : RunEvent) (a : Answer) → slice_get events i ≡ Some event → slice_get answers i ≡ Some a → length views ≡ length answers
     → told_at side state events (take (suc i) answers) views ≡ told_at side state events (take i answers) views ++ told_by side (state_behind side state i views) event a
 told_next side state i [] answers views event a at_event at_answer many = cc
 told_next side state i (e ∷ events) [] views event a at_event at_answer many = cc
@@ -63,7 +66,7 @@ told_next side state (suc i) (e ∷ events) (b ∷ answers) (v ∷ views) event 
     ∙ sym (append_assoc (told_by side state e b) (told_at side (state_in v side) events (take i answers) views) (told_by side (state_behind side (state_in v side) i views) event a))
 
 -- a call at an end tells this there
-told_here : (side : Side) (state : State) (call : Call) (a : Answer) → told_by side state (record { side = side; call = call }) a ≡ told_of call a state ∷ []
+pub told_here : (side : Side) (state : State) (call : Call) (a : Answer) → told_by side state (record { side = side; call = call }) a ≡ told_of call a state ∷ []
 told_here Client state call a = refl
 told_here Server state call a = refl
 
@@ -95,23 +98,43 @@ module _ (r : Run) (i : ℕ) (side : Side) (call : Call) (a : Answer) (w next : 
   pub made_end : end_at side next ≡ after_call (policy_at side r.keys) (reads_window (control_at side w) call (end_at side w)) (given_by (other_side side) w) call a
   made_end = subst (λ (b : Bool). IsLeft b (policy_at side r.keys) (control_at side w) (end_at side w) (given_by (other_side side) w) call a (end_at side next)) made_served m.step.end
 
+-- ---- a call and what holds at it
+
+-- one end at a place where it is called: a poll reads which window its controller shows
+abbrev pub calling : Run → ℕ → World → Side → Call → List Sent → Party
+calling r i w side call sents = record (party_at r i w side sents) { end = reads_window (control_at side w) call (end_at side w) }
+
+-- A group at a place where an end is called, and behind the call.
+pub record CallHolds (G : Way) (r : Run) (i : ℕ) (side : Side) (call : Call) (a : Answer) (w : World) : Type 0 where
+  pub sents : List Sent
+  pub theirs : List Sent
+  pub joined : AreJoined (calling r i w side call sents) (party_at r i w (other_side side) theirs)
+  pub gives : G (calling r i w side call sents) (party_at r i w (other_side side) theirs)
+  pub takes : G (party_at r i w (other_side side) theirs) (calling r i w side call sents)
+  pub behind : G (called (calling r i w side call sents) (given_by (other_side side) w) call a) (party_at r i w (other_side side) theirs)
+  -- the observer of the end is that of the run
+  pub seen : watch r side i ≡ watch_of (calling r i w side call sents) (party_at r i w (other_side side) theirs)
+  pub seen_behind : watch r side (suc i) ≡ watch_of (called (calling r i w side call sents) (given_by (other_side side) w) call a) (party_at r i w (other_side side) theirs)
+
+-- that reads the window leaves the state
+reads_state : (control : Control) (call : Call) (e : End) → (reads_window control call e).closing.state ≡ e.closing.state
+reads_state control (calls.Poll now) e = refl
+reads_state control call e = refl
+
+-- what holds of an end, whichever window it read, holds where it is called
+pub reads_either : (P : End → Type 0) (control : Control) (call : Call) (e : End) → P e → P (with_window e (control [])) → P (reads_window control call e)
+reads_either P control (calls.Poll now) e bare shown = shown
+reads_either P control call e bare shown = bare
+
 -- ---- a poll
 
 -- one end at a place, once it read that its controller shows its window
 abbrev pub polling : Run → ℕ → World → Side → List Sent → Party
 polling r i w side sents = showing (party_at r i w side sents) (control_at side w [])
 
--- A group at a place where an end is polled, and behind the poll.
-pub record PollHolds (G : Way) (r : Run) (i : ℕ) (side : Side) (now : ℕ) (a : Answer) (w : World) : Type 0 where
-  pub sents : List Sent
-  pub theirs : List Sent
-  pub joined : AreJoined (polling r i w side sents) (party_at r i w (other_side side) theirs)
-  pub gives : G (polling r i w side sents) (party_at r i w (other_side side) theirs)
-  pub takes : G (party_at r i w (other_side side) theirs) (polling r i w side sents)
-  pub behind : G (called (polling r i w side sents) (given_by (other_side side) w) (calls.Poll now) a) (party_at r i w (other_side side) theirs)
-  -- the observer of the end is that of the run
-  pub seen : watch r side i ≡ watch_of (polling r i w side sents) (party_at r i w (other_side side) theirs)
-  pub seen_behind : watch r side (suc i) ≡ watch_of (called (polling r i w side sents) (given_by (other_side side) w) (calls.Poll now) a) (party_at r i w (other_side side) theirs)
+-- so it is at a poll
+abbrev pub PollHolds : Way → Run → ℕ → Side → ℕ → Answer → World → Type 0
+PollHolds G r i side now a w = CallHolds G r i side (calls.Poll now) a w
 
 -- what is observed of a poll
 pub observed_poll : (H : Way) (r : Run) (i : ℕ) (side : Side) (now : ℕ) (a : Answer) (w : World) → PollHolds (And (And PacketsHold H) Sight) r i side now a w → PollHolds Observed r i side now a w
@@ -126,6 +149,17 @@ observed_poll H r i side now a w h = record {
   seen_behind = h.seen_behind;
 }
 
+-- The worlds before and behind a call.
+pub record MadeAt (r : Run) (i : ℕ) (side : Side) (call : Call) (a : Answer) : Type 0 where
+  pub before : World
+  pub behind : World
+  pub made : IsMade r i side call a before behind
+  pub leads : LeadsTo r (suc i) behind
+
+-- there is one world behind the first so many answers
+pub one_behind : (r : Run) (i : ℕ) (w v : World) → AreServed r i → LeadsTo r i w → LeadsTo r i v → w ≡ v
+one_behind r i w v served leads also = (one_run r.keys (take i r.answers) r.start (take i r.events) (take i r.views) (take i r.views) w v served leads also).1
+
 -- a run that goes on with an event and its answer
 record GoesOn (k : Policies) (w end : World) (event : RunEvent) (a : Answer) (events : List RunEvent) (answers : List Answer) : Type 0 where
   next : World
@@ -139,9 +173,9 @@ one_more k w end event a events answers [] f = absurd f
 one_more k w end event a events answers (v ∷ views) f = record { next = f.0; views = views; step = f.1; goes_on = f.3 }
 
 module _ (G : Way) (g : Group Nothing G) (r : Run) (end : World) (honest : IsHonest r) (run : IsRun r end) where
-  -- it holds so at each poll that was answered and served
-  pub poll_holds : (i : ℕ) (side : Side) (now : ℕ) (a : Answer) (w next : World) → IsMade r i side (calls.Poll now) a w next → PollHolds G r i side now a w
-  poll_holds i side now a w next m = record {
+  -- it holds so at each call that was answered and served, which names no stream and has no code
+  pub call_holds : (i : ℕ) (side : Side) (call : Call) (a : Answer) (w next : World) → ((id : ℕ) → used call ≡ Some id → ⊥) → CodeIsSmall call → IsMade r i side call a w next → CallHolds G r i side call a w
+  call_holds i side call a w next unused small m = record {
     sents = at.sents;
     theirs = at.theirs;
     joined = joined;
@@ -152,9 +186,6 @@ module _ (G : Way) (g : Group Nothing G) (r : Run) (end : World) (honest : IsHon
     seen_behind = watch_is r honest w (suc i) side at.sents at.theirs ∙ ap (λ (ts : List Told). folded (watch_told (lens x y)) ts (first_watch (x.id ∷ []) x.final x.began x.initial_rtt)) told_more;
   }
     where
-      call : Call
-      call = calls.Poll now
-
       event : RunEvent
       event = record { side = side; call = call }
 
@@ -165,13 +196,13 @@ module _ (G : Way) (g : Group Nothing G) (r : Run) (end : World) (honest : IsHon
       at = placed G g r end honest run side i before
 
       same : at.world ≡ w
-      same = (one_run r.keys (take i r.answers) r.start (take i r.events) (take i r.views) (take i r.views) at.world w before at.leads m.leads).1
+      same = one_behind r i at.world w before at.leads m.leads
 
       bare : Party
       bare = party_at r i w side at.sents
 
       x : Party
-      x = polling r i w side at.sents
+      x = calling r i w side call at.sents
 
       y : Party
       y = party_at r i w (other_side side) at.theirs
@@ -184,10 +215,10 @@ module _ (G : Way) (g : Group Nothing G) (r : Run) (end : World) (honest : IsHon
       takes_bare = subst (λ (v : World). G (party_at r i v (other_side side) at.theirs) (party_at r i v side at.sents)) same at.takes
 
       gives_now : G x y
-      gives_now = g.shows bare y (control_at side w []) y.end.path.window tt tt gives_bare takes_bare
+      gives_now = reads_either (λ (e : End). G (record bare { end = e }) y) (control_at side w) call (end_at side w) gives_bare (g.shows bare y (control_at side w []) y.end.path.window tt tt gives_bare takes_bare)
 
       takes_now : G y x
-      takes_now = g.shows y bare y.end.path.window (control_at side w []) tt tt takes_bare gives_bare
+      takes_now = reads_either (λ (e : End). G y (record bare { end = e })) (control_at side w) call (end_at side w) takes_bare (g.shows y bare y.end.path.window (control_at side w []) tt tt takes_bare gives_bare)
 
       joined : AreJoined x y
       joined =
@@ -237,8 +268,8 @@ module _ (G : Way) (g : Group Nothing G) (r : Run) (end : World) (honest : IsHon
         joined = joined;
         answer = m.step.answer;
         served = made_served r i side call a w next m;
-        uses = λ id none. cc;
-        codes = tt;
+        uses = λ id is. absurd (unused id is);
+        codes = small;
         joined_behind = joined_behind;
         gives = tt;
         takes = tt;
@@ -246,14 +277,25 @@ module _ (G : Way) (g : Group Nothing G) (r : Run) (end : World) (honest : IsHon
         takes_behind = tt;
       }
 
-      -- the poll is told last
-      state : state_at r side i ≡ (end_at side w).closing.state
-      state = sym (ap (λ (v : World). (end_at side v).closing.state) (sym same) ∙ at.state)
+      -- the call is told last
+      state : state_at r side i ≡ x.end.closing.state
+      state = sym (ap (λ (v : World). (end_at side v).closing.state) (sym same) ∙ at.state) ∙ sym (reads_state (control_at side w) call (end_at side w))
 
       told_more : until r side (suc i) ≡ until r side i ++ told_of call a x.end.closing.state ∷ []
       told_more =
           told_next side (end_at side r.start).closing.state i r.events r.answers r.views event a m.at.event m.at.answer (as_many_views r.keys r.start end r.events r.answers r.views run.follows)
           ∙ ap (λ (ts : List Told). until r side i ++ ts) (told_here side (state_at r side i) call a ∙ ap (λ (s : State). told_of call a s ∷ []) state)
+
+  -- so at each such poll
+  pub poll_holds : (i : ℕ) (side : Side) (now : ℕ) (a : Answer) (w next : World) → IsMade r i side (calls.Poll now) a w next → PollHolds G r i side now a w
+  poll_holds i side now a w next m = call_holds i side (calls.Poll now) a w next (λ id is. cc) tt m
+
+  -- a call that was answered and served is made between two worlds
+  pub made_at : (i : ℕ) (side : Side) (call : Call) (a : Answer) → IsAt r i side call a → AreServed r (suc i) → MadeAt r i side call a
+  made_at i side call a at served =
+      let behind = placed G g r end honest run side (suc i) served in
+      let last = last_step r.keys i r.start behind.world r.events r.answers r.views (record { side = side; call = call }) a at.event at.answer behind.leads in
+      record { before = last.before; behind = behind.world; made = record { at = at; leads = last.leads; step = last.step; served = served }; leads = behind.leads }
 
 -- what an end sent behind a poll is what it sent before, and what the poll gave
 pub sents_more : (r : Run) (i : ℕ) (side : Side) (now : ℕ) (a : Answer) (w : World) → PollHolds Observed r i side now a w → sents_until r side (suc i) ≡ sents_until r side i ++ sents_by (reads_window (control_at side w) (calls.Poll now) (end_at side w)) (calls.Poll now) a

@@ -18,14 +18,13 @@ use Rattle.quic_spaces.specs.Numbers.{can_number}
 use Rattle.quic_machine.specs.End.{End, with_closing, with_ack_timer, with_loss_timer, with_window}
 use Rattle.quic_machine.specs.Control.{Gated, paced_until, with_pacing_timer}
 use Rattle.quic_machine.specs.Timeouts.{acks_expired, loss_judged, loss_expired, pacing_expired}
-use Rattle.quic_machine.specs.Poll.{probed, lazied, goes, sends, polled_if, polled_in, polled}
+use Rattle.quic_machine.specs.Poll.{gated, probed, goes, sends, polled_if, polled_in, polled, Ready}
 use Rattle.quic_machine.specs.Receive.{timers_after}
 use Rattle.quic_spaces.specs.Acknowledging.{with_due}
 use Rattle.quic_machine.specs.Machine.{after_call, end_at, control_at, given_by, policy_at}
 use Rattle.quic_machine.specs.CallCases.{is_poll, by_plain_call}
 use Rattle.quic_machine.specs.FrameCases.{Settling, Receives, named, acked_keeps, losses_keep, frame_keeps, frame_leaves, by_received}
-use Rattle.quic_machine.specs.PollCases.{ready_at, draft_at, probe_leaves, by_gate, composes}
-use Rattle.quic_machine.specs.DraftLaws.{due_alone}
+use Rattle.quic_machine.specs.PollCases.{ready_at, draft_at, probe_leaves, by_gate, search_leaves, composes, may_leave_at}
 use Rattle.quic_headline.specs.Runs.{Run}
 use Rattle.quic_headline.specs.Polls.{PacerSetsItsTimer, pacing_at, pacer_names}
 use Rattle.quic_headline.proofs.Packets.Probes.{by_going}
@@ -51,22 +50,22 @@ stopped e now = ap (λ (x : End). x.timers.pacing) (probe_leaves (with_pacing_ti
 
 -- where window and pacer were asked
 gated_paces : (e : End) (now : ℕ) → Paces (names e now) (ready_at e now).end
-gated_paces e now = by_gate (asking_end e now) (λ (g : Gated). Paces (names e now) g.end) (record {
+gated_paces e now = subst (Paces (names e now)) (sym (search_leaves (gated (asking_end e now)))) (by_gate (asking_end e now) (λ (g : Gated). (g.end.timers.pacing ≡ None) ⊎ (g.end.timers.pacing ≡ names e now)) (record {
   free = λ is. inl (stopped e now);
   full = λ asks is. inl (stopped e now);
   lets = λ asks room is. inl (stopped e now);
   holds = λ moment asks room is. inr (sym is);
-})
+}))
 
 -- so it is behind a poll of an open end
 pub polled_paces : (p : Policy) (e : End) (now : ℕ) → e.closing.state ≡ states.Open → Paces (names e now) (polled p e now).end
 polled_paces p e now opened = subst (λ (s : State). Paces (names e now) (polled_in s p e now).end) (sym opened) (going_case (goes (ready_at e now)) refl)
   where
-    g : Gated
+    g : Ready
     g = ready_at e now
 
     given : goes g ≡ true → Paces (names e now) (sends true p g).end
-    given some = by_going (Paces (names e now)) p (draft_at e now) (λ pacing. subst (λ (o : Option ℕ). (o ≡ None) ⊎ (o ≡ names e now)) (sym (composes g.held (lazied g.end) (due_alone g some)).pacing) (gated_paces e now))
+    given some = by_going (Paces (names e now)) p (draft_at e now) (λ pacing. subst (λ (o : Option ℕ). (o ≡ None) ⊎ (o ≡ names e now)) (sym (composes g.leaving g.end (may_leave_at e now)).pacing) (gated_paces e now))
 
     number_case : goes g ≡ true → (b : Bool) → Paces (names e now) (sends b p g).end
     number_case some true = given some
@@ -89,7 +88,7 @@ pacing_after t p now n asks s = go (packet_starts_wait p n asks s)
 module _ (o : Option ℕ) where
   -- acknowledged and lost packets leave the timer
   settling : Settling (Paces o)
-  settling = record { known = λ n e i. i; reset = λ id e i. i; acked = λ m e i. i; lost = λ m e i. i; again = λ carried e i. i; tracked = λ t e i. i; measured = λ r first e i. i; marked = λ m marking e i. i }
+  settling = record { known = λ n e i. i; reset = λ id e i. i; acked = λ m e i. i; lost = λ m e i. i; again = λ carried e i. i; searched = λ discovery e i. i; shortens = λ most e i. i; tracked = λ t e i. i; measured = λ r first e i. i; marked = λ m marking e i. i }
 
   -- a datagram that comes does, and stops it where the end closes
   receives : Receives (Paces o)

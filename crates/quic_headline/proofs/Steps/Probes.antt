@@ -1,18 +1,12 @@
 -- Where a probe waits, a poll that leaves its end open gives a datagram that asks for an acknowledgement (RFC 9002, sections 6.2.4 and 7.5).
-use Rattle.std.proofs.Common.{◌≡◌, ℕ, ◌+◌, ◌-◌, ◌<◌, ◌≤◌, ◌^◌, [], ◌∷◌, ◌++◌, length, Bool, true, false, Some, None, Ok, refl, sym, ap, ◌∙◌, subst, ◌⊎◌, inl, inr, arith}
+use Rattle.std.proofs.Common.{◌≡◌, ℕ, suc, ◌+◌, ◌-◌, ◌<◌, ◌≤◌, ◌^◌, [], ◌∷◌, ◌++◌, length, Bool, true, false, Some, None, Ok, refl, sym, ap, ◌∙◌, subst, ◌⊎◌, inl, inr, arith}
 use Rattle.std.specs.Prelude.{not, ◌||◌, ◌==◌}
 use Rattle.std.proofs.lemmas.Bool.{lt-ltb, or_left, or_right, and_right, and_parts, not-true, ne_eqb}
 use Rattle.std.proofs.lemmas.List.{length-append}
 use Rattle.std.proofs.lemmas.List.Folds.{list_any-append}
 use Rattle.quic_wire_core.specs.StreamId.{other_side}
 use Rattle.quic_wire.specs.Value.{FrameValue, padding, ack, ping, stream, connection_close, application_close, datagram, asks}
-use Rattle.quic_wire.specs.AckGrammar.{AckFits}
-use Rattle.quic_wire.specs.Writing.{spelling}
-use Rattle.quic_wire.proofs.FrameWritten.{spelling_length}
-use Rattle.quic_wire.proofs.FrameRange.{size_most}
-use Rattle.quic_wire.proofs.AckSet.{set_length}
 use Rattle.quic_recovery_core.specs.PendingAcks.{Pending, is_filled, can_send}
-use Rattle.quic_recovery_core.specs.declared.spaces.pending_acks.TheConstants.{MAX_ACK_RUNS}
 use Rattle.quic_retransmits.specs.Retransmits.{nothing_waits}
 use Rattle.quic_streams_parts.specs.Table.{added}
 use Rattle.quic_streams_parts.specs.SendHalf.{frame_of}
@@ -33,17 +27,17 @@ use Rattle.quic_machine.specs.Ids.{Ids}
 use Rattle.quic_machine.specs.Tracking.{Tracking, TrackedPacket, forgotten, without_packet, asking_sent, after_sent}
 use Rattle.quic_machine.specs.End.{End, number_of, with_closing, with_window, streams_at}
 use Rattle.quic_machine.specs.Control.{Gated, lets, gated_if, with_pacing_timer}
-use Rattle.quic_machine.specs.Poll.{mark_of, Polled, Draft, no_frames, frame_room, ping_if, with_control_frames, with_message_frames, with_stream_frames, with_asking, ack_of, with_ack, ack_fits, ack_if, composed_if, composed, datagram_of, asking, packet_of, probed, lazied, message_waits, asks_to_go, goes, draft_of, sends, polled_if, polled_in, polled}
+use Rattle.quic_machine.specs.Poll.{gated, mark_of, Polled, Draft, no_frames, frame_room, ping_if, with_control_frames, with_message_frames, with_stream_frames, with_asking, ack_of, with_ack, ack_fits, ack_if, composed_if, composed, datagram_of, asking, packet_of, probed, lazied, message_waits, asks_to_go, draft_of, sends, polled_if, polled_in, polled, whole, with_least, Ready, leaves, free_if, waits, goes}
 use Rattle.quic_machine.specs.Machine.{World, end_at, control_at, policy_at}
 use Rattle.quic_machine.specs.DraftLaws.{Writing, HasRoom, room_most, by_entries, by_messages, by_streams}
 use Rattle.quic_machine.specs.PollCases.{ready_at, frames_padded, frames_at, by_probed, composes}
 use Rattle.quic_headline.specs.Runs.{Run}
-use Rattle.quic_headline.specs.Headline.{IsHonest, IsRun}
-use Rattle.quic_headline.specs.Observer.{sents_until}
+use Rattle.quic_headline.specs.Headline.{IsHonest, IsRun, IsAt}
+use Rattle.quic_headline.specs.Observer.{Watch, watch, sents_until}
 use Rattle.quic_headline.specs.Polls.{IsMade, ProbesPass}
 use Rattle.quic_headline.proofs.Packets.Invariant.{CountsFit, Acks}
 use Rattle.quic_headline.proofs.Packets.Entries.{IsControl, control_of}
-use Rattle.quic_headline.proofs.Packets.Composed.{Spelling, ack_form}
+use Rattle.quic_headline.proofs.Packets.Composed.{Spelling, ack_leaves}
 use Rattle.quic_headline.proofs.Packets.Going.{Bringing, control_goes}
 use Rattle.quic_headline.proofs.Packets.Flying.{asking_padded}
 use Rattle.quic_headline.proofs.Packets.Probes.{by_going}
@@ -54,7 +48,9 @@ use Rattle.quic_headline.proofs.Places.Groups.{Way, Nothing, And, Group}
 use Rattle.quic_headline.proofs.Places.Placed.{party_at}
 use Rattle.quic_headline.proofs.Places.Steps.{poll_answer}
 use Rattle.quic_headline.proofs.Places.Together.{Spells}
-use Rattle.quic_headline.proofs.Steps.Made.{made_served, made_end, polling, PollHolds, poll_holds, observed_poll, sents_more}
+use Rattle.quic_headline.proofs.Timers.Watched.{open_behind}
+use Rattle.quic_headline.proofs.Timers.Still.{was_open}
+use Rattle.quic_headline.proofs.Steps.Made.{made_served, made_end, MadeAt, made_at, polling, PollHolds, poll_holds, observed_poll, sents_more}
 use Rattle.quic_headline.proofs.Steps.Moved.{has_probe, probe_has}
 
 -- ---- drafts that ask
@@ -64,11 +60,11 @@ abbrev pub Asks : Draft → Type 0
 Asks d = asking d.frames ≡ true
 
 -- it does still where a frame goes behind
-still_asks : (d : Draft) (f : FrameValue) → Asks d → asking (d.frames ++ f ∷ []) ≡ true
+pub still_asks : (d : Draft) (f : FrameValue) → Asks d → asking (d.frames ++ f ∷ []) ≡ true
 still_asks d f is = list_any-append asks d.frames (f ∷ []) ∙ or_left (asking d.frames) (asking (f ∷ [])) is
 
 -- or where that frame asks
-last_asks : (d : Draft) (f : FrameValue) → asks f ≡ true → asking (d.frames ++ f ∷ []) ≡ true
+pub last_asks : (d : Draft) (f : FrameValue) → asks f ≡ true → asking (d.frames ++ f ∷ []) ≡ true
 last_asks d f is = list_any-append asks d.frames (f ∷ []) ∙ or_right (asking d.frames) (asking (f ∷ [])) (or_left (asks f) false is)
 
 -- whichever frames go behind
@@ -76,6 +72,7 @@ asks_stay : Writing Asks
 asks_stay = record {
   ack = λ d filled may is. still_asks d (ack (ack_of d.end)) is;
   ping = λ d is. still_asks d ping is;
+  probes = λ f size is. still_asks (with_least (no_frames f) size) ping is;
   drops = λ d kind is. is;
   control = λ d kind f is asked. still_asks d f asked;
   message = λ d m ms first fit is. still_asks d (datagram m) is;
@@ -83,7 +80,7 @@ asks_stay = record {
 }
 
 -- a frame of control asks
-control_asks : (f : FrameValue) → IsControl f → asks f ≡ true
+pub control_asks : (f : FrameValue) → IsControl f → asks f ≡ true
 control_asks padding is = absurd is
 control_asks (ack a) is = absurd is
 control_asks (connection_close c) is = absurd is
@@ -98,18 +95,6 @@ control_or_none d = by_entries (λ (x : Draft). Asks x ⊎ (length x.frames ≡ 
 -- messages and frames of streams go behind them
 more_ask : (d : Draft) → Asks d → Asks (with_stream_frames (with_message_frames d))
 more_ask d is = by_streams Asks asks_stay.stream (with_message_frames d) (by_messages Asks asks_stay.message d is)
-
--- an ACK frame leaves room for one more frame of control
-ack_leaves : (e : End) → Acks e.acknowledging e.marks.came → is_filled e.acknowledging.runs ≡ true → HasRoom e → length (spelling (ack (ack_of e))) + 25 ≤ frame_room e
-ack_leaves e acks filled short =
-    let form : AckFits (ack_of e) = ack_form e acks filled in
-    let long = spelling_length (ack (ack_of e)) form in
-    let most = size_most (ack (ack_of e)) form in
-    let count = set_length e.acknowledging.runs in
-    let few = acks.runs.few in
-    let runs : MAX_ACK_RUNS ≡ 64 = refl in
-    let room = room_most e short in
-    omega arith
 
 module _ (K : Streams → Type 0) (k : Spelling K) (c : Bringing K) where
   -- frames of control go behind a draft that leaves room for one, where something waits beside the bytes of streams
@@ -141,7 +126,7 @@ module _ (K : Streams → Type 0) (k : Spelling K) (c : Bringing K) where
       late false d is = is
 
       go : (b : Bool) → can_send e.acknowledging ≡ b → Asks (composed_if b e)
-      go true due = with_asking_asks (with_ack (no_frames e)) (ack_leaves e acks (and_parts e.acknowledging.due (is_filled e.acknowledging.runs) due).1 short) i waits
+      go true due = with_asking_asks (with_ack (no_frames e)) (ack_leaves e acks (and_parts e.acknowledging.due (is_filled e.acknowledging.runs) due).1 (room_most e short)) i waits
       go false due = late (ack_fits (with_asking (no_frames e))) (with_asking (no_frames e)) (with_asking_asks (no_frames e) (let room = room_most e short in omega arith) i waits)
 
 -- ---- a poll where a probe waits
@@ -154,6 +139,34 @@ one_fewer t n p is = ap (λ (b : Bool). (asking_sent b n p.time_sent (record t {
 abbrev pub begun : End → ℕ → End
 begun e now = with_pacing_timer (with_closing e (ticked e.closing now)) None
 
+module _ (e : End) (now : ℕ) (probes : 0 < e.tracking.probes) where
+  -- the end where something waits for each probe
+  abbrev readied : End
+  readied = probed (begun e now)
+
+  readied_has : has_probe readied ≡ true
+  readied_has = probe_has (begun e now) (lt-ltb 0 e.tracking.probes probes)
+
+  -- as many probes wait
+  readied_probes : readied.tracking.probes ≡ e.tracking.probes
+  readied_probes = by_probed (begun e now) (λ (z : End). z.tracking.probes ≡ e.tracking.probes) refl refl (λ q probes is. refl)
+
+  readied_waits : waits readied ≡ true
+  readied_waits =
+      or_right (can_send readied.acknowledging) (asks_to_go readied) (asks_more readied.waiting.ping (not (is_empty readied.waiting.frames readied.streams)) (message_waits readied || can_send_stream_data readied.streams) readied_has)
+    where
+      asks_more : (a b d : Bool) → (a || b) ≡ true → (a || (b || d)) ≡ true
+      asks_more true b d is = refl
+      asks_more false b d is = or_left b d is
+
+  -- window and pacer aren't asked
+  ungated : gated readied ≡ lets readied
+  ungated = ap (λ (b : Bool). gated_if b readied) (and_right (asks_to_go readied) (readied.tracking.probes == 0) (ne_eqb readied.tracking.probes 0 (λ none. (let same = readied_probes in omega arith))))
+
+  -- nor is the search for a size: all goes that waits
+  pub ready_whole : ready_at e now ≡ record { leaving = whole; end = readied }
+  ready_whole = ap (λ (g : Gated). leaves g) ungated ∙ ap (λ (b : Bool). free_if b readied) readied_waits
+
 -- What a poll gives where a probe waits: a datagram that asks, and one probe fewer waits.
 record GivesProbe (p : Policy) (e : End) (now : ℕ) : Type 0 where
   transmit : Transmit
@@ -161,14 +174,10 @@ record GivesProbe (p : Policy) (e : End) (now : ℕ) : Type 0 where
   asks : asking (frames_at e now) ≡ true
   fewer : (polled p e now).end.tracking.probes + 1 ≡ e.tracking.probes
 
-module _ (K : Streams → Type 0) (k : Spelling K) (c : Bringing K) (p : Policy) (e : End) (now : ℕ) (waits : 0 < e.tracking.probes) (acks : Acks e.acknowledging e.marks.came) (short : HasRoom e) (streams : K (streams_at (ready_at e now).end)) where
+module _ (K : Streams → Type 0) (k : Spelling K) (c : Bringing K) (p : Policy) (e : End) (now : ℕ) (probes : 0 < e.tracking.probes) (acks : Acks e.acknowledging e.marks.came) (short : HasRoom e) (streams : K (streams_at (ready_at e now).end)) where
   -- the end where something waits for each probe
   abbrev x : End
   x = probed (begun e now)
-
-  -- as many probes wait
-  same_probes : x.tracking.probes ≡ e.tracking.probes
-  same_probes = by_probed (begun e now) (λ (z : End). z.tracking.probes ≡ e.tracking.probes) refl refl (λ q probes is. refl)
 
   -- what is to be acknowledged stays
   same_acks : x.acknowledging ≡ e.acknowledging
@@ -186,54 +195,44 @@ module _ (K : Streams → Type 0) (k : Spelling K) (c : Bringing K) (p : Policy)
   same_size : current_mtu x.path ≡ current_mtu e.path
   same_size = by_probed (begun e now) (λ (z : End). current_mtu z.path ≡ current_mtu e.path) refl refl (λ q probes is. refl)
 
-  -- something waits for them
-  something : has_probe x ≡ true
-  something = probe_has (begun e now) (lt-ltb 0 e.tracking.probes waits)
+  -- all that waits goes of it
+  abbrev all_goes : Ready
+  all_goes = record { leaving = whole; end = x }
 
-  -- window and pacer aren't asked
-  ungated : ready_at e now ≡ lets x
-  ungated = ap (λ (b : Bool). gated_if b x) (and_right (asks_to_go x) (x.tracking.probes == 0) (ne_eqb x.tracking.probes 0 (λ none. (let same = same_probes in omega arith))))
-
-  -- so something goes
-  some : goes (lets x) ≡ true
-  some = or_right (can_send x.acknowledging) (asks_to_go x) (asks_more x.waiting.ping (not (is_empty x.waiting.frames x.streams)) (message_waits x || can_send_stream_data x.streams) something)
-    where
-      asks_more : (a b d : Bool) → (a || b) ≡ true → (a || (b || d)) ≡ true
-      asks_more true b d is = refl
-      asks_more false b d is = or_left b d is
+  let_so : ready_at e now ≡ all_goes
+  let_so = ready_whole e now probes
 
   -- which asks
   goes_asks : Asks (composed (lazied x))
   goes_asks = composed_asks K k c (lazied x) (let there = subst (λ (p : Pending). Acks p e.marks.came) (sym same_acks) acks in record { runs = there.runs; small = there.small; counts = subst CountsFit (sym same_came) there.counts })
-      (subst (λ (ids : Ids). length ids.active.id ≤ 20) (sym same_ids) short.0, subst (λ (n : ℕ). 1200 ≤ n) (sym same_size) short.1, subst (λ (n : ℕ). n < 2 ^ 16) (sym same_size) short.2) (subst (λ (g : Gated). K (streams_at g.end)) ungated streams) something
+      (subst (λ (ids : Ids). length ids.active.id ≤ 20) (sym same_ids) short.0, subst (λ (n : ℕ). 1200 ≤ n) (sym same_size) short.1, subst (λ (n : ℕ). n < 2 ^ 16) (sym same_size) short.2) (subst (λ (g : Ready). K (streams_at g.end)) let_so streams) (readied_has e now probes)
 
   -- and so do the frames of its datagram
   frames_ask : asking (frames_at e now) ≡ true
-  frames_ask = ap (λ (g : Gated). asking (frames_padded (draft_of g))) ungated ∙ asking_padded (composed (lazied x)).frames _ ∙ goes_asks
+  frames_ask = ap (λ (g : Ready). asking (frames_padded (draft_of g))) let_so ∙ asking_padded (composed (lazied x)).frames _ ∙ goes_asks
 
   -- a poll of an open end gives it, unless the numbers are used up
-  polled_as : e.closing.state ≡ states.Open → polled p e now ≡ sends (can_number x.numbers) p (lets x)
+  polled_as : e.closing.state ≡ states.Open → polled p e now ≡ sends (can_number x.numbers) p all_goes
   polled_as opened =
       ap (λ (s : State). polled_in s p e now) opened
-      ∙ ap (λ (g : Gated). polled_if (goes g) p g) ungated
-      ∙ ap (λ (b : Bool). polled_if b p (lets x)) some
+      ∙ ap (λ (g : Ready). polled_if (goes g) p g) let_so
 
   -- one probe fewer waits behind it
-  fewer : (sends true p (lets x)).end.tracking.probes + 1 ≡ e.tracking.probes
+  fewer : (sends true p all_goes).end.tracking.probes + 1 ≡ e.tracking.probes
   fewer =
       let d : Draft = composed (lazied x) in
-      let tracking : d.end.tracking ≡ x.tracking = (composes false (lazied x) (λ held. cc)).tracking in
+      let tracking : d.end.tracking ≡ x.tracking = (composes whole x (λ alone. cc)).tracking in
       let there : d.end.tracking.probes ≡ x.tracking.probes = ap (λ (t : Tracking). t.probes) tracking in
-      let same = same_probes in
+      let same = readied_probes e now probes in
       by_going (λ (z : End). z.tracking.probes + 1 ≡ e.tracking.probes) p d (λ pacing. (let one = one_fewer d.end.tracking (number_of d.end) (packet_of d) goes_asks in omega arith))
 
   -- so a poll that leaves an open end open gives it
   gives_probe : e.closing.state ≡ states.Open → (polled p e now).end.closing.state ≡ states.Open → GivesProbe p e now
   gives_probe opened still = go (can_number x.numbers) (polled_as opened)
     where
-      go : (b : Bool) → polled p e now ≡ sends b p (lets x) → GivesProbe p e now
+      go : (b : Bool) → polled p e now ≡ sends b p all_goes → GivesProbe p e now
       go true is = record {
-        transmit = record { size = length (datagram_of p (draft_of (lets x))); ecn = mark_of (sends true p (lets x)).end.path.marking };
+        transmit = record { size = length (datagram_of p (draft_of all_goes)); ecn = mark_of (sends true p all_goes).end.path.marking };
         answer = ap (λ (q : Polled). q.answer) is;
         asks = frames_ask;
         fewer = ap (λ (q : Polled). q.end.tracking.probes + 1) is ∙ fewer;
@@ -245,17 +244,32 @@ module _ (K : Streams → Type 0) (k : Spelling K) (c : Bringing K) (p : Policy)
 module _ (H : Way) (s : Spells H) (g : Group Nothing (And (And PacketsHold H) Sight)) (r : Run) (end : World) (honest : IsHonest r) (run : IsRun r end) where
   -- where a probe waits, a poll that leaves its end open gives a datagram that asks, and one probe fewer waits then
   pub probes_pass : ProbesPass r
-  probes_pass side i now a w next m opened still waits = (
+  probes_pass side i now a v served at there opened_behind waits = (
     record {
-      transmit = gives.transmit;
-      made = subst (λ (b : Answer). IsMade r i side (calls.Poll now) b w next) said m;
-      sent = sent_by e now;
-      went = sents_more r i side now a w (observed_poll H r i side now a w h) ∙ ap (λ (b : Answer). sents_until r side i ++ sents_by e (calls.Poll now) b) said;
+      one = record {
+        transmit = gives.transmit;
+        poll = subst (λ (b : Answer). IsAt r i side (calls.Poll now) b) said at;
+        served = served;
+        sent = sent_by e now;
+        went = sents_more r i side now a w (observed_poll H r i side now a w h) ∙ ap (λ (b : Answer). sents_until r side i ++ sents_by e (calls.Poll now) b) said;
+      };
       asks = gives.asks;
     },
-    ap (λ (z : End). z.tracking.probes + 1) left ∙ gives.fewer,
+    ap (λ (n : ℕ). n + 1) probes_behind ∙ gives.fewer ∙ sym probes_before,
   )
     where
+      called_there : MadeAt r i side (calls.Poll now) a
+      called_there = made_at (And (And PacketsHold H) Sight) g r end honest run i side (calls.Poll now) a at served
+
+      w : World
+      w = called_there.before
+
+      next : World
+      next = called_there.behind
+
+      m : IsMade r i side (calls.Poll now) a w next
+      m = called_there.made
+
       h : PollHolds (And (And PacketsHold H) Sight) r i side now a w
       h = poll_holds (And (And PacketsHold H) Sight) g r end honest run i side now a w next m
 
@@ -274,8 +288,22 @@ module _ (H : Way) (s : Spells H) (g : Group Nothing (And (And PacketsHold H) Si
       left : end_at side next ≡ (polled p e now).end
       left = made_end r i side (calls.Poll now) a w next m
 
+      -- it is open behind the poll, and was before
+      still : (polled p e now).end.closing.state ≡ states.Open
+      still = sym (ap (λ (z : End). z.closing.state) left) ∙ open_behind r next i v side called_there.leads there opened_behind
+
+      opened : e.closing.state ≡ states.Open
+      opened = was_open p e y.given (calls.Poll now) a still
+
+      -- the observer counts the probes that wait as the end does
+      probes_before : (watch r side i).flight.probes ≡ e.tracking.probes
+      probes_before = ap (λ (u : Watch). u.flight.probes) h.seen ∙ (h.gives.1.watched.flight opened).probes
+
+      probes_behind : (watch r side (suc i)).flight.probes ≡ (polled p e now).end.tracking.probes
+      probes_behind = ap (λ (u : Watch). u.flight.probes) h.seen_behind ∙ (h.behind.1.watched.flight still).probes
+
       gives : GivesProbe p e now
-      gives = gives_probe s.known s.spelling s.bringing p e now waits h.takes.0.0.acks (has_room x y h.gives.0.0 h.joined.y_long) (s.holds x y h.gives.0.0 h.gives.0.1 now) opened (sym (ap (λ (z : End). z.closing.state) left) ∙ still)
+      gives = gives_probe s.known s.spelling s.bringing p e now (subst (λ (n : ℕ). 0 < n) probes_before waits) h.takes.0.0.acks (has_room x y h.gives.0.0 h.joined.y_long) (s.holds x y h.gives.0.0 h.gives.0.1 now) opened still
 
       said : a ≡ answers.Poll (Ok (Some gives.transmit))
       said = poll_answer p e now a m.step.answer (made_served r i side (calls.Poll now) a w next m) ∙ ap answers.Poll gives.answer

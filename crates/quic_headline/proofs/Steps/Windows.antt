@@ -31,7 +31,7 @@ told_control k w next event a served s =
     subst (λ (b : Bool). IsTold b (policy_at event.side k) (control_at event.side w) (end_at event.side w) (given_by (other_side event.side) w) event.call (control_at event.side next)) served s.control
 
 -- and that of the other end nothing
-step_shows : (side : Side) (k : Policies) (w next : World) (event : RunEvent) (a : Answer) → fails a ≡ false → IsStep k w event a next → ShowsAfter side w next (told_by_step side k w event)
+pub step_shows : (side : Side) (k : Policies) (w next : World) (event : RunEvent) (a : Answer) → fails a ≡ false → IsStep k w event a next → ShowsAfter side w next (told_by_step side k w event)
 step_shows side k w next event a served s more = go side event.side event.call s
   where
     go : (side by : Side) (call : Call) → IsStep k w (record { side = by; call = call }) a next → control_at side next more ≡ control_at side w (told_by_step side k w (record { side = by; call = call }) ++ more)
@@ -73,7 +73,7 @@ history side k w (e ∷ events) (a ∷ answers) (v ∷ views) end f served =
     }
 
 -- the first so many events of a run lead to some ends
-first_lead : (i : ℕ) (k : Policies) (w : World) (events : List RunEvent) (answers : List Answer) (views : List View) (end : World) → Follows k w events answers views end → (mid : World) × Follows k w (take i events) (take i answers) (take i views) mid
+pub first_lead : (i : ℕ) (k : Policies) (w : World) (events : List RunEvent) (answers : List Answer) (views : List View) (end : World) → Follows k w events answers views end → (mid : World) × Follows k w (take i events) (take i answers) (take i views) mid
 first_lead zero k w events answers views end f = (w, refl)
 first_lead (suc i) k w [] [] [] end f = (w, refl)
 first_lead (suc i) k w (e ∷ events) [] [] end f = (w, refl)

@@ -6,8 +6,8 @@ use Rattle.std.specs.List.{list_any}
 use Rattle.quic_wire_core.specs.declared.shared.EcnCodepoint.{EcnCodepoint}
 use Rattle.quic_spaces.specs.Marks.{is_congested}
 use Rattle.quic_wire_core.specs.declared.stream_id.Side.{Side}
-use Rattle.quic_wire.specs.Value.{FrameValue, ack, asks, padding, datagram}
-use Rattle.quic_recovery_core.specs.PendingAcks.{after_insert, starts_wait, asking_counted}
+use Rattle.quic_wire.specs.Value.{FrameValue, ack, ping, asks, padding, datagram}
+use Rattle.quic_recovery_core.specs.PendingAcks.{Pending, after_insert, starts_wait, asking_counted, after_acks_sent}
 use Rattle.quic_machine.specs.declared.answers.State.TheVariants as states
 use Rattle.quic_machine.specs.declared.run.Call.{Call}
 use Rattle.quic_machine.specs.declared.run.Call.TheVariants as calls
@@ -19,18 +19,19 @@ use Rattle.quic_machine.specs.Closing.{ticked}
 use Rattle.quic_machine.specs.End.{End, with_closing, with_ack_timer, with_loss_timer}
 use Rattle.quic_machine.specs.Receive.{asks_in, after_taken, Outcome}
 use Rattle.quic_spaces.specs.Acknowledging.{with_due}
-use Rattle.quic_machine.specs.Poll.{Polled, Draft, lazied, polled, draft_if}
+use Rattle.quic_machine.specs.Poll.{Polled, Draft, polled, draft_as, Leaving}
 use Rattle.quic_machine.specs.Timeouts.{Expiry, loss_judged, acks_expired, loss_expired, pacing_expired}
 use Rattle.quic_machine.specs.Machine.{World, IsAnswer, after_call, fails, gave, end_at}
 use Rattle.quic_machine.specs.CallCases.{is_delivery, by_plain_call}
 use Rattle.quic_machine.specs.LeaveCases.{at_expiry}
 use Rattle.quic_machine.specs.FrameCases.{Settling, named, begun, passed, acked_keeps, losses_keep, frame_keeps, frame_leaves, frames_keep}
-use Rattle.quic_machine.specs.PollCases.{ready_at, ready_leaves, draft_at, frames_at, by_poll_to}
-use Rattle.quic_machine.specs.DraftLaws.{by_leave, due_alone}
+use Rattle.quic_machine.specs.PollCases.{ready_at, ready_leaves, draft_at, frames_at, by_poll_to, may_leave_at}
+use Rattle.quic_machine.specs.DraftLaws.{by_leave, MayLeave}
 use Rattle.quic_headline.specs.Runs.{Run, Told, Packet, Intake, In, given_of, until, folded, AreServed}
 use Rattle.quic_headline.specs.Observer.{Watch, first_watch, news, Lens, watch_told, lens_of}
 use Rattle.quic_headline.specs.Headline.{IsHonest}
 use Rattle.quic_headline.specs.Moments.{is_ack, acknowledges, went, arrivals_of, Debt, arrivals_behind, debt_told, first_debt, IsDueFor, AckMoments}
+use Rattle.quic_headline.specs.Waited.{one_asks}
 use Rattle.quic_headline.proofs.Packets.Entries.{IsControl, control_of}
 use Rattle.quic_headline.proofs.Packets.Intakes.{folded_more}
 use Rattle.quic_headline.proofs.Packets.Delivered.{Arrivals, arrived, with_taken}
@@ -43,8 +44,8 @@ use Rattle.quic_headline.proofs.Places.Groups.{And, Calls, Group}
 use Rattle.quic_headline.proofs.Places.Coming.{by_coming}
 use Rattle.quic_headline.proofs.Places.Placed.{Placed, party_at, known_first}
 use Rattle.quic_headline.proofs.Timers.Still.{was_open}
-use Rattle.quic_headline.proofs.Timers.Watched.{Observed, went_behind, came_before, came_behind, watched_behind, timers_behind, open_behind}
-use Rattle.quic_headline.proofs.Packets.Probes.{MayLeave, by_going}
+use Rattle.quic_headline.proofs.Timers.Watched.{Observed, watched_behind, timers_behind, open_behind, went_behind, came_before, came_behind}
+use Rattle.quic_headline.proofs.Packets.Probes.{by_going}
 
 -- ---- what goes
 
@@ -75,33 +76,41 @@ control_not : (f : FrameValue) → IsControl f → is_ack f ≡ false
 control_not (ack a) is = absurd is
 control_not f is = refl
 
--- an ACK that goes stops the timer
-abbrev Stopped : Draft → Type 0
-Stopped d = list_any is_ack d.frames ≡ true → d.end.timers.max_ack_delay ≡ None
+-- what holds once an ACK frame went, of what is to be acknowledged and of the timer, which it stops
+module _ (Q : Pending → Option ℕ → Type 0) (acked : (p : Pending) → Q (after_acks_sent p) None) where
+  -- it holds where one of the frames of a draft is an ACK
+  abbrev Answered : Draft → Type 0
+  Answered d = list_any is_ack d.frames ≡ true → Q d.end.acknowledging d.end.timers.max_ack_delay
 
-draft_stopped : (held : Bool) (e : End) → MayLeave held e → Stopped (draft_if held e)
-draft_stopped held e alone = by_leave Stopped (record {
-  ack = λ d filled may i is. refl;
-  ping = λ d i some. i (any_more d.frames _ refl some);
-  drops = λ d kind i. i;
-  control = λ d kind f is i some. i (any_more d.frames f (control_not f (control_of f kind is.of_kind)) some);
-  message = λ d m ms is fit i acks. i (any_more d.frames (datagram m) refl acks);
-  stream = λ d id h room found first some is counts i acks. i (any_more d.frames _ refl acks);
-}) held e alone (λ is. cc)
+  draft_answered : (leaving : Leaving) (e : End) → MayLeave leaving e → Answered (draft_as leaving e)
+  draft_answered leaving e alone = by_leave Answered (record {
+    ack = λ d filled may i is. acked d.end.acknowledging;
+    ping = λ d i some. i (any_more d.frames _ refl some);
+    probes = λ f size i some. i (any_more [] ping refl some);
+    drops = λ d kind i. i;
+    control = λ d kind f is i some. i (any_more d.frames f (control_not f (control_of f kind is.of_kind)) some);
+    message = λ d m ms is fit i acks. i (any_more d.frames (datagram m) refl acks);
+    stream = λ d id h room found first some is counts i acks. i (any_more d.frames _ refl acks);
+  }) leaving e alone (λ is. cc)
 
--- so it is behind a poll that gives one
-polled_stopped : (p : Policy) (e : End) (now : ℕ) → acknowledges (sent_if (gave (answers.Poll (polled p e now).answer)) (sent_by e now)) ≡ true → (polled p e now).end.timers.max_ack_delay ≡ None
-polled_stopped p e now = by_poll_to p e now (λ (q : Polled). acknowledges (sent_if (gave (answers.Poll q.answer)) (sent_by e now)) ≡ true → q.end.timers.max_ack_delay ≡ None) (record {
-  silent = λ some. cc;
-  failed = λ some. cc;
-  nothing = λ is none some. cc;
-  used_up = λ some. refl;
-  gives = λ is may some acks. by_going (λ (x : End). x.timers.max_ack_delay ≡ None) p (draft_at e now) (λ pacing. draft_stopped (ready_at e now).held (lazied (ready_at e now).end) (due_alone (ready_at e now) some) (sym (any_padded (draft_at e now).frames _) ∙ first_only (list_any is_ack (frames_at e now)) acks));
-})
-  where
-    first_only : (b : Bool) → (b || false) ≡ true → b ≡ true
-    first_only true is = refl
-    first_only false is = is
+  -- so it is behind a poll that gives one
+  polled_answered : (p : Policy) (e : End) (now : ℕ) → acknowledges (sent_if (gave (answers.Poll (polled p e now).answer)) (sent_by e now)) ≡ true → Q (polled p e now).end.acknowledging (polled p e now).end.timers.max_ack_delay
+  polled_answered p e now = by_poll_to p e now (λ (q : Polled). acknowledges (sent_if (gave (answers.Poll q.answer)) (sent_by e now)) ≡ true → Q q.end.acknowledging q.end.timers.max_ack_delay) (record {
+    silent = λ some. cc;
+    failed = λ some. cc;
+    nothing = λ is none some. cc;
+    used_up = λ some. cc;
+    gives = λ is may some acks. by_going (λ (x : End). Q x.acknowledging x.timers.max_ack_delay) p (draft_at e now) (λ pacing. draft_answered (ready_at e now).leaving (ready_at e now).end (may_leave_at e now) (sym (any_padded (draft_at e now).frames _) ∙ first_only (list_any is_ack (frames_at e now)) acks));
+  })
+    where
+      first_only : (b : Bool) → (b || false) ≡ true → b ≡ true
+      first_only true is = refl
+      first_only false is = is
+
+  -- and behind any call that does
+  pub call_answered : (p : Policy) (e : End) (theirs : List (List ℕ)) (call : Call) (a : Answer) → IsAnswer p e theirs call a → fails a ≡ false → acknowledges (sents_by e call a) ≡ true → Q (after_call p e theirs call a).acknowledging (after_call p e theirs call a).timers.max_ack_delay
+  call_answered p e theirs (calls.Poll now) a is served some = polled_answered p e now (ap (λ (b : Answer). acknowledges (sent_if (gave b) (sent_by e now))) (sym (poll_answer p e now a is served)) ∙ some)
+  call_answered p e theirs call a is served some = cc
 
 -- ---- a call that isn't a delivery sets no timer of acknowledgements
 
@@ -111,7 +120,7 @@ HasTimer o e = e.timers.max_ack_delay ≡ o
 
 -- packets that are acknowledged or lost leave it
 timer_settles : (o : Option ℕ) → Settling (HasTimer o)
-timer_settles o = record { known = λ n y j. j; reset = λ id y j. j; acked = λ m y j. j; lost = λ m y j. j; again = λ carried y j. j; tracked = λ t y j. j; measured = λ r first y j. j; marked = λ m marking y j. j }
+timer_settles o = record { known = λ n y j. j; reset = λ id y j. j; acked = λ m y j. j; lost = λ m y j. j; again = λ carried y j. j; searched = λ discovery y j. j; shortens = λ most y j. j; tracked = λ t y j. j; measured = λ r first y j. j; marked = λ m marking y j. j }
 
 abbrev SetsNone : End → End → Type 0
 SetsNone e f = (moment : ℕ) → f.timers.max_ack_delay ≡ Some moment → e.timers.max_ack_delay ≡ Some moment
@@ -134,8 +143,8 @@ pacing_none false e = refl
 expired_none : (e : End) (now : ℕ) (expiry : Expiry) → SetsNone e (at_expiry e now expiry)
 expired_none e now expiry moment set = acks_none e now expiry.acks expiry.loss moment (sym (pacing_none expiry.pacing (acks_expired expiry.acks (loss_expired expiry.loss (with_closing e (ticked e.closing now))))) ∙ set)
 
-draft_none : (held : Bool) (e : End) → MayLeave held e → SetsNone e (draft_if held e).end
-draft_none held e alone = by_leave (λ (d : Draft). SetsNone e d.end) (record { ack = λ d filled may i moment set. cc; ping = λ d i. i; drops = λ d kind i. i; control = λ d kind f is i. i; message = λ d m ms is fit i. i; stream = λ d id h room found first some is counts i. i }) held e alone (λ moment set. set)
+draft_none : (leaving : Leaving) (e : End) → MayLeave leaving e → SetsNone e (draft_as leaving e).end
+draft_none leaving e alone = by_leave (λ (d : Draft). SetsNone e d.end) (record { ack = λ d filled may i moment set. cc; ping = λ d i. i; probes = λ f size i. i; drops = λ d kind i. i; control = λ d kind f is i. i; message = λ d m ms is fit i. i; stream = λ d id h room found first some is counts i. i }) leaving e alone (λ moment set. set)
 
 -- nor does an end that is made ready
 ready_none : (e : End) (now : ℕ) → SetsNone e (ready_at e now).end
@@ -147,7 +156,7 @@ polled_none p e now = by_poll_to p e now (λ (q : Polled). SetsNone e q.end) (re
   failed = λ moment set. set;
   nothing = λ is none. ready_none e now;
   used_up = λ moment set. none_set moment set;
-  gives = λ is may some. by_going (SetsNone e) p (draft_at e now) (λ pacing moment set. ready_none e now moment (draft_none (ready_at e now).held (lazied (ready_at e now).end) (due_alone (ready_at e now) some) moment set));
+  gives = λ is may some. by_going (SetsNone e) p (draft_at e now) (λ pacing moment set. ready_none e now moment (draft_none (ready_at e now).leaving (ready_at e now).end (may_leave_at e now) moment set));
 })
   where
     none_set : {A : Type 0} (moment : ℕ) → None ≡ Some moment → A
@@ -167,10 +176,6 @@ call_none p e theirs call a apart = by_plain_call p e theirs (SetsNone e) call a
 })
 
 -- ---- a delivery
-
--- whether one of some packets asks for an acknowledgement
-abbrev pub one_asks : List Packet → Bool
-one_asks ps = list_any (λ (p : Packet). list_any asks p.frames) ps
 
 -- the timer was set, or it is set to 25 ms behind the clock for a packet that came and asks
 abbrev SetBy : End → Intake → End → Intake → Type 0
@@ -251,13 +256,6 @@ comes_due d after moment none due some =
     subst (λ (b : Bool). IsDueFor (if b then [] else arrivals_of (news d.watch.intake after.intake) after.clock ++ d.arrivals) moment) (sym none)
     (record { arrival = after.clock; among = in_left after.clock (arrivals_of (news d.watch.intake after.intake) after.clock) d.arrivals (came_then (news d.watch.intake after.intake) after.clock some); due = due })
 
--- ---- what a call gives
-
--- a call that gives an ACK stops the timer
-acks_stop : (p : Policy) (e : End) (theirs : List (List ℕ)) (call : Call) (a : Answer) → IsAnswer p e theirs call a → fails a ≡ false → acknowledges (sents_by e call a) ≡ true → (after_call p e theirs call a).timers.max_ack_delay ≡ None
-acks_stop p e theirs (calls.Poll now) a is served some = polled_stopped p e now (ap (λ (b : Answer). acknowledges (sent_if (gave b) (sent_by e now))) (sym (poll_answer p e now a is served)) ∙ some)
-acks_stop p e theirs call a is served some = cc
-
 -- ---- the group
 
 -- nothing came to an end that is known by an id, gives these datagrams in all, and was made at a moment
@@ -305,7 +303,7 @@ debt_step x y call a c i = record { owes = owes }
 
     by_acks : (b : Bool) → acknowledges (sents_by x.end call a) ≡ b → (called x y.given call a).end.closing.state ≡ states.Open → Owes (debt_told (lens x y) t d) (called x y.given call a).end
     by_acks true some still moment set =
-        let stopped = acks_stop x.policy x.end y.given call a c.answer c.served some in
+        let stopped = call_answered (λ (q : Pending) (o : Option ℕ). o ≡ None) (λ q. refl) x.policy x.end y.given call a c.answer c.served some in
         let clash : ◌≡◌ {A = Option ℕ} None (Some moment) = sym stopped ∙ set in
         cc
     by_acks false none still moment set = go (call_set x y call a c moment set)

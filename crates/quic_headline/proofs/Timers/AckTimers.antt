@@ -17,17 +17,17 @@ use Rattle.quic_machine.specs.Closing.{ticked}
 use Rattle.quic_machine.specs.End.{End, with_closing, closed_by, with_loss_timer}
 use Rattle.quic_machine.specs.Receive.{timers_after}
 use Rattle.quic_spaces.specs.Acknowledging.{with_due}
-use Rattle.quic_machine.specs.Poll.{Polled, Draft, with_ack, lazied, polled, draft_if}
+use Rattle.quic_machine.specs.Poll.{Polled, Draft, with_ack, polled, lazied_as, draft_as, Leaving, whole, alone, probe, nothing}
 use Rattle.quic_machine.specs.Timeouts.{Expiry, loss_judged, acks_expired, loss_expired, pacing_expired}
 use Rattle.quic_machine.specs.Machine.{World, Policies, after_call, Follows}
 use Rattle.quic_headline.specs.Headline.{AckTimerFollows, AckTimersFollow}
-use Rattle.quic_machine.specs.DraftLaws.{by_leave, due_alone}
+use Rattle.quic_machine.specs.DraftLaws.{by_leave, MayLeave}
 use Rattle.quic_machine.specs.LeaveCases.{at_expiry}
 use Rattle.quic_machine.specs.CallCases.{by_plain_call}
 use Rattle.quic_machine.specs.FrameCases.{Settling, Receives, named, acked_keeps, losses_keep, frame_keeps, frame_leaves, by_received}
-use Rattle.quic_machine.specs.PollCases.{ready_at, ready_leaves, by_poll_to, draft_at}
+use Rattle.quic_machine.specs.PollCases.{ready_at, ready_leaves, by_poll_to, draft_at, may_leave_at}
 use Rattle.quic_headline.proofs.Timers.BothEnds.{run_keeps}
-use Rattle.quic_headline.proofs.Packets.Probes.{MayLeave, by_going}
+use Rattle.quic_headline.proofs.Packets.Probes.{by_going}
 
 -- no timer is set
 unset_follows : (e : End) → e.timers.max_ack_delay ≡ None → AckTimerFollows e
@@ -41,7 +41,7 @@ closed_follows reason e = unset_follows (closed_by reason e) refl
 
 -- acknowledged and lost packets leave the timer, and the packets that ask count on
 settling : Settling AckTimerFollows
-settling = record { known = λ n e i. i; reset = λ id e i. i; acked = λ m e i. i; lost = λ m e i. i; again = λ carried e i. i; tracked = λ t e i. i; measured = λ r first e i. i; marked = λ m marking e i. i }
+settling = record { known = λ n e i. i; reset = λ id e i. i; acked = λ m e i. i; lost = λ m e i. i; again = λ carried e i. i; searched = λ discovery e i. i; shortens = λ most e i. i; tracked = λ t e i. i; measured = λ r first e i. i; marked = λ m marking e i. i }
 
 -- the timer waits or is left: the count stays
 wait_counts : (b : Bool) (p : Pending) (now : ℕ) → (cond b (record p { since = Some now }) p).asking ≡ p.asking
@@ -67,16 +67,24 @@ receives = record {
 
 -- ---- a poll
 
+-- an acknowledgement that became due leaves it
+lazied_follows : (leaving : Leaving) (e : End) → AckTimerFollows e → AckTimerFollows (lazied_as leaving e)
+lazied_follows whole e i = i
+lazied_follows alone e i = i
+lazied_follows (probe size) e i = i
+lazied_follows (nothing held) e i = i
+
 -- an ACK that goes stops the timer, and no other frame changes it
-draft_follows : (held : Bool) (e : End) → MayLeave held e → AckTimerFollows e → AckTimerFollows (draft_if held e).end
-draft_follows = by_leave (λ (d : Draft). AckTimerFollows d.end) (record {
+draft_follows : (leaving : Leaving) (e : End) → MayLeave leaving e → AckTimerFollows e → AckTimerFollows (draft_as leaving e).end
+draft_follows leaving e due i = by_leave (λ (d : Draft). AckTimerFollows d.end) (record {
   ack = λ d filled may i. unset_follows (with_ack d).end refl;
   ping = λ d i. i;
+  probes = λ f size i. i;
   drops = λ d kind i. i;
   control = λ d kind f is i. i;
   message = λ d m ms is fit i. i;
   stream = λ d id h room found first some is counts i. i;
-})
+}) leaving e due (lazied_follows leaving e i)
 
 -- what changes where an end is made ready leaves the timer
 ready_follows : (e : End) (now : ℕ) → AckTimerFollows e → AckTimerFollows (ready_at e now).end
@@ -88,7 +96,7 @@ polled_follows p e now i = by_poll_to p e now (λ (q : Polled). AckTimerFollows 
   failed = i;
   nothing = λ is none. ready_follows e now i;
   used_up = closed_follows reasons.NumberLimit (ready_at e now).end;
-  gives = λ is may some. by_going AckTimerFollows p (draft_at e now) (λ pacing. draft_follows (ready_at e now).held (lazied (ready_at e now).end) (due_alone (ready_at e now) some) (ready_follows e now i));
+  gives = λ is may some. by_going AckTimerFollows p (draft_at e now) (λ pacing. draft_follows (ready_at e now).leaving (ready_at e now).end (may_leave_at e now) (ready_follows e now i));
 })
 
 -- ---- any call

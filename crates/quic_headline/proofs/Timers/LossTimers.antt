@@ -33,26 +33,27 @@ use Rattle.quic_machine.specs.Ids.{known}
 use Rattle.quic_machine.specs.Opens.{own_id_length}
 use Rattle.quic_machine.specs.Closing.{Closing, ticked}
 use Rattle.quic_spaces.specs.Numbers.{Numbers, number_opened}
-use Rattle.quic_machine.specs.Tracking.{Tracking, TrackedPacket, asks_any, without_record, is_behind, tail_of, forgets, forgotten, oldest, without_packet, asking_sent, after_sent, Verdict, is_lost, kept_by, loss_moment, moment_or, probe_moment, after_detection, acked_by, not_acked_by, names}
+use Rattle.quic_machine.specs.Tracking.{after_answered, Tracking, TrackedPacket, asks_any, without_record, is_behind, tail_of, forgets, forgotten, oldest, without_packet, asking_sent, after_sent, Verdict, is_lost, kept_by, loss_moment, moment_or, probe_moment, after_detection, acked_by, not_acked_by, names}
 use Rattle.quic_machine.specs.End.{End, with_closing, closed_by, with_numbers, number_of, with_ping, peer_delay, probe_timeout, with_loss_timer, with_window}
 use Rattle.quic_machine.specs.Acked.{verdict, losses_detected, measured, sampled, without_acked, after_named, after_acked, losses_taken}
 use Rattle.quic_machine.specs.Receive.{Fault, violation, reason_of, take_frame, take_items, take_payload, is_empty, asks_in, after_taken, dropped, ends_as, by_state, opened_to, opened_as, opening, headed, received_in, received}
-use Rattle.quic_machine.specs.Poll.{Polled, Draft, packet_of, after_given, record_moved, lazied, draft_if, polled}
+use Rattle.quic_machine.specs.Poll.{Polled, Draft, packet_of, after_given, record_moved, draft_as, polled, Leaving, Ready}
 use Rattle.quic_machine.specs.Timeouts.{Expiry, acks_expired, loss_judged, loss_expired, pacing_expired}
-use Rattle.quic_machine.specs.Control.{Gated}
 use Rattle.quic_machine.specs.Machine.{World, Policies, after_call, Follows}
 use Rattle.quic_machine.specs.LeaveCases.{at_expiry}
 use Rattle.quic_machine.specs.CallCases.{by_plain_call}
 use Rattle.quic_machine.specs.FrameCases.{Settling, named, begun, acked_keeps, losses_keep, frame_keeps, frame_leaves, items_keep, by_marks}
-use Rattle.quic_machine.specs.PollCases.{ready_at, by_poll_to, Composes, composes}
+use Rattle.quic_machine.specs.PollCases.{ready_at, by_poll_to, Composes, composes, may_leave_at}
 use Rattle.quic_headline.specs.Runs.{In}
 use Rattle.quic_headline.specs.Headline.{LossTimerFollows, LossTimersFollow}
+use Rattle.quic_headline.proofs.Packets.Searches.{by_losses}
 use Rattle.quic_headline.proofs.Packets.Named.{in_filter, filter_chose}
-use Rattle.quic_headline.proofs.Packets.Probes.{in_put, by_ready, MayLeave, may_leave, by_going}
+use Rattle.quic_headline.proofs.Packets.Probes.{in_put, by_ready, by_going}
 use Rattle.quic_headline.proofs.Packets.Given.{allocated_near}
 use Rattle.quic_headline.proofs.Packets.Growth.{in_more}
 use Rattle.quic_headline.proofs.Packets.Numbered.{Lies, lies_below, lies_filter, lies_remove, lies_put, lies_push, one_key, added_last, in_remove, oldest_in, asks_last, asks_remove, asks_put, late_asks, is_at_same}
 use Rattle.quic_headline.proofs.Timers.BothEnds.{AtBoth, run_keeps}
+use Rattle.quic_machine.specs.DraftLaws.{MayLeave}
 
 -- ---- a datagram, where frames keep less
 
@@ -238,6 +239,8 @@ quiet_settles e = record {
   acked = λ m x q. record { numbers = q.numbers; closing = q.closing };
   lost = λ m x q. record { numbers = q.numbers; closing = q.closing };
   again = λ c x q. record { numbers = q.numbers; closing = q.closing };
+  searched = λ discovery x q. record { numbers = q.numbers; closing = q.closing };
+  shortens = λ most x q. record { numbers = q.numbers; closing = q.closing };
   tracked = λ t x q. record { numbers = q.numbers; closing = q.closing };
   measured = λ r first x q. record { numbers = q.numbers; closing = q.closing };
   marked = λ m marking x q. record { numbers = q.numbers; closing = q.closing };
@@ -251,7 +254,8 @@ sampled_tracking (Some p) a e = refl
 -- an ACK frame that names these packets
 stands_named : (next : ℕ) (ps : Table TrackedPacket) (rises : Bool) (a : AckValue) (e : End) → Stands next e.tracking → Stands next (after_named ps rises a e).tracking
 stands_named next [] rises a e s = s
-stands_named next (p ∷ ps) rises a e s = by_marks rises (length (p ∷ ps)) a (losses_taken (p ∷ ps) rises a e) (λ (x : End). Stands next x.tracking) (λ m marking. record { lies = found.lies; asked = found.asked; late = found.late })
+stands_named next (p ∷ ps) rises a e s = by_marks rises (length (p ∷ ps)) a (losses_taken (p ∷ ps) rises a e) (λ (x : End). Stands next x.tracking)
+    (λ m marking. by_losses (λ (x : End). Stands next (after_answered x.tracking)) timed (λ discovery queues. record { lies = found.lies; asked = found.asked; late = found.late }))
   where
     timed : End
     timed = sampled (measured rises a (p ∷ ps)) a (without_acked (p ∷ ps) a e)
@@ -312,7 +316,7 @@ moved_stands next p t i s = (
 
 -- an end is ready
 pub ready_stands : (e : End) (now : ℕ) → LossStands e → LossStands (ready_at e now).end
-ready_stands e now i = by_ready LossStands e now same pings moves (λ moment pacing x j opened. (let s = j opened in record { stands = s.stands; set = s.set }))
+ready_stands e now i = by_ready LossStands e now same pings moves (λ moment pacing discovery x j opened. (let s = j opened in record { stands = s.stands; set = s.set }))
   where
     same : LossStands (with_closing e (ticked e.closing now))
     same opened = let s = i opened in record { stands = s.stands; set = s.set }
@@ -327,17 +331,17 @@ ready_stands e now i = by_ready LossStands e now same pings moves (λ moment pac
         record { stands = moved.0; set = s.set ∙ sym (moved.1 (probe_timeout e)) }
 
 -- a datagram goes
-given_stands : (p : Policy) (held : Bool) (e : End) → MayLeave held e → LossStands e → LossStands (after_given p (draft_if held e))
-given_stands p held e due i = by_going LossStands p d (λ pacing opened.
+given_stands : (p : Policy) (leaving : Leaving) (e : End) → MayLeave leaving e → LossStands e → LossStands (after_given p (draft_as leaving e))
+given_stands p leaving e due i = by_going LossStands p d (λ pacing opened.
     let before = (i (ap (λ (x : Closing). x.state) (sym c.closing) ∙ opened)).stands in
     let ready : Stands d.end.numbers.next d.end.tracking = subst (λ (n : Numbers). Stands n.next d.end.tracking) (sym c.numbers) (subst (λ (t : Tracking). Stands e.numbers.next t) (sym c.tracking) before) in
     record { stands = stands_sent d.end.numbers.next (number_of d.end) d.end.tracking (packet_of d) (allocated_near d.end.filter d.end.numbers.next).0 ready; set = refl })
   where
     d : Draft
-    d = draft_if held e
+    d = draft_as leaving e
 
     c : Composes e d.end
-    c = composes held e due
+    c = composes leaving e due
 
 polled_stands : (p : Policy) (e : End) (now : ℕ) → LossStands e → LossStands (polled p e now).end
 polled_stands p e now i = by_poll_to p e now (λ (q : Polled). LossStands q.end) (record {
@@ -346,8 +350,8 @@ polled_stands p e now i = by_poll_to p e now (λ (q : Polled). LossStands q.end)
   nothing = λ is none opened. (let s = ready_stands e now i opened in record { stands = s.stands; set = s.set });
   used_up = closed_stands reasons.NumberLimit (ready_at e now).end;
   gives = λ is may some.
-      let g : Gated = ready_at e now in
-      given_stands p g.held (lazied g.end) (may_leave e now g.held g.end refl some) (λ opened. (let s = ready_stands e now i opened in record { stands = s.stands; set = s.set }));
+      let g : Ready = ready_at e now in
+      given_stands p g.leaving g.end (may_leave_at e now) (λ opened. (let s = ready_stands e now i opened in record { stands = s.stands; set = s.set }));
 })
 
 -- ---- any call
@@ -358,7 +362,7 @@ judged_stands e None i opened = let s = i opened in record { lies = s.lies; aske
 judged_stands e (Some moment) i opened =
     let quiet : IsQuiet e (losses_detected e) = losses_keep (IsQuiet e) (quiet_settles e) e (record { numbers = refl; closing = refl }) in
     let s = i (ap (λ (c : Closing). c.state) (sym quiet.closing) ∙ opened) in
-    subst (λ (n : Numbers). Stands n.next (losses_detected e).tracking) (sym quiet.numbers) (stands_detected e.numbers.next (verdict e) e.tracking s.lies s.asked)
+    subst (λ (n : Numbers). Stands n.next (losses_detected e).tracking) (sym quiet.numbers) (by_losses (λ (x : End). Stands e.numbers.next x.tracking) e (λ discovery queues. stands_detected e.numbers.next (verdict e) e.tracking s.lies s.asked))
 
 expired_stands : (e : End) (now : ℕ) (expiry : Expiry) → LossStands e → LossStands (at_expiry e now expiry)
 expired_stands e now expiry i = after expiry.pacing (acks_expired expiry.acks (loss_expired expiry.loss begun)) (acked expiry.acks (loss_expired expiry.loss begun) (judged expiry.loss))

@@ -7,7 +7,7 @@ use Rattle.quic_machine.specs.declared.run.Answer.{Answer}
 use Rattle.quic_machine.specs.Policy.{Policy}
 use Rattle.quic_machine.specs.Closing.{Closing, ticked}
 use Rattle.quic_machine.specs.End.{End, with_closing}
-use Rattle.quic_machine.specs.Poll.{Polled, lazied, polled}
+use Rattle.quic_machine.specs.Poll.{Polled, polled}
 use Rattle.quic_machine.specs.Machine.{after_call}
 use Rattle.quic_machine.specs.CallCases.{by_plain_call}
 use Rattle.quic_machine.specs.LeaveCases.{at_expiry, by_expired}
@@ -40,11 +40,11 @@ opened_polled : (p : Policy) (e : End) (now : ℕ) → WasOpen e (polled p e now
 opened_polled p e now = by_poll p e now (λ (q : Polled). WasOpen e q.end) (record {
   silent = λ opened. opened;
   failed = λ opened. opened;
-  nothing = λ t w moment pacing limited opened. opened;
-  used_up = λ t w moment pacing opened. cc;
-  gives = λ held t w moment pacing paid tracking timers is may ready some opened.
-      let x : End = at_poll e now t w moment pacing e.path.app_limited in
-      ap (λ (c : Closing). c.state) (sym (composes held (lazied x) (may_leave e now held x ready some)).closing) ∙ opened;
+  nothing = λ c opened. opened;
+  used_up = λ c opened. cc;
+  gives = λ leaving c left is may ready some opened.
+      let x : End = at_poll e now c in
+      ap (λ (c : Closing). c.state) (sym (composes leaving x (may_leave e now leaving x ready)).closing) ∙ opened;
 })
 
 -- behind any call

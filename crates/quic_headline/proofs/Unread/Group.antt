@@ -51,6 +51,7 @@ module _ (done : ℕ → Wrote) (before : StreamsState) (taken : FrameValue → 
   composed_consumes e i = by_writing (λ (d : Draft). Both d.end.streams) (record {
     ack = λ d filled may j. j;
     ping = λ d j. j;
+    probes = λ f size j. j;
     drops = λ d kind j. j;
     control = λ d kind f is j. (
       by_told (Stays before) (stays_kept before) f d.end.streams j.0,

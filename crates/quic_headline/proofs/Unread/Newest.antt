@@ -35,9 +35,9 @@ use Rattle.quic_machine.specs.declared.run.Answer.TheVariants as answers
 use Rattle.quic_machine.specs.Policy.{Policy}
 use Rattle.quic_machine.specs.End.{End}
 use Rattle.quic_machine.specs.Receive.{take_frame}
-use Rattle.quic_machine.specs.Poll.{Polled, Draft, ack_of, lazied, goes, polled, draft_if}
-use Rattle.quic_machine.specs.PollCases.{ready_at, draft_at, frames_padded, by_poll_to}
-use Rattle.quic_machine.specs.DraftLaws.{by_leave, due_alone}
+use Rattle.quic_machine.specs.Poll.{Polled, Draft, ack_of, goes, polled, draft_as, Leaving}
+use Rattle.quic_machine.specs.PollCases.{ready_at, draft_at, frames_padded, by_poll_to, may_leave_at}
+use Rattle.quic_machine.specs.DraftLaws.{by_leave, MayLeave}
 use Rattle.quic_machine.specs.FrameCases.{begun, passed}
 use Rattle.quic_machine.specs.CallCases.{is_delivery}
 use Rattle.quic_machine.specs.Machine.{IsAnswer, after_call, gave}
@@ -45,7 +45,7 @@ use Rattle.quic_headline.specs.Runs.{In, Intake}
 use Rattle.quic_headline.specs.Observer.{Sent}
 use Rattle.quic_headline.specs.Duties.{Limited, AllData, StreamData, StreamCount, limit_frame, WasGiven}
 use Rattle.quic_headline.proofs.Packets.Group.{meets}
-use Rattle.quic_headline.proofs.Packets.Probes.{MayLeave, by_going, ready_state}
+use Rattle.quic_headline.proofs.Packets.Probes.{by_going, ready_state}
 use Rattle.quic_headline.proofs.Places.Told.{in_left, in_right}
 use Rattle.quic_headline.proofs.Places.Steps.{poll_answer}
 use Rattle.quic_headline.proofs.Places.Parties.{Party, called, sent_by, sent_if, sents_by, Beginning, begun_as}
@@ -249,15 +249,16 @@ module _ (window stream_window : ℕ) (counts : Counts) where
     draft_more : (fs : List FrameValue) (g : FrameValue) (s : StreamsState) → Of (Says (Along fs) window stream_window counts) s → Of (Says (Along (fs ++ g ∷ [])) window stream_window counts) s
     draft_more fs g s i = says_more (Along fs) (Along (fs ++ g ∷ [])) (along_more fs g) s.side s.receiving s.opening.announced s.opening.configured i
 
-    draft_says : (held : Bool) (e : End) → MayLeave held e → Of (Says (WasGiven own) window stream_window counts) e.streams → DraftSays (draft_if held e)
-    draft_says held e alone i = by_leave DraftSays (record {
+    draft_says : (leaving : Leaving) (e : End) → MayLeave leaving e → Of (Says (WasGiven own) window stream_window counts) e.streams → DraftSays (draft_as leaving e)
+    draft_says leaving e due i = by_leave DraftSays (record {
       ack = λ d filled may j. draft_more d.frames (ack (ack_of d.end)) d.end.streams j;
       ping = λ d j. draft_more d.frames ping d.end.streams j;
+      probes = λ f size j. draft_more [] ping f.streams j;
       drops = λ d kind j. j;
       control = λ d kind f is j. told_says (Along d.frames) (Along (d.frames ++ f ∷ [])) d.end.waiting.frames d.end.streams f (along_more d.frames f) (inr (in_right f d.frames (f ∷ []) (inl refl))) is.says j;
       message = λ d m ms is fit j. draft_more d.frames (datagram m) d.end.streams j;
       stream = λ d id h room found first some is counts j. draft_more d.frames (stream (frame_of id h room)) d.end.streams j;
-    }) held e alone (says_more (WasGiven own) (Along []) (λ f was. inl was) e.streams.side e.streams.receiving e.streams.opening.announced e.streams.opening.configured i)
+    }) leaving e due (says_more (WasGiven own) (Along []) (λ f was. inl was) e.streams.side e.streams.receiving e.streams.opening.announced e.streams.opening.configured i)
 
     -- more was given
     given_more : (more : List Sent) (f : FrameValue) → WasGiven own f → WasGiven (own ++ more) f
@@ -282,7 +283,7 @@ module _ (window stream_window : ℕ) (counts : Counts) where
       nothing = λ is none. still_says [] (ready_at e now).end.streams ready;
       used_up = still_says [] (ready_at e now).end.streams ready;
       gives = λ is_open numbered some. by_going (λ (x : End). Of (Says (WasGiven (own ++ sent_by e now ∷ [])) window stream_window counts) x.streams) p (draft_at e now)
-          (λ pacing. given_says (draft_at e now) (sent_by e now) refl (draft_says (ready_at e now).held (lazied (ready_at e now).end) (due_alone (ready_at e now) some) ready));
+          (λ pacing. given_says (draft_at e now) (sent_by e now) refl (draft_says (ready_at e now).leaving (ready_at e now).end (may_leave_at e now) ready));
     })
       where
         ready : Of (Says (WasGiven own) window stream_window counts) (ready_at e now).end.streams

@@ -249,6 +249,8 @@ module _ (own : Counts) where
     acked = λ m e i. acked_own (sent_half e.streams m.id) e.streams e.waiting.frames m i;
     lost = λ m e i. lost_own (sent_half e.streams m.id) e.streams m i;
     again = λ carried e i. i;
+    searched = λ discovery e i. i;
+    shortens = λ most e i. i;
     tracked = λ t e i. i;
     measured = λ r first e i. i;
     marked = λ m marking e i. i;
@@ -261,6 +263,7 @@ module _ (own : Counts) where
   composed_own e i = by_writing (λ (d : poll.Draft). Own d.end.streams) (record {
     ack = λ d filled may j. j;
     ping = λ d j. j;
+    probes = λ f size j. j;
     drops = λ d kind j. j;
     control = λ d kind f is j. by_tells Own d.end.streams j j (λ id. j) (λ dir. j) f;
     message = λ d m ms is fit j. j;

@@ -147,14 +147,14 @@ abbrev HearsBy : ℕ → Call → Answer → Type 0
 HearsBy id call a = Tells (nexts_by id call a) ⊎ (asked_by id call a ≡ true)
 
 -- one call more
-resets_append : (said more : List Next) → tells_reset (said ++ more) ≡ (tells_reset said || tells_reset more)
+pub resets_append : (said more : List Next) → tells_reset (said ++ more) ≡ (tells_reset said || tells_reset more)
 resets_append [] more = refl
 resets_append (Ok chunk ∷ said) more = resets_append said more
 resets_append (Err (read_errors.Reset code) ∷ said) more = refl
 resets_append (Err read_errors.Blocked ∷ said) more = resets_append said more
 resets_append (Err read_errors.Memory ∷ said) more = resets_append said more
 
-asked_more : (id : ℕ) (ts : List runs.Told) (t : runs.Told) → asked id (ts ++ t ∷ []) ≡ (asked id ts || asked_by id t.call t.answer)
+pub asked_more : (id : ℕ) (ts : List runs.Told) (t : runs.Told) → asked id (ts ++ t ∷ []) ≡ (asked id ts || asked_by id t.call t.answer)
 asked_more id [] t = or_none (asked_by id t.call t.answer)
   where
     or_none : (c : Bool) → (c || false) ≡ c

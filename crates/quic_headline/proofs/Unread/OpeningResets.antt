@@ -25,18 +25,20 @@ use Rattle.quic_streams_laws.specs.ShapeLaws.{shape_any}
 use Rattle.quic_machine.specs.declared.run.Call.{Call}
 use Rattle.quic_machine.specs.declared.run.Call.TheVariants as calls
 use Rattle.quic_machine.specs.declared.run.Answer.{Answer}
-use Rattle.quic_machine.specs.Tracking.{TrackedPacket, Carried, dir_named, names, acked_by, is_lost, lost_by}
+use Rattle.quic_machine.specs.Tracking.{TrackedPacket, Carried, dir_named, names, acked_by, is_lost, lost_by, after_detection}
 use Rattle.quic_machine.specs.End.{End, streams_at, number_of}
 use Rattle.quic_machine.specs.Calls.{is_open}
 use Rattle.quic_machine.specs.StreamCalls.{is_on_streams}
 use Rattle.quic_machine.specs.Acked.{without_known, reset_acked, resets_acked, stream_acked, streams_acked, packet_acked, packets_acked, stream_lost, streams_lost, carried_lost, packets_lost, verdict, losses_detected, measured, sampled, without_acked, after_named, losses_taken}
+use Rattle.quic_machine.specs.Sizes.{search_acked}
 use Rattle.quic_machine.specs.Receive.{is_above, names_ungiven, take_frame}
-use Rattle.quic_machine.specs.FrameCases.{OnStreams, Settling, named, ack_taken, begun, passed, frames_keep, by_marks, resets_acked_keep, streams_acked_keep, losses_keep}
+use Rattle.quic_machine.specs.FrameCases.{OnStreams, Settling, named, ack_taken, begun, passed, frames_keep, by_marks, resets_acked_keep, streams_acked_keep, packets_lost_keep, losses_keep}
 use Rattle.quic_machine.specs.PollCases.{ready_at}
 use Rattle.quic_machine.specs.CallCases.{is_delivery}
 use Rattle.quic_machine.specs.Machine.{after_call}
 use Rattle.quic_headline.specs.Runs.{Intake, In, first_of, reset_by, reset}
 use Rattle.quic_headline.specs.Duties.{Reset, has_reset, AnyIn, IsCarried}
+use Rattle.quic_headline.proofs.Packets.Searches.{by_losses}
 use Rattle.quic_headline.proofs.Packets.Group.{PacketsHold, meets}
 use Rattle.quic_headline.proofs.Packets.MayGo.{WasReset, AreReady}
 use Rattle.quic_headline.proofs.Packets.Named.{by_frame}
@@ -101,8 +103,8 @@ packets_wait : (ps : Table TrackedPacket) (e : End) → waiting_of (packets_acke
 packets_wait [] e = refl
 packets_wait (p ∷ ps) e =
     let c : Carried = p.1.carried in
-    let knows : End = without_known c.largest_acked e in
-    packets_wait ps (packet_acked p.1 e) ∙ streams_wait c.stream_frames (resets_acked c.retransmits.reset_stream knows) ∙ resets_wait c.retransmits.reset_stream knows ∙ known_wait c.largest_acked e
+    let knows : End = without_known c.largest_acked (search_acked p e) in
+    packets_wait ps (packet_acked p e) ∙ streams_wait c.stream_frames (resets_acked c.retransmits.reset_stream knows) ∙ resets_wait c.retransmits.reset_stream knows ∙ known_wait c.largest_acked (search_acked p e)
 
 lost_wait : (ms : List StreamMeta) (e : End) → (streams_lost ms e).waiting ≡ e.waiting
 lost_wait [] e = refl
@@ -183,6 +185,8 @@ module _ (id : ℕ) where
     acked = λ m e i. sends_last.calls.quiet.acked e.streams e.waiting.frames m i;
     lost = λ m e i. sends_last.calls.quiet.lost e.streams m i;
     again = λ carried e i. i;
+    searched = λ discovery e i. i;
+    shortens = λ most e i. i;
     tracked = λ t e i. i;
     measured = λ rtt first e i. i;
     marked = λ m marking e i. i;
@@ -217,6 +221,8 @@ module _ (id : ℕ) where
     acked = acked_going;
     lost = lost_going;
     again = λ carried e g. record { shape = g.shape; half = g.half };
+    searched = λ discovery e g. record { shape = g.shape; half = g.half };
+    shortens = λ most e g. record { shape = g.shape; half = g.half };
     tracked = λ t e g. record { shape = g.shape; half = g.half };
     measured = λ rtt first e g. record { shape = g.shape; half = g.half };
     marked = λ m marking e g. record { shape = g.shape; half = g.half };
@@ -228,14 +234,16 @@ module _ (id : ℕ) where
     known_on None e i = i
     known_on (Some n) e i = c.known n e i
 
-    packet_on : (p : ℕ × TrackedPacket) (e : End) → P e → P (packet_acked p.1 e)
+    packet_on : (p : ℕ × TrackedPacket) (e : End) → P e → P (packet_acked p e)
     packet_on p e i =
-        let knows : End = without_known p.1.carried.largest_acked e in
-        streams_acked_keep P c.acked p.1.carried.stream_frames (resets_acked p.1.carried.retransmits.reset_stream knows) (resets_acked_keep P c.reset p.1.carried.retransmits.reset_stream knows (known_on p.1.carried.largest_acked e i))
+        let learned : End = search_acked p e in
+        let knows : End = without_known p.1.carried.largest_acked learned in
+        streams_acked_keep P c.acked p.1.carried.stream_frames (resets_acked p.1.carried.retransmits.reset_stream knows)
+        (resets_acked_keep P c.reset p.1.carried.retransmits.reset_stream knows (known_on p.1.carried.largest_acked learned (c.searched learned.path.discovery e i)))
 
     packets_on : (ps : Table TrackedPacket) (e : End) → P e → P (packets_acked ps e)
     packets_on [] e i = i
-    packets_on (p ∷ ps) e i = packets_on ps (packet_acked p.1 e) (packet_on p e i)
+    packets_on (p ∷ ps) e i = packets_on ps (packet_acked p e) (packet_on p e i)
 
   -- RESET_STREAM frames of which one is of the stream
   resets_off : (rs : List (ℕ × ℕ)) (e : End) → has_reset id rs ≡ true → Going e → SendsNoMore (resets_acked rs e).streams
@@ -256,28 +264,34 @@ module _ (id : ℕ) where
   packets_off : (ps : Table TrackedPacket) (e : End) → AnyIn HasIt ps → Going e → SendsNoMore (packets_acked ps e).streams
   packets_off [] e none g = absurd none
   packets_off (p ∷ ps) e (inl here) g =
-      let knows : End = without_known p.1.carried.largest_acked e in
-      packets_on (λ (x : End). SendsNoMore x.streams) sends_settle ps (packet_acked p.1 e)
+      let learned : End = search_acked p e in
+      let knows : End = without_known p.1.carried.largest_acked learned in
+      packets_on (λ (x : End). SendsNoMore x.streams) sends_settle ps (packet_acked p e)
       (streams_acked_keep (λ (x : End). SendsNoMore x.streams) sends_settle.acked p.1.carried.stream_frames (resets_acked p.1.carried.retransmits.reset_stream knows)
-      (resets_off p.1.carried.retransmits.reset_stream knows here (known_on Going going_settle p.1.carried.largest_acked e g)))
-  packets_off (p ∷ ps) e (inr more) g = packets_off ps (packet_acked p.1 e) more (packet_on Going going_settle p e g)
+      (resets_off p.1.carried.retransmits.reset_stream knows here (known_on Going going_settle p.1.carried.largest_acked learned (going_settle.searched learned.path.discovery e g))))
+  packets_off (p ∷ ps) e (inr more) g = packets_off ps (packet_acked p e) more (packet_on Going going_settle p e g)
 
   -- ---- where its reset is
 
   -- it waits, or stands in a tracked packet, or the half is done
+  abbrev Stands : End → Type 0
+  Stands e = ((listed_in (ResetOf id) e.waiting.frames ≡ true) ⊎ IsCarried e.tracking.packets (Reset id)) ⊎ SendsNoMore e.streams
+
   record Goes (e : End) : Type 0 where
     going : Going e
-    stands : ((listed_in (ResetOf id) e.waiting.frames ≡ true) ⊎ IsCarried e.tracking.packets (Reset id)) ⊎ SendsNoMore e.streams
+    stands : Stands e
 
   -- losses that are detected
   detected_goes : (e : End) → Goes e → Goes (losses_detected e)
-  detected_goes e g = record { going = losses_keep Going going_settle e g.going; stands = go g.stands }
+  detected_goes e g = record { going = losses_keep Going going_settle e g.going; stands = by_losses Stands e (λ discovery queues. go g.stands) }
     where
-      go : ((listed_in (ResetOf id) e.waiting.frames ≡ true) ⊎ IsCarried e.tracking.packets (Reset id)) ⊎ SendsNoMore e.streams
-          → ((listed_in (ResetOf id) (losses_detected e).waiting.frames ≡ true) ⊎ IsCarried (losses_detected e).tracking.packets (Reset id)) ⊎ SendsNoMore (losses_detected e).streams
-      go (inl (inl waits)) = inl (inl (losses_wait (lost_by (verdict e) e.tracking.packets) e id (inl waits)))
-      go (inl (inr flying)) = elim (any_either HasIt (is_lost (verdict e)) e.tracking.packets flying) [ inl gone ↦ inl (inl (losses_wait (lost_by (verdict e) e.tracking.packets) e id (inr gone))) | inr kept ↦ inl (inr kept) ]
-      go (inr n) = inr (losses_keep (λ (x : End). SendsNoMore x.streams) sends_settle e n)
+      lost : Table TrackedPacket
+      lost = lost_by (verdict e) e.tracking.packets
+
+      go : Stands e → ((listed_in (ResetOf id) (packets_lost lost e).waiting.frames ≡ true) ⊎ IsCarried (after_detection (verdict e) e.tracking).packets (Reset id)) ⊎ SendsNoMore (packets_lost lost e).streams
+      go (inl (inl waits)) = inl (inl (losses_wait lost e id (inl waits)))
+      go (inl (inr flying)) = elim (any_either HasIt (is_lost (verdict e)) e.tracking.packets flying) [ inl gone ↦ inl (inl (losses_wait lost e id (inr gone))) | inr kept ↦ inl (inr kept) ]
+      go (inr n) = inr (packets_lost_keep (λ (x : End). SendsNoMore x.streams) sends_settle.lost sends_settle.again lost e n)
 
   -- the same of an end with such streams, of which the same waits and is tracked
   goes_same : (e f : End) → f.streams ≡ e.streams → waiting_of f ≡ waiting_of e → f.tracking.packets ≡ e.tracking.packets → Goes e → Goes f

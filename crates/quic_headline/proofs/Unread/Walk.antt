@@ -207,6 +207,8 @@ module _ (K : Side → Receiving → Counts → Counts → Type 0) where
     acked = λ m e i. acked_left (sent_half e.streams m.id) e.streams e.waiting.frames m i;
     lost = λ m e i. lost_left (sent_half e.streams m.id) e.streams m i;
     again = λ carried e i. i;
+    searched = λ discovery e i. i;
+    shortens = λ most e i. i;
     tracked = λ t e i. i;
     measured = λ r first e i. i;
     marked = λ m marking e i. i;

@@ -1,11 +1,12 @@
 //! The transport parameters that are kept: a line for each in every table.
 use quic_wire_core::VarInt;
 
-/// The places of a write order, one for each parameter: those of the ids 01, 03, 04, 05, 06, 07, 08, 09, 0a, 0b, 0e, 20
-/// and ff04de1b.
+/// The places of a write order, one for each parameter: those of the ids 01, 03, 04, 05, 06, 07,
+/// 08, 09, 0a, 0b, 0e, 20 and ff04de1b.
 pub(crate) const PLACES: usize = 13;
 
-/// The transport parameters that are read and written (RFC 9000, section 18.2; quinn-proto's `TransportParameterId`).
+/// The transport parameters that are read and written (RFC 9000, section 18.2; quinn-proto's
+/// `TransportParameterId`).
 #[derive(Clone, Copy, Debug, PartialEq, Eq)]
 pub enum TransportParameterId {
     /// The time without a packet after which the connection is dropped (id 01).
@@ -32,7 +33,8 @@ pub enum TransportParameterId {
     ActiveConnectionIdLimit,
     /// The greatest DATAGRAM frame that is taken (id 20; RFC 9221, section 3).
     MaxDatagramFrameSize,
-    /// The shortest delay of an ACK that can be asked for (id ff04de1b; QUIC Acknowledgement Frequency).
+    /// The shortest delay of an ACK that can be asked for (id ff04de1b; QUIC Acknowledgement
+    /// Frequency).
     MinAckDelay,
 }
 

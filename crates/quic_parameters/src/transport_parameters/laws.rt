@@ -1,4 +1,5 @@
-//! What the definitions of transport parameters say together. Each function does nothing: its contract is the law.
+//! What the definitions of transport parameters say together. Each function does nothing: its
+//! contract is the law.
 ghost use Rattle.std.specs.Prelude.{◌≡◌, ℕ, List, Ok};
 ghost use Rattle.quic_wire_core.specs.Coding.{IsBytes};
 ghost use Rattle.quic_parameters.specs.Parameters.{ParameterValues, AreInRange, ParametersSpell};

@@ -20,9 +20,9 @@ pub fn bytes_wait_for_bytes<C>()
         → is_blocked path bytes ≡ false }
 {}
 
-/// However datagrams come and go, as long as none goes that has to wait: a peer that isn't validated
-/// is sent no more than three times what it sent (RFC 9000, section 8.1). So it is on a new path, on
-/// one in place of another, and from any moment on at which it was so.
+/// However datagrams come and go, as long as none goes that has to wait: a peer that isn't
+/// validated is sent no more than three times what it sent (RFC 9000, section 8.1). So it is on a
+/// new path, on one in place of another, and from any moment on at which it was so.
 pub fn unvalidated_peers_get_threefold<C>()
     ensures first { (searches : Bool) (limit : Option ℕ) (generation now window : ℕ)
         (settings : TransportSettings) (controller : C) (datagrams : List Datagram)
@@ -57,8 +57,8 @@ pub fn fresh_paths_send_at_once<C>()
 {}
 
 /// On a path of the default settings ten datagrams of 1200 bytes took all tokens. At 5 the next one
-/// waits for the 12000 bytes of a full pacer, four fifths of the round trip of 333 ms. After a reset
-/// at 5 it goes.
+/// waits for the 12000 bytes of a full pacer, four fifths of the round trip of 333 ms. After a
+/// reset at 5 it goes.
 pub fn worked_reset()
     ensures waits { delay_of drained_path.pacing 333000000 1200 1200 12000 5 ≡ Some 266400005 }
     ensures goes { let controller = reno_made default_reno 5 1200 in
@@ -67,8 +67,8 @@ pub fn worked_reset()
 {}
 
 /// Of a peer that isn't validated 1200 bytes came, and 2400 went to it: 1200 more may go, and 1201
-/// have to wait. Where nothing came, no byte may go. The sum of what goes ends at 2^64 - 1, whatever
-/// came. To a validated peer all may go.
+/// have to wait. Where nothing came, no byte may go. The sum of what goes ends at 2^64 - 1,
+/// whatever came. To a validated peer all may go.
 pub fn worked_limits<C>()
     ensures goes { (path : PathValue C) → is_blocked (met path false 1200 2400) 1200 ≡ false }
     ensures waits { (path : PathValue C) → is_blocked (met path false 1200 2400) 1201 ≡ true }

@@ -16,8 +16,8 @@ pub fn used_numbers_rise()
     ensures next { (ids : PeerIds) → IsWindow ids → ids.active ≤ (after_next ids).active }
 {}
 
-/// After a frame that is accepted, what was known and the frame's own number are known, from the one in use on; after the
-/// change to the next id, what was known is, from the one in use on.
+/// After a frame that is accepted, what was known and the frame's own number are known, from the
+/// one in use on; after the change to the next id, what was known is, from the one in use on.
 pub fn known_ids_stay_known()
     ensures inserted { (ids : PeerIds) (frame : NewConnectionId) (n : ℕ) → frame.retire_prior_to ≤ frame.sequence → IsWindow ids → ids.active ≤ frame.sequence → exceeds ids frame ≡ false → knows (after_insert ids frame) n ≡ (leb (after_insert ids frame).active n && ((n == frame.sequence) || knows ids n)) }
     ensures next { (ids : PeerIds) (n : ℕ) → IsWindow ids → knows (after_next ids) n ≡ (leb (after_next ids).active n && knows ids n) }

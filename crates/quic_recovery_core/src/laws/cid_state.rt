@@ -3,7 +3,8 @@ ghost use Rattle.std.specs.Prelude.{◌≡◌, ℕ, ◌+◌, ◌^◌, ◌<◌, L
 ghost use Rattle.quic_wire_core.specs.declared.shared.IssuedCid.{IssuedCid};
 ghost use Rattle.quic_recovery_core.specs.CidState.{OwnIds, is_wrong, initial_ids, after_new, after_retirement, after_timeout, LivesLess, HaveNumbers};
 
-/// The living ids are those that were issued, less those that were retired: so it begins, and each call keeps it.
+/// The living ids are those that were issued, less those that were retired: so it begins, and each
+/// call keeps it.
 pub fn issued_ids_live_until_retired()
     ensures first { (id_len : ℕ) (lifetime : Option ℕ) (now issued : ℕ) → LivesLess (initial_ids id_len lifetime now issued) [] }
     ensures issued { (s : OwnIds) (retired : List ℕ) (ids : List IssuedCid) (now : ℕ) → LivesLess s retired → HaveNumbers ids s.issued → s.issued + length ids < 2 ^ 64 → LivesLess (after_new s ids now) retired }

@@ -12,8 +12,8 @@ pub const DUPLICATE_SPAN: u64 = 129;
 /// How many numbers below the greatest are told apart: one fewer than [`DUPLICATE_SPAN`].
 const WINDOW_BITS: u64 = DUPLICATE_SPAN - 1;
 
-/// The packet numbers that came, as far as they are told apart: a window below the greatest (quinn-proto's `Dedup`).
-/// Contracts see the list of those numbers, the greatest first.
+/// The packet numbers that came, as far as they are told apart: a window below the greatest
+/// (quinn-proto's `Dedup`). Contracts see the list of those numbers, the greatest first.
 #[derive(Drop)]
 pub struct Dedup {
     // Whether the numbers below the greatest came, the nearest in the lowest bit.
@@ -104,8 +104,9 @@ impl Dedup {
         }
     }
 
-    /// Takes a number in that lies below the greatest u64, and answers whether it may have come before: it did, or it lies
-    /// [`DUPLICATE_SPAN`] or more below the greatest. Such a number changes nothing.
+    /// Takes a number in that lies below the greatest u64, and answers whether it may have come
+    /// before: it did, or it lies [`DUPLICATE_SPAN`] or more below the greatest. Such a number
+    /// changes nothing.
     pub fn insert(&mut self, number: u64) -> bool
         requires { number < u64.MAX }
         ensures answer { result ≡ is_duplicate self.old number }
@@ -118,8 +119,9 @@ impl Dedup {
         false
     }
 
-    /// The least number above `low` and below `high` that did not come. Only the numbers below the greatest that lie nearer
-    /// to it than [`DUPLICATE_SPAN`] count; so this looks at fewer numbers than that. `None` where each of them came.
+    /// The least number above `low` and below `high` that did not come. Only the numbers below the
+    /// greatest that lie nearer to it than [`DUPLICATE_SPAN`] count; so this looks at fewer numbers
+    /// than that. `None` where each of them came.
     pub fn smallest_missing_in_interval(&self, low: u64, high: u64) -> Option<u64>
         ensures { result ≡ smallest_missing self.now low high }
     {

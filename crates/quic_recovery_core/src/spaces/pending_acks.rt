@@ -17,10 +17,11 @@ pub const MAX_ACK_RUNS: usize = 64;
 /// With more packets than this that do not ask, an acknowledgement goes along with the next packet.
 pub const LAZY_ACK_THRESHOLD: u64 = 10;
 
-/// The numbers of packets that came and are to be acknowledged, and whether that is due (quinn-proto's `PendingAcks`).
+/// The numbers of packets that came and are to be acknowledged, and whether that is due
+/// (quinn-proto's `PendingAcks`).
 ///
-/// A packet asks for an acknowledgement if it has a frame other than ACK, PADDING and CONNECTION_CLOSE (RFC 9000,
-/// section 13.2).
+/// A packet asks for an acknowledgement if it has a frame other than ACK, PADDING and
+/// CONNECTION_CLOSE (RFC 9000, section 13.2).
 #[derive(Drop)]
 pub struct PendingAcks {
     immediate_ack_required: bool,
@@ -56,7 +57,8 @@ impl Model for PendingAcks {
     ghost invariant = { λ a. IsKept a.ranges };
 }
 
-// Whether a number that is missing and that no acknowledgement has shown as lost yet would be shown so by the next one.
+// Whether a number that is missing and that no acknowledgement has shown as lost yet would be shown
+// so by the next one.
 fn shows_loss(acked: Option<u64>, reordering: u64, greatest: u64, dedup: &Dedup) -> bool
     requires { 1 < reordering }
     ensures { result ≡ shows_loss acked reordering greatest dedup.now }
@@ -111,7 +113,8 @@ fn cut(ranges: &mut ArrayRangeSet, max: u64)
 }
 
 impl PendingAcks {
-    /// No packet came. An acknowledgement is due with the second packet that asks, or where one comes out of order.
+    /// No packet came. An acknowledgement is due with the second packet that asks, or where one
+    /// comes out of order.
     pub fn new(alloc: Global) -> Self
         ensures { result ≡ none_pending }
     {
@@ -129,7 +132,8 @@ impl PendingAcks {
         }
     }
 
-    /// Takes over after how many packets, and how far out of order, the peer wants an acknowledgement at once.
+    /// Takes over after how many packets, and how far out of order, the peer wants an
+    /// acknowledgement at once.
     pub fn set_ack_frequency_params(&mut self, frame: &AckFrequency)
         ensures { self.new ≡ record self.old { threshold = frame.now.ack_eliciting_threshold; reordering = frame.now.reordering_threshold } }
     {
@@ -151,8 +155,8 @@ impl PendingAcks {
         self.immediate_ack_required = self.ack_eliciting_since_last_ack_sent > 0;
     }
 
-    /// The moment up to which the acknowledgement of the packet may wait that the timer was set for; it saturates. `None`
-    /// where no packet set the timer since the last acknowledgement went.
+    /// The moment up to which the acknowledgement of the packet may wait that the timer was set
+    /// for; it saturates. `None` where no packet set the timer since the last acknowledgement went.
     pub fn max_ack_delay_timeout(&self, max_ack_delay: Duration) -> Option<Instant>
         ensures { result ≡ option_map (λ since. min (since + max_ack_delay) (2 ^ 64 - 1)) self.now.since }
     {
@@ -184,13 +188,14 @@ impl PendingAcks {
     }
 
     /// Counts a packet that came, and answers whether the timer of
-    /// [`max_ack_delay_timeout`](Self::max_ack_delay_timeout) is to be set, which then runs from `now`. `dedup` has the
-    /// numbers that came, this one too.
+    /// [`max_ack_delay_timeout`](Self::max_ack_delay_timeout) is to be set, which then runs from
+    /// `now`. `dedup` has the numbers that came, this one too.
     ///
-    /// A packet that asks makes an acknowledgement due where it is one more than the threshold, or comes farther out of
-    /// order than it may: with a reordering threshold of 1 where its number is below one that asked or one lacks between
-    /// them (RFC 9000, section 13.2.1), with a greater one where the peer would then take a missing number for lost that
-    /// the last acknowledgement did not show as lost, with 0 never.
+    /// A packet that asks makes an acknowledgement due where it is one more than the threshold, or
+    /// comes farther out of order than it may: with a reordering threshold of 1 where its number is
+    /// below one that asked or one lacks between them (RFC 9000, section 13.2.1), with a greater
+    /// one where the peer would then take a missing number for lost that the last acknowledgement
+    /// did not show as lost, with 0 never.
     pub fn packet_received(
         &mut self,
         now: Instant,
@@ -218,7 +223,8 @@ impl PendingAcks {
             .saturating_add(1);
     }
 
-    // Counts a packet that asks, and makes an acknowledgement due where it is one too many or out of order.
+    // Counts a packet that asks, and makes an acknowledgement due where it is one too many or out
+    // of order.
     fn count_asking(&mut self, number: u64, dedup: &Dedup)
         ensures { self.new ≡ asking_counted self.old number dedup.now }
     {
@@ -233,8 +239,8 @@ impl PendingAcks {
             || out_of_order;
     }
 
-    // Whether a packet comes farther out of order than it may: 0 lets it come as it likes, 1 is the rule of RFC 9000,
-    // section 13.2.1, and more that of the ACK frequency extension.
+    // Whether a packet comes farther out of order than it may: 0 lets it come as it likes, 1 is the
+    // rule of RFC 9000, section 13.2.1, and more that of the ACK frequency extension.
     fn is_out_of_order(&self, before: u64, greatest: u64, number: u64, dedup: &Dedup) -> bool
         ensures { result ≡ is_out_of_order self.now before greatest number dedup.now }
     {
@@ -245,7 +251,8 @@ impl PendingAcks {
         }
     }
 
-    // Keeps the moment that the timer runs from, where it does not run and is needed, and answers whether it did.
+    // Keeps the moment that the timer runs from, where it does not run and is needed, and answers
+    // whether it did.
     fn start_wait(&mut self, now: Instant) -> bool
         ensures answer { result ≡ starts_wait self.old }
         ensures next { self.new ≡ with_wait self.old now }
@@ -257,7 +264,8 @@ impl PendingAcks {
         false
     }
 
-    /// Notes that an acknowledgement went: none is due until more packets come. It counts as one of all numbers.
+    /// Notes that an acknowledgement went: none is due until more packets come. It counts as one of
+    /// all numbers.
     pub fn acks_sent(&mut self)
         ensures { self.new ≡ after_acks_sent self.old }
     {
@@ -268,8 +276,8 @@ impl PendingAcks {
         self.largest_acked = self.largest_ack_eliciting_packet;
     }
 
-    /// Puts the number of a packet that came, which lies below the greatest u64, into the set. Where that makes more than
-    /// [`MAX_ACK_RUNS`] runs, the one of the least number goes.
+    /// Puts the number of a packet that came, which lies below the greatest u64, into the set.
+    /// Where that makes more than [`MAX_ACK_RUNS`] runs, the one of the least number goes.
     ///
     /// # Errors
     ///
@@ -302,8 +310,8 @@ impl PendingAcks {
         &self.ranges
     }
 
-    /// Makes an acknowledgement due where more than [`LAZY_ACK_THRESHOLD`] packets came that do not ask since the last one.
-    /// It is called before a packet is made that goes anyway.
+    /// Makes an acknowledgement due where more than [`LAZY_ACK_THRESHOLD`] packets came that do not
+    /// ask since the last one. It is called before a packet is made that goes anyway.
     pub fn maybe_ack_non_eliciting(&mut self)
         ensures { self.new ≡ after_lazy self.old }
     {

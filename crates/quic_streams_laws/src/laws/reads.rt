@@ -24,15 +24,17 @@ ghost use Rattle.quic_streams_laws.specs.Kept.{HoldsTaken, BringsNothing};
 ghost use Rattle.quic_streams_laws.specs.Accepted.{HoldsAccepted};
 ghost use Rattle.quic_streams_laws.specs.Quiet.{IsQuiet};
 
-/// At the start nothing is read, and the peer's first limits change nothing of that. What was read stays so as more is written.
+/// At the start nothing is read, and the peer's first limits change nothing of that. What was read
+/// stays so as more is written.
 pub fn nothing_is_read()
     ensures new { (wrote : ℕ → Wrote) (side : Side) (uni bi send_window window stream_window : ℕ) → HoldsRead wrote (λ id. nothing_read) (new_streams side uni bi send_window window stream_window) }
     ensures limits { (wrote : ℕ → Wrote) (read : ℕ → Reads) (s : StreamsState) (p : ParameterValues) → HoldsRead wrote read s → HoldsRead wrote read (after_set_params s p) }
     ensures more { (wrote more : ℕ → Wrote) (read : ℕ → Reads) (s : StreamsState) → ((id : ℕ) → Grows (wrote id) (more id)) → HoldsRead wrote read s → HoldsRead more read s }
 {}
 
-/// Each chunk that was read stands in what was written at its offset, no offset is read twice, and while all reads of a stream were in
-/// order each follows the one before, so that the bytes that were read are a prefix of those that were written (RFC 9000, section 2.2).
+/// Each chunk that was read stands in what was written at its offset, no offset is read twice, and
+/// while all reads of a stream were in order each follows the one before, so that the bytes that
+/// were read are a prefix of those that were written (RFC 9000, section 2.2).
 pub fn reads_are_what_was_written()
     ensures slices { (wrote : ℕ → Wrote) (read : ℕ → Reads) (s : StreamsState) (id : ℕ) → HoldsRead wrote read s → AreSlices (wrote id).bytes (read id).chunks }
     ensures once { (wrote : ℕ → Wrote) (read : ℕ → Reads) (s : StreamsState) (id : ℕ) → HoldsRead wrote read s → AreDistinct (read id).chunks }
@@ -40,8 +42,8 @@ pub fn reads_are_what_was_written()
     ensures prefix { (wrote : ℕ → Wrote) (read : ℕ → Reads) (s : StreamsState) (id : ℕ) → HoldsRead wrote read s → (read id).unordered ≡ false → IsPrefix (bytes_of (read id).chunks) (wrote id).bytes }
 {}
 
-/// STREAM and RESET_STREAM frames that say what was done on their stream, whether they are refused or not, leave what was read (RFC
-/// 9000, sections 19.4 and 19.8).
+/// STREAM and RESET_STREAM frames that say what was done on their stream, whether they are refused
+/// or not, leave what was read (RFC 9000, sections 19.4 and 19.8).
 pub fn frames_bring_what_was_written()
     ensures stream { (wrote : ℕ → Wrote) (read : ℕ → Reads) (s : StreamsState) (p : Retransmits) (f : StreamValue) → IsStreamOf (wrote f.id) f → HoldsRead wrote read s → HoldsRead wrote read (after_stream s p f).state }
     ensures reset_stream { (wrote : ℕ → Wrote) (read : ℕ → Reads) (s : StreamsState) (p : Retransmits) (f : ResetStreamValue) → IsResetOf (wrote f.id) f → HoldsRead wrote read s → HoldsRead wrote read (after_reset_frame s p f).state }
@@ -49,7 +51,8 @@ pub fn frames_bring_what_was_written()
     ensures reset_stays { (w more : Wrote) (f : ResetStreamValue) → Grows w more → IsResetOf w f → IsResetOf more f }
 {}
 
-/// What calls read is counted: a read that begins, each `next` with what it answered, a stop, and asking for a reset.
+/// What calls read is counted: a read that begins, each `next` with what it answered, a stop, and
+/// asking for a reset.
 pub fn calls_read()
     ensures begun { (wrote : ℕ → Wrote) (read : ℕ → Reads) (s : StreamsState) (id : ℕ) (ordered : Bool) → HoldsRead wrote read s → HoldsRead wrote (read_begun_by (read_answer s id ordered) ordered id read) (after_read_begun s id ordered) }
     ensures next { (wrote : ℕ → Wrote) (read : ℕ → Reads) (told : Told) (s : StreamsState) (id most : ℕ) (answer : Result (Option Chunk) ReadError) → IsNextAnswer told s id most answer
@@ -59,8 +62,9 @@ pub fn calls_read()
     ensures received_reset { (wrote : ℕ → Wrote) (read : ℕ → Reads) (s : StreamsState) (p : Retransmits) (id : ℕ) → HoldsRead wrote read s → HoldsRead wrote read (after_received_reset s p id).state }
 {}
 
-/// What a `next` answers on a stream that isn't stopped: a chunk that was written and wasn't read, which follows on while all reads were
-/// in order; the end only where the stream ended and each byte of it was read; and a reset only with its code. It tells so again.
+/// What a `next` answers on a stream that isn't stopped: a chunk that was written and wasn't read,
+/// which follows on while all reads were in order; the end only where the stream ended and each
+/// byte of it was read; and a reset only with its code. It tells so again.
 pub fn nexts_tell_what_was_written()
     ensures answer { (wrote : ℕ → Wrote) (read : ℕ → Reads) (told : Told) (s : StreamsState) (id most : ℕ) → MayRead told s id → TellsRight (wrote id) (read id) told → HoldsRead wrote read s → IsNextOf (wrote id) (read id) (next_answer told s id most) }
     ensures told { (wrote : ℕ → Wrote) (read : ℕ → Reads) (told : Told) (s : StreamsState) (id most : ℕ) (answer : Result (Option Chunk) ReadError) → IsNextAnswer told s id most answer
@@ -70,8 +74,9 @@ pub fn nexts_tell_what_was_written()
     ensures goes_on { (told : Told) (s : StreamsState) (id most : ℕ) (answer : Result (Option Chunk) ReadError) → MayRead told s id → MayRead (told_by answer told) (after_next told answer s id most) id }
 {}
 
-/// What STREAM frames that were taken brought is read or waits, on each stream that is neither stopped nor reset: so after each frame,
-/// which counts as taken unless it is refused, and after each call that reads.
+/// What STREAM frames that were taken brought is read or waits, on each stream that is neither
+/// stopped nor reset: so after each frame, which counts as taken unless it is refused, and after
+/// each call that reads.
 pub fn taken_frames_are_kept()
     ensures new { (side : Side) (uni bi send_window window stream_window : ℕ) → HoldsTaken (λ f. Contains [] f) (new_streams side uni bi send_window window stream_window) }
     ensures limits { (taken : List StreamValue) (s : StreamsState) (p : ParameterValues) → HoldsTaken (λ f. Contains taken f) s → HoldsTaken (λ f. Contains taken f) (after_set_params s p) }
@@ -84,15 +89,17 @@ pub fn taken_frames_are_kept()
     ensures received_reset { (taken : List StreamValue) (s : StreamsState) (p : Retransmits) (id : ℕ) → HoldsTaken (λ f. Contains taken f) s → HoldsTaken (λ f. Contains taken f) (after_received_reset s p id).state }
 {}
 
-/// A read is blocked only where no taken frame of its stream brought what it may give: while all reads were in order the first byte
-/// that wasn't read, else any that wasn't; nor, with all read, the end.
+/// A read is blocked only where no taken frame of its stream brought what it may give: while all
+/// reads were in order the first byte that wasn't read, else any that wasn't; nor, with all read,
+/// the end.
 pub fn blocked_reads_lack_bytes()
     ensures { (wrote : ℕ → Wrote) (read : ℕ → Reads) (taken : List StreamValue) (s : StreamsState) (id most : ℕ) (f : StreamValue) → IsOpenHalf s id → next_answer told_bytes s id most ≡ Err read_errors.Blocked
         → Contains taken f → f.id ≡ id → HoldsRead wrote read s → HoldsTaken (λ f. Contains taken f) s → BringsNothing (read id) f }
 {}
 
-/// Streams are accepted in their order, and a call that accepts one finds none only where each of the peer's streams of that kind that is
-/// opened was accepted, as the stream of each taken frame is (RFC 9000, section 2.1).
+/// Streams are accepted in their order, and a call that accepts one finds none only where each of
+/// the peer's streams of that kind that is opened was accepted, as the stream of each taken frame
+/// is (RFC 9000, section 2.1).
 pub fn streams_are_accepted()
     ensures new { (side : Side) (uni bi send_window window stream_window : ℕ) → HoldsAccepted (λ id. Contains [] id) (new_streams side uni bi send_window window stream_window) }
     ensures limits { (accepted : List ℕ) (s : StreamsState) (p : ParameterValues) → HoldsAccepted (λ id. Contains accepted id) s → HoldsAccepted (λ id. Contains accepted id) (after_set_params s p) }
@@ -107,8 +114,8 @@ pub fn streams_are_accepted()
     ensures received_reset { (accepted : List ℕ) (s : StreamsState) (p : Retransmits) (id : ℕ) → HoldsAccepted (λ id. Contains accepted id) s → HoldsAccepted (λ id. Contains accepted id) (after_received_reset s p id).state }
 {}
 
-/// Words about what an end sends leave what was read, what taken frames brought, and what was accepted; a call that accepts a stream
-/// leaves the first two.
+/// Words about what an end sends leave what was read, what taken frames brought, and what was
+/// accepted; a call that accepts a stream leaves the first two.
 pub fn sending_leaves_what_was_read()
     ensures read { (wrote : ℕ → Wrote) (read : ℕ → Reads) → IsQuiet (HoldsRead wrote read) }
     ensures taken { (taken : List StreamValue) → IsQuiet (HoldsTaken (λ f. Contains taken f)) }

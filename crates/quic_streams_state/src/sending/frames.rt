@@ -14,9 +14,10 @@ use quic_wire_core::StreamId;
 use std::alloc::AllocError;
 
 impl Sending {
-    /// Appends the next frame of a half in use, if it brings a byte or the end, with `max_len` bytes of room, 16 at least, behind its
-    /// type and id, and takes it: what it carries. Where streams take turns (`fair`) the half goes behind its equals. After an `Err`
-    /// (want of memory) the frame is taken, and its half may stand nowhere in the queue.
+    /// Appends the next frame of a half in use, if it brings a byte or the end, with `max_len`
+    /// bytes of room, 16 at least, behind its type and id, and takes it: what it carries. Where
+    /// streams take turns (`fair`) the half goes behind its equals. After an `Err` (want of memory)
+    /// the frame is taken, and its half may stand nowhere in the queue.
     pub(crate) fn put_frame(
         &mut self,
         id: StreamId,

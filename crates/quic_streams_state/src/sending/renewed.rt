@@ -33,7 +33,8 @@ impl Sending {
         self.send.remove(id);
     }
 
-    /// A frame of a half that is in use was acknowledged. An `Err` (want of memory) changes nothing.
+    /// A frame of a half that is in use was acknowledged. An `Err` (want of memory) changes
+    /// nothing.
     pub(crate) fn ack(&mut self, frame: &StreamMeta) -> Result<(), AllocError>
         ensures ok { OnOk result (self.new ≡ acked_in (at self.old.halves.live frame.now.id) self.old frame.now) }
         ensures err { OnErr result (self.new ≡ self.old) }
@@ -42,8 +43,8 @@ impl Sending {
         self.send.ack(frame, &mut self.pending)
     }
 
-    /// The same, unless the end of the half or a reset was told: it stays then. Says whether the half is in use, its end was told,
-    /// and no reset. An `Err` (want of memory) changes nothing.
+    /// The same, unless the end of the half or a reset was told: it stays then. Says whether the
+    /// half is in use, its end was told, and no reset. An `Err` (want of memory) changes nothing.
     pub(crate) fn ack_if_ready(&mut self, frame: &StreamMeta) -> Result<bool, AllocError>
         ensures answer { IfOk result (λ ended. ended ≡ is_ended_at (at self.old.halves.live frame.now.id)) }
         ensures ok { OnOk result (self.new ≡ acked_if_ready_in (at self.old.halves.live frame.now.id) self.old frame.now) }
@@ -53,8 +54,8 @@ impl Sending {
         self.send.ack_if_ready(frame, &mut self.pending)
     }
 
-    /// A frame of a half that is in use was lost: what isn't acknowledged of it goes again. An `Err` (want of memory) changes
-    /// nothing.
+    /// A frame of a half that is in use was lost: what isn't acknowledged of it goes again. An
+    /// `Err` (want of memory) changes nothing.
     pub(crate) fn retransmit(&mut self, frame: &StreamMeta) -> Result<(), AllocError>
         ensures ok { OnOk result (self.new ≡ lost_in (at self.old.halves.live frame.now.id) self.old frame.now) }
         ensures err { OnErr result (self.new ≡ self.old) }

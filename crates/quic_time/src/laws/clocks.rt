@@ -8,8 +8,8 @@ ghost use Rattle.quic_time.specs.declared.timer.Timer.{Timer};
 use crate::instant::{Duration, TIMER_GRANULARITY};
 use crate::timer::Timer;
 
-/// A sum fits 64 bits and isn't earlier than the moment that it was made of. Where nothing is cut, it is exactly so
-/// much later.
+/// A sum fits 64 bits and isn't earlier than the moment that it was made of. Where nothing is cut,
+/// it is exactly so much later.
 pub fn sums_saturate()
     ensures fits { (n : ℕ) → saturated n < 2 ^ 64 }
     ensures later { (moment length : ℕ) → moment < 2 ^ 64 → moment ≤ saturated (moment + length) }
@@ -42,15 +42,16 @@ pub fn tables_are_their_moments()
     ensures { (t u : Timers) → ((timer : Timer) → timer_at timer t ≡ timer_at timer u) → t ≡ u }
 {}
 
-/// The next timeout is the moment of a timer, and no timer expires before it. There is one where any timer is set.
+/// The next timeout is the moment of a timer, and no timer expires before it. There is one where
+/// any timer is set.
 pub fn next_timeout_is_least()
     ensures set { (t : Timers) → IfSome (next_timer t) (λ next. (timer : Timer) × (timer_at timer t ≡ Some next)) }
     ensures least { (t : Timers) (timer : Timer) (moment : ℕ) → timer_at timer t ≡ Some moment
         → IsSomeAnd (next_timer t) (λ next. next ≤ moment) }
 {}
 
-/// Samples taken one after the other leave the estimate that the formulas of RFC 9002, section 5, give over all of
-/// them.
+/// Samples taken one after the other leave the estimate that the formulas of RFC 9002, section 5,
+/// give over all of them.
 pub fn estimates_are_over_all_samples()
     ensures { (samples : List Sample) (initial : ℕ)
         → fold (λ r s. with_sample r s.delay s.rtt) (assumed_rtt initial) samples ≡ estimate_over (reverse samples) initial }
@@ -62,8 +63,8 @@ pub fn least_is_least_sample()
     ensures least { (s : Sample) (before : List Sample) → All (λ t. least_over s before ≤ t.rtt) (s ∷ before) }
 {}
 
-/// The smoothed time is at least the least sample, and neither it nor its variation passes a bound that all samples keep.
-/// So only sums of them can pass 64 bits.
+/// The smoothed time is at least the least sample, and neither it nor its variation passes a bound
+/// that all samples keep. So only sums of them can pass 64 bits.
 pub fn smoothed_lies_among_samples()
     ensures least { (s : Sample) (before : List Sample) → least_over s before ≤ smoothed_over s before }
     ensures most { (n : ℕ) (s : Sample) (before : List Sample)

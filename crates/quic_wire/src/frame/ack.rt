@@ -21,7 +21,8 @@ use writing::write_set;
 /// The greatest count that has a form as a variable-length integer (section 16).
 const MAX_COUNT: u64 = (1 << 62) - 1;
 
-/// How many packets came with each congestion mark (section 19.3.2; quinn-proto's `frame::EcnCounts`).
+/// How many packets came with each congestion mark (section 19.3.2; quinn-proto's
+/// `frame::EcnCounts`).
 #[derive(Clone, Copy, Debug, PartialEq, Eq)]
 pub struct EcnCounts {
     /// Packets marked ECT(0): below 2^62.
@@ -48,9 +49,9 @@ impl EcnCounts {
         ce: 0,
     };
 
-    /// Writes the three counts as they stand in a frame, each in its shortest form (quinn-proto's `EcnCounts::encode`). An
-    /// error comes for want of memory or of room, never where the room is spare; a part of the counts may then be
-    /// written behind what was there.
+    /// Writes the three counts as they stand in a frame, each in its shortest form (quinn-proto's
+    /// `EcnCounts::encode`). An error comes for want of memory or of room, never where the room is
+    /// spare; a part of the counts may then be written behind what was there.
     pub fn encode<B: BufMut>(&self, buf: &mut B) -> Result<(), AllocError>
         ensures ok { OnOk result (B.written buf.new ≡ B.written buf.old ++ written (ecn_numbers (Some (counts_view self.now)))) }
         ensures err { OnErr result (BeginWith (B.written buf.old) (B.written buf.new)) }
@@ -74,8 +75,8 @@ impl AddAssign<EcnCodepoint> for EcnCounts {
 
     ghost add_assign_gives = { λ counts mark r. counts_view r ≡ with_mark (counts_view counts) mark };
 
-    /// Counts one more packet with this mark. A count stays at 2^62 - 1 once it is there, the greatest number that has a
-    /// form.
+    /// Counts one more packet with this mark. A count stays at 2^62 - 1 once it is there, the
+    /// greatest number that has a form.
     fn add_assign(&mut self, rhs: EcnCodepoint) {
         match rhs {
             EcnCodepoint::Ect0 => self.ect0 = one_more(self.ect0),
@@ -85,8 +86,8 @@ impl AddAssign<EcnCodepoint> for EcnCounts {
     }
 }
 
-/// Which packets came (section 19.3; quinn-proto's `frame::Ack`). Contracts see the greatest number, the delay, the
-/// ranges from the highest down, and the counts.
+/// Which packets came (section 19.3; quinn-proto's `frame::Ack`). Contracts see the greatest
+/// number, the delay, the ranges from the highest down, and the counts.
 #[derive(Clone, Debug, Drop)]
 pub struct Ack<'a> {
     largest: u64,
@@ -121,10 +122,10 @@ impl<'a> Ack<'a> {
     ghost use Rattle.quic_wire.specs.AckWriting.{ack_spelling, ack_size};
     ghost use Rattle.quic_wire.specs.Writing.{BeginWith, SpendsSpare};
 
-    /// Writes the ACK frame of a set of packet numbers, each number in its shortest form: the delay is in microseconds,
-    /// shifted right by the exponent that this end told (quinn-proto's `Ack::encode`). The set isn't empty. An error comes
-    /// for want of memory or of room, never where the room is spare; a part of the frame may then be written behind what
-    /// was there.
+    /// Writes the ACK frame of a set of packet numbers, each number in its shortest form: the delay
+    /// is in microseconds, shifted right by the exponent that this end told (quinn-proto's
+    /// `Ack::encode`). The set isn't empty. An error comes for want of memory or of room, never
+    /// where the room is spare; a part of the frame may then be written behind what was there.
     pub fn encode<B: BufMut>(
         delay: u64,
         ranges: &ArrayRangeSet,
@@ -141,9 +142,9 @@ impl<'a> Ack<'a> {
         write_set(buf, delay, ranges.as_slice(), ecn.copied())
     }
 
-    /// How many bytes [`Ack::encode`] writes for this delay, these ranges and these counts: with r ranges at most
-    /// 57 + 16 (r - 1), which is the type, four numbers of at most 8 bytes, 16 bytes for each further range, and the
-    /// counts.
+    /// How many bytes [`Ack::encode`] writes for this delay, these ranges and these counts: with r
+    /// ranges at most 57 + 16 (r - 1), which is the type, four numbers of at most 8 bytes, 16 bytes
+    /// for each further range, and the counts.
     pub fn size_of(delay: u64, ranges: &ArrayRangeSet, ecn: Option<&EcnCounts>) -> usize
         requires some { ranges.now ≡ [] → ⊥ }
         requires small { IsSmall ranges.now }
@@ -170,8 +171,8 @@ impl<'a> Ack<'a> {
         self.count
     }
 
-    /// How long the acknowledgement waited, in microseconds shifted right by the exponent that the sender told
-    /// (section 19.3).
+    /// How long the acknowledgement waited, in microseconds shifted right by the exponent that the
+    /// sender told (section 19.3).
     pub fn delay(&self) -> u64
         ensures { result ≡ self.now.delay }
     {
@@ -209,8 +210,8 @@ impl<'a> Ack<'a> {
     }
 }
 
-/// The ranges of an acknowledgement, from the highest down (quinn-proto's `AckIter`). Contracts see the list of those that
-/// are left, each as its least and its greatest number.
+/// The ranges of an acknowledgement, from the highest down (quinn-proto's `AckIter`). Contracts see
+/// the list of those that are left, each as its least and its greatest number.
 #[derive(Clone, Debug, Drop)]
 pub struct AckIter<'a> {
     first: Option<(u64, u64)>,

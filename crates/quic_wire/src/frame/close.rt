@@ -41,8 +41,8 @@ pub struct ApplicationClose {
 }
 
 impl Close {
-    /// The close that tells the peer of an error: its code, its frame and the text of its reason. An error comes only for
-    /// want of memory for that text.
+    /// The close that tells the peer of an error: its code, its frame and the text of its reason.
+    /// An error comes only for want of memory for that text.
     pub fn of_error(alloc: Global, error: &TransportError) -> Result<Self, AllocError>
         ensures { (reason : Reason) × ClosesFor error.now result reason }
     {
@@ -53,11 +53,12 @@ impl Close {
 }
 
 impl ConnectionClose {
-    /// The most bytes that stand before the reason in a frame: type, code, type of a frame and length.
+    /// The most bytes that stand before the reason in a frame: type, code, type of a frame and
+    /// length.
     pub const SIZE_BOUND: usize = 1 + 8 + 8 + 8;
 
-    /// A close with this code, this frame at fault and a copy of this reason. An error comes only for want of memory for
-    /// the reason.
+    /// A close with this code, this frame at fault and a copy of this reason. An error comes only
+    /// for want of memory for the reason.
     pub fn new(
         alloc: Global,
         error_code: Code,
@@ -80,7 +81,8 @@ impl ApplicationClose {
     /// The most bytes that stand before the reason in a frame: type, code and length.
     pub const SIZE_BOUND: usize = 1 + 8 + 8;
 
-    /// A close with this code and a copy of this reason. An error comes only for want of memory for the reason.
+    /// A close with this code and a copy of this reason. An error comes only for want of memory for
+    /// the reason.
     pub fn new(alloc: Global, error_code: VarInt, reason: &[u8]) -> Result<Self, AllocError>
         ensures ok { IfOk result (λ close. owned_application_close_view close ≡ application_close_with error_code reason.now) }
         ensures lacking { OnErr result (0 < length reason.now) }
@@ -132,7 +134,8 @@ impl fmt::Display for Close {
     }
 }
 
-/// The code, and then `: ` and the reason, where there is one. What is no UTF-8 is printed as U+FFFD.
+/// The code, and then `: ` and the reason, where there is one. What is no UTF-8 is printed as
+/// U+FFFD.
 impl fmt::Display for ConnectionClose {
     ghost output = { λ close. Some (transport_close_text (transport_close_view close)) };
 
@@ -147,8 +150,8 @@ impl fmt::Display for ConnectionClose {
     }
 }
 
-/// The reason and the code, as `bye (code 7)`, or the code alone where there is no reason. What is no UTF-8 is printed as
-/// U+FFFD.
+/// The reason and the code, as `bye (code 7)`, or the code alone where there is no reason. What is
+/// no UTF-8 is printed as U+FFFD.
 impl fmt::Display for ApplicationClose {
     ghost output = { λ close. Some (application_close_text (owned_application_close_view close)) };
 

@@ -1,6 +1,7 @@
 //! Messages of the application, in values that own their bytes (RFC 9221).
 
-/// A message that may be lost, and isn't sent again (RFC 9221, section 4; quinn-proto's `frame::Datagram`).
+/// A message that may be lost, and isn't sent again (RFC 9221, section 4; quinn-proto's
+/// `frame::Datagram`).
 #[derive(Clone, Debug, PartialEq, Eq, Drop)]
 pub struct Datagram {
     /// The message.

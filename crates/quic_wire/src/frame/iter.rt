@@ -3,8 +3,8 @@ use crate::frame::reading::frame_of;
 use crate::frame::{Frame, InvalidFrame};
 use std::marker::Model;
 
-/// The frames of a payload in turn, and the refusal where the bytes are no frame; nothing comes behind a refusal
-/// (quinn-proto's `frame::Iter`). Contracts see it as the bytes that are left.
+/// The frames of a payload in turn, and the refusal where the bytes are no frame; nothing comes
+/// behind a refusal (quinn-proto's `frame::Iter`). Contracts see it as the bytes that are left.
 #[derive(Drop)]
 pub struct Iter<'a> {
     bytes: &'a [u8],
@@ -24,8 +24,8 @@ impl<'a> Iter<'a> {
     ghost use Rattle.quic_wire.specs.Items.{items};
     ghost use Rattle.quic_wire.specs.Grammar.{Payload};
 
-    /// The frames of this payload. They come without a refusal exactly where the payload is the bytes of frames
-    /// (RFC 9000, section 19), and are then those frames.
+    /// The frames of this payload. They come without a refusal exactly where the payload is the
+    /// bytes of frames (RFC 9000, section 19), and are then those frames.
     pub fn new(payload: &'a [u8]) -> Self
         ensures payload { result ≡ payload.now }
         ensures found { (fs : List FrameValue) → items payload.now ≡ map Ok fs → Payload fs payload.now }

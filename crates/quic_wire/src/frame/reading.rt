@@ -1,5 +1,5 @@
-//! Frames from bytes. Each reader takes its field from the front of the slice; where it refuses, the bytes left are
-//! of no use.
+//! Frames from bytes. Each reader takes its field from the front of the slice; where it refuses,
+//! the bytes left are of no use.
 ghost use Rattle.std.specs.Prelude.{◌≡◌, ◌<◌, ◌^◌, length, IfOk};
 ghost use Rattle.std.specs.Int.{w64, to_be_bytes};
 ghost use Rattle.quic_wire_core.specs.Taking.{Reads};

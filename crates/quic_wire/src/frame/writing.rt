@@ -225,8 +225,9 @@ fn write_ack_frequency<B: BufMut>(buf: &mut B, frame: &AckFrequency) -> Result<(
     write_parts(buf, &[0xaf, sequence, threshold, delay, reordering], &[])
 }
 
-/// Writes a frame, each number in its shortest form, STREAM and DATAGRAM frames with their length. An error comes for want of memory
-/// or of room, never where the room is spare; a part of the frame may then be written behind what was there.
+/// Writes a frame, each number in its shortest form, STREAM and DATAGRAM frames with their length.
+/// An error comes for want of memory or of room, never where the room is spare; a part of the frame
+/// may then be written behind what was there.
 #[tactic(auto, using(crate::proofs::FrameWritten::stands_0))]
 pub fn write_frame<B: BufMut>(frame: &Frame<'_>, buf: &mut B) -> Result<(), AllocError>
     requires { Fits (frame_view frame.now) }
@@ -306,8 +307,8 @@ fn size_of_length(length: Option<u64>) -> usize
     }
 }
 
-/// How many bytes stand before the data of a STREAM frame: its type, the id, the offset where it isn't 0, and the
-/// length where one is written; at most [`Stream::SIZE_BOUND`].
+/// How many bytes stand before the data of a STREAM frame: its type, the id, the offset where it
+/// isn't 0, and the length where one is written; at most [`Stream::SIZE_BOUND`].
 pub fn size_of_stream_header(id: StreamId, offset: u64, length: Option<u64>) -> usize
     requires offset { offset < 2 ^ 62 }
     requires length { IfSome length (λ n. n < 2 ^ 62) }
@@ -406,9 +407,9 @@ pub fn size_of_frame(frame: &Frame<'_>) -> usize
     }
 }
 
-/// Appends what stands before the bytes of a STREAM frame, for which there is room: its type, id and offset, and its length, if
-/// that is written. So many bytes are to follow, whatever bytes `stream` has (RFC 9000, section 19.8; quinn-proto's
-/// `StreamMeta::encode`).
+/// Appends what stands before the bytes of a STREAM frame, for which there is room: its type, id
+/// and offset, and its length, if that is written. So many bytes are to follow, whatever bytes
+/// `stream` has (RFC 9000, section 19.8; quinn-proto's `StreamMeta::encode`).
 pub fn put_stream_header(out: &mut Vec<u8>, stream: &Stream<'_>, length: usize, with_length: bool)
     requires offset { stream.now.offset < 2 ^ 62 }
     requires id { stream.now.id < 2 ^ 62 }
@@ -421,8 +422,9 @@ pub fn put_stream_header(out: &mut Vec<u8>, stream: &Stream<'_>, length: usize, 
     write_stream_header(out, stream, length, with_length).unwrap()
 }
 
-/// Appends a STREAM frame, with its length or without, for which there is room. One without its length has to be the
-/// last of its packet (RFC 9000, section 19.8; quinn-proto's `StreamMeta::encode`).
+/// Appends a STREAM frame, with its length or without, for which there is room. One without its
+/// length has to be the last of its packet (RFC 9000, section 19.8; quinn-proto's
+/// `StreamMeta::encode`).
 pub fn put_stream(out: &mut Vec<u8>, stream: &Stream<'_>, with_length: bool)
     requires form { StreamFits (stream_view stream.now) }
     requires room { vec_len out.old + stream_size with_length (stream_view stream.now) ≤ vec_capacity out.old }

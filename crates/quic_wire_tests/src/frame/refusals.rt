@@ -61,8 +61,8 @@ fn cut_fields_end_frames(rt: HostRuntime) {
 #[test]
 fn fields_are_judged_in_their_order(rt: HostRuntime) {
     let cases: [(&[u8], u32, FrameError); 11] = [
-        // A first range longer than the greatest number; a gap that is too large, with nothing behind it; the greatest gap,
-        // and nothing behind it; a length that is too large.
+        // A first range longer than the greatest number; a gap that is too large, with nothing
+        // behind it; the greatest gap, and nothing behind it; a length that is too large.
         (&[0x02, 0x04, 0x00, 0x00, 0x05], 0x02, FrameError::Malformed),
         (
             &[0x02, 0x04, 0x00, 0x01, 0x00, 0x03],
@@ -79,7 +79,8 @@ fn fields_are_judged_in_their_order(rt: HostRuntime) {
             0x02,
             FrameError::Malformed,
         ),
-        // An id that is retired before it is given, with nothing behind it; lengths of 0, 21 and 20, and no id.
+        // An id that is retired before it is given, with nothing behind it; lengths of 0, 21 and
+        // 20, and no id.
         (&[0x18, 0x00, 0x01], 0x18, FrameError::Malformed),
         (&[0x18, 0x01, 0x01, 0x00], 0x18, FrameError::Malformed),
         (&[0x18, 0x01, 0x01, 0x15], 0x18, FrameError::Malformed),

@@ -1,5 +1,6 @@
-//! Each kind of frame, laid out by hand as in RFC 9000, section 19, RFC 9221, section 4, and the ACK frequency extension,
-//! section 4: what is read from some bytes is printed so, and is written as the same bytes again.
+//! Each kind of frame, laid out by hand as in RFC 9000, section 19, RFC 9221, section 4, and the
+//! ACK frequency extension, section 4: what is read from some bytes is printed so, and is written
+//! as the same bytes again.
 ghost use Rattle.std.specs.Prelude.{IfSome};
 ghost use Rattle.quic_wire.specs.FrameView.{frame_view};
 ghost use Rattle.quic_wire.specs.Writing.{Fits};

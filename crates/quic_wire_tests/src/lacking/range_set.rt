@@ -19,7 +19,8 @@ fn set_of(alloc: Global, ranges: &[(u64, u64)]) -> Result<RangeSet, AllocError> 
     Ok(set)
 }
 
-/// The set of these ranges, a copy, which has no room to spare: a call that leaves one run more takes memory.
+/// The set of these ranges, a copy, which has no room to spare: a call that leaves one run more
+/// takes memory.
 fn full_set_of(alloc: Global, ranges: &[(u64, u64)]) -> Result<RangeSet, AllocError> {
     let set = set_of(alloc, ranges)?;
     match set.try_clone() {

@@ -139,6 +139,13 @@ returns-clause-asking_goes_where_let g c =
     let r : Run = run_of keys (windows_of g.C.Controller.steps g.C.Controller.window_of) c.args.ends c.args.events.now o.answers.items o.views.items o.given in
     λ honest. c.asking_goes_where_let.ensures r (world_of (windows_of g.C.Controller.steps g.C.Controller.window_of) o.ends o.given) honest (record { codes = c.show_codes.ensures; follows = c.run_events.ensures.follows; from_client = refl; from_server = refl })
 
+pub returns-clause-datagrams_are_sized : goal.returns-clause-datagrams_are_sized
+returns-clause-datagrams_are_sized g c =
+    let o = c.run_events.result in
+    let keys : Policies = policies_of g.H.HeaderKey.protection g.K.PacketKey.aead g.R.Rng.stream c.args.ends in
+    let r : Run = run_of keys (windows_of g.C.Controller.steps g.C.Controller.window_of) c.args.ends c.args.events.now o.answers.items o.views.items o.given in
+    λ honest. c.datagrams_are_sized.ensures r (world_of (windows_of g.C.Controller.steps g.C.Controller.window_of) o.ends o.given) honest (record { codes = c.show_codes.ensures; follows = c.run_events.ensures.follows; from_client = refl; from_server = refl })
+
 pub returns-clause-probes_pass : goal.returns-clause-probes_pass
 returns-clause-probes_pass g c =
     let o = c.run_events.result in
@@ -152,6 +159,20 @@ returns-clause-window_is_of_history g c =
     let keys : Policies = policies_of g.H.HeaderKey.protection g.K.PacketKey.aead g.R.Rng.stream c.args.ends in
     let r : Run = run_of keys (windows_of g.C.Controller.steps g.C.Controller.window_of) c.args.ends c.args.events.now o.answers.items o.views.items o.given in
     λ honest. c.window_is_of_history.ensures r (world_of (windows_of g.C.Controller.steps g.C.Controller.window_of) o.ends o.given) honest (record { codes = c.show_codes.ensures; follows = c.run_events.ensures.follows; from_client = refl; from_server = refl })
+
+pub returns-clause-size_is_of_history : goal.returns-clause-size_is_of_history
+returns-clause-size_is_of_history g c =
+    let o = c.run_events.result in
+    let keys : Policies = policies_of g.H.HeaderKey.protection g.K.PacketKey.aead g.R.Rng.stream c.args.ends in
+    let r : Run = run_of keys (windows_of g.C.Controller.steps g.C.Controller.window_of) c.args.ends c.args.events.now o.answers.items o.views.items o.given in
+    λ honest. c.size_is_of_history.ensures r (world_of (windows_of g.C.Controller.steps g.C.Controller.window_of) o.ends o.given) honest (record { codes = c.show_codes.ensures; follows = c.run_events.ensures.follows; from_client = refl; from_server = refl })
+
+pub returns-clause-sizes_move : goal.returns-clause-sizes_move
+returns-clause-sizes_move g c =
+    let o = c.run_events.result in
+    let keys : Policies = policies_of g.H.HeaderKey.protection g.K.PacketKey.aead g.R.Rng.stream c.args.ends in
+    let r : Run = run_of keys (windows_of g.C.Controller.steps g.C.Controller.window_of) c.args.ends c.args.events.now o.answers.items o.views.items o.given in
+    λ honest. c.sizes_move.ensures r (world_of (windows_of g.C.Controller.steps g.C.Controller.window_of) o.ends o.given) honest (record { codes = c.show_codes.ensures; follows = c.run_events.ensures.follows; from_client = refl; from_server = refl })
 
 pub returns-clause-tracks_in_flight : goal.returns-clause-tracks_in_flight
 returns-clause-tracks_in_flight g c =
@@ -339,3 +360,80 @@ returns-clause-counts_are_bounded g c =
     let keys : Policies = policies_of g.H.HeaderKey.protection g.K.PacketKey.aead g.R.Rng.stream c.args.ends in
     let r : Run = run_of keys (windows_of g.C.Controller.steps g.C.Controller.window_of) c.args.ends c.args.events.now o.answers.items o.views.items o.given in
     λ honest. c.counts_are_bounded.ensures r (world_of (windows_of g.C.Controller.steps g.C.Controller.window_of) o.ends o.given) honest (record { codes = c.show_codes.ensures; follows = c.run_events.ensures.follows; from_client = refl; from_server = refl })
+
+pub returns-clause-reads_are_allowed : goal.returns-clause-reads_are_allowed
+returns-clause-reads_are_allowed g c =
+    let o = c.run_events.result in
+    let keys : Policies = policies_of g.H.HeaderKey.protection g.K.PacketKey.aead g.R.Rng.stream c.args.ends in
+    let r : Run = run_of keys (windows_of g.C.Controller.steps g.C.Controller.window_of) c.args.ends c.args.events.now o.answers.items o.views.items o.given in
+    λ honest. c.reads_are_allowed.ensures r (world_of (windows_of g.C.Controller.steps g.C.Controller.window_of) o.ends o.given) honest (record { codes = c.show_codes.ensures; follows = c.run_events.ensures.follows; from_client = refl; from_server = refl })
+
+pub returns-clause-reads_are_over : goal.returns-clause-reads_are_over
+returns-clause-reads_are_over g c =
+    let o = c.run_events.result in
+    let keys : Policies = policies_of g.H.HeaderKey.protection g.K.PacketKey.aead g.R.Rng.stream c.args.ends in
+    let r : Run = run_of keys (windows_of g.C.Controller.steps g.C.Controller.window_of) c.args.ends c.args.events.now o.answers.items o.views.items o.given in
+    λ honest. c.reads_are_over.ensures r (world_of (windows_of g.C.Controller.steps g.C.Controller.window_of) o.ends o.given) honest (record { codes = c.show_codes.ensures; follows = c.run_events.ensures.follows; from_client = refl; from_server = refl })
+
+pub returns-clause-writes_are_allowed : goal.returns-clause-writes_are_allowed
+returns-clause-writes_are_allowed g c =
+    let o = c.run_events.result in
+    let keys : Policies = policies_of g.H.HeaderKey.protection g.K.PacketKey.aead g.R.Rng.stream c.args.ends in
+    let r : Run = run_of keys (windows_of g.C.Controller.steps g.C.Controller.window_of) c.args.ends c.args.events.now o.answers.items o.views.items o.given in
+    λ honest. c.writes_are_allowed.ensures r (world_of (windows_of g.C.Controller.steps g.C.Controller.window_of) o.ends o.given) honest (record { codes = c.show_codes.ensures; follows = c.run_events.ensures.follows; from_client = refl; from_server = refl })
+
+pub returns-clause-resets_are_allowed : goal.returns-clause-resets_are_allowed
+returns-clause-resets_are_allowed g c =
+    let o = c.run_events.result in
+    let keys : Policies = policies_of g.H.HeaderKey.protection g.K.PacketKey.aead g.R.Rng.stream c.args.ends in
+    let r : Run = run_of keys (windows_of g.C.Controller.steps g.C.Controller.window_of) c.args.ends c.args.events.now o.answers.items o.views.items o.given in
+    λ honest. c.resets_are_allowed.ensures r (world_of (windows_of g.C.Controller.steps g.C.Controller.window_of) o.ends o.given) honest (record { codes = c.show_codes.ensures; follows = c.run_events.ensures.follows; from_client = refl; from_server = refl })
+
+pub returns-clause-controllers_are_told : goal.returns-clause-controllers_are_told
+returns-clause-controllers_are_told g c =
+    let o = c.run_events.result in
+    let keys : Policies = policies_of g.H.HeaderKey.protection g.K.PacketKey.aead g.R.Rng.stream c.args.ends in
+    let r : Run = run_of keys (windows_of g.C.Controller.steps g.C.Controller.window_of) c.args.ends c.args.events.now o.answers.items o.views.items o.given in
+    λ honest. c.controllers_are_told.ensures r (world_of (windows_of g.C.Controller.steps g.C.Controller.window_of) o.ends o.given) honest (record { codes = c.show_codes.ensures; follows = c.run_events.ensures.follows; from_client = refl; from_server = refl })
+
+pub returns-clause-messages_go : goal.returns-clause-messages_go
+returns-clause-messages_go g c =
+    let o = c.run_events.result in
+    let keys : Policies = policies_of g.H.HeaderKey.protection g.K.PacketKey.aead g.R.Rng.stream c.args.ends in
+    let r : Run = run_of keys (windows_of g.C.Controller.steps g.C.Controller.window_of) c.args.ends c.args.events.now o.answers.items o.views.items o.given in
+    λ honest. c.messages_go.ensures r (world_of (windows_of g.C.Controller.steps g.C.Controller.window_of) o.ends o.given) honest (record { codes = c.show_codes.ensures; follows = c.run_events.ensures.follows; from_client = refl; from_server = refl })
+
+pub returns-clause-messages_go_in_order : goal.returns-clause-messages_go_in_order
+returns-clause-messages_go_in_order g c =
+    let o = c.run_events.result in
+    let keys : Policies = policies_of g.H.HeaderKey.protection g.K.PacketKey.aead g.R.Rng.stream c.args.ends in
+    let r : Run = run_of keys (windows_of g.C.Controller.steps g.C.Controller.window_of) c.args.ends c.args.events.now o.answers.items o.views.items o.given in
+    λ honest. c.messages_go_in_order.ensures r (world_of (windows_of g.C.Controller.steps g.C.Controller.window_of) o.ends o.given) honest (record { codes = c.show_codes.ensures; follows = c.run_events.ensures.follows; from_client = refl; from_server = refl })
+
+pub returns-clause-each_waited : goal.returns-clause-each_waited
+returns-clause-each_waited g c =
+    let o = c.run_events.result in
+    let keys : Policies = policies_of g.H.HeaderKey.protection g.K.PacketKey.aead g.R.Rng.stream c.args.ends in
+    let r : Run = run_of keys (windows_of g.C.Controller.steps g.C.Controller.window_of) c.args.ends c.args.events.now o.answers.items o.views.items o.given in
+    λ honest. c.each_waited.ensures r (world_of (windows_of g.C.Controller.steps g.C.Controller.window_of) o.ends o.given) honest (record { codes = c.show_codes.ensures; follows = c.run_events.ensures.follows; from_client = refl; from_server = refl })
+
+pub returns-clause-messages_are_told : goal.returns-clause-messages_are_told
+returns-clause-messages_are_told g c =
+    let o = c.run_events.result in
+    let keys : Policies = policies_of g.H.HeaderKey.protection g.K.PacketKey.aead g.R.Rng.stream c.args.ends in
+    let r : Run = run_of keys (windows_of g.C.Controller.steps g.C.Controller.window_of) c.args.ends c.args.events.now o.answers.items o.views.items o.given in
+    λ honest. c.messages_are_told.ensures r (world_of (windows_of g.C.Controller.steps g.C.Controller.window_of) o.ends o.given) honest (record { codes = c.show_codes.ensures; follows = c.run_events.ensures.follows; from_client = refl; from_server = refl })
+
+pub returns-clause-openings_are_told : goal.returns-clause-openings_are_told
+returns-clause-openings_are_told g c =
+    let o = c.run_events.result in
+    let keys : Policies = policies_of g.H.HeaderKey.protection g.K.PacketKey.aead g.R.Rng.stream c.args.ends in
+    let r : Run = run_of keys (windows_of g.C.Controller.steps g.C.Controller.window_of) c.args.ends c.args.events.now o.answers.items o.views.items o.given in
+    λ honest. c.openings_are_told.ensures r (world_of (windows_of g.C.Controller.steps g.C.Controller.window_of) o.ends o.given) honest (record { codes = c.show_codes.ensures; follows = c.run_events.ensures.follows; from_client = refl; from_server = refl })
+
+pub returns-clause-readables_are_told : goal.returns-clause-readables_are_told
+returns-clause-readables_are_told g c =
+    let o = c.run_events.result in
+    let keys : Policies = policies_of g.H.HeaderKey.protection g.K.PacketKey.aead g.R.Rng.stream c.args.ends in
+    let r : Run = run_of keys (windows_of g.C.Controller.steps g.C.Controller.window_of) c.args.ends c.args.events.now o.answers.items o.views.items o.given in
+    λ honest. c.readables_are_told.ensures r (world_of (windows_of g.C.Controller.steps g.C.Controller.window_of) o.ends o.given) honest (record { codes = c.show_codes.ensures; follows = c.run_events.ensures.follows; from_client = refl; from_server = refl })

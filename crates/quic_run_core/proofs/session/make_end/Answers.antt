@@ -1,4 +1,4 @@
-use Rattle.std.proofs.Common.{◌≡◌, ℕ, List, [], Ok, ap, sym, subst, ◌∙◌}
+use Rattle.std.proofs.Common.{◌≡◌, ℕ, List, [], Ok, ap, sym, subst, ◌∙◌, lit≤}
 use Rattle.rand_core.specs.Stream.{Stream}
 use Rattle.quic_parameters.specs.ParametersRead.{parameters_at}
 use Rattle.quic_wire_core.specs.StreamId.{other_side}
@@ -34,6 +34,7 @@ returns-clause-making c =
       says = subst (λ (s : Settings). parameters_at (written_parameters (parameters_of s) in_order) ≡ Ok (parameters_of s)) set
           (subst (λ (bytes : List ℕ). parameters_at bytes ≡ Ok (parameters_of c.config.result.settings)) c.in_ok-parameters.ensures.bytes c.in_ok-parameters.ensures.read_back);
       id = eight (other_side c.args.side);
+      sizes = lit≤ tt;
     }
 
 pub returns-in_err-end-clause-memory : goal.returns-in_err-end-clause-memory

@@ -1,5 +1,5 @@
-//! Acknowledgements from bytes. As with other frames, each reader takes its field from the front of the slice; where it
-//! refuses, the bytes left are of no use.
+//! Acknowledgements from bytes. As with other frames, each reader takes its field from the front of
+//! the slice; where it refuses, the bytes left are of no use.
 ghost use Rattle.std.specs.Prelude.{◌≡◌, ℕ, option_map};
 ghost use Rattle.quic_wire_core.specs.Taking.{Reads};
 ghost use Rattle.quic_wire.specs.AckReading.{range_at, ranges_at, behind, ecn_at, some_ecn_at, ack_at};

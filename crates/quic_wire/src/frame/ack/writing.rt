@@ -27,7 +27,8 @@ fn write_ecn<B: BufMut>(buf: &mut B, ecn: Option<EcnCounts>) -> Result<(), Alloc
     }
 }
 
-/// Writes the runs of a set below a number, from the highest down: of each the gap above it, and its length.
+/// Writes the runs of a set below a number, from the highest down: of each the gap above it, and
+/// its length.
 fn write_runs<B: BufMut>(buf: &mut B, below: u64, runs: &[Range<u64>]) -> Result<(), AllocError>
     requires runs { AreRuns runs.now }
     requires down { Below below (ranges_of_set runs.now) }

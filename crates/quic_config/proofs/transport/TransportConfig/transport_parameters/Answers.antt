@@ -7,5 +7,13 @@ returns-clause-in_range c =
     (rw (← c.self.view_is) c.milliseconds.ensures.bound)
     (rw (← c.self.view_is) c.bounded.ensures.bound)
     (rw (← c.self.view_is) c.bounded-stream_window.ensures.bound)
-    (rw (← c.self.view_is) c.self.invariant.bidi)
-    (rw (← c.self.view_is) c.self.invariant.uni)
+    (rw (← c.self.view_is) c.self.invariant.0.bidi)
+    (rw (← c.self.view_is) c.self.invariant.0.uni)
+
+pub returns-clause-range : goal.returns-clause-range
+returns-clause-range c = record {
+  receive_window = rw (← c.self.view_is) c.bounded.ensures.bound;
+  stream_receive_window = rw (← c.self.view_is) c.bounded-stream_window.ensures.bound;
+  bounds = rw (← c.self.view_is) c.self.invariant.0;
+  search = rw (← c.self.view_is) c.self.invariant.1;
+}

@@ -14,7 +14,7 @@ use Rattle.quic_machine.specs.Start.{IsLawful, AreKeys}
 use Rattle.quic_connection.specs.Ends.{controller_for}
 use Rattle.quic_connection_core.specs.Drawn.{words_of}
 use Rattle.quic_connection_core.specs.Telling.{windows_at}
-use Rattle.quic_connection.proofs.Pairs.{id_length, refused_for, made_window, is_controller}
+use Rattle.quic_connection.proofs.Pairs.{id_length, fits_payload, refused_for, made_window, is_controller}
 use Rattle.quic_connection.proofs.running.Ends.new.Goals as goal
 
 pub returns-clause-keys : goal.returns-clause-keys
@@ -87,8 +87,8 @@ returns-clause-started g c =
     record {
       client_making = record { settings = c.args.client.config.settings; windows = windows_at g.C.Controller.initial_of g.C.Controller.window_of client.control; parameters = c.deref-2.result.now; id = c.args.client.id; moment = c.args.now; validated = c.args.client.validated; word = words_of g.R.Rng.stream c.args.client.random 0 };
       server_making = record { settings = c.args.server.config.settings; windows = windows_at g.C.Controller.initial_of g.C.Controller.window_of server.control; parameters = c.deref.result.now; id = c.args.server.id; moment = c.args.now; validated = c.args.server.validated; word = words_of g.R.Rng.stream c.args.server.random 0 };
-      client_is = record { range = c.in_ok-told_by_client.ensures.range; says = client_says; id = id_length c.args.client.config.settings (g.C.Controller.window_of (controller_for g.F.ControllerFactory.built c.args.client.config c.args.now)) (parameters_at c.deref.result.now) (parameters_of c.args.server.config.settings) c.args.client.id c.args.server.id server_says c.in_ok-end_for.ensures.lawful };
-      server_is = record { range = c.in_ok-told_by_server.ensures.range; says = server_says; id = id_length c.args.server.config.settings (g.C.Controller.window_of (controller_for g.F.ControllerFactory.built c.args.server.config c.args.now)) (parameters_at c.deref-2.result.now) (parameters_of c.args.client.config.settings) c.args.server.id c.args.client.id client_says c.in_ok-end_for-2.ensures.lawful };
+      client_is = record { range = c.in_ok-told_by_client.ensures.range; says = client_says; id = id_length c.args.client.config.settings (g.C.Controller.window_of (controller_for g.F.ControllerFactory.built c.args.client.config c.args.now)) (parameters_at c.deref.result.now) (parameters_of c.args.server.config.settings) c.args.client.id c.args.server.id server_says c.in_ok-end_for.ensures.lawful; sizes = fits_payload c.args.client.config.settings (g.C.Controller.window_of (controller_for g.F.ControllerFactory.built c.args.client.config c.args.now)) (parameters_at c.deref.result.now) (parameters_of c.args.server.config.settings) c.args.client.id c.args.server.id server_says c.in_ok-end_for.ensures.lawful };
+      server_is = record { range = c.in_ok-told_by_server.ensures.range; says = server_says; id = id_length c.args.server.config.settings (g.C.Controller.window_of (controller_for g.F.ControllerFactory.built c.args.server.config c.args.now)) (parameters_at c.deref-2.result.now) (parameters_of c.args.client.config.settings) c.args.server.id c.args.client.id client_says c.in_ok-end_for-2.ensures.lawful; sizes = fits_payload c.args.server.config.settings (g.C.Controller.window_of (controller_for g.F.ControllerFactory.built c.args.server.config c.args.now)) (parameters_at c.deref-2.result.now) (parameters_of c.args.client.config.settings) c.args.server.id c.args.client.id client_says c.in_ok-end_for-2.ensures.lawful };
       client = c.in_ok-end_for.ensures.made;
       server = c.in_ok-end_for-2.ensures.made;
       client_gave = refl;

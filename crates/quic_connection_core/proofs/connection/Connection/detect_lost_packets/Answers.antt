@@ -1,5 +1,6 @@
 use Rattle.std.proofs.Common.{ap, ◌∙◌}
 use Rattle.quic_machine.specs.End.{with_end, with_tracking}
+use Rattle.quic_congestion.specs.Search.{open_probe}
 use Rattle.quic_machine.specs.Tracking.{loss_time_of, lost_by}
 use Rattle.quic_connection_core.specs.Losses.{all_lost}
 use Rattle.quic_connection_core.proofs.Losses.{detects}
@@ -15,5 +16,5 @@ returns-clause-ok g c =
     ap (λ w. with_end w (with_tracking w.end c.detected.new.self)) c.self.view_is
     ∙ ap (λ t. with_end lost (with_tracking lost.end t)) later
     ∙ ap (λ w. with_end w (with_tracking w.end (record w.end.tracking { loss_time = loss_time_of v w.end.tracking.packets }))) c.in_ok-on_packets_lost.ensures.ok in
-    let counts = c.in_ok-on_packets_lost.ensures.losses ∙ ap (λ l. all_lost now.end.path.generation l (lost_by v now.end.tracking.packets)) c.no_losses-losses.ensures in
-    detects g.C.Controller.steps now _ c.tell_lost.new.self c.args.by_ack v c.on_packets_lost.new.losses loses c.verdict-verdict.ensures counts c.tell_lost.ensures
+    let counts = c.in_ok-on_packets_lost.ensures.losses ∙ ap (λ l. all_lost now.end.path.generation (open_probe now.end.path.discovery) l (lost_by v now.end.tracking.packets)) c.no_losses-losses.ensures in
+    detects g.C.Controller.steps now _ c.judge_size.new.self c.tell_lost.new.self c.args.by_ack v c.on_packets_lost.new.losses loses c.verdict-verdict.ensures counts c.judge_size.ensures c.tell_lost.ensures

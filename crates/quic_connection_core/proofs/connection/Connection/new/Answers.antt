@@ -1,33 +1,52 @@
-use Rattle.std.proofs.Common.{rules, ◌≡◌, ◌≤◌, ◌*◌, ℕ, false, length, refl, sym, ap, subst, ◌∙◌, arith}
-use Rattle.std.specs.Prelude.{Ok, ◌==◌, min}
-use Rattle.std.proofs.lemmas.Bool.{le-ltb}
+use Rattle.std.proofs.Common.{rules, ◌≡◌, ◌≤◌, ◌*◌, ◌||◌, ℕ, Bool, true, false, nat_lt, Option, length, refl, sym, ap, subst, ◌∙◌, arith}
+use Rattle.std.specs.Prelude.{Ok, IfSome, ◌==◌, min}
+use Rattle.std.proofs.lemmas.Bool.{le-ltb, ltb-false}
 use Rattle.quic_parameters.specs.ParametersRead.{parameters_at}
-use Rattle.quic_parameters.specs.Parameters.{AreInRange}
-use Rattle.quic_config.specs.Transport.{transport_of, first_mtu}
+use Rattle.quic_config.specs.Configs.{SearchSettings}
+use Rattle.quic_config.specs.Transport.{TransportSettings, transport_of, first_mtu}
 use Rattle.quic_congestion.specs.Congestion.{HasRoom}
-use Rattle.quic_machine.specs.End.{are_sizes_wrong, is_window_small}
-use Rattle.quic_connection_core.specs.Telling.{IsRoomy}
-use Rattle.quic_parameters.specs.declared.transport_parameters.id.TransportParameterId.TheVariants.{MaxUdpPayloadSize}
+use Rattle.quic_congestion.specs.Search.{Discovery}
+use Rattle.quic_congestion.specs.SearchBounds.{IsSized}
+use Rattle.quic_congestion.proofs.SizedSearch.{sized_first}
+use Rattle.quic_machine.specs.End.{most_payload, are_sizes_wrong, is_window_small}
+use Rattle.quic_connection_core.specs.Telling.{IsTold}
 use Rattle.quic_machine.specs.PathLaws.{size_by}
 use Rattle.quic_connection_core.proofs.Flights.{none_in_flight}
 use Rattle.quic_connection_core.proofs.connection.Connection.new.Goals as goal
+
+last_none : (a b c : Bool) → a || b || c ≡ false → c ≡ false
+last_none true b c is = absurd cc
+last_none false true c is = absurd cc
+last_none false false c is = is
 
 pub invariant_of-result : goal.invariant_of-result
 invariant_of-result g c =
     let made = c.path.view_is ∙ c.first_path-path.ensures in
     let flight = ap (λ p. p.in_flight) made in
-    let first : 1200 ≤ first_mtu c.transport-transport.result = c.get_initial_mtu-mtu.ensures.bound in
-    let size = ap (λ p. p.discovery.size) made ∙ ap (λ (n : ℕ). min n c.in-Ok.theirs.max_udp_payload_size) (size_by c.transport-transport.result.mtu_discovery_config (first_mtu c.transport-transport.result) c.transport-transport.result.min_mtu) in
-    let range : AreInRange c.in-Ok.theirs = search rules in
-    let least = (range.each MaxUdpPayloadSize).0 in
-    let room : HasRoom (first_mtu c.transport-transport.result) c.window-window.result = record {
+    let t = c.transport-transport.result in
+    let theirs = c.in-Ok.theirs in
+    let limit = theirs.max_udp_payload_size in
+    let settings = c.args.config.now.settings in
+    let first : 1200 ≤ first_mtu t = c.get_initial_mtu-mtu.ensures.bound in
+    let size = ap (λ p. p.discovery.size) made ∙ ap (λ (n : ℕ). min n limit) (size_by t.mtu_discovery_config (first_mtu t) t.min_mtu) in
+    let wrong : are_sizes_wrong settings theirs ≡ false = sym (c.are_sizes_wrong.ensures settings (sym c.transport-transport.ensures)) ∙ search rules in
+    let floor : settings.min_mtu ≤ limit = ltb-false limit settings.min_mtu (last_none (nat_lt most_payload settings.initial_mtu) (nat_lt most_payload settings.min_mtu) (nat_lt limit settings.min_mtu) wrong) in
+    let within : t.min_mtu ≤ limit = subst (λ (x : TransportSettings). x.min_mtu ≤ limit) (sym c.transport-transport.ensures) floor in
+    let steps : IfSome t.mtu_discovery_config (λ s. 2 ≤ s.least_change) = subst (λ (o : Option SearchSettings). IfSome o (λ s. 2 ≤ s.least_change)) c.get_mtu_discovery_config-search.ensures.value c.get_mtu_discovery_config-search.ensures.steps in
+    let sized : IsSized 1200 limit c.path.inside.mtud = subst (λ (d : Discovery). IsSized 1200 limit d) (sym (ap (λ p. p.discovery) made)) (sized_first 1200 limit t first c.get_min_mtu-least.ensures.bound within steps) in
+    let room : HasRoom (first_mtu t) c.window-window.result = record {
       sized = omega (arith, c.get_initial_mtu-mtu.ensures.value, c.get_initial_mtu-mtu.type_inv);
       room = omega (arith, c.get_initial_mtu-mtu.ensures.value, c.from.ensures, c.if-window-from.false);
     } in
-    let built = g.met.F.ControllerFactory.built_for_size c.factory.result.now c.args.now (first_mtu c.transport-transport.result) in
-    let shown : g.C.Controller.size_of c.path.inside.congestion ≡ first_mtu c.transport-transport.result = ap (λ p. g.C.Controller.size_of p.congestion) made ∙ built in
-    let roomy : IsRoomy g.C.Controller.size_of g.C.Controller.window_of c.path.inside.congestion (first_mtu c.transport-transport.result) = record { size = shown; room = subst (λ (k : ℕ). HasRoom (first_mtu c.transport-transport.result) k) c.window-window.ensures room } in
-    (search rules, search rules, record { first = first; current = omega (arith, size, first, least) }, roomy, room, rw (flight, c.new-3.ensures) (none_in_flight _ _))
+    let window : 2400 ≤ c.window-window.result = omega (arith, first, c.get_initial_mtu-mtu.ensures.value, c.from.ensures, c.if-window-from.false) in
+    let built = g.met.F.ControllerFactory.built_for_size c.factory.result.now c.args.now (first_mtu t) in
+    let shown : g.C.Controller.size_of c.path.inside.congestion ≡ first_mtu t = ap (λ p. g.C.Controller.size_of p.congestion) made ∙ built in
+    let shows : HasRoom (first_mtu t) (g.C.Controller.window_of c.path.inside.congestion) = subst (λ (k : ℕ). HasRoom (first_mtu t) k) c.window-window.ensures room in
+    let told : IsTold g.C.Controller.size_of g.C.Controller.window_of c.path.inside.mtud.size c.path.inside.congestion = record {
+      size = omega (arith, size, shown);
+      room = subst (λ (k : ℕ). HasRoom k (g.C.Controller.window_of c.path.inside.congestion)) (sym shown) shows;
+    } in
+    (search rules, search rules, record { sized = sized; told = told; window = window }, rw (flight, c.new-3.ensures) (none_in_flight _ _))
 
 pub returns-clause-roomy : goal.returns-clause-roomy
 returns-clause-roomy g c =

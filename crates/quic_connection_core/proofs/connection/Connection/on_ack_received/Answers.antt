@@ -1,4 +1,4 @@
-use Rattle.std.proofs.Common.{◌≡◌, ap, ◌∙◌, sym}
+use Rattle.std.proofs.Common.{ap, ◌∙◌, sym}
 use Rattle.quic_machine.specs.Tracking.{acked_by}
 use Rattle.quic_machine.specs.Acked.{marks_seen, told_seen}
 use Rattle.quic_connection_core.specs.Telling.{telling}

@@ -8,7 +8,7 @@ use Rattle.quic_connection_core.proofs.connection.Connection.on_packet_lost.Goal
 pub returns-clause-ok : goal.returns-clause-ok
 returns-clause-ok g c =
     let now = c.args.self.now in
-    let whole = c.self.view_is ∙ c.count_lost.ensures in
+    let whole = c.self.view_is in
     let streams = c.on_carried_lost.new.streams in
     let lost = c.in_ok-on_carried_lost.ensures ∙ ap (λ w. with_carried_lost c.args.packet.now.carried (streams_at w.end)) whole in
     ap (λ w. with_end w (with_streams w.end (streams_of streams.state streams.pending))) whole

@@ -6,15 +6,16 @@ use Rattle.quic_recovery_core.specs.PendingAcks.{is_filled}
 use Rattle.quic_spaces.specs.Acknowledging.{delay_at}
 use Rattle.quic_spaces.specs.Marks.{told_counts}
 use Rattle.quic_spaces.proofs.AckSize.{few_runs}
-use Rattle.quic_wire.specs.Value.{ack}
+use Rattle.quic_wire.specs.Value.{ack, ping}
 use Rattle.quic_wire.specs.Writing.{spelling}
 use Rattle.quic_machine.specs.Poll.{ack_of}
+use Rattle.quic_connection_core.specs.Leaving.{leaving_of}
 use Rattle.quic_connection_core.proofs.connection.Connection.put_leave.Goals as goal
 
 pub put_ack-largest-requires-clause-some : goal.put_ack-largest-requires-clause-some
 put_ack-largest-requires-clause-some g c =
     let a = c.args.self.now.end.acknowledging in
-    (and_parts a.due (is_filled a.runs) (c.requires.due c.if-held.true)).1
+    (and_parts a.due (is_filled a.runs) (c.requires.due (ap leaving_of c.in-Alone.is))).1
 
 pub put_ack-largest-requires-clause-room : goal.put_ack-largest-requires-clause-room
 put_ack-largest-requires-clause-room g c few =
@@ -24,7 +25,18 @@ put_ack-largest-requires-clause-room g c few =
     let room = c.requires.room in
     omega (arith, most, some, room)
 
-pub returns-then-held-clause-front : goal.returns-then-held-clause-front
-returns-then-held-clause-front g c =
+pub returns-in-Alone-clause-front : goal.returns-in-Alone-clause-front
+returns-in-Alone-clause-front g c =
     ap (λ z. take (vec_len c.args.out.now) z) c.put_ack-largest.ensures.items
     ∙ take_at c.args.out.now.items (spelling (ack (ack_of c.args.self.now.end))) (vec_len c.args.out.now) (sym c.args.out.now.ok.0)
+
+pub put_ping-requires : goal.put_ping-requires
+put_ping-requires g c =
+    let some = c.requires.some in
+    let room = c.requires.room in
+    omega (arith, some, room)
+
+pub returns-in-Probe-clause-front : goal.returns-in-Probe-clause-front
+returns-in-Probe-clause-front g c =
+    ap (λ z. take (vec_len c.args.out.now) z) c.put_ping.ensures.items
+    ∙ take_at c.args.out.now.items (spelling ping) (vec_len c.args.out.now) (sym c.args.out.now.ok.0)

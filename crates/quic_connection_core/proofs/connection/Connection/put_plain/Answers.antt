@@ -1,4 +1,4 @@
-use Rattle.std.proofs.Common.{rules, ◌≡◌, ◌+◌, ◌++◌, ℕ, List, length, ap, sym, ◌∙◌, arith}
+use Rattle.std.proofs.Common.{◌≡◌, ◌+◌, ◌-◌, ◌++◌, ℕ, Bool, max, List, length, ap, sym, ◌∙◌, arith}
 use Rattle.std.specs.Prelude.{vec_len}
 use Rattle.quic_packet.specs.Number.{truncated}
 use Rattle.quic_packet.specs.Header.{header_bytes}
@@ -6,15 +6,16 @@ use Rattle.quic_spaces.specs.Numbers.{cut_against}
 use Rattle.quic_machine.specs.End.{number_of}
 use Rattle.std.proofs.lemmas.List.{length-append}
 use Rattle.quic_machine.specs.Parts.{current_mtu}
-use Rattle.quic_machine.specs.Poll.{draft_if, payload_of, datagram_size}
-use Rattle.quic_connection_core.proofs.Plain.{front_of, same_numbers, same_filter, same_ids, payload_is, payload_long, size_is, size_of, plain_of}
+use Rattle.quic_machine.specs.Poll.{draft_left, asking}
+use Rattle.quic_connection_core.specs.Leaving.{leaving_of, least_of, zeros_of}
+use Rattle.quic_connection_core.proofs.Plain.{front_of, same_numbers, same_filter, same_ids, same_least_of, least_within, mtu_within, payload_is, payload_long, size_is, plain_of}
 use Rattle.quic_connection_core.proofs.connection.Connection.put_plain.Goals as goal
 
 pub put_leave-requires-clause-some : goal.put_leave-requires-clause-some
 put_leave-requires-clause-some g c =
     let width = c.put_header-width.ensures.width in
     let short = c.put_header-width.ensures.short in
-    let sized = c.self.invariant.2.current in
+    let sized = c.self.invariant.2.sized.between.size in
     let same = ap (λ w. current_mtu w.end.path) c.self.view_is in
     omega arith
 
@@ -25,66 +26,107 @@ put_leave-requires-clause-room g c =
     let short = c.put_header-width.ensures.short in
     let capacity = c.put_header-width.ensures.capacity in
     let room = c.requires.room in
-    let sized = c.self.invariant.2.current in
+    let mtu = mtu_within (leaving_of c.args.leaving) c.args.self.now.end in
+    let sized = c.self.invariant.2.sized.between.size in
     let same = ap (λ w. current_mtu w.end.path) c.self.view_is in
     omega arith
 
 pub pad-requires-clause-room : goal.pad-requires-clause-room
 pad-requires-clause-room g c =
+    let e = c.args.self.now.end in
+    let l = leaving_of c.args.leaving in
+    let d = draft_left l e in
+    let least : c.least_size-least.result ≡ least_of l (asking d.frames) e =
+    c.least_size-least.ensures ∙ ap (λ w. least_of l c.in_ok-sent.sent.asks w.end) c.in_ok-sent.ensures.end ∙ ap (λ (b : Bool). least_of l b d.end) c.in_ok-sent.ensures.asks ∙ same_least_of l e c.requires.due (asking d.frames) in
+    let most = least_within l (asking d.frames) e in
+    let mtu = mtu_within l e in
+    let few = c.saturating_sub.ensures in
     let within = c.in_ok-sent.ensures.within in
     let grows = c.in_ok-sent.ensures.grows in
     let width = c.put_header-width.ensures.width in
     let len = c.put_header-width.ensures.len in
     let short = c.put_header-width.ensures.short in
+    let start = c.len-start.ensures in
     let body = c.len-body.ensures in
     let one = c.put_header-width.ensures.capacity in
     let two = c.in_ok-sent.ensures.capacity in
     let room = c.requires.room in
-    let sized = c.self.invariant.2.current in
+    let sized = c.self.invariant.2.sized.between.size in
     let same = ap (λ w. current_mtu w.end.path) c.self.view_is in
     omega arith
 
 pub returns-clause-items : goal.returns-clause-items
 returns-clause-items g c =
     let e = c.args.self.now.end in
+    let l = leaving_of c.args.leaving in
+    let d = draft_left l e in
     let t = truncated (number_of e) (cut_against e.numbers) in
     let before : List ℕ = c.put_header-width.new.out.items in
     let whole : List ℕ = c.put_leave.new.out.items in
-    plain_of c.args.out.now.items before (header_bytes e.ids.active.id t) whole c.pad.new.out.items (draft_if c.args.held e).bytes t.width c.put_header-width.result (vec_len c.put_leave.new.out) c.len-body.result
-    (search rules) (search rules) (search rules) (search rules) c.in_ok-sent.ensures.items c.pad.ensures.items
-    ∙ ap (λ (z : List ℕ). c.args.out.now.items ++ (header_bytes e.ids.active.id t ++ z)) (sym (payload_is c.args.held e c.requires.due))
+    let least : c.least_size-least.result ≡ least_of l (asking d.frames) e =
+    c.least_size-least.ensures ∙ ap (λ w. least_of l c.in_ok-sent.sent.asks w.end) c.in_ok-sent.ensures.end ∙ ap (λ (b : Bool). least_of l b d.end) c.in_ok-sent.ensures.asks ∙ same_least_of l e c.requires.due (asking d.frames) in
+    let grown : vec_len c.put_leave.new.out ≡ vec_len c.put_header-width.new.out + length d.bytes =
+    c.put_leave.new.out.ok.0 ∙ ap length c.in_ok-sent.ensures.items ∙ length-append before d.bytes ∙ ap (λ (k : ℕ). k + length d.bytes) (sym c.put_header-width.new.out.ok.0) in
+    let few = c.saturating_sub.ensures in
+    let width = c.put_header-width.ensures.width in
+    let len = c.put_header-width.ensures.len in
+    let start = c.len-start.ensures in
+    let body = c.len-body.ensures in
+    let zeros : max (4 - (c.put_header-width.result + (vec_len c.put_leave.new.out - c.len-body.result))) (c.saturating_sub.result - (vec_len c.put_leave.new.out - c.len-body.result)) ≡ zeros_of e (length d.bytes) (least_of l (asking d.frames) e)
+    = omega (arith, least, grown, few, width, len, start, body) in
+    plain_of c.args.out.now.items before (header_bytes e.ids.active.id t) whole c.pad.new.out.items d.bytes _ _ c.put_header-width.ensures.items c.in_ok-sent.ensures.items c.pad.ensures.items zeros
+    ∙ ap (λ (z : List ℕ). c.args.out.now.items ++ (header_bytes e.ids.active.id t ++ z)) (sym (payload_is l e c.requires.due))
 
 pub returns-clause-within : goal.returns-clause-within
 returns-clause-within g c =
+    let e = c.args.self.now.end in
+    let l = leaving_of c.args.leaving in
+    let d = draft_left l e in
+    let least : c.least_size-least.result ≡ least_of l (asking d.frames) e =
+    c.least_size-least.ensures ∙ ap (λ w. least_of l c.in_ok-sent.sent.asks w.end) c.in_ok-sent.ensures.end ∙ ap (λ (b : Bool). least_of l b d.end) c.in_ok-sent.ensures.asks ∙ same_least_of l e c.requires.due (asking d.frames) in
+    let most = least_within l (asking d.frames) e in
+    let mtu = mtu_within l e in
+    let few = c.saturating_sub.ensures in
     let within = c.in_ok-sent.ensures.within in
     let grows = c.in_ok-sent.ensures.grows in
     let width = c.put_header-width.ensures.width in
     let len = c.put_header-width.ensures.len in
     let short = c.put_header-width.ensures.short in
+    let start = c.len-start.ensures in
     let body = c.len-body.ensures in
     let padded = c.pad.ensures.len in
-    let sized = c.self.invariant.2.current in
+    let sized = c.self.invariant.2.sized.between.size in
     let same = ap (λ w. current_mtu w.end.path) c.self.view_is in
     omega arith
 
 pub returns-clause-size : goal.returns-clause-size
 returns-clause-size g c =
     let e = c.args.self.now.end in
+    let l = leaving_of c.args.leaving in
+    let d = draft_left l e in
     let before : List ℕ = c.put_header-width.new.out.items in
-    let grown : vec_len c.put_leave.new.out ≡ vec_len c.put_header-width.new.out + length (draft_if c.args.held e).bytes =
-    c.put_leave.new.out.ok.0 ∙ ap length c.in_ok-sent.ensures.items ∙ length-append before (draft_if c.args.held e).bytes ∙ ap (λ (k : ℕ). k + length (draft_if c.args.held e).bytes) (sym c.put_header-width.new.out.ok.0) in
-    size_of (datagram_size (draft_if c.args.held e)) (length e.ids.active.id) (truncated (number_of e) (cut_against e.numbers)).width c.put_header-width.result (length (payload_of (draft_if c.args.held e))) (length (draft_if c.args.held e).bytes)
-    (vec_len c.args.out.now) (vec_len c.put_header-width.new.out) (vec_len c.put_leave.new.out) (vec_len c.pad.new.out) c.len-body.result
-    (size_is c.args.held e c.requires.due) (payload_long c.args.held e c.requires.due) c.put_header-width.ensures.width c.put_header-width.ensures.len c.len-body.ensures grown c.pad.ensures.len
+    let least : c.least_size-least.result ≡ least_of l (asking d.frames) e =
+    c.least_size-least.ensures ∙ ap (λ w. least_of l c.in_ok-sent.sent.asks w.end) c.in_ok-sent.ensures.end ∙ ap (λ (b : Bool). least_of l b d.end) c.in_ok-sent.ensures.asks ∙ same_least_of l e c.requires.due (asking d.frames) in
+    let grown : vec_len c.put_leave.new.out ≡ vec_len c.put_header-width.new.out + length d.bytes =
+    c.put_leave.new.out.ok.0 ∙ ap length c.in_ok-sent.ensures.items ∙ length-append before d.bytes ∙ ap (λ (k : ℕ). k + length d.bytes) (sym c.put_header-width.new.out.ok.0) in
+    let few = c.saturating_sub.ensures in
+    let width = c.put_header-width.ensures.width in
+    let len = c.put_header-width.ensures.len in
+    let start = c.len-start.ensures in
+    let body = c.len-body.ensures in
+    let padded = c.pad.ensures.len in
+    let size = size_is l e c.requires.due in
+    let long = payload_long l e c.requires.due in
+    omega (arith, least, grown, few, width, len, start, body, padded, size, long)
 
 pub returns-clause-filter : goal.returns-clause-filter
-returns-clause-filter g c = ap (λ w. w.end.filter) c.in_ok-sent.ensures.end ∙ same_filter c.args.held c.args.self.now.end c.requires.due
+returns-clause-filter g c = ap (λ w. w.end.filter) c.in_ok-sent.ensures.end ∙ same_filter (leaving_of c.args.leaving) c.args.self.now.end c.requires.due
 
 pub returns-clause-numbers : goal.returns-clause-numbers
-returns-clause-numbers g c = ap (λ w. w.end.numbers) c.in_ok-sent.ensures.end ∙ same_numbers c.args.held c.args.self.now.end c.requires.due
+returns-clause-numbers g c = ap (λ w. w.end.numbers) c.in_ok-sent.ensures.end ∙ same_numbers (leaving_of c.args.leaving) c.args.self.now.end c.requires.due
 
 pub returns-clause-ids : goal.returns-clause-ids
-returns-clause-ids g c = ap (λ w. w.end.ids) c.in_ok-sent.ensures.end ∙ same_ids c.args.held c.args.self.now.end c.requires.due
+returns-clause-ids g c = ap (λ w. w.end.ids) c.in_ok-sent.ensures.end ∙ same_ids (leaving_of c.args.leaving) c.args.self.now.end c.requires.due
 
 pub returns-in_err-sent-clause-front : goal.returns-in_err-sent-clause-front
 returns-in_err-sent-clause-front g c =

@@ -5,7 +5,8 @@ use Rattle.std.specs.Option.{option_map}
 use Rattle.quic_streams_parts.specs.Table.{at}
 use Rattle.quic_machine.specs.Tracking.{asks_any, acked_by, not_acked_by, after_answered}
 use Rattle.quic_machine.specs.End.{with_end, with_tracking}
-use Rattle.quic_machine.specs.Control.{last_sent, told_packets, told_acks_ended}
+use Rattle.quic_machine.specs.Control.{last_sent, told_acks_ended}
+use Rattle.quic_machine.specs.Sizes.{told_packets}
 use Rattle.quic_machine.specs.Acked.{packets_acked, losses_detected, answered, told_detected}
 use Rattle.quic_connection_core.specs.Telling.{telling}
 use Rattle.quic_connection_core.specs.Tracked.{sampled_at, acked_taken, acked_told}

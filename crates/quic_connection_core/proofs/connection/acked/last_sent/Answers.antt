@@ -1,4 +1,4 @@
-use Rattle.std.proofs.Common.{◌≡◌, ap, ◌∙◌}
+use Rattle.std.proofs.Common.{ap, ◌∙◌}
 use Rattle.quic_machine.specs.Tracking.{TrackedPacket}
 use Rattle.quic_connection_core.proofs.Told.{first_sent}
 use Rattle.quic_connection_core.proofs.connection.acked.last_sent.Goals as goal

@@ -15,4 +15,4 @@ returns c =
       | then-self w ↦ w.self-is ∙ or_true c.self.inside.flew (flies c.args.generation (c.args.number, c.args.packet.now)) w.if-self.true
       | else-self w ↦ w.self-is ∙ w.flies-self-inside.ensures c.args.number ∙ or_false c.self.inside.flew (flies c.args.generation (c.args.number, c.args.packet.now)) w.if-self.false
     ] in
-    rw (flew, c.saturating_add-self-inside.ensures, c.from.ensures, c.on_lost.ensures) (rw (← c.self.view_is) (rw (← c.packet.view_is) refl))
+    rw (flew, c.saturating_add-self-inside.ensures, c.from.ensures, c.on_lost.ensures, c.shows-asks.ensures, c.if-is_probe.false) (rw (← c.self.view_is) (rw (← c.packet.view_is) refl))

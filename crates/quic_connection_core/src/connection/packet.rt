@@ -1,0 +1,597 @@
+//! The packet of a datagram: header, frames, PADDING and seal.
+ghost use Rattle.std.specs.Prelude.{◌≡◌, ◌+◌, ◌-◌, ◌<◌, ◌≤◌, ◌^◌, ◌++◌, length, replicate, take, drop, IfOk, OnOk, OnErr, true, vec_len, vec_capacity, max};
+ghost use Rattle.quic_packet.specs.Number.{truncated};
+ghost use Rattle.quic_packet.specs.Header.{header_bytes};
+ghost use Rattle.quic_packet.specs.Datagram.{protected};
+ghost use Rattle.quic_wire.specs.AckSet.{ranges_of_set, greatest};
+ghost use Rattle.quic_wire.specs.Value.{ack, ping};
+ghost use Rattle.quic_wire.specs.Writing.{spelling, spelled_all, frame_size};
+ghost use Rattle.quic_recovery_core.specs.declared.spaces.pending_acks.TheConstants.{MAX_ACK_RUNS};
+ghost use Rattle.quic_recovery_core.specs.PendingAcks.{can_send, is_filled};
+ghost use Rattle.quic_time.specs.Timers.{no_timers};
+ghost use Rattle.quic_retransmits.specs.Kept.{made};
+ghost use Rattle.quic_streams_state.specs.State.{streams_of};
+ghost use Rattle.quic_machine.specs.End.{with_end, with_number_given, number_of, policy_of, HasFailed};
+ghost use Rattle.quic_spaces.specs.Acknowledging.{most_ack_bytes};
+ghost use Rattle.quic_spaces.specs.Numbers.{can_number, cut_against};
+ghost use Rattle.quic_machine.specs.Tracking.{carried_in, retransmits_in};
+ghost use Rattle.quic_machine.specs.Poll.{alone, draft_left, draft_as, lazied_as, most_of, composed, frame_room, payload_of, datagram_of, datagram_size, paid_if, told_draft, after_given, asking, tracked, ack_of, after_ack};
+ghost use Rattle.quic_connection_core.specs.Leaving.{leaving_of, IsLooked, least_of};
+ghost use Rattle.quic_machine.specs.Parts.{current_mtu};
+ghost use Rattle.quic_connection_core.specs.Frames.{control_part, content, content_at, with_content, asked, ping_bytes, pinged, fits_behind, ack_bytes_if, acked_if, end_after_ack_if};
+ghost use Rattle.quic_connection_core.specs.Drawn.{words_of, after_words};
+ghost use Rattle.quic_connection_core.specs.Telling.{KeepsKeys};
+ghost use Rattle.quic_congestion.specs.Congestion.{after_calls};
+
+use crate::connection::Connection;
+use crate::connection::leaving::Leaving;
+use crate::connection::messages::put_messages;
+use crate::connection::sent::{Carried, SentFrames};
+use crate::connection::statistics::{count_frames, count_streams};
+use quic_congestion::Controller;
+use quic_machine::{Failed, Timer};
+use quic_messages::DatagramState;
+use quic_packet::crypto::{HeaderKey, PacketKey, TAG_LEN};
+use quic_packet::{PacketNumber, ShortHeader, seal_reserved};
+use quic_retransmits::{Retransmits, ThinRetransmits};
+use quic_stats::FrameStats;
+use quic_streams_handles::EndStreams;
+use quic_wire::frame::{Ack, Frame, Stream, put_frame};
+use quic_wire_core::reserved::append_zeros;
+use rand_core::Rng;
+use std::alloc::{AllocError, Global};
+
+impl<H: HeaderKey + Drop, K: PacketKey + Drop, R: Rng + Drop, C: Controller> Connection<
+    H,
+    K,
+    R,
+    C,
+> {
+    /// A packet is made: an acknowledgement is due where many packets came that don't ask. A probe
+    /// of a size carries none.
+    fn lazy(&mut self, leaving: Leaving)
+        ensures { self.new ≡ with_end self.old (lazied_as (leaving_of leaving) self.old.end) }
+    {
+        match leaving {
+            Leaving::Whole | Leaving::Alone => self.space.acknowledging.lazy(),
+            Leaving::Probe(_) => {}
+        }
+    }
+
+    /// How many bytes the datagram of what leaves has at most.
+    fn most_size(&self, leaving: Leaving) -> usize
+        ensures { result ≡ most_of (leaving_of leaving) self.now.end }
+    {
+        match leaving {
+            Leaving::Whole | Leaving::Alone => usize::from(self.path.current_mtu()),
+            Leaving::Probe(size) => usize::from(size.max(self.path.current_mtu())),
+        }
+    }
+
+    /// Appends the datagram of what leaves, tracks it, and counts it as given: its size. Where
+    /// memory lacks, nothing is appended, and the end fails for good.
+    pub(crate) fn give(&mut self, leaving: Leaving, out: &mut Vec<u8>) -> Result<usize, Failed>
+        requires number { can_number self.old.end.numbers ≡ true }
+        requires due { leaving_of leaving ≡ alone → can_send (lazied_as (leaving_of leaving) self.old.end).acknowledging ≡ true }
+        requires looked { IsLooked leaving self.old.end }
+        ensures items { OnOk result (out.new.items ≡ out.old.items ++ datagram_of (policy_of H.protection K.aead (words_of R.stream) self.old) (draft_as (leaving_of leaving) self.old.end)) }
+        ensures size { IfOk result (λ size. vec_len out.new ≡ vec_len out.old + size) }
+        ensures most { IfOk result (λ size. size ≤ most_of (leaving_of leaving) self.old.end) }
+        ensures end { OnOk result (self.new.end ≡ after_given (policy_of H.protection K.aead (words_of R.stream) self.old) (draft_as (leaving_of leaving) self.old.end)) }
+        ensures control { OnOk result (self.new.control ≡ after_calls C.steps self.old.control (told_draft (draft_as (leaving_of leaving) self.old.end))) }
+        ensures keys { self.new.keys ≡ self.old.keys }
+        ensures random { OnOk result (R.stream self.new.random ≡ after_words (self.new.end.filter.drawn - self.old.end.filter.drawn) (R.stream self.old.random)) }
+        ensures failed { OnErr result (HasFailed self.old self.new) }
+        ensures stopped { OnErr result (self.new.end.timers ≡ no_timers) }
+        ensures nothing { OnErr result (out.new.items ≡ out.old.items) }
+    {
+        if out.reserve(self.most_size(leaving)).is_err() {
+            self.fail();
+            return Err(Failed);
+        }
+        self.lazy(leaving);
+        self.put_datagram(leaving, out)
+    }
+
+    /// The same, where there is room for the datagram, and an acknowledgement is due if many
+    /// packets came that don't ask.
+    fn put_datagram(&mut self, leaving: Leaving, out: &mut Vec<u8>) -> Result<usize, Failed>
+        requires number { can_number self.old.end.numbers ≡ true }
+        requires due { leaving_of leaving ≡ alone → can_send self.old.end.acknowledging ≡ true }
+        requires looked { IsLooked leaving self.old.end }
+        requires room { vec_len out.old + most_of (leaving_of leaving) self.old.end ≤ vec_capacity out.old }
+        ensures items { OnOk result (out.new.items ≡ out.old.items ++ datagram_of (policy_of H.protection K.aead (words_of R.stream) self.old) (draft_left (leaving_of leaving) self.old.end)) }
+        ensures size { IfOk result (λ size. vec_len out.new ≡ vec_len out.old + size) }
+        ensures most { IfOk result (λ size. size ≤ most_of (leaving_of leaving) self.old.end) }
+        ensures end { OnOk result (self.new.end ≡ after_given (policy_of H.protection K.aead (words_of R.stream) self.old) (draft_left (leaving_of leaving) self.old.end)) }
+        ensures control { OnOk result (self.new.control ≡ after_calls C.steps self.old.control (told_draft (draft_left (leaving_of leaving) self.old.end))) }
+        ensures keys { self.new.keys ≡ self.old.keys }
+        ensures random { OnOk result (R.stream self.new.random ≡ after_words (self.new.end.filter.drawn - self.old.end.filter.drawn) (R.stream self.old.random)) }
+        ensures failed { OnErr result (HasFailed self.old self.new) }
+        ensures stopped { OnErr result (self.new.end.timers ≡ no_timers) }
+        ensures nothing { OnErr result (out.new.items ≡ out.old.items) }
+    {
+        let start = out.len();
+        let number = self.number();
+        if self.put_tracked(leaving, out).is_err() {
+            out.truncate(start);
+            self.fail();
+            return Err(Failed);
+        }
+        self.seal(start, number, out);
+        self.app_limited = false;
+        self.set_loss_timer();
+        Ok(out.len() - start)
+    }
+
+    /// Appends the packet of what waits, for which there is room, unsealed, tracks it, and counts
+    /// its number as given. An error is want of memory; the end is of no more use then, and some of
+    /// the packet may stand in `out`.
+    fn put_tracked(&mut self, leaving: Leaving, out: &mut Vec<u8>) -> Result<(), AllocError>
+        requires number { can_number self.old.end.numbers ≡ true }
+        requires due { leaving_of leaving ≡ alone → can_send self.old.end.acknowledging ≡ true }
+        requires looked { IsLooked leaving self.old.end }
+        requires room { vec_len out.old + most_of (leaving_of leaving) self.old.end ≤ vec_capacity out.old }
+        ensures items { OnOk result (out.new.items ≡ out.old.items ++ (header_bytes self.old.end.ids.active.id (truncated (number_of self.old.end) (cut_against self.old.end.numbers)) ++ payload_of (draft_left (leaving_of leaving) self.old.end))) }
+        ensures four { OnOk result (vec_len out.old + 1 + length self.old.end.ids.active.id + 4 ≤ vec_len out.new) }
+        ensures within { OnOk result (vec_len out.new + 16 ≤ vec_len out.old + most_of (leaving_of leaving) self.old.end) }
+        ensures capacity { vec_capacity out.old ≤ vec_capacity out.new }
+        ensures end { OnOk result (self.new.end ≡ paid_if (asking (draft_left (leaving_of leaving) self.old.end).frames) (with_number_given (words_of R.stream self.old.random 0) (tracked (draft_left (leaving_of leaving) self.old.end))) (datagram_size (draft_left (leaving_of leaving) self.old.end))) }
+        ensures control { OnOk result (self.new.control ≡ after_calls C.steps self.old.control (told_draft (draft_left (leaving_of leaving) self.old.end))) }
+        ensures random { OnOk result (R.stream self.new.random ≡ after_words (self.new.end.filter.drawn - self.old.end.filter.drawn) (R.stream self.old.random)) }
+        ensures ids { OnOk result (self.new.end.ids ≡ self.old.end.ids) }
+        ensures keys { self.new.keys ≡ self.old.keys }
+        ensures front { take (vec_len out.old) out.new.items ≡ out.old.items }
+        ensures grows { vec_len out.old ≤ vec_len out.new }
+        ensures others { OnErr result (KeepsKeys self.old self.new) }
+    {
+        let start = out.len();
+        // The proof reads that the size has 16 bits.
+        let _most = self.path.current_mtu();
+        let sent = self.put_plain(leaving, out)?;
+        let size = (out.len() - start + TAG_LEN) as u16;
+        self.track(size, sent)
+    }
+
+    /// Appends the packet of what waits, for which there is room, unsealed; its frames are taken:
+    /// what went. An error is want of memory; the end is of no more use then, and some of the
+    /// packet may stand in `out`.
+    fn put_plain(&mut self, leaving: Leaving, out: &mut Vec<u8>) -> Result<SentFrames, AllocError>
+        requires number { can_number self.old.end.numbers ≡ true }
+        requires due { leaving_of leaving ≡ alone → can_send self.old.end.acknowledging ≡ true }
+        requires looked { IsLooked leaving self.old.end }
+        requires room { vec_len out.old + most_of (leaving_of leaving) self.old.end ≤ vec_capacity out.old }
+        ensures items { OnOk result (out.new.items ≡ out.old.items ++ (header_bytes self.old.end.ids.active.id (truncated (number_of self.old.end) (cut_against self.old.end.numbers)) ++ payload_of (draft_left (leaving_of leaving) self.old.end))) }
+        ensures four { OnOk result (vec_len out.old + 1 + length self.old.end.ids.active.id + 4 ≤ vec_len out.new) }
+        ensures within { OnOk result (vec_len out.new + 16 ≤ vec_len out.old + most_of (leaving_of leaving) self.old.end) }
+        ensures capacity { vec_capacity out.old ≤ vec_capacity out.new }
+        ensures end { OnOk result (self.new ≡ with_end self.old (draft_left (leaving_of leaving) self.old.end).end) }
+        ensures size { OnOk result (vec_len out.new + 16 ≡ vec_len out.old + datagram_size (draft_left (leaving_of leaving) self.old.end)) }
+        ensures numbers { OnOk result (self.new.end.numbers ≡ self.old.end.numbers) }
+        ensures filter { OnOk result (self.new.end.filter ≡ self.old.end.filter) }
+        ensures ids { OnOk result (self.new.end.ids ≡ self.old.end.ids) }
+        ensures keys { self.new.keys ≡ self.old.keys }
+        ensures asks { IfOk result (λ sent. sent.asks ≡ asking (draft_left (leaving_of leaving) self.old.end).frames) }
+        ensures carried { IfOk result (λ sent. sent.carried ≡ carried_in (draft_left (leaving_of leaving) self.old.end).frames) }
+        ensures front { take (vec_len out.old) out.new.items ≡ out.old.items }
+        ensures grows { vec_len out.old ≤ vec_len out.new }
+        ensures others { self.new ≡ with_end self.old self.new.end }
+    {
+        // The proof reads that a datagram has 1200 bytes at least.
+        let _ = &self.path;
+        let start = out.len();
+        let width = self.put_header(out);
+        let body = out.len();
+        let sent = self.put_leave(leaving, out)?;
+        let beside = body - start + TAG_LEN;
+        let least = self.least_size(leaving, sent.asks);
+        pad(out, width, body, least.saturating_sub(beside));
+        Ok(sent)
+    }
+
+    /// Appends the frames of what leaves as a payload, for which there is room: of all that waits,
+    /// a due ACK alone, or PING as a probe of a size. This answers what went. An error is want of
+    /// memory; the end is of no more use then, and some of the frames may stand in `out`.
+    fn put_leave(&mut self, leaving: Leaving, out: &mut Vec<u8>) -> Result<SentFrames, AllocError>
+        requires number { can_number self.old.end.numbers ≡ true }
+        requires due { leaving_of leaving ≡ alone → can_send self.old.end.acknowledging ≡ true }
+        requires looked { IsLooked leaving self.old.end }
+        requires some { 1159 ≤ frame_room self.old.end }
+        requires room { vec_len out.old + frame_room self.old.end ≤ vec_capacity out.old }
+        ensures items { OnOk result (out.new.items ≡ out.old.items ++ (draft_left (leaving_of leaving) self.old.end).bytes) }
+        ensures within { vec_len out.new ≤ vec_len out.old + frame_room self.old.end }
+        ensures grows { vec_len out.old ≤ vec_len out.new }
+        ensures capacity { vec_capacity out.old ≤ vec_capacity out.new }
+        ensures end { OnOk result (self.new ≡ with_end self.old (draft_left (leaving_of leaving) self.old.end).end) }
+        ensures asks { IfOk result (λ sent. sent.asks ≡ asking (draft_left (leaving_of leaving) self.old.end).frames) }
+        ensures carried { IfOk result (λ sent. sent.carried ≡ carried_in (draft_left (leaving_of leaving) self.old.end).frames) }
+        ensures front { take (vec_len out.old) out.new.items ≡ out.old.items }
+        ensures others { self.new ≡ with_end self.old self.new.end }
+    {
+        match leaving {
+            Leaving::Whole => self.put_frames(out),
+            Leaving::Alone => {
+                let largest = self.put_ack(out);
+                Ok(SentFrames::acks(self.alloc, largest))
+            }
+            Leaving::Probe(_) => {
+                put_ping(out);
+                self.count_ping();
+                self.count_probe();
+                Ok(SentFrames::probe(self.alloc))
+            }
+        }
+    }
+
+    /// How many bytes a datagram has at least: a probe has its size, and one that asks that of its
+    /// path, where `pad_to_mtu` is set.
+    fn least_size(&self, leaving: Leaving, asks: bool) -> usize
+        ensures { result ≡ least_of (leaving_of leaving) asks self.now.end }
+    {
+        let size = match leaving {
+            Leaving::Whole | Leaving::Alone => 0,
+            Leaving::Probe(size) => size,
+        };
+        if self.transport.get_pad_to_mtu() && asks {
+            usize::from(size.max(self.path.current_mtu()))
+        } else {
+            usize::from(size)
+        }
+    }
+
+    /// Appends the frames of what waits as a payload, for which there is room. A due ACK goes
+    /// first, so that it always fits; one that isn't due goes last, where it fits, so that it takes
+    /// no room from what waits. This answers what went. An error is want of memory; the end is of
+    /// no more use then, and some of the frames may stand in `out`.
+    fn put_frames(&mut self, out: &mut Vec<u8>) -> Result<SentFrames, AllocError>
+        requires number { can_number self.old.end.numbers ≡ true }
+        requires some { 1159 ≤ frame_room self.old.end }
+        requires room { vec_len out.old + frame_room self.old.end ≤ vec_capacity out.old }
+        ensures items { OnOk result (out.new.items ≡ out.old.items ++ (composed self.old.end).bytes) }
+        ensures within { vec_len out.new ≤ vec_len out.old + frame_room self.old.end }
+        ensures grows { vec_len out.old ≤ vec_len out.new }
+        ensures capacity { vec_capacity out.old ≤ vec_capacity out.new }
+        ensures end { OnOk result (self.new ≡ with_end self.old (composed self.old.end).end) }
+        ensures asks { IfOk result (λ sent. sent.asks ≡ asking (composed self.old.end).frames) }
+        ensures carried { IfOk result (λ sent. sent.carried ≡ carried_in (composed self.old.end).frames) }
+        ensures front { take (vec_len out.old) out.new.items ≡ out.old.items }
+        ensures others { self.new ≡ with_end self.old self.new.end }
+    {
+        let body = out.len();
+        if self.is_ack_due() {
+            let largest = self.put_ack(out);
+            let sent = self.put_asking(body, out)?;
+            Ok(sent.with_ack(Some(largest)))
+        } else {
+            let sent = self.put_asking(body, out)?;
+            let largest = self.put_late_ack(body, out);
+            Ok(sent.with_ack(largest))
+        }
+    }
+
+    /// Whether an acknowledgement is due.
+    pub(crate) fn is_ack_due(&self) -> bool
+        ensures { result ≡ can_send self.now.end.acknowledging }
+    {
+        self.space.acknowledging.is_due()
+    }
+
+    /// Appends an ACK where there is a number to acknowledge and its frame fits behind the frames
+    /// of the packet whose payload begins at `body`; there is room for the whole payload. This
+    /// answers the greatest number that it names.
+    fn put_late_ack(&mut self, body: usize, out: &mut Vec<u8>) -> Option<u64>
+        requires number { can_number self.old.end.numbers ≡ true }
+        requires body { body ≤ vec_len out.old }
+        requires within { vec_len out.old ≤ body + frame_room self.old.end }
+        requires room { body + frame_room self.old.end ≤ vec_capacity out.old }
+        ensures items { out.new.items ≡ out.old.items ++ ack_bytes_if (fits_behind self.old.end (vec_len out.old - body)) self.old.end }
+        ensures within { vec_len out.new ≤ body + frame_room self.old.end }
+        ensures grows { vec_len out.old ≤ vec_len out.new }
+        ensures capacity { vec_capacity out.old ≤ vec_capacity out.new }
+        ensures end { self.new ≡ with_end self.old (end_after_ack_if (fits_behind self.old.end (vec_len out.old - body)) self.old.end) }
+        ensures largest { result ≡ acked_if (fits_behind self.old.end (vec_len out.old - body)) self.old.end }
+    {
+        if self.ack_fits(out.len() - body) {
+            Some(self.put_ack(out))
+        } else {
+            None
+        }
+    }
+
+    /// Whether there is a number to acknowledge, and its frame fits behind so many bytes of a
+    /// payload.
+    fn ack_fits(&self, used: usize) -> bool
+        requires number { can_number self.now.end.numbers ≡ true }
+        requires used { used ≤ frame_room self.now.end }
+        ensures { result ≡ fits_behind self.now.end used }
+    {
+        let room = self.frame_room() - used;
+        self.space.acknowledging.is_filled() && self.ack_size() <= room
+    }
+
+    /// How many bytes the ACK frame of this moment takes. There is a number to acknowledge.
+    fn ack_size(&self) -> usize
+        requires { is_filled self.now.end.acknowledging.runs ≡ true }
+        ensures { result ≡ frame_size (ack (ack_of self.now.end)) }
+    {
+        let counts = self.space.told_counts();
+        self.space
+            .acknowledging
+            .size(self.closing.clock(), counts.as_ref())
+    }
+
+    /// Appends an ACK, for which there is room, and stops its timer: the greatest number that it
+    /// names. There is a number to acknowledge.
+    fn put_ack(&mut self, out: &mut Vec<u8>) -> u64
+        requires some { is_filled self.old.end.acknowledging.runs ≡ true }
+        requires room { length self.old.end.acknowledging.runs ≤ MAX_ACK_RUNS → vec_len out.old + frame_size (ack (ack_of self.old.end)) ≤ vec_capacity out.old }
+        ensures items { out.new.items ≡ out.old.items ++ spelling (ack (ack_of self.old.end)) }
+        ensures len { vec_len out.new ≡ vec_len out.old + frame_size (ack (ack_of self.old.end)) }
+        ensures few { frame_size (ack (ack_of self.old.end)) ≤ most_ack_bytes }
+        ensures capacity { vec_capacity out.old ≤ vec_capacity out.new }
+        ensures end { self.new ≡ with_end self.old (after_ack self.old.end) }
+        ensures largest { result ≡ greatest (ranges_of_set self.old.end.acknowledging.runs) }
+    {
+        let largest = self.space.acknowledging.largest();
+        let counts = self.space.told_counts();
+        let now = self.closing.clock();
+        self.space.acknowledging.put(now, counts.as_ref(), out);
+        self.timers.stop(Timer::MaxAckDelay);
+        self.count_ack();
+        largest
+    }
+
+    /// Appends what asks for an acknowledgement, PING, messages and frames about streams, behind
+    /// the frames of the packet whose payload begins at `body`: none, or an ACK. There is room for
+    /// the whole payload. This answers what went. An error is want of memory; the end is of no more
+    /// use then.
+    fn put_asking(&mut self, body: usize, out: &mut Vec<u8>) -> Result<SentFrames, AllocError>
+        requires number { can_number self.old.end.numbers ≡ true }
+        requires body { body ≤ vec_len out.old }
+        requires few { vec_len out.old ≤ body + most_ack_bytes }
+        requires some { 1159 ≤ frame_room self.old.end }
+        requires room { body + frame_room self.old.end ≤ vec_capacity out.old }
+        ensures items { OnOk result (out.new.items ≡ out.old.items ++ (asked self.old.end (vec_len out.old - body)).bytes) }
+        ensures within { vec_len out.new ≤ body + frame_room self.old.end }
+        ensures grows { vec_len out.old ≤ vec_len out.new }
+        ensures capacity { vec_capacity out.old ≤ vec_capacity out.new }
+        ensures end { OnOk result (self.new ≡ with_end self.old (asked self.old.end (vec_len out.old - body)).end) }
+        ensures asks { IfOk result (λ sent. sent.asks ≡ asking (asked self.old.end (vec_len out.old - body)).frames) }
+        ensures carried { IfOk result (λ sent. sent.carried ≡ carried_in (asked self.old.end (vec_len out.old - body)).frames) }
+        ensures front { take (vec_len out.old) out.new.items ≡ out.old.items }
+        ensures others { self.new ≡ with_end self.old self.new.end }
+    {
+        let before = out.len();
+        self.put_ping(out);
+        let carried = self.put_content(body, out)?;
+        Ok(SentFrames {
+            asks: before < out.len(),
+            carried,
+        })
+    }
+
+    /// Appends PING if it waits, for which there is room.
+    fn put_ping(&mut self, out: &mut Vec<u8>)
+        requires { vec_len out.old + 1 ≤ vec_capacity out.old }
+        ensures items { out.new.items ≡ out.old.items ++ ping_bytes self.old.end.waiting.ping }
+        ensures len { vec_len out.new ≡ vec_len out.old + length (ping_bytes self.old.end.waiting.ping) }
+        ensures few { length (ping_bytes self.old.end.waiting.ping) ≤ 1 }
+        ensures capacity { vec_capacity out.old ≤ vec_capacity out.new }
+        ensures end { self.new ≡ with_end self.old (pinged self.old.end) }
+    {
+        if self.take_ping() {
+            put_ping(out);
+            self.count_ping();
+        }
+    }
+
+    /// Appends messages and frames about streams behind the frames of the packet whose payload
+    /// begins at `body`; there is room for the whole payload. This answers what they carry. An
+    /// error is want of memory; the end is of no more use then.
+    fn put_content(&mut self, body: usize, out: &mut Vec<u8>) -> Result<Carried, AllocError>
+        requires number { can_number self.old.end.numbers ≡ true }
+        requires body { body ≤ vec_len out.old }
+        requires within { vec_len out.old ≤ body + frame_room self.old.end }
+        requires room { body + frame_room self.old.end ≤ vec_capacity out.old }
+        ensures items { OnOk result (out.new.items ≡ out.old.items ++ (content_at self.old.end (vec_len out.old - body)).bytes) }
+        ensures within { vec_len out.new ≤ body + frame_room self.old.end }
+        ensures grows { vec_len out.old ≤ vec_len out.new }
+        ensures capacity { vec_capacity out.old ≤ vec_capacity out.new }
+        ensures end { OnOk result (self.new ≡ with_end self.old (with_content self.old.end (content_at self.old.end (vec_len out.old - body)))) }
+        ensures carried { IfOk result (λ carried. carried ≡ carried_in (content_at self.old.end (vec_len out.old - body)).frames) }
+        ensures front { take (vec_len out.old) out.new.items ≡ out.old.items }
+        ensures others { self.new ≡ with_end self.old self.new.end }
+    {
+        let most = self.frame_room();
+        let fair = self.transport.get_send_fairness();
+        put_content(
+            &mut self.streams,
+            &mut self.datagrams,
+            &mut self.stats.frame_tx,
+            fair,
+            self.alloc,
+            body,
+            most,
+            out,
+        )
+    }
+
+    /// The number of the next datagram.
+    pub(crate) fn number(&self) -> u64
+        ensures value { result ≡ number_of self.now.end }
+        ensures above { self.now.end.numbers.next ≤ result }
+        ensures most { result ≤ self.now.end.numbers.next + 1 }
+    {
+        self.filter.peek(&self.space.numbers)
+    }
+
+    /// That number as it is written, cut against the greatest that was acknowledged.
+    fn packet_number(&self) -> PacketNumber
+        requires { can_number self.now.end.numbers ≡ true }
+        ensures value { result ≡ truncated (number_of self.now.end) (cut_against self.now.end.numbers) }
+        ensures some { 1 ≤ result.width }
+        ensures four { result.width ≤ 4 }
+    {
+        let numbers = &self.space.numbers;
+        // The proof reads that the number lies above it.
+        let _reference = numbers.reference();
+        numbers.packet_number(self.number())
+    }
+
+    /// How many bytes are left for frames in the next datagram.
+    fn frame_room(&self) -> usize
+        requires number { can_number self.now.end.numbers ≡ true }
+        ensures room { result ≡ frame_room self.now.end }
+        ensures some { 1159 ≤ result }
+        ensures whole { 1 + length self.now.end.ids.active.id + (truncated (number_of self.now.end) (cut_against self.now.end.numbers)).width + result + 16 ≡ current_mtu self.now.end.path }
+        ensures few { result < 2 ^ 16 }
+    {
+        let header = 1 + self.ids.destination().len() + self.packet_number().len();
+        usize::from(self.path.current_mtu()) - (header + TAG_LEN)
+    }
+
+    /// Appends the header of the next datagram, for which there is room: how many bytes its number
+    /// takes.
+    fn put_header(&self, out: &mut Vec<u8>) -> usize
+        requires number { can_number self.now.end.numbers ≡ true }
+        requires room { vec_len out.old + 25 ≤ vec_capacity out.old }
+        ensures items { out.new.items ≡ out.old.items ++ header_bytes self.now.end.ids.active.id (truncated (number_of self.now.end) (cut_against self.now.end.numbers)) }
+        ensures width { result ≡ (truncated (number_of self.now.end) (cut_against self.now.end.numbers)).width }
+        ensures four { result ≤ 4 }
+        ensures short { 1 + length self.now.end.ids.active.id + result ≤ 25 }
+        ensures len { vec_len out.new ≡ vec_len out.old + (1 + length self.now.end.ids.active.id + result) }
+        ensures capacity { vec_capacity out.old ≤ vec_capacity out.new }
+    {
+        let header = ShortHeader {
+            destination: self.ids.destination(),
+            number: self.packet_number(),
+        };
+        header.put(out);
+        header.number.len()
+    }
+
+    /// Seals the packet of this number that stands behind the first bytes.
+    fn seal(&self, start: usize, number: u64, out: &mut Vec<u8>)
+        requires start { start + 1 + length self.now.end.ids.active.id + 4 ≤ vec_len out.old }
+        requires room { vec_len out.old + 16 ≤ vec_capacity out.old }
+        requires number { number < 2 ^ 62 }
+        ensures items { out.new.items ≡ take start out.old.items ++ protected (H.protection self.now.keys.header.local) (K.aead self.now.keys.packet.local) (length self.now.end.ids.active.id + 1) number (drop start out.old.items) }
+        ensures len { vec_len out.new ≡ vec_len out.old + 16 }
+    {
+        let number_at = self.ids.destination().len() + 1;
+        seal_reserved(
+            out,
+            start,
+            number_at,
+            number,
+            &self.keys.header.local,
+            &self.keys.packet.local,
+        );
+    }
+}
+
+/// Appends messages and frames about streams behind the frames of a packet whose payload begins at
+/// `body` and may have `most` bytes, for which there is room: frames of control, DATAGRAM frames
+/// behind them, and STREAM frames behind these. This answers what they carry. An error is want of
+/// memory; the streams are of no more use then.
+fn put_content(
+    streams: &mut EndStreams,
+    datagrams: &mut DatagramState,
+    stats: &mut FrameStats,
+    fair: bool,
+    alloc: Global,
+    body: usize,
+    most: usize,
+    out: &mut Vec<u8>,
+) -> Result<Carried, AllocError>
+    requires body { body ≤ vec_len out.old }
+    requires within { vec_len out.old ≤ body + most }
+    requires room { body + most ≤ vec_capacity out.old }
+    requires few { most < 2 ^ 62 }
+    ensures items { OnOk result (out.new.items ≡ out.old.items ++ (content fair most (vec_len out.old - body) streams.old.state streams.old.pending datagrams.old.outgoing).bytes) }
+    ensures within { vec_len out.new ≤ body + most }
+    ensures grows { vec_len out.old ≤ vec_len out.new }
+    ensures capacity { vec_capacity out.old ≤ vec_capacity out.new }
+    ensures streams { OnOk result (streams_of streams.new.state streams.new.pending ≡ (content fair most (vec_len out.old - body) streams.old.state streams.old.pending datagrams.old.outgoing).streams) }
+    ensures messages { OnOk result (datagrams.new ≡ record datagrams.old { outgoing = (content fair most (vec_len out.old - body) streams.old.state streams.old.pending datagrams.old.outgoing).outgoing }) }
+    ensures carried { IfOk result (λ carried. carried ≡ carried_in (content fair most (vec_len out.old - body) streams.old.state streams.old.pending datagrams.old.outgoing).frames) }
+    ensures front { take (vec_len out.old) out.new.items ≡ out.old.items }
+{
+    let retransmits = put_control_frames(streams, stats, alloc, body, most, out)?;
+    put_messages(datagrams, stats, body, most, out);
+    let mut stream_frames = Vec::new(alloc);
+    streams
+        .state
+        .write_stream_frames(out, body + most, fair, &mut stream_frames)?;
+    count_streams(stats, stream_frames.len());
+    Ok(Carried {
+        largest_acked: None,
+        stream_frames,
+        retransmits,
+    })
+}
+
+/// Appends frames about streams but for STREAM behind the frames of a packet whose payload begins
+/// at `body` and may have `most` bytes, for which there is room. This answers what has to be sent
+/// again if the datagram is lost. An error is want of memory; the streams are of no more use then.
+fn put_control_frames(
+    streams: &mut EndStreams,
+    stats: &mut FrameStats,
+    alloc: Global,
+    body: usize,
+    most: usize,
+    out: &mut Vec<u8>,
+) -> Result<ThinRetransmits, AllocError>
+    requires body { body ≤ vec_len out.old }
+    requires within { vec_len out.old ≤ body + most }
+    requires room { body + most ≤ vec_capacity out.old }
+    ensures items { OnOk result (out.new.items ≡ out.old.items ++ spelled_all (control_part most (vec_len out.old - body) streams.old.state streams.old.pending).frames) }
+    ensures within { vec_len out.new ≤ body + most }
+    ensures grows { vec_len out.old ≤ vec_len out.new }
+    ensures capacity { vec_capacity out.old ≤ vec_capacity out.new }
+    ensures state { OnOk result (streams.new.state ≡ (control_part most (vec_len out.old - body) streams.old.state streams.old.pending).state) }
+    ensures pending { OnOk result (streams.new.pending ≡ (control_part most (vec_len out.old - body) streams.old.state streams.old.pending).pending) }
+    ensures carried { IfOk result (λ kept. made kept ≡ retransmits_in (control_part most (vec_len out.old - body) streams.old.state streams.old.pending).frames) }
+    ensures front { take (vec_len out.old) out.new.items ≡ out.old.items }
+{
+    // Mostly nothing waits, and the walk over the kinds is spared.
+    if streams.pending.is_idle() {
+        return Ok(ThinRetransmits::new());
+    }
+    let before = out.len();
+    let mut sent = Retransmits::new(alloc);
+    streams
+        .state
+        .write_control_frames(out, body + most, &mut streams.pending, &mut sent)?;
+    if out.len() == before {
+        return Ok(ThinRetransmits::new());
+    }
+    count_frames(stats, &out[before..]);
+    ThinRetransmits::of(alloc, sent)
+}
+
+/// Appends a PING frame, for which there is room.
+fn put_ping(out: &mut Vec<u8>)
+    requires { vec_len out.old + 1 ≤ vec_capacity out.old }
+    ensures items { out.new.items ≡ out.old.items ++ spelling ping }
+    ensures len { vec_len out.new ≡ vec_len out.old + 1 }
+    ensures capacity { vec_capacity out.old ≤ vec_capacity out.new }
+{
+    let _: Option<(Stream<'_>, Ack<'_>)> = None;
+    put_frame(out, &Frame::Ping);
+}
+
+/// Pads the payload that begins there, so that it has four bytes with its number (RFC 9001, section
+/// 5.4.2), and so many by itself at least.
+fn pad(out: &mut Vec<u8>, width: usize, body: usize, least: usize)
+    requires width { width ≤ 4 }
+    requires body { body ≤ vec_len out.old }
+    requires room { vec_len out.old + max (4 - (width + (vec_len out.old - body))) (least - (vec_len out.old - body)) ≤ vec_capacity out.old }
+    ensures items { out.new.items ≡ out.old.items ++ replicate (max (4 - (width + (vec_len out.old - body))) (least - (vec_len out.old - body))) 0 }
+    ensures len { vec_len out.new ≡ vec_len out.old + max (4 - (width + (vec_len out.old - body))) (least - (vec_len out.old - body)) }
+    ensures capacity { vec_capacity out.old ≤ vec_capacity out.new }
+{
+    let used = out.len() - body;
+    let zeros = 4usize.saturating_sub(width + used);
+    append_zeros(out, zeros.max(least.saturating_sub(used)));
+}

@@ -1,0 +1,222 @@
+//! The search for a greater size of datagrams (RFC 8899; RFC 9000, section 14.3).
+ghost use Rattle.std.specs.Prelude.{◌≡◌, ◌≤◌, true, None};
+ghost use Rattle.quic_congestion.specs.Congestion.{HasRoom, after_calls};
+ghost use Rattle.quic_congestion.specs.Search.{open_probe, poll_names, after_poll, after_ack, after_probe_lost, after_packet_lost, after_question};
+ghost use Rattle.quic_machine.specs.Control.{with_app_limited};
+ghost use Rattle.quic_machine.specs.End.{with_end, with_discovery};
+ghost use Rattle.quic_machine.specs.MessageCalls.{most_message};
+ghost use Rattle.quic_machine.specs.Poll.{searched_if};
+ghost use Rattle.quic_machine.specs.Sizes.{may_search, search_names, search_asked, told_size, told_probe, search_acked, with_one_lost, with_searched, without_longer_if};
+ghost use Rattle.quic_machine.specs.Tracking.{TrackedPacket};
+ghost use Rattle.quic_connection_core.specs.Leaving.{Leaves, rested};
+ghost use Rattle.quic_connection_core.specs.Losses.{asked_if};
+ghost use Rattle.quic_connection_core.specs.Telling.{IsTold, telling};
+
+use crate::connection::Connection;
+use crate::connection::leaving::Leaving;
+use crate::connection::losses::Losses;
+use crate::connection::telling::tell_resized;
+use quic_congestion::Controller;
+use quic_machine::Instant;
+use quic_packet::crypto::{HeaderKey, PacketKey};
+use quic_paths::PathData;
+use rand_core::Rng;
+
+impl<H: HeaderKey + Drop, K: PacketKey + Drop, R: Rng + Drop, C: Controller> Connection<
+    H,
+    K,
+    R,
+    C,
+> {
+    /// Whether a greater size may be looked for: the search is on, the peer's address is validated,
+    /// and the window has room for the greatest size that is looked at.
+    fn may_search(&self) -> bool
+        ensures { result ≡ may_search self.now.end }
+    {
+        match self.path.mtud.upper_bound() {
+            Some(bound) if self.path.validated => {
+                let bound = u128::from(bound);
+                self.bytes_in_flight().saturating_add(bound) < u128::from(self.window)
+            }
+            Some(_) | None => false,
+        }
+    }
+
+    /// A probe of the size that the search names, where one may be looked for and it names one.
+    pub(crate) fn search(&mut self) -> Option<Leaving>
+        ensures leaving { Leaves result (searched_if (may_search self.old.end) self.old.end).leaving }
+        ensures end { self.new ≡ with_end self.old (rested (searched_if (may_search self.old.end) self.old.end)) }
+    {
+        if !self.may_search() {
+            return self.rest();
+        }
+        match self.ask_search() {
+            Some(size) => Some(Leaving::Probe(size)),
+            None => self.rest(),
+        }
+    }
+
+    /// The size that the search names at this moment, if it names one: a probe of it is open then,
+    /// under the next number.
+    fn ask_search(&mut self) -> Option<u16>
+        ensures named { result ≡ search_names self.old.end }
+        ensures end { self.new ≡ with_end self.old (search_asked self.old.end) }
+    {
+        let now = self.closing.clock();
+        let number = self.number();
+        poll_search(&mut self.path, now, number)
+    }
+
+    /// Nothing goes, for want of anything to send.
+    fn rest(&mut self) -> Option<Leaving>
+        ensures none { result ≡ None }
+        ensures end { self.new ≡ with_end self.old (with_app_limited self.old.end true) }
+    {
+        self.app_limited = true;
+        None
+    }
+
+    /// The search for a size learns that a packet of so many bytes is acknowledged: as the open
+    /// probe it has the size of datagrams from then on, of which the controller is told where it
+    /// changed.
+    pub(crate) fn search_acked(&mut self, number: u64, size: u16)
+        ensures { (p : TrackedPacket) → p.size ≡ size → self.new ≡ telling C.steps self.old (told_probe (number, p) self.old.end.path.discovery) (search_acked (number, p) self.old.end) }
+    {
+        path_acked(&mut self.path, number, size);
+    }
+
+    /// The number of the open probe of a size, if one is open.
+    pub(crate) fn open_probe(&self) -> Option<u64>
+        ensures { result ≡ open_probe self.now.end.path.discovery }
+    {
+        self.path.mtud.in_flight_mtu_probe()
+    }
+
+    /// The search for a size learns that a packet of so many bytes is lost, which is its open probe
+    /// or isn't.
+    pub(crate) fn search_lost(&mut self, number: u64, size: u16, is_probe: bool)
+        ensures { (p : TrackedPacket) → p.size ≡ size → self.new ≡ with_end self.old (with_discovery self.old.end (with_one_lost is_probe (number, p) self.old.end.path.discovery)) }
+    {
+        if is_probe {
+            self.probe_lost();
+            return;
+        }
+        self.other_lost(number, size);
+    }
+
+    /// The search learns that its open probe is lost.
+    fn probe_lost(&mut self)
+        ensures { self.new ≡ with_end self.old (with_discovery self.old.end (after_probe_lost self.old.end.path.discovery)) }
+    {
+        self.count_lost_probe();
+        hear_probe_lost(&mut self.path);
+    }
+
+    /// The search learns that another packet of so many bytes is lost.
+    fn other_lost(&mut self, number: u64, size: u16)
+        ensures { self.new ≡ with_end self.old (with_discovery self.old.end (after_packet_lost number size self.old.end.path.discovery)) }
+    {
+        self.count_lost(size);
+        hear_lost(&mut self.path, number, size);
+    }
+
+    /// Where packets other than a probe were lost, the path may carry less than before: where the
+    /// size of datagrams fell, the controller is told of it, and messages that are too long are
+    /// dropped.
+    pub(crate) fn judge_size(&mut self, losses: &Losses)
+        ensures { let discovery = asked_if losses.now.others self.old.end.closing.clock self.old.end.path.discovery in
+            self.new ≡ telling C.steps self.old (told_size self.old.end.path.discovery discovery) (with_searched discovery self.old.end) }
+    {
+        if !losses.others {
+            return;
+        }
+        let before = self.path.current_mtu();
+        let fell = self.ask_size();
+        self.count_black_hole(fell);
+        if self.path.current_mtu() != before {
+            self.drop_oversized();
+        }
+    }
+
+    /// The search is asked whether the path carries less than before, which it answers: the
+    /// controller is told of a size that fell.
+    fn ask_size(&mut self) -> bool
+        ensures { let discovery = after_question self.old.end.closing.clock self.old.end.path.discovery in
+            self.new ≡ telling C.steps self.old (told_size self.old.end.path.discovery discovery) (with_discovery self.old.end discovery) }
+    {
+        let now = self.closing.clock();
+        path_asked(&mut self.path, now)
+    }
+
+    /// Messages are dropped that are longer than one may be now.
+    fn drop_oversized(&mut self)
+        ensures { self.new ≡ with_end self.old (without_longer_if (most_message self.old.end) self.old.end) }
+    {
+        if let Some(most) = self.datagram_limits().max_size {
+            self.datagrams.drop_oversized(most);
+        }
+    }
+}
+
+/// The search on a path is asked for a size to probe under a number, which it answers.
+fn poll_search<C>(path: &mut PathData<C>, now: Instant, number: u64) -> Option<u16>
+    ensures named { result ≡ poll_names now path.old.discovery }
+    ensures path { path.new ≡ record path.old { discovery = after_poll now number path.old.discovery } }
+{
+    path.mtud.poll_transmit(now, number)
+}
+
+/// It hears that a packet of so many bytes is acknowledged.
+fn hear_acked<C>(path: &mut PathData<C>, number: u64, size: u16)
+    ensures { path.new ≡ record path.old { discovery = after_ack number size path.old.discovery } }
+{
+    path.mtud.on_acked(number, size);
+}
+
+/// It hears that its open probe is lost.
+fn hear_probe_lost<C>(path: &mut PathData<C>)
+    ensures { path.new ≡ record path.old { discovery = after_probe_lost path.old.discovery } }
+{
+    path.mtud.on_probe_lost();
+}
+
+/// It hears that another packet of so many bytes is lost.
+fn hear_lost<C>(path: &mut PathData<C>, number: u64, size: u16)
+    ensures { path.new ≡ record path.old { discovery = after_packet_lost number size path.old.discovery } }
+{
+    path.mtud.on_non_probe_lost(number, size);
+}
+
+/// It is asked whether the path carries less than before, which it answers.
+fn hear_question<C>(path: &mut PathData<C>, now: Instant) -> bool
+    ensures { path.new ≡ record path.old { discovery = after_question now path.old.discovery } }
+{
+    path.mtud.black_hole_detected(now)
+}
+
+/// It hears that a packet of so many bytes is acknowledged, and the controller is told of a size
+/// that changed.
+fn path_acked<C: Controller>(path: &mut PathData<C>, number: u64, size: u16)
+    ensures told { let discovery = after_ack number size path.old.discovery in
+        path.new ≡ record path.old { discovery = discovery; congestion = after_calls C.steps path.old.congestion (told_size path.old.discovery discovery) } }
+    ensures sizes { path.old.discovery.size ≤ C.size_of path.old.congestion → HasRoom (C.size_of path.old.congestion) (C.window_of path.old.congestion)
+        → IsTold C.size_of C.window_of (after_ack number size path.old.discovery).size path.new.congestion }
+{
+    let before = path.current_mtu();
+    hear_acked(path, number, size);
+    tell_resized(path, before);
+}
+
+/// It is asked whether the path carries less than before, which it answers, and the controller is
+/// told of a size that fell.
+fn path_asked<C: Controller>(path: &mut PathData<C>, now: Instant) -> bool
+    ensures told { let discovery = after_question now path.old.discovery in
+        path.new ≡ record path.old { discovery = discovery; congestion = after_calls C.steps path.old.congestion (told_size path.old.discovery discovery) } }
+    ensures sizes { path.old.discovery.size ≤ C.size_of path.old.congestion → HasRoom (C.size_of path.old.congestion) (C.window_of path.old.congestion)
+        → IsTold C.size_of C.window_of (after_question now path.old.discovery).size path.new.congestion }
+{
+    let before = path.current_mtu();
+    let fell = hear_question(path, now);
+    tell_resized(path, before);
+    fell
+}

@@ -1,0 +1,5 @@
+-- How the size of an end's datagrams moves.
+pub mod Search
+pub mod Probed
+pub mod Moving
+pub mod Moves

@@ -1,0 +1,293 @@
+-- A poll that gives a datagram, and where it gives a probe of a size: PING and zeros alone, of the size that the search names (RFC 8899, section 5.3).
+use Rattle.std.proofs.Common.{◌≡◌, ℕ, suc, ◌+◌, ◌-◌, ◌<◌, ◌≤◌, max, [], ◌∷◌, length, replicate, Bool, true, false, Some, None, Ok, refl, sym, ap, ◌∙◌, subst, arith, zero}
+use Rattle.std.specs.Prelude.{Option, Result, ◌==◌, ◌&&◌, if◌then◌else◌, ◌||◌, not}
+use Rattle.std.proofs.lemmas.Bool.{le-ltb, ltb-true, and_parts, both_ways, or_parts, or_left, lt-ltb}
+use Rattle.std.proofs.lemmas.List.{append_cancel_left, length-append, length-replicate}
+use Rattle.quic_wire_core.specs.StreamId.{other_side}
+use Rattle.quic_wire.specs.Value.{ping}
+use Rattle.quic_wire.specs.Writing.{spelling}
+use Rattle.quic_config.specs.declared.mtu_discovery.TheConstants.{MAX_UDP_PAYLOAD}
+use Rattle.quic_congestion.specs.Search.{search_bound, open_probe, poll_names}
+use Rattle.quic_congestion.specs.SearchBounds.{IsSized}
+use Rattle.quic_congestion.proofs.SizedSearch.{named_sized, named_bounded, named_opens, named_alone}
+use Rattle.quic_recovery_core.specs.PendingAcks.{can_send}
+use Rattle.quic_spaces.specs.Numbers.{cut_against, can_number}
+use Rattle.quic_machine.specs.declared.answers.State.TheVariants as states
+use Rattle.quic_machine.specs.declared.answers.Failed.{Failed}
+use Rattle.quic_machine.specs.declared.answers.Transmit.{Transmit}
+use Rattle.quic_machine.specs.declared.run.Call.TheVariants as calls
+use Rattle.quic_machine.specs.declared.run.Answer.{Answer}
+use Rattle.quic_machine.specs.declared.run.Answer.TheVariants as answers
+use Rattle.quic_machine.specs.declared.run.EndView.{EndView}
+use Rattle.quic_machine.specs.Policy.{Policy}
+use Rattle.quic_machine.specs.Parts.{current_mtu}
+use Rattle.quic_machine.specs.Closing.{Closing, ticked}
+use Rattle.quic_machine.specs.End.{End, number_of, with_window}
+use Rattle.quic_machine.specs.Control.{bytes_in_flight, pacer_asked, with_pacing_timer, Gated, lets, holds}
+use Rattle.quic_machine.specs.Sizes.{has_window, may_search, search_names, search_asked}
+use Rattle.quic_machine.specs.Poll.{waits, Polled, Draft, probing, asking, number_width, overhead, zeros_behind, datagram_size, after_given, probe_if, probed, asks_to_go, probe, Ready, leaves, goes, draft_of, polled, datagram_of, mark_of, message_waits}
+use Rattle.quic_machine.specs.Machine.{World, end_at, control_at, given_by, policy_at}
+use Rattle.quic_machine.specs.DraftLaws.{HasRoom, width_few}
+use Rattle.quic_machine.specs.PollCases.{ready_at, draft_at, frames_padded, ready_leaves, may_leave_at, composes, by_gate, by_leaves, by_poll_to}
+use Rattle.quic_headline.specs.Runs.{Run, LeadsTo}
+use Rattle.quic_headline.specs.Observer.{Sent, Watch, watch, sents_until}
+use Rattle.quic_headline.specs.Headline.{IsHonest, IsRun}
+use Rattle.quic_headline.specs.Polls.{bytes_flying, search_at, seen_of, seen_at, IsMade, GaveOne, IsSearched, IsSizeProbe}
+use Rattle.quic_headline.proofs.Packets.Probes.{by_going}
+use Rattle.quic_headline.proofs.Packets.Group.{PacketsHold, has_room}
+use Rattle.quic_headline.proofs.Packets.Sight.{Sight}
+use Rattle.quic_headline.proofs.Places.Parties.{sent_by, Party, watch_of, called}
+use Rattle.quic_headline.proofs.Places.Groups.{Way, Nothing, And, Group}
+use Rattle.quic_headline.proofs.Places.Moments.{last_seen}
+use Rattle.quic_headline.proofs.Places.Placed.{party_at}
+use Rattle.quic_headline.proofs.Places.Steps.{poll_answer}
+use Rattle.quic_headline.specs.Telling.{bytes_asking}
+use Rattle.quic_headline.proofs.Held.Flight.{bytes_of_end}
+use Rattle.quic_headline.proofs.Steps.Made.{made_served, made_end, one_behind, served_before, polling, PollHolds, poll_holds, observed_poll, sents_more}
+use Rattle.quic_headline.proofs.Steps.Probes.{begun}
+use Rattle.quic_streams_state.specs.Waiting.{is_empty, can_send_stream_data}
+use Rattle.quic_headline.proofs.Steps.Moved.{probe_has}
+use Rattle.quic_wire_core.specs.declared.stream_id.Side.{Side}
+
+-- ---- a poll that gives a datagram
+
+-- It comes of an open end, of which something goes, which is left so.
+pub record IsGiving (p : Policy) (e : End) (now : ℕ) (t : Transmit) (f : End) : Type 0 where
+  pub opened : e.closing.state ≡ states.Open
+  pub may : can_number e.numbers ≡ true
+  pub some : goes (ready_at e now) ≡ true
+  pub size : t.size ≡ length (datagram_of p (draft_at e now))
+  pub left : f ≡ after_given p (draft_at e now)
+
+-- two polls that are answered alike
+pub same_answer : (a b : Result (Option Transmit) Failed) → answers.Poll a ≡ answers.Poll b → b ≡ a
+same_answer a b is = cc
+
+-- two datagrams that are answered alike have one size
+same_bytes : (a b : Transmit) → ◌≡◌ {A = Result (Option Transmit) Failed} (Ok (Some a)) (Ok (Some b)) → b.size ≡ a.size
+same_bytes a b is = let same : a ≡ b = cc in ap (λ (t : Transmit). t.size) (sym same)
+
+-- a poll that is answered so gives one
+pub giving : (p : Policy) (e : End) (now : ℕ) (t : Transmit) → (polled p e now).answer ≡ Ok (Some t) → IsGiving p e now t (polled p e now).end
+giving p e now t = by_poll_to p e now (λ (q : Polled). q.answer ≡ Ok (Some t) → IsGiving p e now t q.end) (record {
+  silent = λ is. cc;
+  failed = λ is. cc;
+  nothing = λ opened none is. cc;
+  used_up = λ is. cc;
+  gives = λ opened may some is. record { opened = opened; may = may; some = some; size = same_bytes (record { size = length (datagram_of p (draft_at e now)); ecn = mark_of (after_given p (draft_at e now)).path.marking }) t is; left = refl };
+})
+
+-- it takes a moment over, and stays open
+pub given_closing : (p : Policy) (e : End) (now : ℕ) → (after_given p (draft_at e now)).closing ≡ ticked e.closing now
+given_closing p e now = by_going (λ (x : End). x.closing ≡ ticked e.closing now) p (draft_at e now)
+    (λ pacing. (composes (ready_at e now).leaving (ready_at e now).end (may_leave_at e now)).closing ∙ ap (λ (x : End). x.closing) (ready_leaves e now))
+
+-- ---- a probe of a size
+
+-- PING goes of an end alone, as a probe of the size that its search names, since nothing waits.
+pub record IsProbing (e : End) (g : Ready) : Type 0 where
+  pub size : ℕ
+  pub is : g ≡ record { leaving = probe size; end = search_asked e }
+  pub idle : waits e ≡ false
+  pub may : may_search e ≡ true
+  pub named : search_names e ≡ Some size
+
+-- where no probe waits, nothing changes for one
+pub unprobed : (e : End) → e.tracking.probes ≡ 0 → probed e ≡ e
+unprobed e none = ap (λ (b : Bool). probe_if b e) (le-ltb 0 e.tracking.probes (omega arith))
+
+-- one in a list of one
+only_one : (s t : Sent) → s ∷ [] ≡ t ∷ [] → t ≡ s
+only_one s t is = cc
+
+-- one goes only where nothing waits, so that no probe of losses does
+pub probe_goes : (e : End) (now size : ℕ) → (ready_at e now).leaving ≡ probe size → IsProbing (begun e now) (ready_at e now)
+probe_goes e now size is = go e.tracking.probes refl
+  where
+    y : End
+    y = probed (begun e now)
+
+    Goes : Ready → Type 0
+    Goes g = g.leaving ≡ probe size → IsProbing y g
+
+    waiting : (x : End) → asks_to_go x ≡ true → waits x ≡ false → ⊥
+    waiting x asks none = both_ways (asks_to_go x) (or_parts (can_send x.acknowledging) (asks_to_go x) none).1 asks
+
+    alone_goes : (x : End) → Goes (leaves (holds x))
+    alone_goes x = by_leaves (holds x) Goes (record { acks = λ held due is. cc; held = λ held none is. cc; all = λ free some. cc; idle = λ free none. cc; asked = λ free none. cc; probes = λ n free none. cc })
+
+    found : IsProbing y (ready_at e now)
+    found = by_gate y (λ (g : Gated). Goes (leaves g)) (record {
+      free = λ gate. by_leaves (lets y) Goes (record {
+        acks = λ held. cc;
+        held = λ held. cc;
+        all = λ free some is. cc;
+        idle = λ free none is. cc;
+        asked = λ free none is. cc;
+        probes = λ n free idle may named is. record { size = n; is = refl; idle = idle; may = may; named = named };
+      });
+      full = λ gate full. alone_goes y;
+      lets = λ gate room until. by_leaves (lets (pacer_asked y)) Goes (record {
+        acks = λ held. cc;
+        held = λ held. cc;
+        all = λ free some is. cc;
+        idle = λ free none is. cc;
+        asked = λ free none is. cc;
+        probes = λ n free idle may named is. absurd (waiting (pacer_asked y) (and_parts (asks_to_go y) (y.tracking.probes == 0) gate).0 idle);
+      });
+      holds = λ moment gate room until. alone_goes (with_pacing_timer (pacer_asked y) (Some moment));
+    }) is
+
+    more : (a b c : Bool) → (a || b) ≡ true → (a || (b || c)) ≡ true
+    more true b c is = refl
+    more false b c is = or_left b c is
+
+    go : (n : ℕ) → e.tracking.probes ≡ n → IsProbing (begun e now) (ready_at e now)
+    go zero none = subst (λ (z : End). IsProbing z (ready_at e now)) (unprobed (begun e now) none) found
+    go (suc n) some =
+        let one : 0 < e.tracking.probes = omega arith in
+        absurd (waiting y (more y.waiting.ping (not (is_empty y.waiting.frames y.streams)) (message_waits y || can_send_stream_data y.streams) (probe_has (begun e now) (lt-ltb 0 e.tracking.probes one))) found.idle)
+
+-- a probe of a size has that size
+pub probe_size : (size : ℕ) (e : End) → HasRoom e → current_mtu e.path ≤ size → datagram_size (probing size e) ≡ size
+probe_size size e room above =
+    let long = length-append (spelling ping) (replicate (zeros_behind d) 0) in
+    let zeros : length (replicate {A = ℕ} (zeros_behind d) 0) ≡ zeros_behind d = length-replicate (zeros_behind d) 0 in
+    let full = filled e.transport.pad_to_mtu in
+    omega arith
+  where
+    d : Draft
+    d = probing size e
+
+    filled : (pads : Bool) → max (4 - (number_width d + length d.bytes)) ((if pads && asking d.frames then max size (current_mtu e.path) else size) - (overhead d + length d.bytes)) + (overhead d + length d.bytes) ≡ size
+    filled true = let width = width_few (number_of e - cut_against e.numbers) in let short = room.0 in let enough = room.1 in omega arith
+    filled false = let width = width_few (number_of e - cut_against e.numbers) in let short = room.0 in let enough = room.1 in omega arith
+
+-- ---- what a poll gave
+
+module _ (H : Way) (g : Group Nothing (And (And PacketsHold H) Sight)) (r : Run) (end : World) (honest : IsHonest r) (run : IsRun r end) where
+  module _ (side : Side) (i now : ℕ) (gave : GaveOne r side i now) (w next : World) (m : IsMade r i side (calls.Poll now) (answers.Poll (Ok (Some gave.transmit))) w next) where
+    abbrev pub answer : Answer
+    answer = answers.Poll (Ok (Some gave.transmit))
+
+    pub h : PollHolds (And (And PacketsHold H) Sight) r i side now answer w
+    h = poll_holds (And (And PacketsHold H) Sight) g r end honest run i side now answer w next m
+
+    abbrev pub x : Party
+    x = polling r i w side h.sents
+
+    abbrev pub y : Party
+    y = party_at r i w (other_side side) h.theirs
+
+    abbrev pub p : Policy
+    p = policy_at side r.keys
+
+    abbrev pub e : End
+    e = with_window (end_at side w) (control_at side w [])
+
+    pub said : answer ≡ answers.Poll (polled p e now).answer
+    said = poll_answer p e now answer m.step.answer (made_served r i side (calls.Poll now) answer w next m)
+
+    pub gives : IsGiving p e now gave.transmit (polled p e now).end
+    gives = giving p e now gave.transmit (same_answer (Ok (Some gave.transmit)) (polled p e now).answer said)
+
+    -- it went as the end says
+    pub went : gave.sent ∷ [] ≡ sent_by e now ∷ []
+    went = append_cancel_left (sents_until r side i) (gave.sent ∷ []) (sent_by e now ∷ []) (sym gave.went ∙ sents_more r i side now answer w (observed_poll H r i side now answer w h))
+
+    pub same : sent_by e now ≡ gave.sent
+    same = only_one gave.sent (sent_by e now) went
+
+    -- the observer counts the bytes in flight as the end does
+    pub flight : bytes_in_flight e ≡ bytes_flying r side i
+    flight =
+        bytes_of_end e (watch_of x y).flight.flying h.gives.1.watched.path (h.gives.1.watched.flight gives.opened).tells.waits
+        ∙ ap (λ (v : Watch). bytes_asking v.flight.flying) (sym h.seen)
+
+    -- and the probes that wait
+    pub probes : (watch r side i).flight.probes ≡ e.tracking.probes
+    probes = ap (λ (v : Watch). v.flight.probes) h.seen ∙ (h.gives.1.watched.flight gives.opened).probes
+
+    -- what is seen of the end is what it is
+    pub seen : seen_at r side i ≡ seen_of side w
+    seen = last_seen side r.keys i r.start w r.events r.answers r.views m.leads
+
+    -- ---- a probe of a size
+
+    pub left : end_at side next ≡ (polled p e now).end
+    left = made_end r i side (calls.Poll now) answer w next m
+
+    -- the clock of the observer behind the poll is that of the end
+    pub clock : (watch r side (suc i)).clock ≡ max e.closing.clock now
+    clock =
+        ap (λ (v : Watch). v.clock) h.seen_behind
+        ∙ (h.behind.1.watched.flight still).tells.clock
+        ∙ ap (λ (c : Closing). c.clock) closes
+      where
+        closes : (polled p e now).end.closing ≡ ticked e.closing now
+        closes = ap (λ (x : End). x.closing) gives.left ∙ given_closing p e now
+
+        still : (called x (given_by (other_side side) w) (calls.Poll now) answer).end.closing.state ≡ states.Open
+        still = ap (λ (c : Closing). c.state) closes ∙ gives.opened
+
+    pub room : HasRoom e
+    room = has_room x y h.gives.0.0 h.joined.y_long
+
+    pub sized : IsSized 1200 MAX_UDP_PAYLOAD e.path.discovery
+    sized = h.gives.0.0.sized
+
+    module _ (q : IsProbing (begun e now) (ready_at e now)) (leads : LeadsTo r (suc i) next) where
+      abbrev d : Draft
+      d = probing q.size (search_asked (begun e now))
+
+      names : ((search_at side w).size ≤ q.size) × (q.size ≤ MAX_UDP_PAYLOAD)
+      names = named_sized 1200 MAX_UDP_PAYLOAD e.path.discovery (begun e now).closing.clock q.size sized q.named
+
+      parts : (e.path.validated ≡ true) × (has_window (search_bound e.path.discovery) (begun e now) ≡ true)
+      parts = and_parts e.path.validated (has_window (search_bound e.path.discovery) (begun e now)) q.may
+
+      looks : (o : Option ℕ) → search_bound e.path.discovery ≡ o → has_window o (begun e now) ≡ true → (bound : ℕ) × (search_bound e.path.discovery ≡ Some bound) × (bytes_in_flight e + bound < e.path.window)
+      looks None is has = cc
+      looks (Some bound) is has = (bound, is, ltb-true (bytes_in_flight e + bound) e.path.window has)
+
+      looked : (bound : ℕ) × (search_bound e.path.discovery ≡ Some bound) × (bytes_in_flight e + bound < e.path.window)
+      looked = looks (search_bound e.path.discovery) refl parts.1
+
+      size : gave.sent.size ≡ q.size
+      size = ap (λ (s : Sent). s.size) (sym same) ∙ ap (λ (g : Ready). datagram_size (draft_of g)) q.is ∙ probe_size q.size (search_asked (begun e now)) room names.0
+
+      below : gave.sent.size ≤ looked.0
+      below = subst (λ (n : ℕ). n ≤ looked.0) (sym size) (named_bounded 1200 MAX_UDP_PAYLOAD e.path.discovery (begun e now).closing.clock q.size looked.0 sized q.named looked.1)
+
+      roomy : bytes_flying r side i + looked.0 < control_at side w []
+      roomy = subst (λ (n : ℕ). n + looked.0 < control_at side w []) flight looked.2
+
+      -- the search looks for it
+      searched : IsSearched r side i w next gave.sent
+      searched = record {
+        named = ap (λ (n : ℕ). poll_names n e.path.discovery) clock ∙ q.named ∙ ap (λ (n : ℕ). Some n) (sym size);
+        none_open = named_alone (begun e now).closing.clock q.size e.path.discovery q.named;
+        opened =
+            ap (λ (z : End). open_probe z.path.discovery) (left ∙ gives.left)
+            ∙ ap (λ (g : Ready). open_probe (after_given p (draft_of g)).path.discovery) q.is
+            ∙ by_going (λ (z : End). open_probe z.path.discovery ≡ Some (number_of e)) p d (λ pacing. named_opens (begun e now).closing.clock (number_of e) q.size e.path.discovery q.named)
+            ∙ ap (λ (s : Sent). Some s.number) same;
+        bound = looked.0;
+        is_bound = looked.1;
+        below = below;
+        idle = q.idle;
+        room = roomy;
+      }
+
+      -- and so it is wherever the run leads there
+      pub is_probe : IsSizeProbe r side i gave.sent
+      is_probe = record {
+        zeros = zeros_behind d;
+        alone = ap (λ (s : Sent). s.frames) (sym same) ∙ ap (λ (g : Ready). frames_padded (draft_of g)) q.is;
+        above = subst (λ (u : EndView). u.current_mtu ≤ gave.sent.size) (sym seen) (let size_is = size in let above = names.0 in omega arith);
+        validated = ap (λ (u : EndView). u.validated) seen ∙ parts.0;
+        room = subst (λ (u : EndView). bytes_flying r side i + gave.sent.size < u.window) (sym seen) (let few = below in let left_over = roomy in omega arith);
+        searched = λ v n before behind.
+            subst (λ (x : World). IsSearched r side i x n gave.sent) (one_behind r i w v (served_before r.answers i gave.served) m.leads before)
+            (subst (λ (x : World). IsSearched r side i w x gave.sent) (one_behind r (suc i) next n gave.served leads behind) searched);
+      }

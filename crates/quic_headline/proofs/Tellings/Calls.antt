@@ -1,0 +1,340 @@
+-- What a controller is told by a call at its end is what may be told, by what the observer of the
+-- end knows.
+use Rattle.std.proofs.Common.{◌≡◌, ℕ, max, Bool, true, false, ◌&&◌, cond, List, [], ◌∷◌, ◌++◌, map, Option, Some, None, Result, refl, sym, ap, ◌∙◌, subst, inl, inr}
+use Rattle.std.specs.Prelude.{slice_get}
+use Rattle.std.proofs.lemmas.List.{append-nil}
+use Rattle.quic_wire.specs.Value.{FrameValue}
+use Rattle.quic_wire.specs.declared.frame.InvalidFrame.{InvalidFrame}
+use Rattle.quic_config.specs.Transport.{TransportSettings}
+use Rattle.quic_congestion.specs.Congestion as congestion
+use Rattle.quic_time.specs.Timers.{has_come}
+use Rattle.quic_time.specs.Rtt.{Rtt}
+use Rattle.quic_spaces.specs.Numbers.{Numbers, can_number, number_opened}
+use Rattle.quic_machine.specs.declared.answers.State.{State}
+use Rattle.quic_machine.specs.declared.answers.State.TheVariants as states
+use Rattle.quic_machine.specs.declared.answers.Received.TheVariants.{Taken, Closed}
+use Rattle.quic_machine.specs.declared.run.Call.TheVariants as calls
+use Rattle.quic_machine.specs.declared.run.Delivery.{Delivery}
+use Rattle.quic_machine.specs.declared.run.Answer.{Answer}
+use Rattle.quic_machine.specs.declared.run.Answer.TheVariants as answers
+use Rattle.quic_machine.specs.Arrival.{delivered_by}
+use Rattle.quic_machine.specs.Policy.{Policy}
+use Rattle.quic_machine.specs.Closing.{Closing, ticked}
+use Rattle.quic_machine.specs.End.{End, number_of, with_closing}
+use Rattle.quic_machine.specs.Control.{told_sent}
+use Rattle.quic_machine.specs.Receive.{Fault, error_of, received, told_items, told_received}
+use Rattle.quic_machine.specs.Poll.{Draft, Ready, datagram_size, goes, sends, polled_if, polled_in, polled, told_if as told_goes, told_draft, told_polled_in, told_polled}
+use Rattle.quic_machine.specs.Timeouts.{told_judged, told_expired, told_timed_out_in, told_timed_out}
+use Rattle.quic_machine.specs.Machine.{IsAnswer, IsDelivered, fails, gave, told_delivered}
+use Rattle.quic_machine.specs.FrameCases.{begun}
+use Rattle.quic_machine.specs.PollCases.{ready_at, ready_leaves, draft_at, Composes, composes, may_leave_at}
+use Rattle.quic_headline.specs.Runs.{Told, Packet, Intake, frames_of, is_refused, handed, and_handed, and_told}
+use Rattle.quic_headline.specs.Observer.{Sent, asks_of, after_packets, loss_due, is_past, Watch, news, has_opened, moment_of, clock_behind, Lens, is_timely, watch_told, next_number}
+use Rattle.quic_headline.specs.Telling.{Judging, measured_first, told_gone, TellsFrames, TellsPackets, TellsPart, TellsExpired, TellsMoment, judging, TellsCall}
+use Rattle.quic_headline.proofs.Packets.Growth.{get_front}
+use Rattle.quic_headline.proofs.Packets.Intakes.{nothing_handed, folded_more}
+use Rattle.quic_headline.proofs.Packets.Invariant.{Knows, KnowsIn}
+use Rattle.quic_headline.proofs.Packets.Given.{draft_number}
+use Rattle.quic_headline.proofs.Packets.Delivered.{with_taken, with_refused}
+use Rattle.quic_headline.proofs.Packets.Flying.{Waits, held, asking_padded, ticked_waits, numbers_wait}
+use Rattle.quic_headline.proofs.Packets.Watching.{watched_intake, untimely, none_opened, none_new, one_opened, one_new, none_comes, told_own, timer_expires}
+use Rattle.quic_headline.proofs.Packets.Sight.{Sight}
+use Rattle.quic_headline.proofs.Places.Parties.{sent_by, sent_if, sents_by, told_of, Party, called, came_to, lens, watch_of, AreJoined}
+use Rattle.quic_headline.proofs.Places.Coming.{Meets}
+use Rattle.quic_headline.proofs.Places.Steps.{only_polls_give, poll_answer}
+use Rattle.quic_headline.proofs.Timers.Quiet.{Unnamed}
+use Rattle.quic_headline.proofs.Sizes.Probed.{KnowsSearch}
+use Rattle.quic_headline.proofs.Sizes.Moving.{Moves}
+use Rattle.quic_headline.proofs.Sizes.Moves.{moves_first}
+use Rattle.quic_headline.proofs.Tellings.Losses.{losses_told}
+use Rattle.quic_headline.proofs.Tellings.Acks.{may_probe, IsSet}
+use Rattle.quic_headline.proofs.Tellings.Frames.{Reads, ToldItems, items_told}
+use Rattle.quic_headline.proofs.Tellings.Hearing.{Hearings, by_hearing, closed_told}
+
+-- ---- calls at which nothing comes
+
+-- what is told by one
+plain_call : (l : Lens) (c : TransportSettings) (first : Option ℕ) (w : Watch) (t : Told) (late : List congestion.Told) (went : List Sent) → and_told l.own l.peer_gave t w.intake ≡ w.intake
+    → (let clock = clock_behind w.clock (moment_of t.state false t.call) in TellsMoment (is_timely t.state t.call && is_past (loss_due l.terms w.flight) clock) (judging l c first w) clock w.flight late)
+    → (watch_told l t w).own ≡ w.own ++ went → TellsCall l c first w t (late ++ told_gone went)
+plain_call l c first w t late went same told own = record {
+  after = w.intake;
+  came = sym same;
+  clock = clock;
+  moment = ap (λ (b : Bool). clock_behind w.clock (moment_of t.state b t.call)) (sym (none_opened w.intake));
+  taken = [];
+  takes = subst (λ (ps : List Packet). TellsPackets (judging l c first w) clock ps w.flight []) (sym (none_new w.intake)) refl;
+  refused = [];
+  refuses = subst (λ (b : Bool). TellsPart (judging l c first w) clock (b && is_refused t.answer) w.intake.part w.flight []) (sym (none_opened w.intake)) refl;
+  late = late;
+  expires = subst (λ (ps : List Packet). let f = after_packets l.terms clock ps w.flight in TellsMoment (is_timely t.state t.call && is_past (loss_due l.terms f) clock) (judging l c first w) clock f late) (sym (none_new w.intake)) told;
+  went = went;
+  gave = own;
+  is = refl;
+}
+  where
+    clock : ℕ
+    clock = clock_behind w.clock (moment_of t.state false t.call)
+
+-- by one that tells no moment and gives nothing
+pub quiet_call : (l : Lens) (c : TransportSettings) (first : Option ℕ) (w : Watch) (t : Told) → and_told l.own l.peer_gave t w.intake ≡ w.intake → is_timely t.state t.call ≡ false → gave t.answer ≡ false → TellsCall l c first w t []
+quiet_call l c first w t same untimed none =
+    let clock : ℕ = clock_behind w.clock (moment_of t.state false t.call) in
+    plain_call l c first w t [] [] same (subst (λ (b : Bool). TellsMoment (b && is_past (loss_due l.terms w.flight) clock) (judging l c first w) clock w.flight []) (sym untimed) refl) (told_own l t w none ∙ sym (append-nil w.own))
+
+-- ---- a poll
+
+-- what goes is told
+draft_told : (e : End) (now : ℕ) → told_draft (draft_at e now) ≡ told_gone (sent_by e now ∷ [])
+draft_told e now = ap (λ (b : Bool). told_sent b d.end (datagram_size d) (number_of d.end)) (sym (asking_padded d.frames _)) ∙ go (asks_of s)
+  where
+    g : Ready
+    g = ready_at e now
+
+    d : Draft
+    d = draft_at e now
+
+    s : Sent
+    s = sent_by e now
+
+    c : Composes g.end d.end
+    c = composes g.leaving g.end (may_leave_at e now)
+
+    clock : d.end.closing.clock ≡ s.moment
+    clock = ap (λ (x : Closing). x.clock) c.closing ∙ ap (λ (x : End). x.closing.clock) (ready_leaves e now)
+
+    number : number_of d.end ≡ s.number
+    number = draft_number g.leaving g.end (may_leave_at e now) ∙ ap (λ (x : End). number_of x) (ready_leaves e now)
+
+    go : (b : Bool) → told_sent b d.end (datagram_size d) (number_of d.end) ≡ map (λ (u : Sent). congestion.Sent u.moment u.size u.number) (cond b (s ∷ []) [])
+    go true = ap (λ (n : ℕ). congestion.Sent n (datagram_size d) (number_of d.end) ∷ []) clock ∙ ap (λ (n : ℕ). congestion.Sent s.moment (datagram_size d) n ∷ []) number
+    go false = refl
+
+-- where a poll gives something
+pub poll_told : (p : Policy) (e : End) (now : ℕ) → told_polled e now ≡ told_gone (sent_if (gave (answers.Poll (polled p e now).answer)) (sent_by e now))
+poll_told p e now = state_case e.closing.state
+  where
+    g : Ready
+    g = ready_at e now
+
+    sends_case : (b : Bool) → told_goes b g ≡ told_gone (sent_if (gave (answers.Poll (sends b p g).answer)) (sent_by e now))
+    sends_case true = draft_told e now
+    sends_case false = refl
+
+    goes_case : (b : Bool) → told_goes (b && can_number g.end.numbers) g ≡ told_gone (sent_if (gave (answers.Poll (polled_if b p g).answer)) (sent_by e now))
+    goes_case true = sends_case (can_number g.end.numbers)
+    goes_case false = refl
+
+    state_case : (s : State) → told_polled_in s e now ≡ told_gone (sent_if (gave (answers.Poll (polled_in s p e now).answer)) (sent_by e now))
+    state_case states.Open = goes_case (goes g)
+    state_case states.Closing = refl
+    state_case states.Drained = refl
+    state_case states.Failed = refl
+
+-- ---- any call
+
+module _ (x y : Party) (joined : AreJoined x y) (meets : Meets y x) (sight : Sight x y) (search : KnowsSearch x y) (quiet : Unnamed x y) (next : x.end.numbers.next ≡ next_number x.sents) (first : Option ℕ)
+    (settings : x.end.transport ≡ x.made.transport) (measured : x.end.closing.state ≡ states.Open → x.end.path.first_after_rtt ≡ measured_first first (next_number x.sents) x.end.path.rtt.smoothed) where
+  abbrev c : TransportSettings
+  c = x.made.transport
+
+  abbrev seen : Watch
+  seen = watch_of x y
+
+  -- by what its losses are judged
+  abbrev j : Judging
+  j = judging (lens x y) c first seen
+
+  set : x.end.closing.state ≡ states.Open → IsSet j x.end
+  set opened = record {
+    first = sight.watched.path;
+    settings = settings;
+    next = next ∙ ap next_number (sym sight.own);
+    measured = measured opened ∙ ap (λ (ss : List Sent). measured_first first (next_number ss) x.end.path.rtt.smoothed) (sym sight.own);
+  }
+
+  seen_intake : seen.intake ≡ came_to x y
+  seen_intake = watched_intake (lens x y) x.told _
+
+  -- ---- a timeout
+
+  -- the timer of losses of an open end expires or doesn't
+  expired_told : (now : ℕ) → x.end.closing.state ≡ states.Open → (b : Bool) → TellsMoment b j (max seen.clock now) seen.flight (told_expired b (with_closing x.end (ticked x.end.closing now)))
+  expired_told now opened false = refl
+  expired_told now opened true =
+      subst (λ (o : Option ℕ). TellsExpired o j clock seen.flight (told_judged begins.tracking.loss_time begins)) (sym waits.loss_time) (go begins.tracking.loss_time)
+    where
+      begins : End
+      begins = with_closing x.end (ticked x.end.closing now)
+
+      clock : ℕ
+      clock = max seen.clock now
+
+      waits : Waits x.terms clock seen.flight (held begins)
+      waits = ticked_waits x.terms seen.clock now seen.flight (held x.end) (sight.watched.flight opened)
+
+      moves : Moves seen.flight.flying c.min_mtu x.end.path.discovery.size seen.flight.flying seen.flight.acked x.end
+      moves = moves_first x y sight search quiet opened
+
+      go : (o : Option ℕ) → TellsExpired o j clock seen.flight (told_judged o begins)
+      go None = refl
+      go (Some moment) = losses_told j clock false seen.flight begins waits.tells (set opened).first (set opened).settings ((set opened).measured ∙ ap (λ (r : Rtt). measured_first j.first j.next r.smoothed) (sym waits.tells.rtt)) moves.floor (λ s i size shown. may_probe c.min_mtu begins.path.discovery s moves.sized size shown (moves.probes s i size shown))
+
+  pub timeout_told : (now : ℕ) (a : Answer) → IsAnswer x.policy x.end y.given (calls.Timeout now) a → TellsCall (lens x y) c first seen (told_of (calls.Timeout now) a x.end.closing.state) (told_timed_out x.end now)
+  timeout_told now a is = go x.end.closing.state refl
+    where
+      silent : gave a ≡ false
+      silent = only_polls_give x.policy x.end y.given (calls.Timeout now) a refl is
+
+      go : (s : State) → x.end.closing.state ≡ s → TellsCall (lens x y) c first seen (told_of (calls.Timeout now) a s) (told_timed_out_in s x.end now)
+      go states.Open opened =
+          let t : Told = told_of (calls.Timeout now) a states.Open in
+          let late : List congestion.Told = told_timed_out_in states.Open x.end now in
+          subst (λ (ts : List congestion.Told). TellsCall (lens x y) c first seen t ts) (append-nil late)
+          (plain_call (lens x y) c first seen t late [] (none_comes (lens x y) t seen.intake refl)
+          (subst (λ (b : Bool). TellsMoment b j (max seen.clock now) seen.flight late) (timer_expires x.terms seen x.end now (sight.stands opened) (sight.watched.flight opened)) (expired_told now opened (has_come x.end.timers.loss_detection (max x.end.closing.clock now))))
+          (told_own (lens x y) t seen silent ∙ sym (append-nil seen.own)))
+      go states.Closing closed = let t : Told = told_of (calls.Timeout now) a states.Closing in quiet_call (lens x y) c first seen t (none_comes (lens x y) t seen.intake refl) refl silent
+      go states.Drained closed = let t : Told = told_of (calls.Timeout now) a states.Drained in quiet_call (lens x y) c first seen t (none_comes (lens x y) t seen.intake refl) refl silent
+      go states.Failed closed = let t : Told = told_of (calls.Timeout now) a states.Failed in quiet_call (lens x y) c first seen t (none_comes (lens x y) t seen.intake refl) refl silent
+
+  -- ---- a poll
+
+  pub poll_call : (now : ℕ) (a : Answer) → IsAnswer x.policy x.end y.given (calls.Poll now) a → fails a ≡ false → (watch_of (called x y.given (calls.Poll now) a) y).own ≡ x.sents ++ sents_by x.end (calls.Poll now) a
+      → TellsCall (lens x y) c first seen (told_of (calls.Poll now) a x.end.closing.state) (told_polled x.end now)
+  poll_call now a is served behind =
+      let t : Told = told_of (calls.Poll now) a x.end.closing.state in
+      let clock : ℕ = clock_behind seen.clock (moment_of t.state false t.call) in
+      let went : List Sent = sents_by x.end (calls.Poll now) a in
+      let told : told_polled x.end now ≡ told_gone went = poll_told x.policy x.end now ∙ ap (λ (b : Answer). told_gone (sent_if (gave b) (sent_by x.end now))) (sym (poll_answer x.policy x.end now a is served)) in
+      subst (λ (ts : List congestion.Told). TellsCall (lens x y) c first seen t ts) (sym told)
+      (plain_call (lens x y) c first seen t [] went (none_comes (lens x y) t seen.intake refl)
+      (subst (λ (b : Bool). TellsMoment (b && is_past (loss_due x.terms seen.flight) clock) j clock seen.flight []) (sym (untimely t.state t.call refl)) refl)
+      (sym (ap (λ (w : Watch). w.own) (folded_more (watch_told (lens x y)) x.told t _)) ∙ behind ∙ ap (λ (ss : List Sent). ss ++ went) (sym sight.own)))
+
+  -- ---- a delivery
+
+  module _ (delivery : Delivery) where
+    -- What is told by a packet that came, or by none.
+    record Brings (opened : Bool) (ps : List Packet) (part : Option Packet) (a : Answer) (told : List congestion.Told) : Type 0 where
+      taken : List congestion.Told
+      takes : let clock = clock_behind seen.clock (moment_of states.Open opened (calls.Deliver delivery)) in TellsPackets j clock ps seen.flight taken
+      refused : List congestion.Told
+      refuses : let clock = clock_behind seen.clock (moment_of states.Open opened (calls.Deliver delivery)) in TellsPart j clock (opened && is_refused a) part seen.flight refused
+      is : told ≡ taken ++ refused
+
+    -- so it is by what came
+    abbrev BringsBy : Answer → List congestion.Told → Intake → Type 0
+    BringsBy a told j = Brings (has_opened seen.intake j) (news seen.intake j) j.part a told
+
+    abbrev now : ℕ
+    now = max seen.clock delivery.now
+
+    -- what is known before the frames of a packet
+    first_reads : x.end.closing.state ≡ states.Open → (n : ℕ) → Reads j now seen.flight.flying x.end.path.discovery.size seen.flight (begun x.end delivery.now n)
+    first_reads opened n =
+        let numbers : Numbers = number_opened x.end.numbers n in
+        let moves : Moves seen.flight.flying c.min_mtu x.end.path.discovery.size seen.flight.flying seen.flight.acked x.end = moves_first x y sight search quiet opened in
+        record {
+          waits = ticked_waits x.terms seen.clock delivery.now seen.flight _ (numbers_wait x.terms seen.clock seen.flight (held x.end) numbers refl (sight.watched.flight opened));
+          set = set opened;
+          moves = moves;
+        }
+
+    -- what is told of the items of its payload
+    of_items : x.end.closing.state ≡ states.Open → (n : ℕ) (is : List (Result FrameValue InvalidFrame)) → ToldItems j now seen.flight.flying x.end.path.discovery.size is seen.flight (begun x.end delivery.now n)
+    of_items opened n is = items_told j now seen.flight.flying x.end.path.discovery.size is seen.flight (begun x.end delivery.now n) (first_reads opened n)
+
+    hearings : x.end.closing.state ≡ states.Open → Hearings x.end delivery.now seen.intake BringsBy
+    hearings opened = record {
+      nothing = λ a.
+          subst (λ (b : Bool). Brings b (news seen.intake seen.intake) seen.intake.part a []) (sym (none_opened seen.intake))
+          (subst (λ (ps : List Packet). Brings false ps seen.intake.part a []) (sym (none_new seen.intake)) (record { taken = []; takes = refl; refused = []; refuses = refl; is = refl }));
+      takes = λ n is none.
+          let told : List congestion.Told = told_items is (begun x.end delivery.now n) in
+          let all = of_items opened n is in
+          let frames : List FrameValue = frames_of is in
+          let same : frames ≡ all.front = all.split ∙ ap (λ (fs : List FrameValue). all.front ++ fs) (all.whole none) ∙ append-nil all.front in
+          subst (λ (b : Bool). Brings b (news seen.intake (with_taken seen.intake n frames)) seen.intake.part (answers.Deliver Taken) told) (sym (one_opened seen.intake n frames))
+          (subst (λ (ps : List Packet). Brings true ps seen.intake.part (answers.Deliver Taken) told) (sym (one_new seen.intake n frames)) (record {
+            taken = told;
+            takes = ([], told, refl, subst (λ (fs : List FrameValue). TellsFrames j now fs seen.flight told) (sym same) all.told, refl);
+            refused = [];
+            refuses = refl;
+            is = sym (append-nil told);
+          }));
+      refuses = λ fault n is.
+          let all = of_items opened n is in
+          refused_so n (frames_of is) fault (told_items is (begun x.end delivery.now n)) (all.front, all.behind, all.split, all.told);
+      whole = λ fault n frames. refused_so n frames fault [] ([], frames, refl, refl);
+    }
+      where
+        refused_so : (n : ℕ) (frames : List FrameValue) (fault : Fault) (told : List congestion.Told) → TellsPart j now true (Some (record { number = n; frames = frames })) seen.flight told → BringsBy (answers.Deliver (Closed (error_of fault))) told (with_refused seen.intake n frames)
+        refused_so n frames fault told tells =
+            let part : Option Packet = Some (record { number = n; frames = frames }) in
+            let a : Answer = answers.Deliver (Closed (error_of fault)) in
+            subst (λ (b : Bool). Brings b (news seen.intake seen.intake) part a told) (sym (one_opened seen.intake n frames))
+            (subst (λ (ps : List Packet). Brings true ps part a told) (sym (none_new seen.intake)) (record { taken = []; takes = refl; refused = told; refuses = tells; is = refl }))
+
+    -- an open end is handed a datagram
+    open_call : x.end.closing.state ≡ states.Open → (d : List ℕ) → slice_get y.given delivery.index ≡ Some d → (a : Answer) → a ≡ answers.Deliver (received x.policy x.end (delivered_by delivery) d).answer
+        → TellsCall (lens x y) c first seen (told_of (calls.Deliver delivery) a states.Open) (told_received x.policy x.end delivery.now d)
+    open_call opened d at a is = record {
+      after = after;
+      came = came;
+      clock = clock_behind seen.clock (moment_of states.Open (has_opened seen.intake after) (calls.Deliver delivery));
+      moment = refl;
+      taken = heard.taken;
+      takes = heard.takes;
+      refused = heard.refused;
+      refuses = heard.refuses;
+      late = [];
+      expires = refl;
+      went = [];
+      gave = told_own (lens x y) (told_of (calls.Deliver delivery) a states.Open) seen (ap gave is) ∙ sym (append-nil seen.own);
+      is = heard.is ∙ sym (append-nil (heard.taken ++ heard.refused)) ∙ sym (append-nil (heard.taken ++ heard.refused ++ []));
+    }
+      where
+        after : Intake
+        after = and_handed states.Open (Some d) x.policy (answers.Deliver (received x.policy x.end (delivered_by delivery) d).answer) seen.intake
+
+        there : slice_get y.final delivery.index ≡ Some d
+        there = let more = joined.y_more in subst (λ (ds : List (List ℕ)). slice_get ds delivery.index ≡ Some d) more.1 (get_front y.given more.0 delivery.index d at)
+
+        came : after ≡ and_told x.policy y.final (told_of (calls.Deliver delivery) a states.Open) seen.intake
+        came = sym (
+            ap (λ (b : Answer). and_handed states.Open (handed y.final (calls.Deliver delivery) b) x.policy b seen.intake) is
+            ∙ ap (λ (h : Option (List ℕ)). and_handed states.Open h x.policy (answers.Deliver (received x.policy x.end (delivered_by delivery) d).answer) seen.intake) there)
+
+        knows : Knows x.end.numbers seen.intake
+        knows = subst (λ (i : Intake). Knows x.end.numbers i) (sym seen_intake) (subst (λ (s : State). KnowsIn s x.end.numbers (came_to x y)) opened meets.knows)
+
+        heard : BringsBy a (told_received x.policy x.end delivery.now d) after
+        heard = subst (λ (b : Answer). BringsBy b (told_received x.policy x.end delivery.now d) after) (sym is)
+            (by_hearing x.policy x.end (delivered_by delivery) seen.intake d BringsBy (meets.known ∙ ap (λ (i : Intake). i.ids) (sym seen_intake)) knows opened (hearings opened))
+
+    pub delivery_told : (a : Answer) → IsAnswer x.policy x.end y.given (calls.Deliver delivery) a → fails a ≡ false
+        → TellsCall (lens x y) c first seen (told_of (calls.Deliver delivery) a x.end.closing.state) (told_delivered x.policy x.end delivery.now (slice_get y.given delivery.index))
+    delivery_told a is served = go (slice_get y.given delivery.index) refl is
+      where
+        silent : gave a ≡ false
+        silent = only_polls_give x.policy x.end y.given (calls.Deliver delivery) a refl is
+
+        go : (o : Option (List ℕ)) → slice_get y.given delivery.index ≡ o → IsDelivered x.policy x.end delivery o a → TellsCall (lens x y) c first seen (told_of (calls.Deliver delivery) a x.end.closing.state) (told_delivered x.policy x.end delivery.now o)
+        go None at none =
+            quiet_call (lens x y) c first seen (told_of (calls.Deliver delivery) a x.end.closing.state)
+            (ap (λ (b : Answer). and_handed x.end.closing.state (handed y.final (calls.Deliver delivery) b) x.policy a seen.intake) none ∙ nothing_handed x.end.closing.state x.policy a seen.intake)
+            (untimely x.end.closing.state (calls.Deliver delivery) refl) silent
+        go (Some d) at (inr failed) = cc
+        go (Some d) at (inl said) = by_state x.end.closing.state refl
+          where
+            none : (s : State) → x.end.closing.state ≡ s → (s ≡ states.Open → ⊥) → and_told x.policy y.final (told_of (calls.Deliver delivery) a s) seen.intake ≡ seen.intake → TellsCall (lens x y) c first seen (told_of (calls.Deliver delivery) a s) (told_received x.policy x.end delivery.now d)
+            none s closed shut same =
+                subst (λ (ts : List congestion.Told). TellsCall (lens x y) c first seen (told_of (calls.Deliver delivery) a s) ts) (sym (closed_told x.policy x.end delivery.now d x.end.closing.state refl (λ opened. shut (sym closed ∙ opened))))
+                (quiet_call (lens x y) c first seen (told_of (calls.Deliver delivery) a s) same (untimely s (calls.Deliver delivery) refl) silent)
+
+            by_state : (s : State) → x.end.closing.state ≡ s → TellsCall (lens x y) c first seen (told_of (calls.Deliver delivery) a s) (told_received x.policy x.end delivery.now d)
+            by_state states.Open opened = open_call opened d at a said
+            by_state states.Closing closed = none states.Closing closed (λ opened. cc) refl
+            by_state states.Drained closed = none states.Drained closed (λ opened. cc) refl
+            by_state states.Failed closed = none states.Failed closed (λ opened. cc) refl

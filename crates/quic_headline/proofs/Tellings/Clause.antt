@@ -1,0 +1,377 @@
+-- At each place of an honest run, what a controller was told so far is what may be told, by what
+-- the observer of its end knows; and the window and the size that a view shows are those that the
+-- controller shows, and was told last.
+use Rattle.std.proofs.Common.{◌≡◌, ℕ, zero, suc, List, [], ◌∷◌, ◌++◌, take, Bool, false, Option, Some, None, refl, sym, ap, ◌∙◌, subst}
+use Rattle.std.specs.Prelude.{if◌then◌else◌, slice_get}
+use Rattle.std.proofs.lemmas.List.{append_assoc, append-nil}
+use Rattle.quic_wire_core.specs.declared.stream_id.Side.{Side}
+use Rattle.quic_wire_core.specs.declared.stream_id.Side.TheVariants.{Client, Server}
+use Rattle.quic_wire_core.specs.StreamId.{other_side}
+use Rattle.quic_config.specs.Transport.{TransportSettings}
+use Rattle.quic_congestion.specs.Congestion as congestion
+use Rattle.quic_time.specs.Rtt.{Rtt}
+use Rattle.quic_machine.specs.declared.answers.State.{State}
+use Rattle.quic_machine.specs.declared.answers.State.TheVariants as states
+use Rattle.quic_machine.specs.Policy.{Policy}
+use Rattle.quic_machine.specs.declared.run.Call.{Call}
+use Rattle.quic_machine.specs.declared.run.Call.TheVariants as calls
+use Rattle.quic_machine.specs.declared.run.Answer.{Answer}
+use Rattle.quic_machine.specs.declared.run.RunEvent.{RunEvent}
+use Rattle.quic_machine.specs.declared.run.View.{View}
+use Rattle.quic_machine.specs.End.{End}
+use Rattle.quic_machine.specs.Control.{Control}
+use Rattle.quic_machine.specs.Machine.{World, reads_window, after_call, end_at, control_at, policy_at, given_by, tells, fails, view_of}
+use Rattle.quic_machine.specs.RunLaws.{one_run, as_many_views}
+use Rattle.quic_headline.specs.Runs.{Run, Told, same_side, given_of, told_by, until, state_at, folded, LeadsTo, AreServed}
+use Rattle.quic_headline.specs.Observer.{Sent, Watch, Lens, watch_told, lens_of, watch_from, watch, next_number}
+use Rattle.quic_headline.specs.Headline.{IsHonest, IsRun}
+use Rattle.quic_headline.specs.Polls.{window_in, mtu_in, search_at, told_by_step, IsMade}
+use Rattle.quic_headline.specs.Telling.{Judging, measured_first, first_behind, TellsCall, TellsCalls, MayTell, ControllersAreTold}
+use Rattle.quic_headline.proofs.Packets.Intakes.{folded_more}
+use Rattle.quic_headline.proofs.Packets.Stays.{placed_call}
+use Rattle.quic_headline.proofs.Packets.Group.{PacketsHold, meets}
+use Rattle.quic_headline.proofs.Packets.Sight.{Sight}
+use Rattle.quic_headline.proofs.Packets.Watching.{none_comes, told_own, untimely}
+use Rattle.quic_headline.proofs.Places.Parties.{told_of, Party}
+use Rattle.quic_headline.proofs.Places.Groups.{Way, Nothing, Group}
+use Rattle.quic_headline.proofs.Places.Moments.{told_none, last_view}
+use Rattle.quic_headline.proofs.Places.Placed.{start_is, party_at, Placed, placed, watch_is}
+use Rattle.quic_headline.proofs.Places.Steps.{only_polls_give}
+use Rattle.quic_headline.proofs.Held.Behind.{last_step, window_shown}
+use Rattle.quic_headline.proofs.Timers.Quiet.{Unnamed}
+use Rattle.quic_headline.proofs.Timers.Still.{was_open}
+use Rattle.quic_headline.proofs.Steps.Made.{told_next, told_here, made_served, made_end, served_before, calling, call_holds}
+use Rattle.quic_headline.proofs.Steps.Windows.{ShowsAfter, step_shows, first_lead}
+use Rattle.quic_headline.proofs.Steps.Resized.{Tells, still, both, step_tells, size_there}
+use Rattle.quic_headline.proofs.Sizes.Probed.{KnowsSearch}
+use Rattle.quic_headline.proofs.Sizes.Moves.{did_there}
+use Rattle.quic_headline.proofs.Tellings.Acks.{IsSet}
+use Rattle.quic_headline.proofs.Tellings.First.{Measured, call_measured, delivered_set, IsFirst, first_measured, is_first}
+use Rattle.quic_headline.proofs.Tellings.Calls.{quiet_call, timeout_told, poll_call, delivery_told}
+
+-- ---- one call more
+
+-- the number that went next as a round trip was first measured, behind calls
+abbrev first_after : Lens → Option ℕ → Watch → List Told → Option ℕ
+first_after l first w [] = first
+first_after l first w (t ∷ ts) = first_after l (first_behind first (watch_told l t w)) (watch_told l t w) ts
+
+-- and one more
+first_more : (l : Lens) (first : Option ℕ) (w : Watch) (ts : List Told) (t : Told) → first_after l first w (ts ++ t ∷ []) ≡ first_behind (first_after l first w ts) (folded (watch_told l) (ts ++ t ∷ []) w)
+first_more l first w [] t = refl
+first_more l first w (u ∷ ts) t = first_more l (first_behind first (watch_told l u w)) (watch_told l u w) ts t
+
+-- what calls tell, and one more
+tells_more : (l : Lens) (c : TransportSettings) (first : Option ℕ) (w : Watch) (ts : List Told) (t : Told) (told now : List congestion.Told) → TellsCalls l c first w ts told → TellsCall l c (first_after l first w ts) (folded (watch_told l) ts w) t now
+    → TellsCalls l c first w (ts ++ t ∷ []) (told ++ now)
+tells_more l c first w [] t told now before here = (now, [], here, refl, ap (λ (us : List congestion.Told). us ++ now) before ∙ sym (append-nil now))
+tells_more l c first w (u ∷ ts) t told now before here = (
+  before.0,
+  before.1 ++ now,
+  before.2,
+  tells_more l c (first_behind first (watch_told l u w)) (watch_told l u w) ts t before.1 now before.3 here,
+  ap (λ (us : List congestion.Told). us ++ now) before.4 ∙ append_assoc before.0 before.1 now,
+)
+
+-- a place has one before it
+view_before : (i : ℕ) (views : List View) (v : View) → slice_get views (suc i) ≡ Some v → (u : View) × (slice_get views i ≡ Some u)
+view_before i [] v there = cc
+view_before zero (u ∷ views) v there = (u, refl)
+view_before (suc i) (u ∷ views) v there = view_before i views v there
+
+-- a poll that reads the window leaves the state, the settings, and what is measured
+reads_same : (control : Control) (call : Call) (e : End) → ((reads_window control call e).closing.state ≡ e.closing.state) × ((reads_window control call e).transport ≡ e.transport) × Measured e.path (reads_window control call e).path
+reads_same control (calls.Poll now) e = (refl, refl, (refl, refl))
+reads_same control call e = (refl, refl, (refl, refl))
+
+module _ (G : Way) (g : Group Nothing G) (packets : (x y : Party) → G x y → PacketsHold x y) (sight : (x y : Party) → G x y → Sight x y) (search : (x y : Party) → G x y → KnowsSearch x y) (quiet : (x y : Party) → G x y → Unnamed x y)
+    (r : Run) (end : World) (honest : IsHonest r) (run : IsRun r end) where
+  -- the settings of an end as the run began
+  abbrev settings : Side → TransportSettings
+  settings side = (end_at side r.start).transport
+
+  -- the number that went next as a round trip was first measured, by the first so many answers
+  abbrev first_at : Side → ℕ → Option ℕ
+  first_at side i = first_after (lens_of r side) None (watch_from (end_at side r.start) (given_of r side)) (until r side i)
+
+  -- ---- a call of an end
+
+  module _ (i : ℕ) (side : Side) (a : Answer) (w next : World) (same : (end_at side w).transport ≡ settings side)
+      (first : (end_at side w).closing.state ≡ states.Open → IsFirst (first_at side i) (end_at side w).path) where
+    abbrev policy : Policy
+    policy = policy_at side r.keys
+
+    abbrev theirs : List (List ℕ)
+    theirs = given_by (other_side side) w
+
+    -- the end that is called
+    abbrev met : Call → End
+    met call = reads_window (control_at side w) call (end_at side w)
+
+    -- what may be told by a call
+    abbrev Told_by : Call → Type 0
+    Told_by call = TellsCall (lens_of r side) (settings side) (first_at side i) (watch r side i) (told_of call a (met call).closing.state) (tells policy (met call) theirs call)
+
+    own_tells : (call : Call) → IsMade r i side call a w next → Told_by call
+    own_tells (calls.Deliver delivery) m =
+        let h = call_holds G g r end honest run i side (calls.Deliver delivery) a w next (λ id is. cc) tt m in
+        let x : Party = calling r i w side (calls.Deliver delivery) h.sents in
+        let y : Party = party_at r i w (other_side side) h.theirs in
+        subst (λ (v : Watch). TellsCall (lens_of r side) (settings side) (first_at side i) v (told_of (calls.Deliver delivery) a (end_at side w).closing.state) (tells policy (end_at side w) theirs (calls.Deliver delivery))) (sym h.seen)
+        (delivery_told x y h.joined (meets y x (packets y x h.takes)) (sight x y h.gives) (search x y h.gives) (quiet x y h.gives) (packets x y h.gives).gives.next (first_at side i) same (λ opened. first_measured (first_at side i) (next_number x.sents) x.end.path (first opened)) delivery a m.step.answer (made_served r i side (calls.Deliver delivery) a w next m))
+    own_tells (calls.Timeout now) m =
+        let h = call_holds G g r end honest run i side (calls.Timeout now) a w next (λ id is. cc) tt m in
+        let x : Party = calling r i w side (calls.Timeout now) h.sents in
+        let y : Party = party_at r i w (other_side side) h.theirs in
+        subst (λ (v : Watch). TellsCall (lens_of r side) (settings side) (first_at side i) v (told_of (calls.Timeout now) a (end_at side w).closing.state) (tells policy (end_at side w) theirs (calls.Timeout now))) (sym h.seen)
+        (timeout_told x y h.joined (meets y x (packets y x h.takes)) (sight x y h.gives) (search x y h.gives) (quiet x y h.gives) (packets x y h.gives).gives.next (first_at side i) same (λ opened. first_measured (first_at side i) (next_number x.sents) x.end.path (first opened)) now a m.step.answer)
+    own_tells (calls.Poll now) m =
+        let h = call_holds G g r end honest run i side (calls.Poll now) a w next (λ id is. cc) tt m in
+        let x : Party = calling r i w side (calls.Poll now) h.sents in
+        let y : Party = party_at r i w (other_side side) h.theirs in
+        subst (λ (v : Watch). TellsCall (lens_of r side) (settings side) (first_at side i) v (told_of (calls.Poll now) a (met (calls.Poll now)).closing.state) (tells policy (met (calls.Poll now)) theirs (calls.Poll now))) (sym h.seen)
+        (poll_call x y h.joined (meets y x (packets y x h.takes)) (sight x y h.gives) (search x y h.gives) (quiet x y h.gives) (packets x y h.gives).gives.next (first_at side i) same (λ opened. first_measured (first_at side i) (next_number x.sents) x.end.path (record { is = (first opened).is; none = (first opened).none })) now a m.step.answer (made_served r i side (calls.Poll now) a w next m) (sight _ y h.behind).own)
+    own_tells call m =
+        let t : Told = told_of call a (end_at side w).closing.state in
+        quiet_call (lens_of r side) (settings side) (first_at side i) (watch r side i) t (none_comes (lens_of r side) t (watch r side i).intake refl) (untimely t.state call refl) (only_polls_give policy (end_at side w) theirs call a refl m.step.answer)
+
+  -- ---- what is measured
+
+  -- what is told at an end by one call more
+  told_grown : (i : ℕ) (side by : Side) (call : Call) (a : Answer) (w next : World) → IsMade r i by call a w next → until r side (suc i) ≡ until r side i ++ told_by side (state_at r side i) (record { side = by; call = call }) a
+  told_grown i side by call a w next m =
+      told_next side (end_at side r.start).closing.state i r.events r.answers r.views (record { side = by; call = call }) a m.at.event m.at.answer (as_many_views r.keys r.start end r.events r.answers r.views run.follows)
+
+  -- a call of the other end
+  other_first : (i : ℕ) (side by : Side) (call : Call) (a : Answer) (w next : World) → IsMade r i by call a w next → same_side by side ≡ false → first_at side (suc i) ≡ first_at side i
+  other_first i side by call a w next m other =
+      ap (λ (ts : List Told). first_after (lens_of r side) None (watch_from (end_at side r.start) (given_of r side)) ts)
+      (told_grown i side by call a w next m ∙ ap (λ (b : Bool). until r side i ++ (if b then told_of call a (state_at r side i) ∷ [] else [])) other ∙ append-nil (until r side i))
+
+  -- a call of its own
+  module _ (i : ℕ) (side : Side) (call : Call) (a : Answer) (w next : World) (m : IsMade r i side call a w next) (leads : LeadsTo r (suc i) next) (same : (end_at side w).transport ≡ settings side)
+      (known : (end_at side w).closing.state ≡ states.Open → IsFirst (first_at side i) (end_at side w).path) (opened : (end_at side next).closing.state ≡ states.Open) where
+    abbrev l : Lens
+    l = lens_of r side
+
+    abbrev begins : Watch
+    begins = watch_from (end_at side r.start) (given_of r side)
+
+    abbrev t : Told
+    t = told_of call a (state_at r side i)
+
+    abbrev e : End
+    e = end_at side w
+
+    abbrev left : End
+    left = end_at side next
+
+    grown : until r side (suc i) ≡ until r side i ++ t ∷ []
+    grown = told_grown i side side call a w next m ∙ ap (λ (ts : List Told). until r side i ++ ts) (told_here side (state_at r side i) call a)
+
+    seen_behind : watch r side (suc i) ≡ watch_told l t (watch r side i)
+    seen_behind = ap (λ (ts : List Told). folded (watch_told l) ts begins) grown ∙ folded_more (watch_told l) (until r side i) t begins
+
+    after : Placed G r end side (suc i)
+    after = placed G g r end honest run side (suc i) m.served
+
+    -- the observer knows how long a round trip takes
+    rtt_is : (watch r side (suc i)).flight.rtt ≡ left.path.rtt
+    rtt_is =
+        let x : Party = party_at r (suc i) after.world side after.sents in
+        let y : Party = party_at r (suc i) after.world (other_side side) after.theirs in
+        let is : after.world ≡ next = (one_run r.keys (take (suc i) r.answers) r.start (take (suc i) r.events) (take (suc i) r.views) (take (suc i) r.views) after.world next m.served after.leads leads).1 in
+        ap (λ (v : Watch). v.flight.rtt) (watch_is r honest after.world (suc i) side after.sents after.theirs)
+        ∙ ((sight x y after.gives).watched.flight (ap (λ (v : World). (end_at side v).closing.state) is ∙ opened)).tells.rtt
+        ∙ ap (λ (v : World). (end_at side v).path.rtt) is
+
+    at : Placed G r end side i
+    at = placed G g r end honest run side i (served_before r.answers i m.served)
+
+    here : at.world ≡ w
+    here = (one_run r.keys (take i r.answers) r.start (take i r.events) (take i r.views) (take i r.views) at.world w (served_before r.answers i m.served) at.leads m.leads).1
+
+    -- it was open before
+    was : e.closing.state ≡ states.Open
+    was =
+        let read : End = reads_window (control_at side w) call e in
+        sym (reads_same (control_at side w) call e).0 ∙ was_open (policy_at side r.keys) read (given_by (other_side side) w) call a (sym (ap (λ (z : End). z.closing.state) (made_end r i side call a w next m)) ∙ opened)
+
+    -- by what its losses are judged
+    abbrev judged : Judging
+    judged = record { terms = l.terms; settings = settings side; next = next_number (watch r side i).own; first = first_at side i }
+
+    set : IsSet judged e
+    set =
+        let x : Party = party_at r i at.world side at.sents in
+        let y : Party = party_at r i at.world (other_side side) at.theirs in
+        let own : (watch r side i).own ≡ at.sents = ap (λ (v : Watch). v.own) (watch_is r honest at.world i side at.sents at.theirs) ∙ (sight x y at.gives).own in
+        record {
+          first = sym (ap (λ (v : World). (end_at side v).path.generation) here) ∙ (sight x y at.gives).watched.path;
+          settings = same;
+          next = sym (ap (λ (v : World). (end_at side v).numbers.next) here) ∙ (packets x y at.gives).gives.next ∙ ap next_number (sym own);
+          measured = first_measured (first_at side i) (next_number (watch r side i).own) e.path (known was);
+        }
+
+    -- what the end measured behind the call
+    abbrev Measures : Call → Type 0
+    Measures call = left.path.first_after_rtt ≡ measured_first (first_at side i) (next_number (watch r side (suc i)).own) left.path.rtt.smoothed
+
+    measures : (call : Call) → IsMade r i side call a w next → watch r side (suc i) ≡ watch_told l (told_of call a (state_at r side i)) (watch r side i) → Measures call
+    measures (calls.Deliver delivery) m seen =
+        let p : Policy = policy_at side r.keys in
+        let theirs : List (List ℕ) = given_by (other_side side) w in
+        let made : left ≡ after_call p e theirs (calls.Deliver delivery) a = made_end r i side (calls.Deliver delivery) a w next m in
+        let own : (watch r side (suc i)).own ≡ (watch r side i).own = ap (λ (v : Watch). v.own) seen ∙ told_own l (told_of (calls.Deliver delivery) a (state_at r side i)) (watch r side i) (only_polls_give p e theirs (calls.Deliver delivery) a refl m.step.answer) in
+        let behind : IsSet judged left = subst (λ (z : End). IsSet judged z) (sym made) (delivered_set judged p e delivery (slice_get theirs delivery.index) set) in
+        behind.measured ∙ ap (λ (ss : List Sent). measured_first (first_at side i) (next_number ss) left.path.rtt.smoothed) (sym own)
+    measures call m seen =
+        let p : Policy = policy_at side r.keys in
+        let read : End = reads_window (control_at side w) call e in
+        let made : left ≡ after_call p read (given_by (other_side side) w) call a = made_end r i side call a w next m in
+        let kept = call_measured p read (given_by (other_side side) w) call a refl in
+        let reads = (reads_same (control_at side w) call e).2 in
+        ap (λ (z : End). z.path.first_after_rtt) made
+        ∙ kept.0
+        ∙ reads.0
+        ∙ first_measured (first_at side i) (next_number (watch r side (suc i)).own) e.path (known was)
+        ∙ ap (λ (x : Rtt). measured_first (first_at side i) (next_number (watch r side (suc i)).own) x.smoothed) (sym (ap (λ (z : End). z.path.rtt) made ∙ kept.1 ∙ reads.1))
+
+    pub own_first : IsFirst (first_at side (suc i)) left.path
+    own_first =
+        let next_seen : ℕ = next_number (watch r side (suc i)).own in
+        let is : first_at side (suc i) ≡ measured_first (first_at side i) next_seen left.path.rtt.smoothed =
+        subst (λ (ts : List Told). first_after l None begins ts ≡ first_behind (first_at side i) (folded (watch_told l) ts begins)) (sym grown) (first_more l None begins (until r side i) t)
+        ∙ ap (λ (x : Rtt). measured_first (first_at side i) next_seen x.smoothed) rtt_is in
+        subst (λ (o : Option ℕ). IsFirst o left.path) (sym is) (is_first (first_at side i) next_seen left.path (measures call m seen_behind))
+
+  -- ---- over the run
+
+  -- What a controller was told so far, and shows then, and the settings of its end.
+  record Was (side : Side) (i : ℕ) (w : World) : Type 0 where
+    told : List congestion.Told
+    may : MayTell r side i told
+    shows : ShowsAfter side r.start w told
+    sized : Tells (search_at side r.start) told (search_at side w)
+    same : (end_at side w).transport ≡ settings side
+    first : (end_at side w).closing.state ≡ states.Open → IsFirst (first_at side i) (end_at side w).path
+
+  -- before the first event
+  at_first : (side : Side) (w : World) → w ≡ r.start → Was side zero w
+  at_first side w is = subst (λ (v : World). Was side zero v) (sym is) (record {
+    told = [];
+    may = subst (λ (ts : List Told). TellsCalls (lens_of r side) (settings side) None (watch_from (end_at side r.start) (given_of r side)) ts []) (sym (told_none side r.events r.views (end_at side r.start).closing.state)) refl;
+    shows = λ more. refl;
+    sized = still (search_at side r.start) [] tt;
+    same = refl;
+    first = λ opened. at_start;
+  })
+    where
+      none : first_at side zero ≡ None
+      none = ap (λ (ts : List Told). first_after (lens_of r side) None (watch_from (end_at side r.start) (given_of r side)) ts) (told_none side r.events r.views (end_at side r.start).closing.state)
+
+      at_start : IsFirst (first_at side zero) (end_at side r.start).path
+      at_start =
+          let made = start_is r.start honest.start side in
+          record { is = ap (λ (e : End). e.path.first_after_rtt) made ∙ sym none; none = λ is. ap (λ (e : End). e.path.rtt.smoothed) made }
+
+  -- one call more, at either end
+  at_next : (side by : Side) (call : Call) (a : Answer) (i : ℕ) (w next : World) → IsMade r i by call a w next → LeadsTo r (suc i) next → Was side i w → Was side (suc i) next
+  at_next side by call a i w next m leads b = record {
+    told = b.told ++ now;
+    may = may;
+    shows = λ more. step_shows side r.keys w next event a served m.step more ∙ b.shows (now ++ more) ∙ ap (λ (ts : List congestion.Told). control_at side r.start ts) (sym (append_assoc b.told now more));
+    sized = both (search_at side r.start) (search_at side w) (search_at side next) b.told now b.sized (step_tells side r.keys w next event a served m.step);
+    same = stays side by call m ∙ b.same;
+    first = first side by call m b.same b.first;
+  }
+    where
+      event : RunEvent
+      event = record { side = by; call = call }
+
+      served : fails a ≡ false
+      served = made_served r i by call a w next m
+
+      now : List congestion.Told
+      now = told_by_step side r.keys w event
+
+      at : Placed G r end side i
+      at = placed G g r end honest run side i (served_before r.answers i m.served)
+
+      -- the state of the end there
+      state : state_at r side i ≡ (end_at side w).closing.state
+      state = sym at.state ∙ ap (λ (v : World). (end_at side v).closing.state) (one_run r.keys (take i r.answers) r.start (take i r.events) (take i r.views) (take i r.views) at.world w (served_before r.answers i m.served) at.leads m.leads).1
+
+      more : until r side (suc i) ≡ until r side i ++ told_by side (state_at r side i) event a
+      more = told_grown i side by call a w next m
+
+      stays : (side by : Side) (call : Call) → IsMade r i by call a w next → (end_at side next).transport ≡ (end_at side w).transport
+      stays Client Client call m =
+          ap (λ (e : End). e.transport) (made_end r i Client call a w next m) ∙ (placed_call (policy_at Client r.keys) (reads_window (control_at Client w) call (end_at Client w)) (given_by Server w) call a).transport ∙ (reads_same (control_at Client w) call (end_at Client w)).1
+      stays Server Server call m =
+          ap (λ (e : End). e.transport) (made_end r i Server call a w next m) ∙ (placed_call (policy_at Server r.keys) (reads_window (control_at Server w) call (end_at Server w)) (given_by Client w) call a).transport ∙ (reads_same (control_at Server w) call (end_at Server w)).1
+      stays Client Server call m = ap (λ (v : World). v.client.transport) m.step.others
+      stays Server Client call m = ap (λ (v : World). v.server.transport) m.step.others
+
+      first : (side by : Side) (call : Call) → IsMade r i by call a w next → (end_at side w).transport ≡ settings side → ((end_at side w).closing.state ≡ states.Open → IsFirst (first_at side i) (end_at side w).path)
+          → (end_at side next).closing.state ≡ states.Open → IsFirst (first_at side (suc i)) (end_at side next).path
+      first Client Client call m same known opened = own_first i Client call a w next m leads same known opened
+      first Server Server call m same known opened = own_first i Server call a w next m leads same known opened
+      first Client Server call m same known opened =
+          subst (λ (o : Option ℕ). IsFirst o (end_at Client next).path) (sym (other_first i Client Server call a w next m refl))
+          (subst (λ (v : World). IsFirst (first_at Client i) v.client.path) (sym m.step.others) (known (sym (ap (λ (v : World). v.client.closing.state) m.step.others) ∙ opened)))
+      first Server Client call m same known opened =
+          subst (λ (o : Option ℕ). IsFirst o (end_at Server next).path) (sym (other_first i Server Client call a w next m refl))
+          (subst (λ (v : World). IsFirst (first_at Server i) v.server.path) (sym m.step.others) (known (sym (ap (λ (v : World). v.server.closing.state) m.step.others) ∙ opened)))
+
+      may : MayTell r side (suc i) (b.told ++ now)
+      may = subst (λ (ts : List Told). TellsCalls (lens_of r side) (settings side) None (watch_from (end_at side r.start) (given_of r side)) ts (b.told ++ now)) (sym more) (go side by call m b.told b.may b.same b.first state)
+        where
+          -- its own call
+          mine : (side : Side) (call : Call) → IsMade r i side call a w next → (told : List congestion.Told) → MayTell r side i told → (end_at side w).transport ≡ settings side → ((end_at side w).closing.state ≡ states.Open → IsFirst (first_at side i) (end_at side w).path) → state_at r side i ≡ (end_at side w).closing.state
+              → TellsCalls (lens_of r side) (settings side) None (watch_from (end_at side r.start) (given_of r side)) (until r side i ++ told_of call a (state_at r side i) ∷ []) (told ++ tells (policy_at side r.keys) (reads_window (control_at side w) call (end_at side w)) (given_by (other_side side) w) call)
+          mine side call m told may same first state =
+              let met : End = reads_window (control_at side w) call (end_at side w) in
+              let said : List congestion.Told = tells (policy_at side r.keys) met (given_by (other_side side) w) call in
+              subst (λ (s : State). TellsCalls (lens_of r side) (settings side) None (watch_from (end_at side r.start) (given_of r side)) (until r side i ++ told_of call a s ∷ []) (told ++ said)) ((reads_same (control_at side w) call (end_at side w)).0 ∙ sym state)
+              (tells_more (lens_of r side) (settings side) None (watch_from (end_at side r.start) (given_of r side)) (until r side i) (told_of call a met.closing.state) told said may (own_tells i side a w next same first call m))
+
+          -- a call of the other end
+          theirs : (side : Side) (told : List congestion.Told) → MayTell r side i told → TellsCalls (lens_of r side) (settings side) None (watch_from (end_at side r.start) (given_of r side)) (until r side i ++ []) (told ++ [])
+          theirs side told may =
+              subst (λ (ts : List Told). TellsCalls (lens_of r side) (settings side) None (watch_from (end_at side r.start) (given_of r side)) ts (told ++ [])) (sym (append-nil (until r side i)))
+              (subst (λ (us : List congestion.Told). MayTell r side i us) (sym (append-nil told)) may)
+
+          go : (side by : Side) (call : Call) → IsMade r i by call a w next → (told : List congestion.Told) → MayTell r side i told → (end_at side w).transport ≡ settings side → ((end_at side w).closing.state ≡ states.Open → IsFirst (first_at side i) (end_at side w).path) → state_at r side i ≡ (end_at side w).closing.state
+              → TellsCalls (lens_of r side) (settings side) None (watch_from (end_at side r.start) (given_of r side)) (until r side i ++ told_by side (state_at r side i) (record { side = by; call = call }) a) (told ++ told_by_step side r.keys w (record { side = by; call = call }))
+          go Client Client call m told may same first state = mine Client call m told may same first state
+          go Server Server call m told may same first state = mine Server call m told may same first state
+          go Client Server call m told may same first state = theirs Client told may
+          go Server Client call m told may same first state = theirs Server told may
+
+  -- behind a view, where it is so before it
+  behind : (i : ℕ) (side : Side) (v : View) (w : World) → AreServed r (suc i) → slice_get r.views i ≡ Some v → LeadsTo r (suc i) w → ((u : World) → LeadsTo r i u → Was side i u) → Was side (suc i) w
+  behind i side v w served there leads before =
+      let did = did_there i r.keys r.start end r.events r.answers r.views v run.follows there in
+      let last = last_step r.keys i r.start w r.events r.answers r.views did.event did.answer did.at_event did.at_answer leads in
+      at_next side did.event.side did.event.call did.answer i last.before w (record { at = record { event = did.at_event; answer = did.at_answer }; leads = last.leads; step = last.step; served = served }) leads (before last.before last.leads)
+
+  -- so it is at each place behind a view
+  at_place : (i : ℕ) (side : Side) (v : View) (w : World) → AreServed r (suc i) → slice_get r.views i ≡ Some v → LeadsTo r (suc i) w → Was side (suc i) w
+  at_place zero side v w served there leads = behind zero side v w served there leads (λ u first. at_first side u first)
+  at_place (suc i) side v w served there leads =
+      let before = view_before i r.views v there in
+      behind (suc i) side v w served there leads (λ u leads_there. at_place i side before.0 u (served_before r.answers (suc i) served) before.1 leads_there)
+
+  -- the clause
+  pub controllers_are_told : ControllersAreTold r
+  controllers_are_told side i v served there =
+      let lead = first_lead (suc i) r.keys r.start r.events r.answers r.views end run.follows in
+      let w : World = lead.0 in
+      let b = at_place i side v w served there lead.1 in
+      let seen : v ≡ view_of w = last_view r.keys i r.start w r.events r.answers r.views v lead.1 there in (
+        b.told,
+        b.may,
+        ap (λ (u : View). window_in u side) seen ∙ window_shown side w ∙ b.shows [] ∙ ap (λ (ts : List congestion.Told). control_at side r.start ts) (append-nil b.told),
+        ap (λ (u : View). mtu_in u side) seen ∙ size_there side w ∙ b.sized.size,
+      )

@@ -1,0 +1,90 @@
+-- The number that went next as a round trip was first measured: what calls leave of it, and of how
+-- long a round trip takes.
+use Rattle.std.proofs.Common.{◌≡◌, ℕ, false, List, Option, Some, None, refl, sym, ap, ◌∙◌}
+use Rattle.quic_machine.specs.declared.run.Call.{Call}
+use Rattle.quic_machine.specs.declared.run.Answer.{Answer}
+use Rattle.quic_machine.specs.declared.run.Delivery.{Delivery}
+use Rattle.quic_machine.specs.Arrival.{delivered_by}
+use Rattle.quic_machine.specs.Policy.{Policy}
+use Rattle.quic_machine.specs.Closing.{ticked}
+use Rattle.quic_machine.specs.Parts.{Path}
+use Rattle.quic_machine.specs.Tracking.{lost_by}
+use Rattle.quic_machine.specs.End.{End, with_closing}
+use Rattle.quic_machine.specs.Acked.{verdict, losses_detected}
+use Rattle.quic_machine.specs.Poll.{Polled}
+use Rattle.quic_machine.specs.Timeouts.{Expiry}
+use Rattle.quic_machine.specs.Machine.{after_delivered, after_call}
+use Rattle.quic_machine.specs.CallCases.{is_delivery, by_plain_call}
+use Rattle.quic_machine.specs.LeaveCases.{at_expiry, by_expired}
+use Rattle.quic_machine.specs.FrameCases.{packets_lost_keep, by_received}
+use Rattle.quic_machine.specs.PollCases.{at_poll, by_poll, composes}
+use Rattle.quic_headline.specs.Telling.{Judging, measured_first}
+use Rattle.quic_headline.proofs.Packets.Probes.{may_leave}
+use Rattle.quic_headline.proofs.Packets.Searches.{losses_searched}
+use Rattle.quic_headline.proofs.Tellings.Acks.{IsSet, frame_set}
+
+-- ---- calls that are no deliveries
+
+-- what is measured of two ends is the same
+abbrev pub Measured : Path → Path → Type 0
+Measured p q = (q.first_after_rtt ≡ p.first_after_rtt) × (q.rtt ≡ p.rtt)
+
+-- losses leave it
+losses_measured : (e : End) → Measured e.path (losses_detected e).path
+losses_measured e = losses_searched (λ (x : End). Measured e.path x.path) (λ d x i. i) (λ most x i. i) e (packets_lost_keep (λ (x : End). Measured e.path x.path) (λ m x i. i) (λ c x i. i) (lost_by (verdict e) e.tracking.packets) e (refl, refl))
+
+expired_measured : (e : End) (now : ℕ) (expiry : Expiry) → Measured e.path (at_expiry e now expiry).path
+expired_measured e now = by_expired e now (λ (x : End). Measured e.path x.path) (λ pending tracking timers runs packets. (refl, refl)) (λ pending timers runs. losses_measured (with_closing e (ticked e.closing now)))
+
+-- and so does each such call
+pub call_measured : (p : Policy) (e : End) (theirs : List (List ℕ)) (call : Call) (a : Answer) → is_delivery call ≡ false → Measured e.path (after_call p e theirs call a).path
+call_measured p e theirs call a apart = by_plain_call p e theirs (λ (x : End). Measured e.path x.path) call a (record {
+  same = (refl, refl);
+  on_streams = λ t. (refl, refl);
+  on_messages = λ m. (refl, refl);
+  pings = (refl, refl);
+  heard = λ path same. (same.first_after_rtt, same.rtt);
+  times = λ now expiry is. expired_measured e now expiry;
+  polls = λ now is. by_poll p e now (λ (q : Polled). Measured e.path q.end.path) (record {
+    silent = (refl, refl);
+    failed = (refl, refl);
+    nothing = λ c. (refl, refl);
+    used_up = λ c. (refl, refl);
+    gives = λ leaving c left is may ready some.
+        let x : End = at_poll e now c in
+        let path = (composes leaving x (may_leave e now leaving x ready)).path in
+        (ap (λ (q : Path). q.first_after_rtt) path, ap (λ (q : Path). q.rtt) path);
+  });
+  hears = λ arrival d is. cc;
+  tells = λ told. (refl, refl);
+})
+
+-- ---- a delivery
+
+-- an end that is judged so is so behind a delivery
+pub delivered_set : (j : Judging) (p : Policy) (e : End) (delivery : Delivery) (o : Option (List ℕ)) → IsSet j e → IsSet j (after_delivered p e delivery o)
+delivered_set j p e delivery None i = i
+delivered_set j p e delivery (Some d) i =
+    by_received (IsSet j) (record { notes = λ n x k. k; begins = λ now n x k. k; frame = λ f x k. frame_set j f x k; takes = λ n asks mark x k. k; closes = λ reason x k. k }) p e (delivered_by delivery) d i
+
+-- ---- what is known of it
+
+-- The first number is this, and where there is none, no round trip was measured.
+pub record IsFirst (first : Option ℕ) (p : Path) : Type 0 where
+  pub is : p.first_after_rtt ≡ first
+  pub none : first ≡ None → p.rtt.smoothed ≡ None
+
+-- so it is by whichever number goes next
+pub first_measured : (first : Option ℕ) (next : ℕ) (p : Path) → IsFirst first p → p.first_after_rtt ≡ measured_first first next p.rtt.smoothed
+first_measured (Some n) next p i = i.is
+first_measured None next p i = i.is ∙ sym (ap (λ (o : Option ℕ). measured_first None next o) (i.none refl))
+
+-- where there is none, none was measured
+none_measured : (first : Option ℕ) (next : ℕ) (smoothed : Option ℕ) → measured_first first next smoothed ≡ None → smoothed ≡ None
+none_measured (Some n) next smoothed is = cc
+none_measured None next None is = refl
+none_measured None next (Some n) is = cc
+
+-- what is measured is known then
+pub is_first : (first : Option ℕ) (next : ℕ) (p : Path) → p.first_after_rtt ≡ measured_first first next p.rtt.smoothed → IsFirst (measured_first first next p.rtt.smoothed) p
+is_first first next p is = record { is = is; none = none_measured first next p.rtt.smoothed }

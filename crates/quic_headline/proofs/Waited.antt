@@ -1,0 +1,6 @@
+pub mod Marks
+pub mod Flags
+pub mod Pings
+pub mod Drafts
+pub mod Group
+pub mod Clause

@@ -1,0 +1,155 @@
+-- PING waits at an open end only where it was asked for: a poll that gives it leaves none waiting, and no other call makes it wait, unless it asks for it.
+use Rattle.std.proofs.Common.{◌≡◌, ℕ, zero, suc, Bool, true, false, ◌||◌, not, List, [], ◌∷◌, ◌++◌, replicate, Option, Some, None, refl, sym, ap, ◌∙◌, ◌⊎◌, inl, inr, arith}
+use Rattle.std.specs.Prelude.{slice_get}
+use Rattle.std.specs.List.{list_any}
+use Rattle.std.proofs.lemmas.Bool.{or_parts, both_ways}
+use Rattle.quic_wire.specs.Value.{padding}
+use Rattle.quic_recovery_core.specs.PendingAcks.{can_send}
+use Rattle.quic_streams_state.specs.Waiting.{is_empty, can_send_stream_data}
+use Rattle.quic_machine.specs.declared.answers.State.TheVariants as states
+use Rattle.quic_machine.specs.declared.run.Call.{Call}
+use Rattle.quic_machine.specs.declared.run.Call.TheVariants as calls
+use Rattle.quic_machine.specs.declared.run.Answer.{Answer}
+use Rattle.quic_machine.specs.declared.run.Answer.TheVariants as answers
+use Rattle.quic_machine.specs.Arrival.{delivered_by}
+use Rattle.quic_machine.specs.Policy.{Policy}
+use Rattle.quic_machine.specs.Parts.{Waiting}
+use Rattle.quic_machine.specs.Closing.{ticked}
+use Rattle.quic_machine.specs.End.{End, with_closing}
+use Rattle.quic_machine.specs.Poll.{Polled, Draft, no_frames, zeros_behind, with_ping_frame, ping_if, with_control_frames, with_message_frames, with_asking, with_ack, ack_fits, ack_if, composed_if, composed, lazied, message_waits, asks_to_go, waits, probed, gated, draft_as, goes, goes_as, whole, alone, probe, nothing, Leaving, Ready, polled}
+use Rattle.quic_machine.specs.DraftLaws.{by_entries, by_messages, by_streams}
+use Rattle.quic_machine.specs.PollCases.{ready_at, draft_at, gate_leaves, search_leaves, by_poll_to}
+use Rattle.quic_machine.specs.FrameCases.{Settling, Receives, named, acked_keeps, losses_keep, frame_keeps, frame_leaves, by_received}
+use Rattle.quic_machine.specs.InjectionCases.{by_injection}
+use Rattle.quic_machine.specs.LeaveCases.{by_expiry, by_expired, by_event}
+use Rattle.quic_machine.specs.CallCases.{is_poll}
+use Rattle.quic_machine.specs.Machine.{after_delivered, after_call, gave}
+use Rattle.quic_headline.specs.Waited.{stands, is_ping, asks_ping}
+use Rattle.quic_headline.proofs.Packets.Probes.{by_going}
+use Rattle.quic_headline.proofs.Places.Parties.{sent_by, sent_if}
+use Rattle.quic_headline.proofs.Steps.Probes.{begun, ready_whole}
+use Rattle.quic_headline.proofs.Steps.Probing.{IsProbing, unprobed, probe_goes}
+
+-- ---- an end that is ready
+
+-- what waits is what waits once something does for each probe of losses
+ready_waiting : (e : End) (now : ℕ) → (ready_at e now).end.waiting ≡ (probed (begun e now)).waiting
+ready_waiting e now = ap (λ (x : End). x.waiting) (search_leaves (gated (probed (begun e now)))) ∙ ap (λ (x : End). x.waiting) (gate_leaves (probed (begun e now)))
+
+-- so it is as it was where no probe of losses waits
+pub ready_still : (e : End) (now : ℕ) → e.tracking.probes ≡ 0 → (ready_at e now).end.waiting ≡ e.waiting
+ready_still e now none = ready_waiting e now ∙ ap (λ (x : End). x.waiting) (unprobed (begun e now) none)
+
+-- where not all goes that waits, none waits
+pub unless_whole : (e : End) (now : ℕ) → ((ready_at e now).leaving ≡ whole → ⊥) → e.tracking.probes ≡ 0
+unless_whole e now other = go e.tracking.probes refl
+  where
+    go : (n : ℕ) → e.tracking.probes ≡ n → e.tracking.probes ≡ 0
+    go zero is = is
+    go (suc n) is = absurd (other (ap (λ (g : Ready). g.leaving) (ready_whole e now (omega arith))))
+
+-- ---- a poll
+
+-- PING is no more than the first of what is composed, and none waits behind
+abbrev Unpinged : Draft → Type 0
+Unpinged d = d.end.waiting.ping ≡ false
+
+asking_unpinged : (d : Draft) → Unpinged (with_asking d)
+asking_unpinged d = by_streams Unpinged (λ x id h room found first left is counts i. i) (with_message_frames (with_control_frames (with_ping_frame d)))
+    (by_messages Unpinged (λ x m ms is fit i. i) (with_control_frames (with_ping_frame d)) (by_entries Unpinged (λ x kind i. i) (λ x kind f is i. i) (with_ping_frame d) (first d.end.waiting.ping refl)))
+  where
+    first : (b : Bool) → d.end.waiting.ping ≡ b → Unpinged (ping_if b d)
+    first true is = refl
+    first false is = is
+
+composed_unpinged : (e : End) → Unpinged (composed e)
+composed_unpinged e = go (can_send e.acknowledging)
+  where
+    late : (b : Bool) (d : Draft) → Unpinged d → Unpinged (ack_if b d)
+    late true d i = i
+    late false d i = i
+
+    go : (b : Bool) → Unpinged (composed_if b e)
+    go true = asking_unpinged (with_ack (no_frames e))
+    go false = late (ack_fits (with_asking (no_frames e))) (with_asking (no_frames e)) (asking_unpinged (no_frames e))
+
+-- PADDING is no PING
+none_padded : (count : ℕ) → list_any is_ping (replicate count padding) ≡ false
+none_padded zero = refl
+none_padded (suc count) = none_padded count
+
+-- an end to which nothing waits has no PING
+idle_unpinged : (e : End) → waits e ≡ false → e.waiting.ping ≡ false
+idle_unpinged e none = (or_parts e.waiting.ping (not (is_empty e.waiting.frames e.streams) || (message_waits e || can_send_stream_data e.streams)) (or_parts (can_send e.acknowledging) (asks_to_go e) none).1).0
+
+module _ (p : Policy) (e : End) (now : ℕ) where
+  abbrev g : Ready
+  g = ready_at e now
+
+  -- nothing goes
+  ready_pinged : goes g ≡ false → g.end.waiting.ping ≡ true → e.waiting.ping ≡ true
+  ready_pinged none set = sym (ap (λ (w : Waiting). w.ping) (ready_still e now (unless_whole e now (λ is. both_ways (goes g) none (ap goes_as is))))) ∙ set
+
+  -- something goes
+  draft_pinged : (leaving : Leaving) → g.leaving ≡ leaving → goes g ≡ true → (draft_as leaving g.end).end.waiting.ping ≡ true → (stands is_ping (sent_by e now ∷ []) ≡ false) × (e.waiting.ping ≡ true)
+  draft_pinged whole is some set = absurd (both_ways (composed (lazied g.end)).end.waiting.ping (composed_unpinged (lazied g.end)) set)
+  draft_pinged alone is some set = (
+      let same = ready_still e now (unless_whole e now (λ all. (let clash : alone ≡ whole = sym is ∙ all in cc))) in (
+        ap (λ (l : Leaving). list_any is_ping ((draft_as l g.end).frames ++ replicate (zeros_behind (draft_as l g.end)) padding) || false) is ∙ ap (λ (b : Bool). b || false) (none_padded (zeros_behind (draft_as alone g.end))),
+        sym (ap (λ (w : Waiting). w.ping) same) ∙ set,
+      ))
+  draft_pinged (probe size) is some set =
+      let q : IsProbing (begun e now) g = probe_goes e now size is in
+      absurd (both_ways g.end.waiting.ping (ap (λ (r : Ready). r.end.waiting.ping) q.is ∙ idle_unpinged (begun e now) q.idle) set)
+  draft_pinged (nothing held) is some set = absurd (both_ways (goes g) (ap goes_as is) some)
+
+  -- where PING waits behind a poll that leaves its end open, it waited before, and none went
+  pub polled_pinged : (polled p e now).end.closing.state ≡ states.Open → (polled p e now).end.waiting.ping ≡ true → (stands is_ping (sent_if (gave (answers.Poll (polled p e now).answer)) (sent_by e now)) ≡ false) × (e.waiting.ping ≡ true)
+  polled_pinged = by_poll_to p e now (λ (q : Polled). q.end.closing.state ≡ states.Open → q.end.waiting.ping ≡ true → (stands is_ping (sent_if (gave (answers.Poll q.answer)) (sent_by e now)) ≡ false) × (e.waiting.ping ≡ true)) (record {
+    silent = λ opened set. (refl, set);
+    failed = λ opened set. (refl, set);
+    nothing = λ is none opened set. (refl, ready_pinged none set);
+    used_up = λ opened set. cc;
+    gives = λ is may some. by_going (λ (x : End). x.closing.state ≡ states.Open → x.waiting.ping ≡ true → (stands is_ping (sent_by e now ∷ []) ≡ false) × (e.waiting.ping ≡ true)) p (draft_at e now) (λ pacing opened set. draft_pinged g.leaving refl some set);
+  })
+
+-- ---- any other call
+
+-- PING waits or doesn't, as before
+abbrev SamePing : End → End → Type 0
+SamePing e f = f.waiting.ping ≡ e.waiting.ping
+
+settling : (e : End) → Settling (SamePing e)
+settling e = record { known = λ n x i. i; reset = λ id x i. i; acked = λ m x i. i; lost = λ m x i. i; again = λ carried x i. i; searched = λ discovery x i. i; shortens = λ most x i. i; tracked = λ t x i. i; measured = λ r first x i. i; marked = λ m marking x i. i }
+
+receives_same : (e : End) → Receives (SamePing e)
+receives_same e = record {
+  notes = λ n x i. i;
+  begins = λ now n x i. i;
+  frame = frame_keeps (SamePing e) (record {
+    ack = λ rises a x i. acked_keeps (SamePing e) (settling e) rises a (named a x) i;
+    on_streams = λ f x on i. frame_leaves (SamePing e) f x on (λ t. i);
+    message = λ m x i. i;
+  });
+  takes = λ n asks mark x i. i;
+  closes = λ reason x i. i;
+}
+
+-- it waits as before, unless the call asks for it
+pub call_pinged : (p : Policy) (e : End) (theirs : List (List ℕ)) (call : Call) (a : Answer) → is_poll call ≡ false → (asks_ping call ≡ true) ⊎ SamePing e (after_call p e theirs call a)
+call_pinged p e theirs (calls.Poll now) a silent = cc
+call_pinged p e theirs calls.Ping a silent = inl refl
+call_pinged p e theirs (calls.Send message makes_room) a silent = inr refl
+call_pinged p e theirs calls.Recv a silent = inr refl
+call_pinged p e theirs (calls.Timeout now) a silent = inr (by_expiry e now (SamePing e) refl
+    (by_expired e now (SamePing e) (λ acks tracking timers runs packets. refl) (λ acks timers runs. losses_keep (SamePing e) (settling e) (with_closing e (ticked e.closing now)) refl)))
+call_pinged p e theirs (calls.Deliver delivery) a silent = inr (go (slice_get theirs delivery.index))
+  where
+    go : (o : Option (List ℕ)) → SamePing e (after_delivered p e delivery o)
+    go None = refl
+    go (Some d) = by_received (SamePing e) (receives_same e) p e (delivered_by delivery) d refl
+call_pinged p e theirs (calls.Inject injection) a silent = inr (by_injection p e injection (SamePing e) refl (λ path same. refl))
+call_pinged p e theirs calls.Event a silent = inr (by_event e (SamePing e) refl (λ told. refl))
+call_pinged p e theirs (calls.Timer timer) a silent = inr refl
+call_pinged p e theirs calls.NextTimeout a silent = inr refl
+call_pinged p e theirs call a silent = inr refl

@@ -1,0 +1,5 @@
+use Rattle.quic_headline.proofs.Places.Theorems.{controllers_are_told}
+use Rattle.quic_headline.proofs.headline.controllers_are_told.Goals as goal
+
+pub returns : goal.returns
+returns c = controllers_are_told

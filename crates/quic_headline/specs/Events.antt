@@ -1,0 +1,167 @@
+-- What an application is told of: where it asks what is told next and nothing is, nothing is left
+-- to tell, by the run's lists.
+use Rattle.std.specs.Prelude.{ℕ, ◌+◌, ◌-◌, ◌<◌, ◌≡◌, Bool, true, false, nat_lt, not, ◌==◌, ◌&&◌, ◌||◌, if◌then◌else◌, List, [], ◌∷◌, ◌++◌, Some, None}
+use Rattle.std.specs.List.{list_any}
+use Rattle.quic_wire_core.specs.declared.stream_id.Side.{Side}
+use Rattle.quic_wire_core.specs.declared.stream_id.Dir.{Dir}
+use Rattle.quic_wire_core.specs.declared.stream_id.Dir.TheVariants.{Bi, Uni}
+use Rattle.quic_wire_core.specs.StreamId.{other_side}
+use Rattle.quic_wire.specs.Value.{FrameValue, stream, datagram}
+use Rattle.quic_streams_parts.specs.declared.answers.StreamEvent.TheVariants.{Opened, Readable}
+use Rattle.quic_streams_parts.specs.Dirs.{is_own}
+use Rattle.quic_machine.specs.declared.answers.Event.TheVariants as events
+use Rattle.quic_machine.specs.declared.run.Call.{Call}
+use Rattle.quic_machine.specs.declared.run.Call.TheVariants as calls
+use Rattle.quic_machine.specs.declared.run.Answer.{Answer}
+use Rattle.quic_machine.specs.declared.run.Answer.TheVariants as answers
+use Rattle.quic_machine.specs.Policy.{Policy}
+use Rattle.quic_machine.specs.Ids.{known}
+use Rattle.quic_machine.specs.Machine.{policy_at, end_at}
+use Rattle.quic_headline.specs.Runs.{Run, Told, Packet, Intake, nothing_came, and_told, folded, until, given_of, AreServed}
+use Rattle.quic_headline.specs.Observer.{news, took}
+use Rattle.quic_headline.specs.Headline.{IsAt}
+use Rattle.quic_headline.specs.Ids.{WasOpened}
+use Rattle.quic_headline.specs.Credit.{is_read_up}
+
+-- ---- messages (RFC 9221)
+
+-- how many of these frames bring a message
+abbrev pub messages_of : List FrameValue → ℕ
+messages_of [] = 0
+messages_of (datagram m ∷ fs) = messages_of fs + 1
+messages_of (f ∷ fs) = messages_of fs
+
+-- how many messages these packets bring
+abbrev pub messages_brought : List Packet → ℕ
+messages_brought [] = 0
+messages_brought (p ∷ ps) = messages_of p.frames + messages_brought ps
+
+-- whether a call told that messages came
+abbrev pub tells_messages : Call → Answer → Bool
+tells_messages calls.Event (answers.Event (Some events.Message)) = true
+tells_messages call a = false
+
+-- how many messages wait behind a call, where so many did: one that is received waits no more, and
+-- where none is, none waited; an end that keeps too many drops the oldest, so fewer may wait
+abbrev pub unread_behind : Call → Answer → ℕ → ℕ
+unread_behind calls.Recv (answers.Recv (Some message)) n = n - 1
+unread_behind calls.Recv (answers.Recv None) n = 0
+unread_behind call a n = n
+
+-- whether it was told that messages came since the first of those came that wait
+abbrev pub told_behind : Call → Answer → ℕ → Bool → Bool
+told_behind call a n told = tells_messages call a || (nat_lt 0 n && told)
+
+-- what came to an end, how many messages wait there to be received, and whether it was told that
+-- messages came since some wait
+pub record Mail : Type 0 where
+  pub intake : Intake
+  pub unread : ℕ
+  pub told : Bool
+
+-- nothing came to an end that is known by these ids
+abbrev pub no_mail : List (List ℕ) → Mail
+no_mail ids = record { intake = nothing_came ids; unread = 0; told = false }
+
+-- one call more, where this has come behind it
+abbrev pub mail_behind : Told → Mail → Intake → Mail
+mail_behind t m after = record {
+  intake = after;
+  unread = unread_behind t.call t.answer (m.unread + messages_brought (news m.intake after));
+  told = told_behind t.call t.answer m.unread m.told;
+}
+
+abbrev pub mail_told : Policy → List (List ℕ) → Told → Mail → Mail
+mail_told p given t m = mail_behind t m (and_told p given t m.intake)
+
+-- so it is at an end behind the first so many answers
+abbrev pub mail : Run → Side → ℕ → Mail
+mail r side i = folded (mail_told (policy_at side r.keys) (given_of r (other_side side))) (until r side i) (no_mail (known (end_at side r.start).ids))
+
+-- where nothing is told next while messages wait, it was told that they came since the first of
+-- them did, whatever the state of the end
+abbrev pub MessagesAreTold : Run → Type 0
+MessagesAreTold r = (side : Side) (i : ℕ) → AreServed r i → IsAt r i side calls.Event (answers.Event None) → 0 < (mail r side i).unread → (mail r side i).told ≡ true
+
+-- ---- streams that the peer opens (RFC 9000, sections 2.1 and 3.2)
+
+-- whether a call told that the peer opened streams of a kind
+abbrev pub tells_opened : Dir → Call → Answer → Bool
+tells_opened Bi calls.Event (answers.Event (Some (events.Stream (Opened Bi)))) = true
+tells_opened Uni calls.Event (answers.Event (Some (events.Stream (Opened Uni)))) = true
+tells_opened dir call a = false
+
+-- what came to an end, and the packets that it had taken when it was told last that the peer opened
+-- streams of a kind
+pub record Openings : Type 0 where
+  pub intake : Intake
+  pub heard : List Packet
+
+-- nothing came to an end that is known by these ids
+abbrev pub no_openings : List (List ℕ) → Openings
+no_openings ids = record { intake = nothing_came ids; heard = [] }
+
+-- one call more
+abbrev pub openings_told : Policy → List (List ℕ) → Dir → Told → Openings → Openings
+openings_told p given dir t o = record { intake = and_told p given t o.intake; heard = if tells_opened dir t.call t.answer then o.intake.took else o.heard }
+
+-- the packets that an end had taken when it was told last, by the first so many answers, that the
+-- peer opened streams of a kind
+abbrev pub heard_of : Run → Side → Dir → ℕ → List Packet
+heard_of r side dir i = (folded (openings_told (policy_at side r.keys) (given_of r (other_side side)) dir) (until r side i) (no_openings (known (end_at side r.start).ids))).heard
+
+-- where nothing is told next, each stream that a frame opened was opened when it was told last that
+-- the peer opened streams of its kind, whatever was accepted, and whatever the state of the end
+abbrev pub OpeningsAreTold : Run → Type 0
+OpeningsAreTold r = (side : Side) (i id : ℕ) (dir : Dir) → AreServed r i → IsAt r i side calls.Event (answers.Event None) → WasOpened (took r side i) side dir id → WasOpened (heard_of r side dir i) side dir id
+
+-- ---- streams that may be read (RFC 9000, section 2.2)
+
+-- whether a frame brings bytes of a stream, or its end
+abbrev pub brings_of : ℕ → FrameValue → Bool
+brings_of id (stream f) = f.id == id
+brings_of id f = false
+
+-- whether one of these packets does
+abbrev pub brings : ℕ → List Packet → Bool
+brings id packets = list_any (λ p. list_any (brings_of id) p.frames) packets
+
+-- whether a call told that a stream may be read
+abbrev pub tells_readable : ℕ → Call → Answer → Bool
+tells_readable id calls.Event (answers.Event (Some (events.Stream (Readable s)))) = s == id
+tells_readable id call a = false
+
+-- whether it is told of what comes on a stream, where these packets were taken before it, and these
+-- with it: this end opened the stream, or something of it came before, and it is read on
+abbrev pub is_reading : Side → ℕ → List Packet → List Packet → List Told → Bool
+is_reading side id before after told = (is_own side id || brings id before) && not (is_read_up id after told)
+
+-- what came to an end, what was told at it, and whether it is to be told that a stream may be read
+pub record Reading : Type 0 where
+  pub intake : Intake
+  pub told : List Told
+  pub waits : Bool
+
+-- nothing came to an end that is known by these ids
+abbrev pub no_reading : List (List ℕ) → Reading
+no_reading ids = record { intake = nothing_came ids; told = []; waits = false }
+
+-- one call more at the end of this side, where this has come behind it
+abbrev pub reading_behind : Side → ℕ → Told → Reading → Intake → Reading
+reading_behind side id t r after = record {
+  intake = after;
+  told = r.told ++ t ∷ [];
+  waits = if tells_readable id t.call t.answer then false else r.waits || (brings id (news r.intake after) && is_reading side id r.intake.took after.took (r.told ++ t ∷ []));
+}
+
+abbrev pub reading_told : Side → Policy → List (List ℕ) → ℕ → Told → Reading → Reading
+reading_told side p given id t r = reading_behind side id t r (and_told p given t r.intake)
+
+-- so it is behind the first so many answers
+abbrev pub reading : Run → Side → ℕ → ℕ → Reading
+reading r side id i = folded (reading_told side (policy_at side r.keys) (given_of r (other_side side)) id) (until r side i) (no_reading (known (end_at side r.start).ids))
+
+-- where nothing is told next, it was told that a stream may be read since the last STREAM frame
+-- came on it, of those that it is told of, whatever the state of the end
+abbrev pub ReadablesAreTold : Run → Type 0
+ReadablesAreTold r = (side : Side) (i id : ℕ) → AreServed r i → IsAt r i side calls.Event (answers.Event None) → (reading r side id i).waits ≡ false

@@ -1,0 +1,5 @@
+use Rattle.quic_worked.proofs.RepeatedRuns.{ping_asked, ping_gone, none_came, both_came, both_named, limit_unsaid, limit_said}
+use Rattle.quic_worked.proofs.repeated.wants_are_met.Goals as goal
+
+pub returns : goal.returns
+returns c = record { asked = ping_asked; pinged = ping_gone; before = none_came; came = both_came; acknowledged = both_named; unsaid = limit_unsaid; said = limit_said }

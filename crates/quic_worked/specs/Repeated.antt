@@ -1,0 +1,69 @@
+-- Runs of machines that give a datagram in which nothing waited: PING again, an ACK frame again, or MAX_DATA again.
+use Rattle.std.specs.Prelude.{ℕ, List, [], ◌∷◌, ◌++◌, replicate, take, Some, None}
+use Rattle.quic_wire.specs.Value.{FrameValue, ping, padding, ack, max_data, max_stream_data}
+use Rattle.quic_machine.specs.declared.run.ReadCall.{ReadCall}
+use Rattle.quic_machine.specs.declared.run.Answer.TheVariants as answers
+use Rattle.quic_headline.specs.Runs.{Run}
+use Rattle.quic_headline.specs.Observer.{Sent}
+use Rattle.quic_worked.specs.Worked.{worked_policies, started, asks_datagram, gives_bytes}
+use Rattle.quic_worked.specs.Acknowledged.{from_server}
+use Rattle.quic_worked.specs.Losses.{asks_ping}
+use Rattle.quic_worked.specs.Paired.{asks_server}
+use Rattle.quic_worked.specs.Timed.{seen_with}
+use Rattle.quic_worked.specs.Hasty.{hasty_events, answers_hasty, hasty_views, ack_of_both, pings}
+use Rattle.quic_worked.specs.Limited.{limited_events, limited_answers, limited_views, limited_run, raised_payload}
+
+-- a datagram that was given first or second of an end's, at moment 0
+abbrev pub second_sent : List FrameValue → ℕ → Sent
+second_sent frames size = record { number = 1; reference = 0; frames = frames; moment = 0; size = size }
+
+-- ---- PING
+
+-- the client is asked for PING once, and gives two
+abbrev pub ping_again : Run
+ping_again = record {
+  keys = worked_policies;
+  start = started;
+  events = asks_ping ∷ asks_datagram ∷ asks_datagram ∷ [];
+  answers = answers.Ping ∷ gives_bytes 29 ∷ gives_bytes 29 ∷ [];
+  views = seen_with None None ∷ replicate 2 (seen_with (Some 1024000000) None);
+  from_client = pings 2;
+  from_server = [];
+}
+
+-- the second
+abbrev pub second_ping : Sent
+second_ping = second_sent (ping ∷ padding ∷ padding ∷ []) 29
+
+-- ---- ACK
+
+-- the server acknowledges both datagrams that came, and gives the same once more
+abbrev pub ack_again : Run
+ack_again = record {
+  keys = worked_policies;
+  start = started;
+  events = hasty_events ++ asks_server ∷ [];
+  answers = answers_hasty (gives_bytes 31) ++ gives_bytes 31 ∷ [];
+  views = hasty_views ++ seen_with (Some 1024000000) None ∷ [];
+  from_client = pings 2;
+  from_server = from_server 0 ack_of_both ∷ from_server 1 ack_of_both ∷ [];
+}
+
+-- the second
+abbrev pub second_ack : Sent
+second_ack = second_sent (ack (record { largest = 1; delay = 0; ranges = (0, 1) ∷ []; ecn = None }) ∷ []) 31
+
+-- ---- MAX_DATA
+
+-- the server says how far the client may come once the word is read, and says it once more
+abbrev pub limit_again : ReadCall → Run
+limit_again read = record (limited_run read) {
+  events = take 10 (limited_events read) ++ asks_server ∷ [];
+  answers = take 10 limited_answers ++ gives_bytes 36 ∷ [];
+  views = take 11 limited_views;
+  from_server = from_server 0 raised_payload ∷ from_server 1 raised_payload ∷ [];
+}
+
+-- the second
+abbrev pub second_limit : Sent
+second_limit = second_sent (max_data 13 ∷ max_stream_data (record { id = 0; limit = 10 }) ∷ ack (record { largest = 0; delay = 0; ranges = (0, 0) ∷ []; ecn = None }) ∷ []) 36

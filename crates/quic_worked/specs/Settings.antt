@@ -1,0 +1,7 @@
+-- The settings of ends in worked runs.
+use Rattle.std.specs.Prelude.{None}
+use Rattle.quic_config.specs.Transport.{Settings, default_settings}
+
+-- those where nothing is set but that no greater size of datagrams is looked for: a poll that has nothing to give gives nothing
+abbrev pub plain_settings : Settings
+plain_settings = record default_settings { mtu_discovery_config = None }
