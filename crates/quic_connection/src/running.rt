@@ -2,7 +2,7 @@
 ghost use Rattle.std.specs.Prelude.{◌≡◌, ◌++◌, [], length, ◌≤◌, ◌<◌, vec_len, vec_capacity, slice_get, IsSome, IfOk, OnErr, true, false};
 ghost use Rattle.quic_wire_core.specs.StreamId.{other_side};
 ghost use Rattle.quic_machine.specs.End.{policy_of, with_end};
-ghost use Rattle.quic_machine.specs.Machine.{Policies, IsAnswer, reads_window, IsLeft, IsTold, fails, gives, given_by, IsStep, view_of, end_view, Follows};
+ghost use Rattle.quic_machine.specs.Machine.{Policies, IsAnswer, reads_window, IsLeft, IsTold, IsHeard, fails, gives, given_by, IsStep, view_of, end_view, Follows};
 ghost use Rattle.quic_machine.specs.CallCases.{is_poll};
 ghost use Rattle.quic_machine.specs.Lacking.{LacksWhere, TakesOfItsOwn};
 ghost use Rattle.quic_machine.specs.Start.{AreStarted};
@@ -185,6 +185,8 @@ pub fn call_at<H: HeaderKey + Drop, K: PacketKey + Drop, R: Rng + Drop, C: Contr
         IsTold (fails a) (policy_of H.protection K.aead (words_of R.stream) end.old)
         (windows_of C.steps C.window_of end.old.control) end.old.end [] call.now
         (windows_of C.steps C.window_of end.new.control)) }
+    ensures heard { IfOk result (λ a.
+        IsHeard (fails a) [] call.now a end.old.heard end.new.heard) }
     ensures appended { IfOk result (λ a.
         given.new.items
         ≡ given.old.items ++ gives (policy_of H.protection K.aead (words_of R.stream) end.old)
@@ -219,6 +221,8 @@ fn at_end<H: HeaderKey + Drop, K: PacketKey + Drop, R: Rng + Drop, C: Controller
         IsTold (fails a) (policy_of H.protection K.aead (words_of R.stream) end.old)
         (windows_of C.steps C.window_of end.old.control) end.old.end theirs.now call.now
         (windows_of C.steps C.window_of end.new.control)) }
+    ensures heard { IfOk result (λ a.
+        IsHeard (fails a) theirs.now call.now a end.old.heard end.new.heard) }
     ensures given { IfOk result (λ a.
         mine.new.items
         ≡ mine.old.items ++ gives (policy_of H.protection K.aead (words_of R.stream) end.old)
@@ -283,6 +287,8 @@ fn send_at<H: HeaderKey + Drop, K: PacketKey + Drop, R: Rng + Drop, C: Controlle
         IsTold (fails a) (policy_of H.protection K.aead (words_of R.stream) end.old)
         (windows_of C.steps C.window_of end.old.control) end.old.end [] (Call.Send message.now makes_room)
         (windows_of C.steps C.window_of end.new.control)) }
+    ensures heard { IfOk result (λ a.
+        IsHeard (fails a) [] (Call.Send message.now makes_room) a end.old.heard end.new.heard) }
     ensures given { IfOk result (λ a.
         gives (policy_of H.protection K.aead (words_of R.stream) end.old)
         (reads_window (windows_of C.steps C.window_of end.old.control) (Call.Send message.now makes_room) end.old.end) (Call.Send message.now makes_room) a ≡ []) }
@@ -309,6 +315,7 @@ fn recv_at<H: HeaderKey + Drop, K: PacketKey + Drop, R: Rng + Drop, C: Controlle
     ensures control { IsTold (fails result) (policy_of H.protection K.aead (words_of R.stream) end.old)
         (windows_of C.steps C.window_of end.old.control) end.old.end [] Call.Recv
         (windows_of C.steps C.window_of end.new.control) }
+    ensures heard { IsHeard (fails result) [] Call.Recv result end.old.heard end.new.heard }
     ensures given { gives (policy_of H.protection K.aead (words_of R.stream) end.old)
         (reads_window (windows_of C.steps C.window_of end.old.control) Call.Recv end.old.end) Call.Recv result
         ≡ [] }
@@ -333,6 +340,7 @@ fn ping_at<H: HeaderKey + Drop, K: PacketKey + Drop, R: Rng + Drop, C: Controlle
     ensures control { IsTold (fails result) (policy_of H.protection K.aead (words_of R.stream) end.old)
         (windows_of C.steps C.window_of end.old.control) end.old.end [] Call.Ping
         (windows_of C.steps C.window_of end.new.control) }
+    ensures heard { IsHeard (fails result) [] Call.Ping result end.old.heard end.new.heard }
     ensures given { gives (policy_of H.protection K.aead (words_of R.stream) end.old)
         (reads_window (windows_of C.steps C.window_of end.old.control) Call.Ping end.old.end) Call.Ping result
         ≡ [] }
@@ -362,6 +370,8 @@ fn poll_at<H: HeaderKey + Drop, K: PacketKey + Drop, R: Rng + Drop, C: Controlle
         IsTold (fails a) (policy_of H.protection K.aead (words_of R.stream) end.old)
         (windows_of C.steps C.window_of end.old.control) end.old.end [] (Call.Poll now)
         (windows_of C.steps C.window_of end.new.control)) }
+    ensures heard { IfOk result (λ a.
+        IsHeard (fails a) [] (Call.Poll now) a end.old.heard end.new.heard) }
     ensures given { IfOk result (λ a.
         mine.new.items
         ≡ mine.old.items ++ gives (policy_of H.protection K.aead (words_of R.stream) end.old)
@@ -402,6 +412,7 @@ fn timeout_at<H: HeaderKey + Drop, K: PacketKey + Drop, R: Rng + Drop, C: Contro
     ensures control { IsTold (fails result) (policy_of H.protection K.aead (words_of R.stream) end.old)
         (windows_of C.steps C.window_of end.old.control) end.old.end [] (Call.Timeout now)
         (windows_of C.steps C.window_of end.new.control) }
+    ensures heard { IsHeard (fails result) [] (Call.Timeout now) result end.old.heard end.new.heard }
     ensures given { gives (policy_of H.protection K.aead (words_of R.stream) end.old)
         (reads_window (windows_of C.steps C.window_of end.old.control) (Call.Timeout now) end.old.end) (Call.Timeout now) result
         ≡ [] }
@@ -430,6 +441,8 @@ fn deliver_at<H: HeaderKey + Drop, K: PacketKey + Drop, R: Rng + Drop, C: Contro
         IsTold (fails a) (policy_of H.protection K.aead (words_of R.stream) end.old)
         (windows_of C.steps C.window_of end.old.control) end.old.end theirs.now (Call.Deliver delivery.entry.now)
         (windows_of C.steps C.window_of end.new.control)) }
+    ensures heard { IfOk result (λ a.
+        IsHeard (fails a) theirs.now (Call.Deliver delivery.entry.now) a end.old.heard end.new.heard) }
     ensures keys { KeepsKeys end.old end.new }
     ensures err { OnErr result (end.new ≡ end.old) }
     ensures own { OnErr result (IsSome (slice_get theirs.now delivery.entry.now.index)) }
@@ -459,6 +472,8 @@ fn inject_at<H: HeaderKey + Drop, K: PacketKey + Drop, R: Rng + Drop, C: Control
         IsTold (fails a) (policy_of H.protection K.aead (words_of R.stream) end.old)
         (windows_of C.steps C.window_of end.old.control) end.old.end [] (Call.Inject injection.entry.now)
         (windows_of C.steps C.window_of end.new.control)) }
+    ensures heard { IfOk result (λ a.
+        IsHeard (fails a) [] (Call.Inject injection.entry.now) a end.old.heard end.new.heard) }
     ensures keys { KeepsKeys end.old end.new }
     ensures err { OnErr result (end.new ≡ end.old) }
 {
@@ -559,8 +574,8 @@ fn view<H: HeaderKey + Drop, K: PacketKey + Drop, R: Rng + Drop, C: Controller>(
 /// began so has its timer of acknowledgements set only where a packet that asks came since the last
 /// acknowledgement went. And the run less any of its injections, and any deliveries that an end
 /// dropped while it wasn't closing, is a run again, with the same answers, views and datagrams, and
-/// the same ends: what doesn't open, and what came before, changes nothing (RFC 9000, sections 5.2,
-/// 12.2 and 12.3).
+/// the same ends but for what these count: what doesn't open, and what came before, changes nothing
+/// else (RFC 9000, sections 5.2, 12.2 and 12.3).
 pub fn run<H: HeaderKey + Drop, K: PacketKey + Drop, R: Rng + Drop, C: Controller>(
     alloc: Global,
     ends: Ends<H, K, R, C>,

@@ -45,10 +45,18 @@ OnlyIdle r gone = (side : Side) (i : ℕ) (call : Call) (a : Answer) → gone i 
 abbrev pub erased : (ℕ → Bool) → Run → Run
 erased gone r = record r { events = without gone r.events; answers = without gone r.answers; views = without gone r.views }
 
--- Less any choice of its idle events it is a run again, from the same start to the same ends: each call that stays is answered as it was, each view behind one
--- is the same, and both ends gave the same datagrams.
+-- the same ends, with the same controllers, which gave the same datagrams, whatever they have counted
+abbrev pub SameButCounts : World → World → Type 0
+SameButCounts end left = left ≡ record end { client_heard = left.client_heard; server_heard = left.server_heard }
+
+-- Less the events at these places it is a run again, from the same start to the same ends: each call that stays is answered as it was, each view behind one is the
+-- same, and both ends gave the same datagrams. The ends have counted other datagrams then: each counts what comes, also what is dropped.
+abbrev pub IsRunWithout : (ℕ → Bool) → Run → World → Type 0
+IsRunWithout gone r end = (left : World) × SameButCounts end left × IsRun (erased gone r) left
+
+-- so it is less any choice of its idle events
 abbrev pub Isolated : Run → World → Type 0
-Isolated r end = (gone : ℕ → Bool) → OnlyIdle r gone → IsRun (erased gone r) end
+Isolated r end = (gone : ℕ → Bool) → OnlyIdle r gone → IsRunWithout gone r end
 
 -- ---- the choice by answers
 
@@ -89,7 +97,7 @@ answered_idle r = places_of (λ i event a. is_answered_idle event.call a) r
 
 -- less these it is a run again
 abbrev pub IsolatedByAnswers : Run → World → Type 0
-IsolatedByAnswers r end = IsRun (erased (answered_idle r) r) end
+IsolatedByAnswers r end = IsRunWithout (answered_idle r) r end
 
 -- ---- the choice by the lists
 

@@ -465,8 +465,9 @@ pub fn readables_are_told()
 /// A run less any choice of its idle events, which are injections and deliveries that their end
 /// dropped while it wasn't closing, is a run again: the calls that stay are answered as they were,
 /// the views behind them are the same, both ends gave the same datagrams, and the same ends are
-/// left. So datagrams that don't open, and repeated ones, change nothing (RFC 9000, sections 5.2,
-/// 12.2 and 12.3). It wants no premise, and holds where memory lacks too.
+/// left, whatever they have counted. So datagrams that don't open, and repeated ones, change
+/// nothing else (RFC 9000, sections 5.2, 12.2 and 12.3). It wants no premise, and holds where
+/// memory lacks too.
 pub fn isolated()
     ensures { (r : Run) (end : World) → IsRun r end → Isolated r end }
 {}

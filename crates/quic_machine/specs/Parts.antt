@@ -1,5 +1,5 @@
 -- Parts of an end: each has its place, so that a new field moves no other.
-use Rattle.std.specs.Prelude.{◌≡◌, ℕ, Bool, true, false, Option, None}
+use Rattle.std.specs.Prelude.{ℕ, Bool, true, false, Option, None}
 use Rattle.quic_time.specs.Rtt.{Rtt, assumed_rtt}
 use Rattle.quic_config.specs.Transport.{TransportSettings, first_mtu}
 use Rattle.quic_congestion.specs.Pacer.{Pacing, new_pacing}
@@ -49,17 +49,6 @@ first_path validated settings limit windows now = record {
 -- how many bytes a datagram on a path has at most
 abbrev pub current_mtu : Path → ℕ
 current_mtu p = p.discovery.size
-
--- the same path, whatever came on it
-pub record IsSamePath (p q : Path) : Type 0 where
-  pub generation : q.generation ≡ p.generation
-  pub discovery : q.discovery ≡ p.discovery
-  pub rtt : q.rtt ≡ p.rtt
-  pub first_after_rtt : q.first_after_rtt ≡ p.first_after_rtt
-  pub window : q.window ≡ p.window
-  pub pacing : q.pacing ≡ p.pacing
-  pub app_limited : q.app_limited ≡ p.app_limited
-  pub marking : q.marking ≡ p.marking
 
 -- the marks of congestion (RFC 9000, section 13.4): how many packets came with each, and how many the peer said last
 pub record Marks : Type 0 where

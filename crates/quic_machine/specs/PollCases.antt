@@ -27,6 +27,7 @@ use Rattle.quic_machine.specs.Sizes.{may_search, search_names, search_asked}
 use Rattle.quic_machine.specs.Poll.{Polled, Draft, gives_nothing, gives_datagram, asking, datagram_of, datagram_size, tracked, paid_if, after_given, record_moved, probe_filled, probe_if, probed, waits, is_gated, gated, Leaving, whole, alone, probe, nothing, Ready, probe_named, searched_if, free_if, held_if, leaves_if, leaves, ready, goes, is_held, zeros_behind, draft_left, draft_as, draft_of, rests, sends, polled_if, polled_in, polled}
 use Rattle.quic_machine.specs.Machine.{gives, gave}
 use Rattle.quic_machine.specs.DraftLaws.{Writing, MayLeave, lazy_due, by_left, by_leave}
+use Rattle.quic_machine.specs.Puts as puts
 
 -- what a poll changes of an end beside its moment, where nothing goes: which packets are tracked and which frames wait, for a probe; its pacer, whose timer may be set;
 -- the search for a size; and whether it had something to send
@@ -352,15 +353,8 @@ pub record Composes (e f : End) : Type 0 where
   pub peer : f.peer_params ≡ e.peer_params
 
 writing : (e : End) → Writing (λ (d : Draft). Composes e d.end)
-writing e = record {
-  ack = λ d filled may c. record { ids = c.ids; numbers = c.numbers; filter = c.filter; closing = c.closing; tracking = c.tracking; loss = c.loss; pacing = c.pacing; path = c.path; transport = c.transport; peer = c.peer };
-  ping = λ d c. record { ids = c.ids; numbers = c.numbers; filter = c.filter; closing = c.closing; tracking = c.tracking; loss = c.loss; pacing = c.pacing; path = c.path; transport = c.transport; peer = c.peer };
-  probes = λ f size c. record { ids = c.ids; numbers = c.numbers; filter = c.filter; closing = c.closing; tracking = c.tracking; loss = c.loss; pacing = c.pacing; path = c.path; transport = c.transport; peer = c.peer };
-  drops = λ d kind c. record { ids = c.ids; numbers = c.numbers; filter = c.filter; closing = c.closing; tracking = c.tracking; loss = c.loss; pacing = c.pacing; path = c.path; transport = c.transport; peer = c.peer };
-  control = λ d kind f is c. record { ids = c.ids; numbers = c.numbers; filter = c.filter; closing = c.closing; tracking = c.tracking; loss = c.loss; pacing = c.pacing; path = c.path; transport = c.transport; peer = c.peer };
-  message = λ d m ms is fit c. record { ids = c.ids; numbers = c.numbers; filter = c.filter; closing = c.closing; tracking = c.tracking; loss = c.loss; pacing = c.pacing; path = c.path; transport = c.transport; peer = c.peer };
-  stream = λ d id h room found first some is counts c. record { ids = c.ids; numbers = c.numbers; filter = c.filter; closing = c.closing; tracking = c.tracking; loss = c.loss; pacing = c.pacing; path = c.path; transport = c.transport; peer = c.peer };
-}
+writing e puts.ping d may c = record { ids = c.ids; numbers = c.numbers; filter = c.filter; closing = c.closing; tracking = c.tracking; loss = c.loss; pacing = c.pacing; path = c.path; transport = c.transport; peer = c.peer }
+writing e p d may c = record { ids = c.ids; numbers = c.numbers; filter = c.filter; closing = c.closing; tracking = c.tracking; loss = c.loss; pacing = c.pacing; path = c.path; transport = c.transport; peer = c.peer }
 
 pub composes_left : (leaving : Leaving) (e : End) → (leaving ≡ alone → can_send e.acknowledging ≡ true) → Composes e (draft_left leaving e).end
 composes_left leaving e due = by_left (λ (d : Draft). Composes e d.end) (writing e) leaving e due

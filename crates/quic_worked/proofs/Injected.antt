@@ -15,7 +15,7 @@ use Rattle.quic_machine.specs.Machine.{IsStep}
 use Rattle.quic_headline.specs.Runs.{In, until, ids_of}
 use Rattle.quic_headline.specs.Headline.{used, IsAt, IsHonest, IsRun, OpensExactly, would_open_at}
 use Rattle.quic_worked.specs.Worked.{worked_policies, started, hello_datagram}
-use Rattle.quic_worked.specs.Broken.{IsNoRun, injects, injected_run, always_opens, never_opens}
+use Rattle.quic_worked.specs.Broken.{IsNoRun, injects, injected_run, always_opens, never_opens, once_injected}
 use Rattle.quic_worked.proofs.WorkedHonest.{are_started, side_of, call_of, uses}
 use Rattle.quic_worked.proofs.WorkedKeys.{are_keys}
 use Rattle.quic_worked.proofs.BrokenRuns.{stops}
@@ -24,15 +24,15 @@ use Rattle.quic_worked.proofs.Codes.{no_codes}
 -- ---- the machine answers so
 
 opens_there : IsStep worked_policies started (injects Server hello_datagram) answers.Opens started
-opens_there = record { answer = refl; end = refl; control = refl; others = refl; lacking = tt }
+opens_there = record { answer = refl; end = refl; control = refl; heard = refl; others = refl; lacking = tt }
 
-drops_here : IsStep worked_policies started (injects Client hello_datagram) (answers.Inject (receives.Dropped drops.UnknownId)) started
-drops_here = record { answer = refl; end = refl; control = refl; others = refl; lacking = tt }
+drops_here : IsStep worked_policies started (injects Client hello_datagram) (answers.Inject (receives.Dropped drops.UnknownId)) once_injected
+drops_here = record { answer = refl; end = refl; control = refl; heard = refl; others = refl; lacking = tt }
 
-pub injected_is_run : IsRun injected_run started
+pub injected_is_run : IsRun injected_run once_injected
 injected_is_run = record {
   codes = no_codes injected_run.events refl;
-  follows = (started, opens_there, refl, (started, drops_here, refl, refl));
+  follows = (started, opens_there, refl, (once_injected, drops_here, refl, refl));
   from_client = refl;
   from_server = refl;
 }

@@ -15,5 +15,5 @@ pub same_server : (w : World) → w ≡ with_server w w.server
 same_server w = refl
 
 -- the server changes alone, and gives nothing
-pub server_alone : (w : World) (e : End) → with_server w e ≡ changed Server w e [] w.server_control
+pub server_alone : (w : World) (e : End) → with_server w e ≡ changed Server w e [] w.server_control w.server_heard
 server_alone w e = ap (λ (ds : List (List ℕ)). record w { server = e; from_server = ds }) (sym (append-nil w.from_server))

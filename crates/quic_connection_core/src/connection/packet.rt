@@ -20,7 +20,7 @@ ghost use Rattle.quic_connection_core.specs.Leaving.{leaving_of, IsLooked, least
 ghost use Rattle.quic_machine.specs.Parts.{current_mtu};
 ghost use Rattle.quic_connection_core.specs.Frames.{control_part, content, content_at, with_content, asked, ping_bytes, pinged, fits_behind, ack_bytes_if, acked_if, end_after_ack_if};
 ghost use Rattle.quic_connection_core.specs.Drawn.{words_of, after_words};
-ghost use Rattle.quic_connection_core.specs.Telling.{KeepsKeys};
+ghost use Rattle.quic_connection_core.specs.Telling.{KeepsRest};
 ghost use Rattle.quic_congestion.specs.Congestion.{after_calls};
 
 use crate::connection::Connection;
@@ -80,6 +80,7 @@ impl<H: HeaderKey + Drop, K: PacketKey + Drop, R: Rng + Drop, C: Controller> Con
         ensures end { OnOk result (self.new.end ≡ after_given (policy_of H.protection K.aead (words_of R.stream) self.old) (draft_as (leaving_of leaving) self.old.end)) }
         ensures control { OnOk result (self.new.control ≡ after_calls C.steps self.old.control (told_draft (draft_as (leaving_of leaving) self.old.end))) }
         ensures keys { self.new.keys ≡ self.old.keys }
+        ensures heard { OnOk result (self.new.heard ≡ self.old.heard) }
         ensures random { OnOk result (R.stream self.new.random ≡ after_words (self.new.end.filter.drawn - self.old.end.filter.drawn) (R.stream self.old.random)) }
         ensures failed { OnErr result (HasFailed self.old self.new) }
         ensures stopped { OnErr result (self.new.end.timers ≡ no_timers) }
@@ -106,6 +107,7 @@ impl<H: HeaderKey + Drop, K: PacketKey + Drop, R: Rng + Drop, C: Controller> Con
         ensures end { OnOk result (self.new.end ≡ after_given (policy_of H.protection K.aead (words_of R.stream) self.old) (draft_left (leaving_of leaving) self.old.end)) }
         ensures control { OnOk result (self.new.control ≡ after_calls C.steps self.old.control (told_draft (draft_left (leaving_of leaving) self.old.end))) }
         ensures keys { self.new.keys ≡ self.old.keys }
+        ensures heard { OnOk result (self.new.heard ≡ self.old.heard) }
         ensures random { OnOk result (R.stream self.new.random ≡ after_words (self.new.end.filter.drawn - self.old.end.filter.drawn) (R.stream self.old.random)) }
         ensures failed { OnErr result (HasFailed self.old self.new) }
         ensures stopped { OnErr result (self.new.end.timers ≡ no_timers) }
@@ -141,9 +143,10 @@ impl<H: HeaderKey + Drop, K: PacketKey + Drop, R: Rng + Drop, C: Controller> Con
         ensures random { OnOk result (R.stream self.new.random ≡ after_words (self.new.end.filter.drawn - self.old.end.filter.drawn) (R.stream self.old.random)) }
         ensures ids { OnOk result (self.new.end.ids ≡ self.old.end.ids) }
         ensures keys { self.new.keys ≡ self.old.keys }
+        ensures heard { OnOk result (self.new.heard ≡ self.old.heard) }
         ensures front { take (vec_len out.old) out.new.items ≡ out.old.items }
         ensures grows { vec_len out.old ≤ vec_len out.new }
-        ensures others { OnErr result (KeepsKeys self.old self.new) }
+        ensures others { OnErr result (KeepsRest self.old self.new) }
     {
         let start = out.len();
         // The proof reads that the size has 16 bits.

@@ -5,7 +5,7 @@ ghost use Rattle.quic_machine.specs.End.{with_end, HasFailed};
 ghost use Rattle.quic_machine.specs.Calls.{end_tells, end_after_event};
 ghost use Rattle.quic_machine.specs.Lacking.{LosesOrHasFailed};
 ghost use Rattle.quic_machine.specs.Timeouts.{timed_out, told_timed_out, expired, loss_expired, told_expired, acks_expired, pacing_expired};
-ghost use Rattle.quic_connection_core.specs.Telling.{telling, KeepsKeys};
+ghost use Rattle.quic_connection_core.specs.Telling.{telling, KeepsRest};
 ghost use Rattle.quic_connection_core.specs.Tracked.{LosesByTime};
 
 use crate::connection::Connection;
@@ -68,7 +68,7 @@ impl<H: HeaderKey + Drop, K: PacketKey + Drop, R: Rng + Drop, C: Controller> Con
     /// then.
     fn expire_timers(&mut self) -> Result<(), AllocError>
         ensures ok { OnOk result (self.new ≡ telling C.steps self.old (told_expired (has_come self.old.end.timers.loss_detection self.old.end.closing.clock) self.old.end) (expired self.old.end)) }
-        ensures others { KeepsKeys self.old self.new }
+        ensures others { KeepsRest self.old self.new }
         ensures lacking { OnErr result (LosesByTime self.old.end) }
     {
         self.expire_loss_timer()?;
@@ -82,7 +82,7 @@ impl<H: HeaderKey + Drop, K: PacketKey + Drop, R: Rng + Drop, C: Controller> Con
     /// probes go. An error is want of memory; the end is of no more use then.
     fn expire_loss_timer(&mut self) -> Result<(), AllocError>
         ensures ok { OnOk result (self.new ≡ telling C.steps self.old (told_expired (has_come self.old.end.timers.loss_detection self.old.end.closing.clock) self.old.end) (loss_expired (has_come self.old.end.timers.loss_detection self.old.end.closing.clock) self.old.end)) }
-        ensures others { KeepsKeys self.old self.new }
+        ensures others { KeepsRest self.old self.new }
         ensures lacking { OnErr result (LosesByTime self.old.end) }
     {
         if !self

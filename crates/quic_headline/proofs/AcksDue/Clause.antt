@@ -6,7 +6,7 @@ use Rattle.std.specs.List.{list_any}
 use Rattle.std.proofs.lemmas.Bool.{or_left, and_from, and_parts, both_ways}
 use Rattle.std.proofs.lemmas.List.Folds.{list_any-append}
 use Rattle.quic_wire_core.specs.StreamId.{other_side}
-use Rattle.quic_wire.specs.Value.{FrameValue, ack}
+use Rattle.quic_wire.specs.Value.{FrameValue}
 use Rattle.quic_recovery_core.specs.PendingAcks.{lazy_threshold, can_send, is_filled}
 use Rattle.quic_machine.specs.declared.answers.State.{State}
 use Rattle.quic_machine.specs.declared.answers.State.TheVariants as states
@@ -19,9 +19,10 @@ use Rattle.quic_machine.specs.Policy.{Policy}
 use Rattle.quic_machine.specs.Closing.{ticked}
 use Rattle.quic_machine.specs.End.{End, with_closing, with_window}
 use Rattle.quic_machine.specs.Control.{Gated, with_pacing_timer}
-use Rattle.quic_machine.specs.Poll.{Polled, Draft, no_frames, with_asking, ack_of, with_ack, composed_if, probed, waits, asks_to_go, gated, Leaving, whole, alone, Ready, goes_as, goes, lazied, draft_as, draft_of, sends, polled_if, polled_in, polled}
+use Rattle.quic_machine.specs.Poll.{Polled, Draft, no_frames, with_asking, with_ack, composed_if, probed, waits, asks_to_go, gated, Leaving, whole, alone, Ready, goes_as, goes, lazied, draft_as, draft_of, sends, polled_if, polled_in, polled}
 use Rattle.quic_machine.specs.PollCases.{ready_at, frames_at, by_leaves, search_leaves}
-use Rattle.quic_machine.specs.DraftLaws.{by_asking}
+use Rattle.quic_machine.specs.DraftLaws.{Writing, by_asking}
+use Rattle.quic_machine.specs.Puts as puts
 use Rattle.quic_machine.specs.Machine.{World, gave, end_at, control_at, policy_at}
 use Rattle.quic_headline.specs.Runs.{Run, Intake, In, folded, until, given_of}
 use Rattle.quic_headline.specs.Observer.{Watch, first_watch, lens_of, watch, took, sents_until}
@@ -58,15 +59,11 @@ still_acks : (d : Draft) (f : FrameValue) → Acknowledges d → list_any is_ack
 still_acks d f is = list_any-append is_ack d.frames (f ∷ []) ∙ or_left (list_any is_ack d.frames) (list_any is_ack (f ∷ [])) is
 
 asking_acks : (d : Draft) → Acknowledges d → Acknowledges (with_asking d)
-asking_acks = by_asking Acknowledges (record {
-  ack = λ d filled may is. still_acks d (ack (ack_of d.end)) is;
-  ping = λ d is. still_acks d _ is;
-  probes = λ f size is. cc;
-  drops = λ d kind is. is;
-  control = λ d kind f is i. still_acks d f i;
-  message = λ d m ms first fit is. still_acks d _ is;
-  stream = λ d id h room found first left at counts is. still_acks d _ is;
-})
+asking_acks = by_asking Acknowledges keep
+  where
+    keep : Writing Acknowledges
+    keep (puts.drops kind) d may is = is
+    keep p d may is = still_acks d _ is
 
 -- all goes, or an ACK alone
 abbrev pub Acks : Leaving → Type 0

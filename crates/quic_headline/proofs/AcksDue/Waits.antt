@@ -25,11 +25,13 @@ use Rattle.quic_machine.specs.Receive.{asks_in, after_taken, timers_after, Outco
 use Rattle.quic_machine.specs.Poll.{Polled, Draft, polled, draft_as, Leaving, Ready}
 use Rattle.quic_machine.specs.Timeouts.{Expiry, acks_expired, loss_expired, pacing_expired, expiry_at, timed_out_in}
 use Rattle.quic_machine.specs.Machine.{IsAnswer, after_call, fails, gave}
-use Rattle.quic_machine.specs.CallCases.{is_delivery, is_poll, by_plain_call}
+use Rattle.quic_machine.specs.CallCases.{Plain, is_delivery, is_poll, by_plain_call}
+use Rattle.quic_machine.specs.CallCases as cases
 use Rattle.quic_machine.specs.LeaveCases.{at_expiry, by_expired}
 use Rattle.quic_machine.specs.FrameCases.{begun}
 use Rattle.quic_machine.specs.PollCases.{ready_at, ready_leaves, draft_at, frames_at, by_poll_to, may_leave_at}
-use Rattle.quic_machine.specs.DraftLaws.{by_leave, MayLeave}
+use Rattle.quic_machine.specs.DraftLaws.{Writing, by_leave, MayLeave}
+use Rattle.quic_machine.specs.Puts as puts
 use Rattle.quic_headline.specs.Runs.{Packet, Intake, In}
 use Rattle.quic_headline.specs.Observer.{Sent, Watch, first_watch, news}
 use Rattle.quic_headline.specs.Moments.{is_ack, acknowledges, arrivals_of, Debt, debt_told, first_debt}
@@ -71,15 +73,12 @@ Leaves e f = (f.timers.max_ack_delay ≡ e.timers.max_ack_delay) ⊎ (f.acknowle
 
 -- no ACK frame goes: the timer stays
 draft_timer : (leaving : Leaving) (e : End) → MayLeave leaving e → list_any is_ack (draft_as leaving e).frames ≡ false → (draft_as leaving e).end.timers.max_ack_delay ≡ e.timers.max_ack_delay
-draft_timer leaving e due = by_leave (λ (d : Draft). list_any is_ack d.frames ≡ false → d.end.timers.max_ack_delay ≡ e.timers.max_ack_delay) (record {
-  ack = λ d filled may i none. absurd (let some = (parts d.frames _ none).1 in cc);
-  ping = λ d i none. i (parts d.frames _ none).0;
-  probes = λ f size i none. i refl;
-  drops = λ d kind i. i;
-  control = λ d kind f is i none. i (parts d.frames f none).0;
-  message = λ d m ms is fit i none. i (parts d.frames _ none).0;
-  stream = λ d id h room found first some is counts i none. i (parts d.frames _ none).0;
-}) leaving e due (λ none. refl)
+draft_timer leaving e due = by_leave (λ (d : Draft). list_any is_ack d.frames ≡ false → d.end.timers.max_ack_delay ≡ e.timers.max_ack_delay) keep leaving e due (λ none. refl)
+  where
+    keep : Writing (λ (d : Draft). list_any is_ack d.frames ≡ false → d.end.timers.max_ack_delay ≡ e.timers.max_ack_delay)
+    keep puts.ack d may i = λ none. absurd (let some = (parts d.frames _ none).1 in cc)
+    keep (puts.drops kind) d may i = i
+    keep p d may i = λ none. i (parts d.frames _ none).0
 
 ready_timer : (e : End) (now : ℕ) → (ready_at e now).end.timers.max_ack_delay ≡ e.timers.max_ack_delay
 ready_timer e now = ap (λ (x : End). x.timers.max_ack_delay) (ready_leaves e now)
@@ -119,17 +118,13 @@ expired_leaves e now expiry = go expiry.acks refl
 
 -- a call that is neither a poll nor a delivery
 quiet_leaves : (p : Policy) (e : End) (theirs : List (List ℕ)) (call : Call) (a : Answer) → is_delivery call ≡ false → is_poll call ≡ false → Leaves e (after_call p e theirs call a)
-quiet_leaves p e theirs call a apart silent = by_plain_call p e theirs (Leaves e) call a (record {
-  same = inl refl;
-  on_streams = λ t. inl refl;
-  on_messages = λ m. inl refl;
-  pings = inl refl;
-  heard = λ path same. inl refl;
-  times = λ now expiry is. expired_leaves e now expiry;
-  polls = λ now is. (let clash : true ≡ false = sym is ∙ silent in cc);
-  hears = λ arrival d is. (let clash : true ≡ false = sym is ∙ apart in cc);
-  tells = λ told. inl refl;
-})
+quiet_leaves p e theirs call a apart silent = by_plain_call p e theirs (Leaves e) call a cases_keep
+  where
+    cases_keep : Plain p e call (Leaves e)
+    cases_keep (cases.times now expiry) may = expired_leaves e now expiry
+    cases_keep (cases.polls now) is = (let clash : true ≡ false = sym is ∙ silent in cc)
+    cases_keep (cases.hears arrival d) is = (let clash : true ≡ false = sym is ∙ apart in cc)
+    cases_keep c may = inl refl
 
 call_leaves : (p : Policy) (e : End) (theirs : List (List ℕ)) (call : Call) (a : Answer) → is_delivery call ≡ false → IsAnswer p e theirs call a → fails a ≡ false → acknowledges (sents_by e call a) ≡ false → (after_call p e theirs call a).closing.state ≡ states.Open
     → Leaves e (after_call p e theirs call a)

@@ -16,10 +16,13 @@ use Rattle.quic_machine.specs.Start.{AreStarted}
 use Rattle.quic_machine.specs.Poll.{Polled, Draft, polled, draft_as, lazied_as, Leaving, whole, alone, probe, nothing}
 use Rattle.quic_machine.specs.Timeouts.{Expiry, loss_judged, acks_expired, loss_expired, pacing_expired}
 use Rattle.quic_machine.specs.Machine.{World, Policies, HasStopped, after_call, view_of, Follows}
-use Rattle.quic_machine.specs.DraftLaws.{by_leave, MayLeave}
+use Rattle.quic_machine.specs.DraftLaws.{Writing, by_leave, MayLeave}
+use Rattle.quic_machine.specs.Puts as puts
 use Rattle.quic_machine.specs.LeaveCases.{at_expiry}
-use Rattle.quic_machine.specs.CallCases.{by_plain_call}
+use Rattle.quic_machine.specs.CallCases.{Plain, by_plain_call}
+use Rattle.quic_machine.specs.CallCases as cases
 use Rattle.quic_machine.specs.FrameCases.{Settling, Receives, named, acked_keeps, losses_keep, frame_keeps, frame_leaves, by_received}
+use Rattle.quic_machine.specs.Steps as steps
 use Rattle.quic_machine.specs.PollCases.{ready_at, ready_leaves, by_poll_to, draft_at, may_leave_at}
 use Rattle.quic_headline.specs.Runs.{Run, state_in}
 use Rattle.quic_headline.specs.Causes.{reason_in}
@@ -37,7 +40,8 @@ IsExplained e = Explains e.closing.state e.closing.reason
 
 -- acknowledged and lost packets close nothing
 settling : Settling IsExplained
-settling = record { known = λ n e i. i; reset = λ id e i. i; acked = λ m e i. i; lost = λ m e i. i; again = λ carried e i. i; searched = λ discovery e i. i; shortens = λ most e i. i; tracked = λ t e i. i; measured = λ r first e i. i; marked = λ m marking e i. i }
+settling (steps.known n) e i = i
+settling s e i = i
 
 -- a datagram that closes an end does so for a reason
 receives : Receives IsExplained
@@ -58,15 +62,11 @@ lazied_keeps (nothing held) e i = i
 
 -- what goes closes nothing
 draft_keeps : (leaving : Leaving) (e : End) → MayLeave leaving e → IsExplained e → IsExplained (draft_as leaving e).end
-draft_keeps leaving e due i = by_leave (λ (d : Draft). IsExplained d.end) (record {
-  ack = λ d filled may i. i;
-  ping = λ d i. i;
-  probes = λ f size i. i;
-  drops = λ d kind i. i;
-  control = λ d kind f is i. i;
-  message = λ d m ms is fit i. i;
-  stream = λ d id h room found first some is counts i. i;
-}) leaving e due (lazied_keeps leaving e i)
+draft_keeps leaving e due i = by_leave (λ (d : Draft). IsExplained d.end) keep leaving e due (lazied_keeps leaving e i)
+  where
+    keep : Writing (λ (d : Draft). IsExplained d.end)
+    keep puts.ping d may i = i
+    keep p d may i = i
 
 ready_keeps : (e : End) (now : ℕ) → IsExplained e → IsExplained (ready_at e now).end
 ready_keeps e now i = subst (λ (x : End). IsExplained x) (sym (ready_leaves e now)) i
@@ -103,17 +103,13 @@ expired_keeps e now expiry i =
 
 -- what any call leaves
 call_keeps : (p : Policy) (e : End) (theirs : List (List ℕ)) (call : Call) (a : Answer) → IsExplained e → IsExplained (after_call p e theirs call a)
-call_keeps p e theirs call a i = by_plain_call p e theirs IsExplained call a (record {
-  same = i;
-  on_streams = λ t. i;
-  on_messages = λ m. i;
-  pings = i;
-  heard = λ path same. i;
-  times = λ now expiry is. expired_keeps e now expiry i;
-  polls = λ now is. polled_keeps p e now i;
-  hears = λ arrival d is. by_received IsExplained receives p e arrival d i;
-  tells = λ told. i;
-})
+call_keeps p e theirs call a i = by_plain_call p e theirs IsExplained call a cases_keep
+  where
+    cases_keep : Plain p e call IsExplained
+    cases_keep (cases.times now expiry) may = expired_keeps e now expiry i
+    cases_keep (cases.polls now) may = polled_keeps p e now i
+    cases_keep (cases.hears arrival d) may = by_received IsExplained receives p e arrival d i
+    cases_keep c may = i
 
 -- an end that stops has none
 stopped : (e next : End) → HasStopped e next → IsExplained next

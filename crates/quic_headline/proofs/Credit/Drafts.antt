@@ -14,6 +14,7 @@ use Rattle.quic_machine.specs.End.{End}
 use Rattle.quic_machine.specs.Poll.{Polled, Draft, ack_of, zeros_behind, composed, polled, draft_as, Leaving}
 use Rattle.quic_machine.specs.PollCases.{ready_at, draft_at, frames_padded, by_poll_to, may_leave_at}
 use Rattle.quic_machine.specs.DraftLaws.{Writing, by_writing, by_leave, MayLeave}
+use Rattle.quic_machine.specs.Puts as puts
 use Rattle.quic_machine.specs.Machine.{gave}
 use Rattle.quic_headline.specs.Runs.{In}
 use Rattle.quic_headline.specs.Observer.{Sent}
@@ -55,15 +56,12 @@ module _ (Known : StreamsState → Type 0) (Fine : FrameValue → Type 0) (k : A
   DraftIs d = Known d.end.streams × AllFine d.frames
 
   writing : Writing DraftIs
-  writing = record {
-    ack = λ d filled may j. (j.0, and_fine d.frames (ack (ack_of d.end)) j.1 (k.acks (ack_of d.end)));
-    ping = λ d j. (j.0, and_fine d.frames ping j.1 k.pings);
-    probes = λ f size j. (j.0, and_fine [] ping j.1 k.pings);
-    drops = λ d kind j. j;
-    control = λ d kind f is j. (k.told f d.end.streams j.0, and_fine d.frames f j.1 (k.limits d.end.waiting.frames d.end.streams f j.0 is.says));
-    message = λ d m ms is fit j. (j.0, and_fine d.frames (datagram m) j.1 (k.messages m));
-    stream = λ d id h room found first some is counts j. (k.sent d.end.transport.send_fairness d.end.streams id room h found j.0, and_fine d.frames (stream (frame_of id h room)) j.1 (k.streams (frame_of id h room)));
-  }
+  writing puts.ack d may j = (j.0, and_fine d.frames (ack (ack_of d.end)) j.1 (k.acks (ack_of d.end)))
+  writing (puts.drops kind) d may j = j
+  writing (puts.control kind f) d is j = (k.told f d.end.streams j.0, and_fine d.frames f j.1 (k.limits d.end.waiting.frames d.end.streams f j.0 is.says))
+  writing (puts.message m ms) d may j = (j.0, and_fine d.frames (datagram m) j.1 (k.messages m))
+  writing (puts.stream id h room) d (found, first, some, is, counts) j = (k.sent d.end.transport.send_fairness d.end.streams id room h found j.0, and_fine d.frames (stream (frame_of id h room)) j.1 (k.streams (frame_of id h room)))
+  writing p d may j = (j.0, and_fine d.frames _ j.1 k.pings)
 
   draft_is : (leaving : Leaving) (e : End) → MayLeave leaving e → Known e.streams → DraftIs (draft_as leaving e)
   draft_is leaving e due known = by_leave DraftIs writing leaving e due (known, λ f i. absurd i)

@@ -29,6 +29,7 @@ use Rattle.quic_machine.specs.Acked.{stream_lost, streams_lost, carried_lost, pa
 use Rattle.quic_machine.specs.Receive.{is_above, names_ungiven, take_frame, Outcome}
 use Rattle.quic_machine.specs.FrameCases.{OnStreams, Settling, named, ack_taken, acked_keeps, begun, passed, frames_leave, by_marks}
 use Rattle.quic_machine.specs.FrameCases as cases
+use Rattle.quic_machine.specs.Steps as steps
 use Rattle.quic_headline.specs.Runs.{Packet, Intake, In}
 use Rattle.quic_headline.specs.Observer.{Sent}
 use Rattle.quic_headline.specs.InFlight.{is_max_data, is_max_streams, limits_in, again_in}
@@ -108,18 +109,11 @@ module _ (what : Limited) where
 
   -- nor do frames that come
   settles : Settling (λ (e : End). Waits what (streams_at e))
-  settles = record {
-    known = λ n e w. w;
-    reset = λ id e w. reset_acked_keeps (WaitsIn what) (decides what) e.streams e.waiting.frames id w;
-    acked = λ m e w. acked_flags (WaitsIn what) (decides what) e.streams e.waiting.frames m w;
-    lost = λ m e w. lost_keeps (WaitsIn what) (decides what) e.streams e.waiting.frames m w;
-    again = λ c e w. waits_in what (streams_of e.streams (merged e.waiting.frames c.retransmits)) (merged_left what e.waiting.frames c.retransmits (waits_of what (streams_at e) w));
-    searched = λ discovery e w. w;
-    shortens = λ most e w. w;
-    tracked = λ t e w. w;
-    measured = λ r first e w. w;
-    marked = λ m marking e w. w;
-  }
+  settles (steps.reset id) e w = reset_acked_keeps (WaitsIn what) (decides what) e.streams e.waiting.frames id w
+  settles (steps.acked m) e w = acked_flags (WaitsIn what) (decides what) e.streams e.waiting.frames m w
+  settles (steps.lost m) e w = lost_keeps (WaitsIn what) (decides what) e.streams e.waiting.frames m w
+  settles (steps.again c) e w = waits_in what (streams_of e.streams (merged e.waiting.frames c.retransmits)) (merged_left what e.waiting.frames c.retransmits (waits_of what (streams_at e) w))
+  settles s e w = w
 
   pub frame_waits : (f : FrameValue) (e : End) → IsWaiting what (streams_at e) → IsWaiting what (streams_at (take_frame f e).end)
   frame_waits f e is = waits_of what (streams_at (take_frame f e).end) (cases.frame_keeps (λ (x : End). Waits what (streams_at x)) (record {

@@ -6,7 +6,7 @@ use Rattle.std.specs.BTreeMap.{is_at}
 use Rattle.std.proofs.lemmas.Bool.{or_parts, or_cases, cases_eq}
 use Rattle.quic_wire_core.specs.declared.stream_id.Dir.{Dir}
 use Rattle.quic_wire_core.specs.declared.stream_id.Dir.TheVariants.{Bi, Uni}
-use Rattle.quic_wire.specs.Value.{FrameValue, padding, ack, ping, stream, max_data, max_stream_data, max_streams, asks, datagram}
+use Rattle.quic_wire.specs.Value.{FrameValue, padding, ack, stream, max_data, max_stream_data, max_streams, asks, datagram}
 use Rattle.quic_wire.specs.FrameView.{is_one_way}
 use Rattle.quic_streams_parts.specs.Table.{Table, at, put}
 use Rattle.quic_streams_parts.specs.Dirs.{Flags, of, with_of}
@@ -42,7 +42,9 @@ use Rattle.quic_machine.specs.Tracking.{Tracking, TrackedPacket, is_behind, afte
 use Rattle.quic_machine.specs.End.{End, with_closing, streams_at, number_of}
 use Rattle.quic_machine.specs.Calls.{is_open}
 use Rattle.quic_machine.specs.Poll.{zeros_behind, Polled, Draft, no_frames, ack_of, with_ping_frame, ping_if, with_control_frames, with_asking, with_ack, ack_fits, ack_if, composed_if, composed, asking, frame_room, lazied, packet_of, tracked, record_moved, polled, with_message_frames, goes, draft_as, whole, alone, probe, Leaving, nothing}
-use Rattle.quic_machine.specs.DraftLaws.{with_half_frame, by_streams, by_messages, by_leave, MayLeave}
+use Rattle.quic_machine.specs.DraftLaws.{Writing, by_streams, by_messages, by_leave, MayLeave}
+use Rattle.quic_machine.specs.Puts.{with_half_frame}
+use Rattle.quic_machine.specs.Puts as puts
 use Rattle.quic_machine.specs.PollCases.{ready_at, ready_leaves, draft_at, frames_padded, by_poll_to, composes, may_leave_at}
 use Rattle.quic_machine.specs.CallCases.{is_delivery, is_poll, by_call}
 use Rattle.quic_machine.specs.LeaveCases.{by_expired, by_event}
@@ -270,27 +272,25 @@ record Sees (d : Draft) : Type 0 where
   frames : (id limit : ℕ) → In (limit_frame (StreamData id) limit) d.frames → AllReceiving (Knows (StreamData id)) d.end.streams
 
 draft_sees : (leaving : Leaving) (e : End) → MayLeave leaving e → IsShaped e.streams → Sees (draft_as leaving e)
-draft_sees leaving e may shape = by_leave Sees (record {
-  ack = λ d filled may b. record { shape = b.shape; frames = λ id limit i. elim (in_more (limit_frame (StreamData id) limit) (ack (ack_of d.end)) d.frames i) [ inl old ↦ b.frames id limit old | inr new ↦ cc ] };
-  ping = λ d b. record { shape = b.shape; frames = λ id limit i. elim (in_more (limit_frame (StreamData id) limit) ping d.frames i) [ inl old ↦ b.frames id limit old | inr new ↦ cc ] };
-  probes = λ f size b. record { shape = b.shape; frames = λ id limit i. elim (in_more (limit_frame (StreamData id) limit) ping [] i) [ inl old ↦ b.frames id limit old | inr new ↦ cc ] };
-  drops = λ d kind b. record { shape = b.shape; frames = b.frames };
-  control = λ d kind f is b. record {
-    shape = by_told IsShaped shape_any f d.end.streams b.shape;
-    frames = λ id limit i. told_lasts (Knows (StreamData id)) (knows_lasts (StreamData id)) f d.end.streams (elim (in_more (limit_frame (StreamData id) limit) f d.frames i) [
-      | inl old ↦ b.frames id limit old
-      | inr new ↦ (let goes = subst (λ (g : FrameValue). control.Goes d.end.waiting.frames d.end.streams g) (sym new) is.says in knows_at id d.end.streams goes.0 b.shape goes.2)
-    ]);
-  };
-  message = λ d m ms waits fit b. record { shape = b.shape; frames = λ id limit i. elim (in_more (limit_frame (StreamData id) limit) (datagram m) d.frames i) [ inl old ↦ b.frames id limit old | inr new ↦ cc ] };
-  stream = λ d i h room found first some is counts b. record {
-    shape = by_frame IsShaped shape_any d.end.transport.send_fairness d.end.streams i room h found tt b.shape;
-    frames = λ id limit among. elim (in_more (limit_frame (StreamData id) limit) (stream (frame_of i h room)) d.frames among) [
-      | inl old ↦ by_frame (AllReceiving (Knows (StreamData id))) (lasting (Knows (StreamData id)) (knows_lasts (StreamData id))) d.end.transport.send_fairness d.end.streams i room h found tt (b.frames id limit old)
-      | inr new ↦ cc
-    ];
-  };
-}) leaving e may (record { shape = shape; frames = λ id limit i. absurd i })
+draft_sees leaving e may shape = by_leave Sees keep leaving e may (record { shape = shape; frames = λ id limit i. absurd i })
+  where
+    keep : Writing Sees
+    keep (puts.drops kind) d may b = record { shape = b.shape; frames = b.frames }
+    keep (puts.control kind f) d is b = record {
+      shape = by_told IsShaped shape_any f d.end.streams b.shape;
+      frames = λ id limit i. told_lasts (Knows (StreamData id)) (knows_lasts (StreamData id)) f d.end.streams (elim (in_more (limit_frame (StreamData id) limit) f d.frames i) [
+        | inl old ↦ b.frames id limit old
+        | inr new ↦ (let goes = subst (λ (g : FrameValue). control.Goes d.end.waiting.frames d.end.streams g) (sym new) is.says in knows_at id d.end.streams goes.0 b.shape goes.2)
+      ]);
+    }
+    keep (puts.stream i h room) d (found, first, some, is, counts) b = record {
+      shape = by_frame IsShaped shape_any d.end.transport.send_fairness d.end.streams i room h found tt b.shape;
+      frames = λ id limit among. elim (in_more (limit_frame (StreamData id) limit) (stream (frame_of i h room)) d.frames among) [
+        | inl old ↦ by_frame (AllReceiving (Knows (StreamData id))) (lasting (Knows (StreamData id)) (knows_lasts (StreamData id))) d.end.transport.send_fairness d.end.streams i room h found tt (b.frames id limit old)
+        | inr new ↦ cc
+      ];
+    }
+    keep p d may b = record { shape = b.shape; frames = λ id limit i. elim (in_more (limit_frame (StreamData id) limit) _ d.frames i) [ inl old ↦ b.frames id limit old | inr new ↦ cc ] }
 
 -- what is said of a limit in a draft is known
 said_known : (what : Limited) (value : ℕ) (d : Draft) → Sees d → In (limit_frame what value) d.frames → AllReceiving (Knows what) d.end.streams
@@ -484,7 +484,6 @@ call_stated took own what value p e theirs call a within apart other is i = go i
       on_streams = λ on answer. elim more [ inl waits ↦ inr (inl (call_waits what (is_open e.closing.state) (streams_at e) call a waits)) | inr far ↦ inr (inr far) ];
       on_messages = λ on answer. inr more;
       pings = inr more;
-      heard = λ path same. inr more;
       times = λ now expiry set. by_expired e now (λ (f : End). LimitStands took own what value f) (λ pending tracking timers runs packets.
           inr (subst (λ (t : Table TrackedPacket). (limit_waits e.waiting.frames what ≡ true) ⊎ FliesFrom own t what value ⊎ LimitHasArrived took what value) (sym packets) more)) (λ pending timers runs. detected_more took own what value (with_closing e (ticked e.closing now)) more) expiry;
       polls = λ now set. cc;

@@ -43,7 +43,8 @@ use Rattle.quic_machine.specs.StreamCalls.{IsStreamAnswer, if_ok, after_on_strea
 use Rattle.quic_machine.specs.Acked.{without_known, reset_acked, resets_acked, stream_acked, streams_acked, packet_acked, packets_acked, stream_lost, streams_lost, carried_lost, packets_lost, verdict, losses_detected, measured, sampled, without_acked, after_named, losses_taken}
 use Rattle.quic_machine.specs.Receive.{is_above, names_ungiven, take_frame, Outcome}
 use Rattle.quic_machine.specs.Poll.{Polled, Draft, no_frames, ack_of, with_ping_frame, ping_if, with_control_frames, with_asking, with_ack, ack_fits, ack_if, composed_if, composed, asking, frame_room, lazied, packet_of, tracked, record_moved, polled, with_message, with_message_frames, goes, draft_as, whole, alone, probe, Leaving, nothing}
-use Rattle.quic_machine.specs.DraftLaws.{with_half_frame, by_streams, by_messages, MayLeave}
+use Rattle.quic_machine.specs.DraftLaws.{by_streams, by_messages, MayLeave}
+use Rattle.quic_machine.specs.Puts.{with_half_frame}
 use Rattle.quic_machine.specs.PollCases.{ready_at, ready_leaves, draft_at, by_poll_to, composes, may_leave_at}
 use Rattle.quic_machine.specs.FrameCases.{OnStreams, named, ack_taken, begun, passed, frames_leave, by_marks}
 use Rattle.quic_machine.specs.CallCases.{is_delivery, by_call}
@@ -639,7 +640,6 @@ module _ (took : List Packet) (sents : List Sent) (what : Listed) where
     on_streams = λ on answer. elim i [ inl waits ↦ inl (call_waits what (is_open e.closing.state) (streams_at e) call a waits) | inr more ↦ inr more ];
     on_messages = λ on answer. i;
     pings = i;
-    heard = λ path same. i;
     times = λ now expiry set. by_expired e now (ListedStands took what) (λ pending tracking timers runs packets. rw packets i) (λ pending timers runs. detected_stands took what (with_closing e (ticked e.closing now)) i) expiry;
     polls = λ now set. polled_stands took sents what e now ascends were before new p (ready now) i;
     hears = λ arrival d set. cc;

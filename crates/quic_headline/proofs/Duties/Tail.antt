@@ -19,7 +19,8 @@ use Rattle.quic_machine.specs.PollCases.{ready_at, ready_leaves, draft_at, by_po
 use Rattle.quic_machine.specs.Timeouts.{Expiry, acks_expired, loss_judged, loss_expired, pacing_expired}
 use Rattle.quic_machine.specs.LeaveCases.{at_expiry}
 use Rattle.quic_machine.specs.FrameCases.{named, frame_keeps, frame_leaves, by_received, by_marks}
-use Rattle.quic_machine.specs.CallCases.{is_poll, by_plain_call}
+use Rattle.quic_machine.specs.CallCases.{Plain, is_poll, by_plain_call}
+use Rattle.quic_machine.specs.CallCases as cases
 use Rattle.quic_machine.specs.Machine.{IsAnswer, after_call, fails, gave}
 use Rattle.quic_headline.specs.Runs.{In}
 use Rattle.quic_headline.specs.Observer.{Sent, asks_of}
@@ -113,17 +114,13 @@ expired_stays e now expiry = after expiry.acks expiry.pacing (loss_expired expir
 
 -- another call than a poll
 other_stays : (p : Policy) (e : End) (theirs : List (List ℕ)) (call : Call) (a : Answer) → is_poll call ≡ false → Stays e.tracking.greatest_asking (after_call p e theirs call a)
-other_stays p e theirs call a apart = by_plain_call p e theirs (Stays e.tracking.greatest_asking) call a (record {
-  same = refl;
-  on_streams = λ t. refl;
-  on_messages = λ m. refl;
-  pings = refl;
-  heard = λ path same. refl;
-  times = λ now expiry is. expired_stays e now expiry;
-  polls = λ now is. cc;
-  hears = λ arrival d is. received_stays e.tracking.greatest_asking p e arrival d refl;
-  tells = λ told. refl;
-})
+other_stays p e theirs call a apart = by_plain_call p e theirs (Stays e.tracking.greatest_asking) call a keep
+  where
+    keep : Plain p e call (Stays e.tracking.greatest_asking)
+    keep (cases.times now expiry) may = expired_stays e now expiry
+    keep (cases.polls now) is = cc
+    keep (cases.hears arrival d) may = received_stays e.tracking.greatest_asking p e arrival d refl
+    keep c may = refl
 
 -- ---- a datagram goes
 

@@ -43,6 +43,7 @@ use Rattle.quic_machine.specs.End.{End, with_numbers, closed_by}
 use Rattle.quic_machine.specs.Receive.{Fault, Outcome, reason_of, take_frame, take_items, unless_fault}
 use Rattle.quic_machine.specs.FrameCases as frame_cases
 use Rattle.quic_machine.specs.FrameCases.{begun, frames_keep}
+use Rattle.quic_machine.specs.Steps as steps
 use Rattle.quic_machine.specs.CallCases.{asks_event}
 use Rattle.quic_machine.specs.Machine.{World, after_call, policy_at}
 use Rattle.quic_headline.specs.Runs.{Run, Told, Packet, Intake, In, OpensStream, and_told, folded, until, given_of, finished}
@@ -306,7 +307,8 @@ abbrev StaysOpen : End → Type 0
 StaysOpen e = e.closing.state ≡ states.Open
 
 open_settles : frame_cases.Settling StaysOpen
-open_settles = record { known = λ n e i. i; reset = λ q e i. i; acked = λ m e i. i; lost = λ m e i. i; again = λ carried e i. i; searched = λ discovery e i. i; shortens = λ most e i. i; tracked = λ t e i. i; measured = λ r first e i. i; marked = λ m marking e i. i }
+open_settles (steps.known n) e i = i
+open_settles s e i = i
 
 -- frames close none
 frames_open : (frames : List FrameValue) (e : End) → StaysOpen e → StaysOpen (frame_cases.passed frames e).end

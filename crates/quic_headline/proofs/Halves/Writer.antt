@@ -136,7 +136,6 @@ module _ (p : Policy) (e : End) (theirs : List (List ℕ)) (done : ℕ → Wrote
     on_streams = λ on answer. absurd (off_streams (is_on_streams call) off on);
     on_messages = λ on answer. w;
     pings = w;
-    heard = λ path same. w;
     times = λ now expiry set. by_expired e now (λ (f : End). Writes done (streams_at f)) (λ pending tracking timers runs packets. w) (λ pending timers runs. expiry_stays (Writes done) e now (losing says) w pending timers) expiry;
     polls = λ now set. poll_writes says now;
     hears = λ arrival d set. absurd (off_streams (is_delivery call) apart set);

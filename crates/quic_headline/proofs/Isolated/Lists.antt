@@ -169,11 +169,14 @@ module _ (r : Run) (end : World) (run : IsRun r end) (started : AreStarted r.sta
   goes_on_without i served =
       let at : Place i = place i served in
       let gave = grown r.keys at.world (drop i r.events) (drop i r.answers) (drop i r.views) end at.goes_on in
+      let on = erases r.keys (listed_idle r) r.start at.world (take i r.events) (take i r.answers) (take i r.views) (chosen_idle i served) at.came in
+      let client = gave_first Client at.world gave in
+      let server = gave_first Server at.world gave in
       record {
-        world = at.world;
-        follows = erases r.keys (listed_idle r) r.start at.world (take i r.events) (take i r.answers) (take i r.views) (chosen_idle i served) at.came;
-        client = gave_first Client at.world gave;
-        server = gave_first Server at.world gave;
+        world = on.0;
+        follows = on.2;
+        client = (client.0, ap (λ (v : World). v.from_client ++ client.0) on.1 ∙ client.1);
+        server = (server.0, ap (λ (v : World). v.from_server ++ server.0) on.1 ∙ server.1);
       }
 
 pub isolated_by_lists : (r : Run) (end : World) → AreStarted r.start → IsRun r end → IsolatedByLists r

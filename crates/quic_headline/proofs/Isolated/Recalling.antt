@@ -32,11 +32,14 @@ use Rattle.quic_machine.specs.Control.{Control}
 use Rattle.quic_machine.specs.Opens.{own_id_length, in_phase, opens_behind, opens}
 use Rattle.quic_machine.specs.Receive.{Fault, Progress, Outcome, error_of, violation, is_empty, asks_in, take_frame, take_items, take_payload, dropped, ends_as, by_state, opened_to, opened_as, opening, drop_of, headed, received_in, received}
 use Rattle.quic_machine.specs.Poll.{Polled, Draft, polled, draft_as, lazied_as, Leaving, whole, alone, probe, nothing}
-use Rattle.quic_machine.specs.DraftLaws.{by_leave, MayLeave}
+use Rattle.quic_machine.specs.DraftLaws.{Writing, by_leave, MayLeave}
+use Rattle.quic_machine.specs.Puts as puts
 use Rattle.quic_machine.specs.FrameCases.{Settling, begun, named, losses_keep, acked_keeps, frame_keeps, frame_leaves, items_keep}
+use Rattle.quic_machine.specs.Steps as steps
 use Rattle.quic_machine.specs.LeaveCases.{by_expired}
 use Rattle.quic_machine.specs.PollCases.{ready_at, ready_leaves, by_poll_to, draft_at, may_leave_at}
-use Rattle.quic_machine.specs.CallCases.{is_delivery, by_plain_call, by_left}
+use Rattle.quic_machine.specs.CallCases.{Plain, is_delivery, by_plain_call, by_left}
+use Rattle.quic_machine.specs.CallCases as cases
 use Rattle.quic_machine.specs.Machine.{IsAnswer, IsDelivered, after_delivered, after_call, end_left, reads_window, fails}
 use Rattle.quic_headline.specs.Runs.{Intake, is_again, is_refused, packet_of, handed, expected_behind, and_opened, and_handed}
 use Rattle.quic_headline.specs.Isolated.{drops_whole, is_new}
@@ -66,7 +69,8 @@ module _ (i : Intake) where
   Still e = Keeps e i
 
   settling : Settling Still
-  settling = record { known = λ n e k. k; reset = λ id e k. k; acked = λ m e k. k; lost = λ m e k. k; again = λ carried e k. k; searched = λ discovery e k. k; shortens = λ most e k. k; tracked = λ t e k. k; measured = λ r first e k. k; marked = λ m marking e k. k }
+  settling (steps.known n) e k = k
+  settling s e k = k
 
   -- an acknowledgement that became due leaves it
   lazied_still : (leaving : Leaving) (e : End) → Still e → Still (lazied_as leaving e)
@@ -76,15 +80,11 @@ module _ (i : Intake) where
   lazied_still (nothing held) e i = i
 
   draft_still : (leaving : Leaving) (e : End) → MayLeave leaving e → Still e → Still (draft_as leaving e).end
-  draft_still leaving e due k = by_leave (λ (d : Draft). Still d.end) (record {
-    ack = λ d filled may k. k;
-    ping = λ d k. k;
-    probes = λ f size k. k;
-    drops = λ d kind k. k;
-    control = λ d kind f is k. k;
-    message = λ d m ms is fit k. k;
-    stream = λ d id h room found first some is counts k. k;
-  }) leaving e due (lazied_still leaving e k)
+  draft_still leaving e due k = by_leave (λ (d : Draft). Still d.end) keep leaving e due (lazied_still leaving e k)
+    where
+      keep : Writing (λ (d : Draft). Still d.end)
+      keep puts.ping d may k = k
+      keep p d may k = k
 
   ready_still : (e : End) (now : ℕ) → Still e → Still (ready_at e now).end
   ready_still e now k = subst (λ (x : End). Still x) (sym (ready_leaves e now)) k
@@ -99,17 +99,13 @@ module _ (i : Intake) where
   })
 
   call_still : (p : Policy) (e : End) (theirs : List (List ℕ)) (call : Call) (a : Answer) → is_delivery call ≡ false → Still e → Still (after_call p e theirs call a)
-  call_still p e theirs call a other k = by_plain_call p e theirs Still call a (record {
-    same = k;
-    on_streams = λ t. k;
-    on_messages = λ m. k;
-    pings = k;
-    heard = λ path same. k;
-    times = λ now expiry is. by_expired e now Still (λ pending tracking timers runs packets. k) (λ pending timers runs. losses_keep Still settling (with_closing e (ticked e.closing now)) k) expiry;
-    polls = λ now is. polled_still p e now k;
-    hears = λ arrival d is. absurd cc;
-    tells = λ told. k;
-  })
+  call_still p e theirs call a other k = by_plain_call p e theirs Still call a cases_keep
+    where
+      cases_keep : Plain p e call Still
+      cases_keep (cases.times now expiry) may = by_expired e now Still (λ pending tracking timers runs packets. k) (λ pending timers runs. losses_keep Still settling (with_closing e (ticked e.closing now)) k) expiry
+      cases_keep (cases.polls now) may = polled_still p e now k
+      cases_keep (cases.hears arrival d) is = absurd cc
+      cases_keep c may = k
 
   -- whichever window a poll reads
   pub left_still : (p : Policy) (control : Control) (e : End) (theirs : List (List ℕ)) (call : Call) (a : Answer) → is_delivery call ≡ false → Still e → Still (end_left p control e theirs call a)
@@ -129,7 +125,8 @@ module _ (e : End) (n : ℕ) where
   Begun x = IsBegun e n x.ids x.numbers.opened x.numbers.taken x.closing.state
 
   begun_settles : Settling Begun
-  begun_settles = record { known = λ m x b. b; reset = λ id x b. b; acked = λ m x b. b; lost = λ m x b. b; again = λ carried x b. b; searched = λ discovery x b. b; shortens = λ most x b. b; tracked = λ t x b. b; measured = λ r first x b. b; marked = λ m marking x b. b }
+  begun_settles (steps.known m) x b = b
+  begun_settles s x b = b
 
   frame_begun : (f : FrameValue) (x : End) → Begun x → Begun (take_frame f x).end
   frame_begun = frame_keeps Begun (record { ack = λ rises a x b. acked_keeps Begun begun_settles rises a (named a x) b; on_streams = λ f x on b. frame_leaves Begun f x on (λ t. b); message = λ m x b. b })

@@ -22,14 +22,16 @@ use Rattle.quic_machine.specs.Poll.{Draft, Polled, polled, draft_as, Leaving, wh
 use Rattle.quic_machine.specs.Machine.{after_call}
 use Rattle.quic_headline.specs.Runs.{Packet, Intake}
 use Rattle.quic_machine.specs.Start.{IsLawful}
-use Rattle.quic_machine.specs.DraftLaws.{by_leave, MayLeave}
+use Rattle.quic_machine.specs.DraftLaws.{Writing, by_leave, MayLeave}
+use Rattle.quic_machine.specs.Puts as puts
 use Rattle.quic_headline.proofs.Packets.Invariant.{IsGiven, KnowsIn, AreTaken, CountsFit, Acks}
 use Rattle.quic_machine.specs.FrameCases.{begun}
 use Rattle.quic_headline.proofs.Packets.Delivered.{Arrivals, arrived, by_arrival}
 use Rattle.quic_headline.proofs.Packets.Stays.{Keeps, keeps_frames, settles_losses}
 use Rattle.quic_headline.proofs.Packets.Probes.{may_leave}
 use Rattle.quic_machine.specs.LeaveCases.{by_expired}
-use Rattle.quic_machine.specs.CallCases.{is_delivery, by_plain_call}
+use Rattle.quic_machine.specs.CallCases.{Plain, is_delivery, by_plain_call}
+use Rattle.quic_machine.specs.CallCases as cases
 use Rattle.quic_machine.specs.PollCases.{by_poll, at_poll}
 
 -- nothing came yet
@@ -130,7 +132,11 @@ lazied_tells (nothing held) e = (refl, refl)
 
 -- whichever frames go, they stay: an ACK that tells them may be lost
 draft_runs : (leaving : Leaving) (e : End) → MayLeave leaving e → TellsAs e (draft_as leaving e).end
-draft_runs leaving e due = by_leave (λ (d : Draft). TellsAs e d.end) (record { ack = λ d filled may same. same; ping = λ d same. same; probes = λ f size same. same; drops = λ d kind same. same; control = λ d kind f is same. same; message = λ d m ms is fit same. same; stream = λ d id h room found first some is counts same. same }) leaving e due (lazied_tells leaving e)
+draft_runs leaving e due = by_leave (λ (d : Draft). TellsAs e d.end) keep leaving e due (lazied_tells leaving e)
+  where
+    keep : Writing (λ (d : Draft). TellsAs e d.end)
+    keep puts.ping d may same = same
+    keep p d may same = same
 
 -- a poll leaves them
 polled_runs : (p : Policy) (e : End) (now : ℕ) → TellsAs e (polled p e now).end
@@ -148,17 +154,13 @@ polled_runs p e now = by_poll p e now (λ (q : Polled). TellsAs e q.end) (record
 
 -- a call that is no delivery leaves them, though losses are detected
 pub runs_step : (q : Policy) (e : End) (theirs : List (List ℕ)) (call : Call) (a : Answer) → is_delivery call ≡ false → TellsAs e (after_call q e theirs call a)
-runs_step q e theirs call a other = by_plain_call q e theirs (TellsAs e) call a (record {
-  same = (refl, refl);
-  on_streams = λ t. (refl, refl);
-  on_messages = λ m. (refl, refl);
-  pings = (refl, refl);
-  heard = λ path same. (refl, refl);
-  times = λ now expiry is. by_expired e now (TellsAs e) (λ pending tracking timers runs packets. (runs, refl)) (λ pending timers runs. (runs, (settles_losses (with_closing e (ticked e.closing now))).came)) expiry;
-  polls = λ now is. polled_runs q e now;
-  hears = λ arrival d is. cc;
-  tells = λ told. (refl, refl);
-})
+runs_step q e theirs call a other = by_plain_call q e theirs (TellsAs e) call a cases_keep
+  where
+    cases_keep : Plain q e call (TellsAs e)
+    cases_keep (cases.times now expiry) may = by_expired e now (TellsAs e) (λ pending tracking timers runs packets. (runs, refl)) (λ pending timers runs. (runs, (settles_losses (with_closing e (ticked e.closing now))).came)) expiry
+    cases_keep (cases.polls now) may = polled_runs q e now
+    cases_keep (cases.hears arrival d) is = cc
+    cases_keep c may = (refl, refl)
 
 -- the numbers to acknowledge stay those of packets that were taken over a call that is no delivery
 pub taken_step : (q : Policy) (e : End) (theirs : List (List ℕ)) (call : Call) (a : Answer) (packets : List Packet) → is_delivery call ≡ false → AreTaken e.acknowledging.runs packets → AreTaken (after_call q e theirs call a).acknowledging.runs packets

@@ -26,7 +26,8 @@ use Rattle.quic_machine.specs.End.{End, streams_at, with_ping}
 use Rattle.quic_machine.specs.Poll.{asking, overhead, number_width, with_least, zeros_behind, Draft, no_frames, with_frame, frame_room, fits, left, ping_if, with_ping_frame, with_control_frames, with_message, with_message_frames, with_asking, ack_of, with_ack, ack_fits, ack_if, composed_if, payload_of, lazied, asks_to_go, waits, draft_as, draft_of, probe, alone, whole, Leaving, Ready, nothing, probing, composed, behind_control, least_left}
 use Rattle.quic_machine.specs.Parts.{current_mtu}
 use Rattle.quic_machine.specs.PollCases.{frames_padded}
-use Rattle.quic_machine.specs.DraftLaws.{SendsHalf, stream_room, with_entry, with_half_frame, by_messages, by_streams, MayLeave, HasRoom, room_most, entry_behind}
+use Rattle.quic_machine.specs.DraftLaws.{SendsHalf, by_messages, by_streams, MayLeave, HasRoom, room_most, entry_behind}
+use Rattle.quic_machine.specs.Puts.{stream_room, with_entry, with_half_frame}
 use Rattle.quic_streams_state.specs.Control as control
 use Rattle.quic_headline.proofs.Packets.Invariant.{CountsFit, Acks}
 use Rattle.quic_wire.proofs.FrameRange.{size_most}

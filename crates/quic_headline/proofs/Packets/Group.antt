@@ -20,7 +20,8 @@ use Rattle.quic_machine.specs.End.{End, new_end, with_closing, number_of}
 use Rattle.quic_machine.specs.Receive.{Outcome}
 use Rattle.quic_machine.specs.Poll.{Polled, polled, goes, draft_as, Leaving}
 use Rattle.quic_machine.specs.Machine.{after_call, gives}
-use Rattle.quic_machine.specs.CallCases.{is_delivery, by_plain_call}
+use Rattle.quic_machine.specs.CallCases.{Plain, is_delivery, by_plain_call}
+use Rattle.quic_machine.specs.CallCases as cases
 use Rattle.quic_machine.specs.LeaveCases.{at_losses, by_expired}
 use Rattle.quic_machine.specs.PollCases.{ready_at, by_poll, composes, at_poll}
 use Rattle.quic_headline.specs.Runs.{Intake, In, count_given, nothing_came}
@@ -114,22 +115,18 @@ knows_poll p e now i k =
 
 -- what came is known, after a call that is no delivery
 knows_step : (q : Policy) (e : End) (theirs : List (List ℕ)) (call : Call) (a : Answer) (i : Intake) → is_delivery call ≡ false → KnowsIn e.closing.state e.numbers i → KnowsIn (after_call q e theirs call a).closing.state (after_call q e theirs call a).numbers i
-knows_step q e theirs call a i other k = by_plain_call q e theirs (λ (f : End). KnowsIn f.closing.state f.numbers i) call a (record {
-  same = k;
-  on_streams = λ t. k;
-  on_messages = λ m. k;
-  pings = k;
-  heard = λ path same. k;
-  times = λ now expiry set. by_expired e now (λ (f : End). KnowsIn f.closing.state f.numbers i) (λ pending tracking timers runs packets. k) (λ pending timers runs. losses now pending timers) expiry;
-  polls = λ now set. knows_poll q e now i k;
-  hears = λ arrival d set. cc;
-  tells = λ told. k;
-})
+knows_step q e theirs call a i other k = by_plain_call q e theirs (λ (f : End). KnowsIn f.closing.state f.numbers i) call a keep
   where
     losses : (now : ℕ) (pending : Pending) (timers : Timers) → KnowsIn (at_losses e now pending timers).closing.state (at_losses e now pending timers).numbers i
     losses now pending timers =
         let s = settles_losses (with_closing e (ticked e.closing now)) in
         subst (λ (c : Closing). KnowsIn c.state (at_losses e now pending timers).numbers i) (sym s.closing) (subst (λ (x : Numbers). KnowsIn e.closing.state x i) (sym s.numbers) k)
+
+    keep : Plain q e call (λ (f : End). KnowsIn f.closing.state f.numbers i)
+    keep (cases.times now expiry) may = by_expired e now (λ (f : End). KnowsIn f.closing.state f.numbers i) (λ pending tracking timers runs packets. k) (λ pending timers runs. losses now pending timers) expiry
+    keep (cases.polls now) may = knows_poll q e now i k
+    keep (cases.hears arrival d) set = cc
+    keep c may = k
 
 -- in each case of a delivery
 takes_arrivals : (e : End) (now : ℕ) (s : Sent) (i : Intake) (sents : List Sent) → In s sents → s.number < 2 ^ 62 → Takes sents e i → Arrivals e now s.number s.frames i (λ (o : Outcome) (j : Intake). Takes sents o.end j)

@@ -4,7 +4,7 @@ use Rattle.std.specs.List.{list_any}
 use Rattle.std.proofs.lemmas.Bool.{leb-true, le-leb, and_parts}
 use Rattle.std.proofs.lemmas.List.{append-nil}
 use Rattle.quic_sets.specs.Runs.{Run, Has}
-use Rattle.quic_wire.specs.Value.{FrameValue, AckValue, ack, stream, datagram, ping, padding}
+use Rattle.quic_wire.specs.Value.{FrameValue, AckValue, ack, padding}
 use Rattle.quic_wire.specs.Grammar.{Payload}
 use Rattle.quic_wire.specs.AckGrammar.{InRanges, GoDown}
 use Rattle.quic_wire.specs.AckSet.{ranges_of_set}
@@ -15,12 +15,12 @@ use Rattle.quic_machine.specs.declared.run.Call.TheVariants as calls
 use Rattle.quic_machine.specs.declared.run.Answer.{Answer}
 use Rattle.quic_machine.specs.End.{End}
 use Rattle.quic_machine.specs.Poll.{zeros_behind, Draft, ack_of, lazied, draft_as, with_ack, no_frames, probe, alone, whole, Leaving, nothing}
-use Rattle.quic_streams_parts.specs.SendHalf.{frame_of}
 use Rattle.quic_headline.proofs.Packets.Entries.{IsControl, control_of}
 use Rattle.quic_headline.specs.Runs.{Packet, Intake, In, names}
 use Rattle.quic_headline.specs.Observer.{Sent}
 use Rattle.quic_machine.specs.Machine.{gave}
 use Rattle.quic_machine.specs.DraftLaws.{Writing, by_writing}
+use Rattle.quic_machine.specs.Puts as puts
 use Rattle.quic_headline.proofs.Packets.Invariant.{SentAs, NameTaken, WereSent, AreTaken, Acks}
 use Rattle.quic_headline.proofs.Packets.Growth.{in_more}
 use Rattle.quic_machine.specs.PollCases.{ready_at, frames_at, draft_at}
@@ -92,20 +92,15 @@ acked_acknowledges runs d k = record {
 
 -- whichever frames go, ACK frames have them
 acknowledges : (runs : List Run) → Writing (Acknowledges runs)
-acknowledges runs = record {
-  ack = λ d filled may k. acked_acknowledges runs d k;
-  ping = λ d k. record { frames = ack_more runs d.frames ping k.frames (λ a is. cc); same = k.same };
-  probes = λ f size k. record { frames = ack_more runs [] ping k.frames (λ a is. cc); same = k.same };
-  drops = λ d kind k. record { frames = k.frames; same = k.same };
-  control = λ d kind f is k. record { frames = ack_more runs d.frames f k.frames (λ a ack_is. absurd (no_ack f a (control_of f kind is.of_kind) ack_is)); same = k.same };
-  message = λ d m ms is fit k. record { frames = ack_more runs d.frames (datagram m) k.frames (λ a is. cc); same = k.same };
-  stream = λ d id h room found first some is counts k. record { frames = ack_more runs d.frames (stream (frame_of id h room)) k.frames (λ a is. cc); same = k.same };
-}
+acknowledges runs puts.ack d may k = acked_acknowledges runs d k
+acknowledges runs (puts.drops kind) d may k = record { frames = k.frames; same = k.same }
+acknowledges runs (puts.control kind f) d is k = record { frames = ack_more runs d.frames f k.frames (λ a ack_is. absurd (no_ack f a (control_of f kind is.of_kind) ack_is)); same = k.same }
+acknowledges runs p d may k = record { frames = ack_more runs d.frames _ k.frames (λ a is. cc); same = k.same }
 
 draft_acknowledges : (leaving : Leaving) (e : End) → Acknowledges e.acknowledging.runs (draft_as leaving e)
 draft_acknowledges whole e = by_writing (Acknowledges e.acknowledging.runs) (acknowledges e.acknowledging.runs) (lazied e) (record { frames = λ a i. absurd i; same = refl })
 draft_acknowledges alone e = acked_acknowledges e.acknowledging.runs (no_frames (lazied e)) (record { frames = λ a i. absurd i; same = refl })
-draft_acknowledges (probe size) e = (acknowledges e.acknowledging.runs).probes e size (record { frames = λ a i. absurd i; same = refl })
+draft_acknowledges (probe size) e = acknowledges e.acknowledging.runs (puts.probes size) (no_frames e) tt (record { frames = λ a i. absurd i; same = refl })
 draft_acknowledges (nothing held) e = record { frames = λ a i. absurd i; same = refl }
 
 -- PADDING behind frames has none

@@ -29,7 +29,8 @@ use Rattle.quic_machine.specs.Timeouts.{acks_expired, loss_judged, loss_expired,
 use Rattle.quic_machine.specs.Receive.{asks_in, after_taken}
 use Rattle.quic_machine.specs.Poll.{Polled, Draft, payload_of, datagram_of, datagram_size, after_given, goes, rests, sends, polled_if, polled_in, polled, Ready}
 use Rattle.quic_machine.specs.Machine.{after_call, fails, gave}
-use Rattle.quic_machine.specs.CallCases.{is_delivery, is_poll, is_timeout, by_plain_call}
+use Rattle.quic_machine.specs.CallCases.{Plain, is_delivery, is_poll, is_timeout, by_plain_call}
+use Rattle.quic_machine.specs.CallCases as cases
 use Rattle.quic_machine.specs.PollCases.{ready_at, ready_leaves, draft_at, frames_at, given_as, Composes, composes, poll_left, may_leave_at}
 use Rattle.quic_machine.specs.FrameCases.{begun}
 use Rattle.quic_headline.specs.Runs.{Told, Packet, Intake, acknowledged, and_handed, and_told, folded}
@@ -458,17 +459,13 @@ pub record Leaves (e f : End) : Type 0 where
 
 -- a call at no moment leaves it
 pub leaves_call : (p : Policy) (e : End) (theirs : List (List ℕ)) (call : Call) (a : Answer) → is_delivery call ≡ false → is_poll call ≡ false → is_timeout call ≡ false → Leaves e (after_call p e theirs call a)
-leaves_call p e theirs call a apart silent other = by_plain_call p e theirs (Leaves e) call a (record {
-  same = record { state = refl; clock = refl; numbers = refl; tracking = refl; transport = refl; peer = refl; path = refl; rtt = refl };
-  on_streams = λ t. record { state = refl; clock = refl; numbers = refl; tracking = refl; transport = refl; peer = refl; path = refl; rtt = refl };
-  on_messages = λ m. record { state = refl; clock = refl; numbers = refl; tracking = refl; transport = refl; peer = refl; path = refl; rtt = refl };
-  pings = record { state = refl; clock = refl; numbers = refl; tracking = refl; transport = refl; peer = refl; path = refl; rtt = refl };
-  heard = λ path is. record { state = refl; clock = refl; numbers = refl; tracking = refl; transport = refl; peer = refl; path = is.generation; rtt = is.rtt };
-  times = λ now expiry is. cc;
-  polls = λ now is. cc;
-  hears = λ arrival d is. cc;
-  tells = λ told. record { state = refl; clock = refl; numbers = refl; tracking = refl; transport = refl; peer = refl; path = refl; rtt = refl };
-})
+leaves_call p e theirs call a apart silent other = by_plain_call p e theirs (Leaves e) call a cases_keep
+  where
+    cases_keep : Plain p e call (Leaves e)
+    cases_keep (cases.times now expiry) is = cc
+    cases_keep (cases.polls now) is = cc
+    cases_keep (cases.hears arrival d) is = cc
+    cases_keep c may = record { state = refl; clock = refl; numbers = refl; tracking = refl; transport = refl; peer = refl; path = refl; rtt = refl }
 
 -- an end that was left so is watched as it was
 pub leaves_watched : (t : Terms) (w : Watch) (e f : End) → Leaves e f → IsWatched t w e → IsWatched t w f

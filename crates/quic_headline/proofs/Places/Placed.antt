@@ -20,6 +20,7 @@ use Rattle.quic_machine.specs.Policy.{Policy}
 use Rattle.quic_machine.specs.Parts.{Windows}
 use Rattle.quic_machine.specs.End.{End, IsMade, new_end, with_window}
 use Rattle.quic_machine.specs.Control.{Control}
+use Rattle.quic_machine.specs.Heard.{Heard}
 use Rattle.quic_machine.specs.Start.{AreStarted}
 use Rattle.quic_machine.specs.Machine.{World, Policies, IsAnswer, IsLeft, IsStep, after_call, reads_window, end_left, end_at, end_met, control_at, given_by, gives, policy_at, fails, Follows, view_of}
 use Rattle.quic_headline.specs.Runs.{Run, Told, In, given_of, told_by, ids_of, folded, until, state_at, LeadsTo, AreServed}
@@ -234,12 +235,12 @@ module _ (G : Way) (g : Group Nothing G) (r : Run) (end : World) (honest : IsHon
     where
       -- the client makes a call, and has become this end for it
       client_calls : (call : Call) (met : End) → met.closing.state ≡ w.client.closing.state → Uses (record { side = Client; call = call }) a client server → IsAnswer r.keys.client met w.from_server call a
-          → next ≡ record w { client = after_call r.keys.client met w.from_server call a; from_client = w.from_client ++ gives r.keys.client met call a; client_control = next.client_control }
+          → next ≡ record w { client = after_call r.keys.client met w.from_server call a; from_client = w.from_client ++ gives r.keys.client met call a; client_control = next.client_control; client_heard = next.client_heard }
           → G (party r Client (record w { client = met }) h.client_sents client) (party r Server w h.server_sents server) → G (party r Server w h.server_sents server) (party r Client (record w { client = met }) h.client_sents client)
           → Holds next (client ++ told_of call a w.client.closing.state ∷ []) (server ++ [])
       client_calls call met same uses answer is there back =
           let here : World = record w { client = met } in
-          let after : World = record w { client = after_call r.keys.client met w.from_server call a; from_client = w.from_client ++ gives r.keys.client met call a; client_control = next.client_control } in
+          let after : World = record w { client = after_call r.keys.client met w.from_server call a; from_client = w.from_client ++ gives r.keys.client met call a; client_control = next.client_control; client_heard = next.client_heard } in
           let x : Party = party r Client here h.client_sents client in
           let y : Party = party r Server w h.server_sents server in
           let c : Calls Nothing x y call a =
@@ -256,7 +257,7 @@ module _ (G : Way) (g : Group Nothing G) (r : Run) (end : World) (honest : IsHon
 
       -- the client makes a call, and a poll reads a window first
       client_meets : (call : Call) → Uses (record { side = Client; call = call }) a client server → IsStep r.keys w (record { side = Client; call = call }) a next
-          → next ≡ record w { client = end_left r.keys.client w.client_control w.client w.from_server call a; from_client = w.from_client ++ gives r.keys.client (reads_window w.client_control call w.client) call a; client_control = next.client_control }
+          → next ≡ record w { client = end_left r.keys.client w.client_control w.client w.from_server call a; from_client = w.from_client ++ gives r.keys.client (reads_window w.client_control call w.client) call a; client_control = next.client_control; client_heard = next.client_heard }
           → Holds next (client ++ told_of call a w.client.closing.state ∷ []) (server ++ [])
       client_meets (calls.Poll now) uses step is =
           let window : ℕ = w.client_control [] in
@@ -269,12 +270,12 @@ module _ (G : Way) (g : Group Nothing G) (r : Run) (end : World) (honest : IsHon
 
       -- the server makes a call, and has become this end for it
       server_calls : (call : Call) (met : End) → met.closing.state ≡ w.server.closing.state → Uses (record { side = Server; call = call }) a client server → IsAnswer r.keys.server met w.from_client call a
-          → next ≡ record w { server = after_call r.keys.server met w.from_client call a; from_server = w.from_server ++ gives r.keys.server met call a; server_control = next.server_control }
+          → next ≡ record w { server = after_call r.keys.server met w.from_client call a; from_server = w.from_server ++ gives r.keys.server met call a; server_control = next.server_control; server_heard = next.server_heard }
           → G (party r Server (record w { server = met }) h.server_sents server) (party r Client w h.client_sents client) → G (party r Client w h.client_sents client) (party r Server (record w { server = met }) h.server_sents server)
           → Holds next (client ++ []) (server ++ told_of call a w.server.closing.state ∷ [])
       server_calls call met same uses answer is there back =
           let here : World = record w { server = met } in
-          let after : World = record w { server = after_call r.keys.server met w.from_client call a; from_server = w.from_server ++ gives r.keys.server met call a; server_control = next.server_control } in
+          let after : World = record w { server = after_call r.keys.server met w.from_client call a; from_server = w.from_server ++ gives r.keys.server met call a; server_control = next.server_control; server_heard = next.server_heard } in
           let x : Party = party r Server here h.server_sents server in
           let y : Party = party r Client w h.client_sents client in
           let c : Calls Nothing x y call a =
@@ -291,7 +292,7 @@ module _ (G : Way) (g : Group Nothing G) (r : Run) (end : World) (honest : IsHon
 
       -- the server makes a call, and a poll reads a window first
       server_meets : (call : Call) → Uses (record { side = Server; call = call }) a client server → IsStep r.keys w (record { side = Server; call = call }) a next
-          → next ≡ record w { server = end_left r.keys.server w.server_control w.server w.from_client call a; from_server = w.from_server ++ gives r.keys.server (reads_window w.server_control call w.server) call a; server_control = next.server_control }
+          → next ≡ record w { server = end_left r.keys.server w.server_control w.server w.from_client call a; from_server = w.from_server ++ gives r.keys.server (reads_window w.server_control call w.server) call a; server_control = next.server_control; server_heard = next.server_heard }
           → Holds next (client ++ []) (server ++ told_of call a w.server.closing.state ∷ [])
       server_meets (calls.Poll now) uses step is =
           let window : ℕ = w.server_control [] in
@@ -306,12 +307,14 @@ module _ (G : Way) (g : Group Nothing G) (r : Run) (end : World) (honest : IsHon
           → Holds next (client ++ told_by Client w.client.closing.state (record { side = side; call = call }) a) (server ++ told_by Server w.server.closing.state (record { side = side; call = call }) a)
       go Client call uses step =
           let control : Control = next.client_control in
+          let heard : Heard = next.client_heard in
           let given : List (List ℕ) = w.from_client ++ gives r.keys.client (reads_window w.client_control call w.client) call a in
-          client_meets call uses step (step.others ∙ ap (λ (e : End). record w { client = e; from_client = given; client_control = control }) (left_by r.keys.client w.client_control w.client next.client w.from_server call a served step.end))
+          client_meets call uses step (step.others ∙ ap (λ (e : End). record w { client = e; from_client = given; client_control = control; client_heard = heard }) (left_by r.keys.client w.client_control w.client next.client w.from_server call a served step.end))
       go Server call uses step =
           let control : Control = next.server_control in
+          let heard : Heard = next.server_heard in
           let given : List (List ℕ) = w.from_server ++ gives r.keys.server (reads_window w.server_control call w.server) call a in
-          server_meets call uses step (step.others ∙ ap (λ (e : End). record w { server = e; from_server = given; server_control = control }) (left_by r.keys.server w.server_control w.server next.server w.from_client call a served step.end))
+          server_meets call uses step (step.others ∙ ap (λ (e : End). record w { server = e; from_server = given; server_control = control; server_heard = heard }) (left_by r.keys.server w.server_control w.server next.server w.from_client call a served step.end))
 
   -- before the first event
   holds_first : Holds r.start [] []

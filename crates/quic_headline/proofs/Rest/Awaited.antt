@@ -24,10 +24,13 @@ use Rattle.quic_spaces.specs.Acknowledging.{ack_due, with_due}
 use Rattle.quic_machine.specs.Poll.{Polled, Draft, polled, draft_as, lazied_as, Leaving, whole, alone, probe, nothing}
 use Rattle.quic_machine.specs.Timeouts.{Expiry, loss_judged, acks_expired, loss_expired, pacing_expired}
 use Rattle.quic_machine.specs.Machine.{World, Policies, after_call, Follows}
-use Rattle.quic_machine.specs.DraftLaws.{by_leave, MayLeave}
+use Rattle.quic_machine.specs.DraftLaws.{Writing, by_leave, MayLeave}
+use Rattle.quic_machine.specs.Puts as puts
 use Rattle.quic_machine.specs.LeaveCases.{at_expiry}
-use Rattle.quic_machine.specs.CallCases.{by_plain_call}
+use Rattle.quic_machine.specs.CallCases.{Plain, by_plain_call}
+use Rattle.quic_machine.specs.CallCases as cases
 use Rattle.quic_machine.specs.FrameCases.{Settling, Receives, named, acked_keeps, losses_keep, frame_keeps, frame_leaves, by_received}
+use Rattle.quic_machine.specs.Steps as steps
 use Rattle.quic_machine.specs.PollCases.{ready_at, ready_leaves, by_poll_to, draft_at, may_leave_at}
 use Rattle.quic_headline.proofs.Places.Placed.{start_is}
 use Rattle.quic_headline.proofs.Timers.BothEnds.{AtBoth, run_keeps}
@@ -85,7 +88,8 @@ packet_comes false t p now n s c = c
 
 -- acknowledged and lost packets change neither
 settling : Settling IsAwaited
-settling = record { known = λ n e i. i; reset = λ id e i. i; acked = λ m e i. i; lost = λ m e i. i; again = λ carried e i. i; searched = λ discovery e i. i; shortens = λ most e i. i; tracked = λ t e i. i; measured = λ r first e i. i; marked = λ m marking e i. i }
+settling (steps.known n) e i = i
+settling s e i = i
 
 receives : Receives IsAwaited
 receives = record {
@@ -108,15 +112,11 @@ lazied_awaited (nothing held) e i opened = i opened
 
 -- an ACK that goes answers all, and no other frame changes what is awaited
 draft_awaited : (leaving : Leaving) (e : End) → MayLeave leaving e → IsAwaited e → IsAwaited (draft_as leaving e).end
-draft_awaited leaving e due i = by_leave (λ (d : Draft). IsAwaited d.end) (record {
-  ack = λ d filled may i opened. record { waits = λ some. absurd (omega arith); counted = λ some. cc; known = λ set. cc; soon = λ moment set. cc };
-  ping = λ d i. i;
-  probes = λ f size i. i;
-  drops = λ d kind i. i;
-  control = λ d kind f is i. i;
-  message = λ d m ms is fit i. i;
-  stream = λ d id h room found first some is counts i. i;
-}) leaving e due (lazied_awaited leaving e i)
+draft_awaited leaving e due i = by_leave (λ (d : Draft). IsAwaited d.end) keep leaving e due (lazied_awaited leaving e i)
+  where
+    keep : Writing (λ (d : Draft). IsAwaited d.end)
+    keep puts.ack d may i = λ opened. record { waits = λ some. absurd (omega arith); counted = λ some. cc; known = λ set. cc; soon = λ moment set. cc }
+    keep p d may i = i
 
 ready_awaited : (e : End) (now : ℕ) → IsAwaited e → IsAwaited (ready_at e now).end
 ready_awaited e now i = subst (λ (x : End). IsAwaited x) (sym (ready_leaves e now)) (λ opened. later e.acknowledging e.timers.max_ack_delay e.closing.clock now (i opened))
@@ -157,17 +157,13 @@ expired_awaited e now expiry i =
     pacing_awaited expiry.pacing (acks_expired expiry.acks (loss_expired expiry.loss begun)) (acks_awaited expiry.acks expiry.loss begun (λ opened. later e.acknowledging e.timers.max_ack_delay e.closing.clock now (i opened)))
 
 pub call_awaited : (p : Policy) (e : End) (theirs : List (List ℕ)) (call : Call) (a : Answer) → IsAwaited e → IsAwaited (after_call p e theirs call a)
-call_awaited p e theirs call a i = by_plain_call p e theirs IsAwaited call a (record {
-  same = i;
-  on_streams = λ t. i;
-  on_messages = λ m. i;
-  pings = i;
-  heard = λ path same. i;
-  times = λ now expiry is. expired_awaited e now expiry i;
-  polls = λ now is. polled_awaited p e now i;
-  hears = λ arrival d is. by_received IsAwaited receives p e arrival d i;
-  tells = λ told. i;
-})
+call_awaited p e theirs call a i = by_plain_call p e theirs IsAwaited call a cases_keep
+  where
+    cases_keep : Plain p e call IsAwaited
+    cases_keep (cases.times now expiry) may = expired_awaited e now expiry i
+    cases_keep (cases.polls now) may = polled_awaited p e now i
+    cases_keep (cases.hears arrival d) may = by_received IsAwaited receives p e arrival d i
+    cases_keep c may = i
 
 -- ---- a run
 

@@ -21,11 +21,14 @@ use Rattle.quic_machine.specs.Poll.{Polled, Draft, polled, draft_as, lazied_as, 
 use Rattle.quic_machine.specs.Receive.{take_frame}
 use Rattle.quic_machine.specs.Timeouts.{Expiry, loss_judged, acks_expired, loss_expired, pacing_expired}
 use Rattle.quic_machine.specs.Machine.{IsAnswer, after_call, fails, gave}
-use Rattle.quic_machine.specs.CallCases.{is_delivery, is_poll, by_plain_call}
+use Rattle.quic_machine.specs.CallCases.{Plain, is_delivery, is_poll, by_plain_call}
+use Rattle.quic_machine.specs.CallCases as cases
 use Rattle.quic_machine.specs.LeaveCases.{at_expiry}
 use Rattle.quic_machine.specs.FrameCases.{Settling, named, passed, acked_keeps, frame_keeps, frame_leaves, frames_keep, packets_lost_keep}
+use Rattle.quic_machine.specs.Steps as steps
 use Rattle.quic_machine.specs.PollCases.{ready_at, draft_at, frames_at, by_poll_to, may_leave_at}
-use Rattle.quic_machine.specs.DraftLaws.{by_leave, MayLeave}
+use Rattle.quic_machine.specs.DraftLaws.{Writing, by_leave, MayLeave}
+use Rattle.quic_machine.specs.Puts as puts
 use Rattle.quic_headline.specs.Moments.{is_ack, acknowledges}
 use Rattle.quic_headline.proofs.Packets.Searches.{losses_searched}
 use Rattle.quic_headline.proofs.Packets.Probes.{by_going, ready_acks}
@@ -40,18 +43,8 @@ OnlyRuns e f = f.acknowledging ≡ record e.acknowledging { runs = f.acknowledgi
 
 -- so it is where packets are acknowledged or lost
 settling : (e : End) → Settling (OnlyRuns e)
-settling e = record {
-  known = λ n x i. ap (λ (p : Pending). record p { runs = above x.acknowledging.runs n }) i;
-  reset = λ id x i. i;
-  acked = λ m x i. i;
-  lost = λ m x i. i;
-  again = λ carried x i. i;
-  searched = λ discovery x i. i;
-  shortens = λ most x i. i;
-  tracked = λ t x i. i;
-  measured = λ r first x i. i;
-  marked = λ m marking x i. i;
-}
+settling e (steps.known n) x i = ap (λ (p : Pending). record p { runs = above x.acknowledging.runs n }) i
+settling e s x i = i
 
 -- so it is behind a frame
 pub frame_acks : (e : End) (f : FrameValue) (x : End) → OnlyRuns e x → OnlyRuns e (take_frame f x).end
@@ -109,16 +102,13 @@ module _ (P : Pending → Type 0) (e : End) (same : P e.acknowledging) (lazy : P
   Leaves d = list_any is_ack d.frames ≡ false → P d.end.acknowledging
 
   draft_leaves : (leaving : Leaving) (x : End) → MayLeave leaving x → x.acknowledging ≡ e.acknowledging → Leaves (draft_as leaving x)
-  draft_leaves leaving x due is = by_leave Leaves (record {
-    ack = λ d filled may i none. absurd (let some = (parts d.frames _ none).1 in cc);
-    ping = λ d i none. i (parts d.frames _ none).0;
-    probes = λ f size i none. i refl;
-    drops = λ d kind i. i;
-    control = λ d kind f is i none. i (parts d.frames f none).0;
-    message = λ d m ms is fit i none. i (parts d.frames _ none).0;
-    stream = λ d id h room found first some is counts i none. i (parts d.frames _ none).0;
-  }) leaving x due (λ none. begins leaving)
+  draft_leaves leaving x due is = by_leave Leaves keep leaving x due (λ none. begins leaving)
     where
+      keep : Writing Leaves
+      keep puts.ack d may i = λ none. absurd (let some = (parts d.frames _ none).1 in cc)
+      keep (puts.drops kind) d may i = i
+      keep p d may i = λ none. i (parts d.frames _ none).0
+
       begins : (l : Leaving) → P (lazied_as l x).acknowledging
       begins whole = subst (λ (p : Pending). P (after_lazy p)) (sym is) lazy
       begins alone = subst (λ (p : Pending). P (after_lazy p)) (sym is) lazy
@@ -141,21 +131,17 @@ module _ (P : Pending → Type 0) (e : End) (same : P e.acknowledging) (lazy : P
 
   -- one that is no poll either
   quiet_leaves : (p : Policy) (theirs : List (List ℕ)) (call : Call) (a : Answer) → is_delivery call ≡ false → is_poll call ≡ false → P (after_call p e theirs call a).acknowledging
-  quiet_leaves p theirs call a apart silent = by_plain_call p e theirs (λ (x : End). P x.acknowledging) call a (record {
-    same = same;
-    on_streams = λ t. same;
-    on_messages = λ m. same;
-    pings = same;
-    heard = λ path is. same;
-    times = λ now expiry is. subst P (sym (expired_acks e now expiry)) (expired expiry.acks);
-    polls = λ now is. (let clash : true ≡ false = sym is ∙ silent in cc);
-    hears = λ arrival d is. (let clash : true ≡ false = sym is ∙ apart in cc);
-    tells = λ told. same;
-  })
+  quiet_leaves p theirs call a apart silent = by_plain_call p e theirs (λ (x : End). P x.acknowledging) call a keep
     where
       expired : (b : Bool) → P (if b then after_timeout e.acknowledging else e.acknowledging)
       expired true = expires
       expired false = same
+
+      keep : Plain p e call (λ (x : End). P x.acknowledging)
+      keep (cases.times now expiry) may = subst P (sym (expired_acks e now expiry)) (expired expiry.acks)
+      keep (cases.polls now) is = (let clash : true ≡ false = sym is ∙ silent in cc)
+      keep (cases.hears arrival d) is = (let clash : true ≡ false = sym is ∙ apart in cc)
+      keep c may = same
 
   pub call_leaves : (p : Policy) (theirs : List (List ℕ)) (call : Call) (a : Answer) → is_delivery call ≡ false → IsAnswer p e theirs call a → fails a ≡ false → acknowledges (sents_by e call a) ≡ false → P (after_call p e theirs call a).acknowledging
   call_leaves p theirs (calls.Poll now) a apart is served none = polled_leaves p now (ap (λ (b : Answer). acknowledges (sent_if (gave b) (sent_by e now))) (sym (poll_answer p e now a is served)) ∙ none)

@@ -44,6 +44,7 @@ use Rattle.quic_machine.specs.FrameCases.{begun}
 use Rattle.quic_packet.specs.Datagram.{opened_packet}
 use Rattle.quic_machine.specs.Opens.{own_id_length}
 use Rattle.quic_machine.specs.declared.answers.Event.{Event}
+use Rattle.quic_machine.specs.Steps as steps
 use Rattle.quic_headline.specs.Runs.{Told, Packet, Intake, In, acknowledged, and_told, finish_told_by, finishes_told}
 use Rattle.quic_headline.specs.Observer.{Sent, Terms, Flight, HoldsOffset, HoldsEnd, Watch, Lens, first_watch, has_opened, moment_of, clock_behind, after_packets, after_frames, and_sent, and_all_sent, loss_due, is_past, expired_for, sent_as, watch_sent, watch_given, is_timely, watch_moment, watch_came, watch_told}
 use Rattle.quic_headline.specs.InFlight.{all_offsets}
@@ -118,7 +119,6 @@ module _ (arrived : ℕ → ℕ → Type 0) (end_arrived : ℕ → Type 0) (k : 
           on_streams = λ on answer. cc;
           on_messages = λ on answer. i;
           pings = i;
-          heard = λ path same. i;
           times = λ now expiry set. by_expired e now (λ (f : End). Settling arrived end_arrived k n w f.streams) (λ pending tracking timers runs packets. i)
               (λ pending timers runs. expiry_stays (λ (t : Streams). Settling arrived end_arrived k n w t.state) e now (losing e.tracking.packets ends) i pending timers) expiry;
           polls = λ now set. cc;
@@ -332,24 +332,16 @@ knows_none : (m : StreamMeta) → KnowsAcked m nothing_known nothing_known
 knows_none m = record { sent = λ id o x. absurd x; end_sent = λ id x. absurd x; acked = λ id o x. absurd x; end_acked = λ id x. absurd x; was_sent = λ o x. absurd x; end_was_sent = λ x. absurd x }
 
 module _ (took : List Packet) (sents : List Sent) (n : ℕ → ℕ) (w : ℕ → Wrote) (says : (s : Sent) → In s sents → (f : FrameValue) → In f s.frames → SaysOf w f) (taken : WereSent sents took) where
+  carried_ended : (c : Carried) (m : StreamMeta) → WasCarried took c → In m c.stream_frames → m.fin ≡ true → (w m.id).ended ≡ true
+  carried_ended c m was among =
+      let at = taken was.packet was.was_taken in
+      sent_ended sents w says at.sent at.is.0 m (subst (λ (fs : List FrameValue). In m (streams_in fs)) (sym at.frames) (carried_stream c was.packet.frames was.is m among))
+
   always_settles : SettlesOn took sents (Always n w)
-  always_settles = record {
-    known = λ c e i. i;
-    reset = λ c r e was among i. reset_holds Any AnyEnd n w nothing_known r.0 e i;
-    acked = λ c m e was among i. acked_holds Any AnyEnd n w nothing_known nothing_known m e (knows_none m) (record { bytes = λ o from below. tt; end = λ fin. tt; ended = carried_ended c m was among }) i;
-    lost = λ c m e was among i. lost_holds Any AnyEnd n w nothing_known m e (sent_ended sents w says was.sent was.among m (carried_stream c was.sent.frames was.is m among)) i;
-    again = λ c e was i. i;
-    searched = λ discovery e i. i;
-    shortens = λ most e i. i;
-    tracked = λ t e i. i;
-    measured = λ r first e i. i;
-    marked = λ m marking e i. i;
-  }
-    where
-      carried_ended : (c : Carried) (m : StreamMeta) → WasCarried took c → In m c.stream_frames → m.fin ≡ true → (w m.id).ended ≡ true
-      carried_ended c m was among =
-          let at = taken was.packet was.was_taken in
-          sent_ended sents w says at.sent at.is.0 m (subst (λ (fs : List FrameValue). In m (streams_in fs)) (sym at.frames) (carried_stream c was.packet.frames was.is m among))
+  always_settles (steps.reset id) e may i = reset_holds Any AnyEnd n w nothing_known id e i
+  always_settles (steps.acked m) e (c, was, among) i = acked_holds Any AnyEnd n w nothing_known nothing_known m e (knows_none m) (record { bytes = λ o from below. tt; end = λ fin. tt; ended = carried_ended c m was among }) i
+  always_settles (steps.lost m) e (c, was, among) i = lost_holds Any AnyEnd n w nothing_known m e (sent_ended sents w says was.sent was.among m (carried_stream c was.sent.frames was.is m among)) i
+  always_settles s e may i = i
 
 -- ---- the group
 

@@ -15,7 +15,7 @@ use Rattle.quic_machine.specs.declared.run.Answer.{Answer}
 use Rattle.quic_machine.specs.declared.run.View.{View}
 use Rattle.quic_machine.specs.End.{End, with_window}
 use Rattle.quic_machine.specs.Control.{Control}
-use Rattle.quic_machine.specs.Machine.{World, Policies, IsLeft, IsStep, after_call, reads_window, gives, end_at, control_at, given_by, policy_at, changed, fails, Follows}
+use Rattle.quic_machine.specs.Machine.{World, Policies, IsLeft, IsStep, after_call, reads_window, gives, end_at, control_at, heard_at, given_by, policy_at, changed, fails, Follows}
 use Rattle.quic_machine.specs.RunLaws.{one_world, one_run, as_many_views}
 use Rattle.quic_headline.specs.Runs.{Run, Told, given_of, told_by, told_at, until, state_in, state_behind, state_at, AreServed, LeadsTo, folded}
 use Rattle.quic_headline.specs.Observer.{Sent, Watch, first_watch, watch_told, watch, sents_until}
@@ -73,7 +73,7 @@ told_here Server state call a = refl
 -- ---- what was given
 
 -- what a step gives goes behind what was given
-gave_more : (side : Side) (w next : World) (ds : List (List ℕ)) → next ≡ changed side w (end_at side next) ds (control_at side next) → given_by side next ≡ given_by side w ++ ds
+gave_more : (side : Side) (w next : World) (ds : List (List ℕ)) → next ≡ changed side w (end_at side next) ds (control_at side next) (heard_at side next) → given_by side next ≡ given_by side w ++ ds
 gave_more Client w next ds is = ap (λ (v : World). v.from_client) is
 gave_more Server w next ds is = ap (λ (v : World). v.from_server) is
 

@@ -22,8 +22,10 @@ use Rattle.quic_machine.specs.Poll.{gated, probed, goes, sends, polled_if, polle
 use Rattle.quic_machine.specs.Receive.{timers_after}
 use Rattle.quic_spaces.specs.Acknowledging.{with_due}
 use Rattle.quic_machine.specs.Machine.{after_call, end_at, control_at, given_by, policy_at}
-use Rattle.quic_machine.specs.CallCases.{is_poll, by_plain_call}
+use Rattle.quic_machine.specs.CallCases.{Plain, is_poll, by_plain_call}
+use Rattle.quic_machine.specs.CallCases as cases
 use Rattle.quic_machine.specs.FrameCases.{Settling, Receives, named, acked_keeps, losses_keep, frame_keeps, frame_leaves, by_received}
+use Rattle.quic_machine.specs.Steps as steps
 use Rattle.quic_machine.specs.PollCases.{ready_at, draft_at, probe_leaves, by_gate, search_leaves, composes, may_leave_at}
 use Rattle.quic_headline.specs.Runs.{Run}
 use Rattle.quic_headline.specs.Polls.{PacerSetsItsTimer, pacing_at, pacer_names}
@@ -88,7 +90,8 @@ pacing_after t p now n asks s = go (packet_starts_wait p n asks s)
 module _ (o : Option ℕ) where
   -- acknowledged and lost packets leave the timer
   settling : Settling (Paces o)
-  settling = record { known = λ n e i. i; reset = λ id e i. i; acked = λ m e i. i; lost = λ m e i. i; again = λ carried e i. i; searched = λ discovery e i. i; shortens = λ most e i. i; tracked = λ t e i. i; measured = λ r first e i. i; marked = λ m marking e i. i }
+  settling (steps.known n) e i = i
+  settling s e i = i
 
   -- a datagram that comes does, and stops it where the end closes
   receives : Receives (Paces o)
@@ -122,17 +125,13 @@ module _ (o : Option ℕ) where
 
   -- so any call but a poll leaves the timer, or stops it
   other_paces : (p : Policy) (e : End) (theirs : List (List ℕ)) (call : Call) (a : Answer) → is_poll call ≡ false → Paces o e → Paces o (after_call p e theirs call a)
-  other_paces p e theirs call a other i = by_plain_call p e theirs (Paces o) call a (record {
-    same = i;
-    on_streams = λ t. i;
-    on_messages = λ m. i;
-    pings = i;
-    heard = λ path same. i;
-    times = λ now expiry is. expired_paces expiry.pacing (acks_expired expiry.acks (loss_expired expiry.loss (with_closing e (ticked e.closing now)))) (acks_pace expiry.acks (loss_expired expiry.loss (with_closing e (ticked e.closing now))) (lost_paces expiry.loss (with_closing e (ticked e.closing now)) i));
-    polls = λ now is. cc;
-    hears = λ arrival d is. by_received (Paces o) receives p e arrival d i;
-    tells = λ told. i;
-  })
+  other_paces p e theirs call a other i = by_plain_call p e theirs (Paces o) call a keep
+    where
+      keep : Plain p e call (Paces o)
+      keep (cases.times now expiry) may = expired_paces expiry.pacing (acks_expired expiry.acks (loss_expired expiry.loss (with_closing e (ticked e.closing now)))) (acks_pace expiry.acks (loss_expired expiry.loss (with_closing e (ticked e.closing now))) (lost_paces expiry.loss (with_closing e (ticked e.closing now)) i))
+      keep (cases.polls now) is = cc
+      keep (cases.hears arrival d) may = by_received (Paces o) receives p e arrival d i
+      keep c may = i
 
 -- ---- the clause
 

@@ -5,11 +5,10 @@ use Rattle.std.proofs.lemmas.Bool.{lt-ltb, or_left, or_right, and_right, and_par
 use Rattle.std.proofs.lemmas.List.{length-append}
 use Rattle.std.proofs.lemmas.List.Folds.{list_any-append}
 use Rattle.quic_wire_core.specs.StreamId.{other_side}
-use Rattle.quic_wire.specs.Value.{FrameValue, padding, ack, ping, stream, connection_close, application_close, datagram, asks}
+use Rattle.quic_wire.specs.Value.{FrameValue, padding, ack, ping, connection_close, application_close, asks}
 use Rattle.quic_recovery_core.specs.PendingAcks.{Pending, is_filled, can_send}
 use Rattle.quic_retransmits.specs.Retransmits.{nothing_waits}
 use Rattle.quic_streams_parts.specs.Table.{added}
-use Rattle.quic_streams_parts.specs.SendHalf.{frame_of}
 use Rattle.quic_streams_state.specs.State.{Streams}
 use Rattle.quic_streams_state.specs.Waiting.{is_empty, can_send_stream_data}
 use Rattle.quic_streams_state.specs.Control as control
@@ -27,9 +26,10 @@ use Rattle.quic_machine.specs.Ids.{Ids}
 use Rattle.quic_machine.specs.Tracking.{Tracking, TrackedPacket, forgotten, without_packet, asking_sent, after_sent}
 use Rattle.quic_machine.specs.End.{End, number_of, with_closing, with_window, streams_at}
 use Rattle.quic_machine.specs.Control.{Gated, lets, gated_if, with_pacing_timer}
-use Rattle.quic_machine.specs.Poll.{gated, mark_of, Polled, Draft, no_frames, frame_room, ping_if, with_control_frames, with_message_frames, with_stream_frames, with_asking, ack_of, with_ack, ack_fits, ack_if, composed_if, composed, datagram_of, asking, packet_of, probed, lazied, message_waits, asks_to_go, draft_of, sends, polled_if, polled_in, polled, whole, with_least, Ready, leaves, free_if, waits, goes}
+use Rattle.quic_machine.specs.Poll.{gated, mark_of, Polled, Draft, no_frames, frame_room, ping_if, with_control_frames, with_message_frames, with_stream_frames, with_asking, ack_of, with_ack, ack_fits, ack_if, composed_if, composed, datagram_of, asking, packet_of, probed, lazied, message_waits, asks_to_go, draft_of, sends, polled_if, polled_in, polled, whole, Ready, leaves, free_if, waits, goes}
 use Rattle.quic_machine.specs.Machine.{World, end_at, control_at, policy_at}
-use Rattle.quic_machine.specs.DraftLaws.{Writing, HasRoom, room_most, by_entries, by_messages, by_streams}
+use Rattle.quic_machine.specs.DraftLaws.{Writing, drops_of, entry_of, half_of, message_of, HasRoom, room_most, by_entries, by_messages, by_streams}
+use Rattle.quic_machine.specs.Puts as puts
 use Rattle.quic_machine.specs.PollCases.{ready_at, frames_padded, frames_at, by_probed, composes}
 use Rattle.quic_headline.specs.Runs.{Run}
 use Rattle.quic_headline.specs.Headline.{IsHonest, IsRun, IsAt}
@@ -69,15 +69,8 @@ last_asks d f is = list_any-append asks d.frames (f ∷ []) ∙ or_right (asking
 
 -- whichever frames go behind
 asks_stay : Writing Asks
-asks_stay = record {
-  ack = λ d filled may is. still_asks d (ack (ack_of d.end)) is;
-  ping = λ d is. still_asks d ping is;
-  probes = λ f size is. still_asks (with_least (no_frames f) size) ping is;
-  drops = λ d kind is. is;
-  control = λ d kind f is asked. still_asks d f asked;
-  message = λ d m ms first fit is. still_asks d (datagram m) is;
-  stream = λ d id h room found first left at counts is. still_asks d (stream (frame_of id h room)) is;
-}
+asks_stay (puts.drops kind) d may is = is
+asks_stay p d may is = still_asks d _ is
 
 -- a frame of control asks
 pub control_asks : (f : FrameValue) → IsControl f → asks f ≡ true
@@ -94,7 +87,7 @@ control_or_none d = by_entries (λ (x : Draft). Asks x ⊎ (length x.frames ≡ 
 
 -- messages and frames of streams go behind them
 more_ask : (d : Draft) → Asks d → Asks (with_stream_frames (with_message_frames d))
-more_ask d is = by_streams Asks asks_stay.stream (with_message_frames d) (by_messages Asks asks_stay.message d is)
+more_ask d is = by_streams Asks (half_of Asks asks_stay) (with_message_frames d) (by_messages Asks (message_of Asks asks_stay) d is)
 
 module _ (K : Streams → Type 0) (k : Spelling K) (c : Bringing K) where
   -- frames of control go behind a draft that leaves room for one, where something waits beside the bytes of streams
@@ -114,7 +107,7 @@ module _ (K : Streams → Type 0) (k : Spelling K) (c : Bringing K) where
   with_asking_asks d room i waits = pinged d.end.waiting.ping waits
     where
       pinged : (b : Bool) → (b || not (is_empty d.end.waiting.frames d.end.streams)) ≡ true → Asks (with_stream_frames (with_message_frames (with_control_frames (ping_if b d))))
-      pinged true on = more_ask (with_control_frames (ping_if true d)) (by_entries Asks asks_stay.drops asks_stay.control (ping_if true d) (last_asks d ping refl))
+      pinged true on = more_ask (with_control_frames (ping_if true d)) (by_entries Asks (drops_of Asks asks_stay) (entry_of Asks asks_stay) (ping_if true d) (last_asks d ping refl))
       pinged false on = more_ask (with_control_frames d) (control_frames_ask d room i (not-true _ on))
 
   -- and what is composed

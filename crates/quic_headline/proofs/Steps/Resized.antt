@@ -52,7 +52,8 @@ use Rattle.quic_machine.specs.Poll.{Ready, polled, ready, goes, asking, datagram
 use Rattle.quic_machine.specs.End.{number_of}
 use Rattle.quic_machine.specs.Timeouts.{Expiry, expiry_at, acks_expired, loss_judged, loss_expired, pacing_expired, timed_out_in, told_judged, told_expired, told_timed_out_in}
 use Rattle.quic_machine.specs.FrameCases.{named, ack_taken, by_marks}
-use Rattle.quic_machine.specs.CallCases.{is_delivery, is_poll, is_timeout, by_plain_call}
+use Rattle.quic_machine.specs.CallCases.{Plain, is_delivery, is_poll, is_timeout, by_plain_call}
+use Rattle.quic_machine.specs.CallCases as cases
 use Rattle.quic_machine.specs.Machine.{World, Policies, IsStep, IsLeft, after_delivered, after_call, reads_window, end_left, fails, tells, told_delivered, view_of}
 use Rattle.quic_headline.specs.Runs.{Run}
 use Rattle.quic_headline.specs.Headline.{IsRun}
@@ -354,17 +355,13 @@ polled_tells p e now = quiet e.path.discovery (polled p e now).end.path.discover
 
 -- the search stays behind other calls
 pub others_leave : (p : Policy) (e : End) (theirs : List (List ℕ)) (call : Call) (a : Answer) → is_delivery call ≡ false → is_poll call ≡ false → is_timeout call ≡ false → (after_call p e theirs call a).path.discovery ≡ e.path.discovery
-others_leave p e theirs call a apart silent timeless = by_plain_call p e theirs (λ (x : End). x.path.discovery ≡ e.path.discovery) call a (record {
-  same = refl;
-  on_streams = λ t. refl;
-  on_messages = λ m. refl;
-  pings = refl;
-  heard = λ path same. same.discovery;
-  times = λ now expiry is. (let clash : true ≡ false = sym is ∙ timeless in cc);
-  polls = λ now is. (let clash : true ≡ false = sym is ∙ silent in cc);
-  hears = λ arrival d is. (let clash : true ≡ false = sym is ∙ apart in cc);
-  tells = λ told. refl;
-})
+others_leave p e theirs call a apart silent timeless = by_plain_call p e theirs (λ (x : End). x.path.discovery ≡ e.path.discovery) call a keep
+  where
+    keep : Plain p e call (λ (x : End). x.path.discovery ≡ e.path.discovery)
+    keep (cases.times now expiry) is = (let clash : true ≡ false = sym is ∙ timeless in cc)
+    keep (cases.polls now) is = (let clash : true ≡ false = sym is ∙ silent in cc)
+    keep (cases.hears arrival d) is = (let clash : true ≡ false = sym is ∙ apart in cc)
+    keep c may = refl
 
 other_tells : (p : Policy) (e : End) (theirs : List (List ℕ)) (call : Call) (a : Answer) → is_delivery call ≡ false → is_poll call ≡ false → is_timeout call ≡ false → Tells e.path.discovery [] (after_call p e theirs call a).path.discovery
 other_tells p e theirs call a apart silent timeless = subst (λ (f : Discovery). Tells e.path.discovery [] f) (sym (others_leave p e theirs call a apart silent timeless)) (still e.path.discovery [] tt)

@@ -6,7 +6,7 @@ use Rattle.std.specs.List.{list_any}
 use Rattle.quic_wire_core.specs.declared.shared.EcnCodepoint.{EcnCodepoint}
 use Rattle.quic_spaces.specs.Marks.{is_congested}
 use Rattle.quic_wire_core.specs.declared.stream_id.Side.{Side}
-use Rattle.quic_wire.specs.Value.{FrameValue, ack, ping, asks, padding, datagram}
+use Rattle.quic_wire.specs.Value.{FrameValue, ack, asks, padding}
 use Rattle.quic_recovery_core.specs.PendingAcks.{Pending, after_insert, starts_wait, asking_counted, after_acks_sent}
 use Rattle.quic_machine.specs.declared.answers.State.TheVariants as states
 use Rattle.quic_machine.specs.declared.run.Call.{Call}
@@ -22,11 +22,14 @@ use Rattle.quic_spaces.specs.Acknowledging.{with_due}
 use Rattle.quic_machine.specs.Poll.{Polled, Draft, polled, draft_as, Leaving}
 use Rattle.quic_machine.specs.Timeouts.{Expiry, loss_judged, acks_expired, loss_expired, pacing_expired}
 use Rattle.quic_machine.specs.Machine.{World, IsAnswer, after_call, fails, gave, end_at}
-use Rattle.quic_machine.specs.CallCases.{is_delivery, by_plain_call}
+use Rattle.quic_machine.specs.CallCases.{Plain, is_delivery, by_plain_call}
+use Rattle.quic_machine.specs.CallCases as cases
 use Rattle.quic_machine.specs.LeaveCases.{at_expiry}
 use Rattle.quic_machine.specs.FrameCases.{Settling, named, begun, passed, acked_keeps, losses_keep, frame_keeps, frame_leaves, frames_keep}
+use Rattle.quic_machine.specs.Steps as steps
 use Rattle.quic_machine.specs.PollCases.{ready_at, ready_leaves, draft_at, frames_at, by_poll_to, may_leave_at}
-use Rattle.quic_machine.specs.DraftLaws.{by_leave, MayLeave}
+use Rattle.quic_machine.specs.DraftLaws.{Writing, by_leave, MayLeave}
+use Rattle.quic_machine.specs.Puts as puts
 use Rattle.quic_headline.specs.Runs.{Run, Told, Packet, Intake, In, given_of, until, folded, AreServed}
 use Rattle.quic_headline.specs.Observer.{Watch, first_watch, news, Lens, watch_told, lens_of}
 use Rattle.quic_headline.specs.Headline.{IsHonest}
@@ -83,15 +86,13 @@ module _ (Q : Pending → Option ℕ → Type 0) (acked : (p : Pending) → Q (a
   Answered d = list_any is_ack d.frames ≡ true → Q d.end.acknowledging d.end.timers.max_ack_delay
 
   draft_answered : (leaving : Leaving) (e : End) → MayLeave leaving e → Answered (draft_as leaving e)
-  draft_answered leaving e alone = by_leave Answered (record {
-    ack = λ d filled may i is. acked d.end.acknowledging;
-    ping = λ d i some. i (any_more d.frames _ refl some);
-    probes = λ f size i some. i (any_more [] ping refl some);
-    drops = λ d kind i. i;
-    control = λ d kind f is i some. i (any_more d.frames f (control_not f (control_of f kind is.of_kind)) some);
-    message = λ d m ms is fit i acks. i (any_more d.frames (datagram m) refl acks);
-    stream = λ d id h room found first some is counts i acks. i (any_more d.frames _ refl acks);
-  }) leaving e alone (λ is. cc)
+  draft_answered leaving e alone = by_leave Answered keep leaving e alone (λ is. cc)
+    where
+      keep : Writing Answered
+      keep puts.ack d may i = λ is. acked d.end.acknowledging
+      keep (puts.drops kind) d may i = i
+      keep (puts.control kind f) d is i = λ some. i (any_more d.frames f (control_not f (control_of f kind is.of_kind)) some)
+      keep p d may i = λ some. i (any_more d.frames _ refl some)
 
   -- so it is behind a poll that gives one
   polled_answered : (p : Policy) (e : End) (now : ℕ) → acknowledges (sent_if (gave (answers.Poll (polled p e now).answer)) (sent_by e now)) ≡ true → Q (polled p e now).end.acknowledging (polled p e now).end.timers.max_ack_delay
@@ -120,7 +121,8 @@ HasTimer o e = e.timers.max_ack_delay ≡ o
 
 -- packets that are acknowledged or lost leave it
 timer_settles : (o : Option ℕ) → Settling (HasTimer o)
-timer_settles o = record { known = λ n y j. j; reset = λ id y j. j; acked = λ m y j. j; lost = λ m y j. j; again = λ carried y j. j; searched = λ discovery y j. j; shortens = λ most y j. j; tracked = λ t y j. j; measured = λ r first y j. j; marked = λ m marking y j. j }
+timer_settles o (steps.known n) y j = j
+timer_settles o s y j = j
 
 abbrev SetsNone : End → End → Type 0
 SetsNone e f = (moment : ℕ) → f.timers.max_ack_delay ≡ Some moment → e.timers.max_ack_delay ≡ Some moment
@@ -144,7 +146,11 @@ expired_none : (e : End) (now : ℕ) (expiry : Expiry) → SetsNone e (at_expiry
 expired_none e now expiry moment set = acks_none e now expiry.acks expiry.loss moment (sym (pacing_none expiry.pacing (acks_expired expiry.acks (loss_expired expiry.loss (with_closing e (ticked e.closing now))))) ∙ set)
 
 draft_none : (leaving : Leaving) (e : End) → MayLeave leaving e → SetsNone e (draft_as leaving e).end
-draft_none leaving e alone = by_leave (λ (d : Draft). SetsNone e d.end) (record { ack = λ d filled may i moment set. cc; ping = λ d i. i; probes = λ f size i. i; drops = λ d kind i. i; control = λ d kind f is i. i; message = λ d m ms is fit i. i; stream = λ d id h room found first some is counts i. i }) leaving e alone (λ moment set. set)
+draft_none leaving e alone = by_leave (λ (d : Draft). SetsNone e d.end) put_keeps leaving e alone (λ moment set. set)
+  where
+    put_keeps : Writing (λ (d : Draft). SetsNone e d.end)
+    put_keeps puts.ack d may i = λ moment set. cc
+    put_keeps p d may i = i
 
 -- nor does an end that is made ready
 ready_none : (e : End) (now : ℕ) → SetsNone e (ready_at e now).end
@@ -163,17 +169,13 @@ polled_none p e now = by_poll_to p e now (λ (q : Polled). SetsNone e q.end) (re
     none_set moment clash = cc
 
 call_none : (p : Policy) (e : End) (theirs : List (List ℕ)) (call : Call) (a : Answer) → is_delivery call ≡ false → SetsNone e (after_call p e theirs call a)
-call_none p e theirs call a apart = by_plain_call p e theirs (SetsNone e) call a (record {
-  same = λ moment set. set;
-  on_streams = λ t moment set. set;
-  on_messages = λ m moment set. set;
-  pings = λ moment set. set;
-  heard = λ path same moment set. set;
-  times = λ now expiry is. expired_none e now expiry;
-  polls = λ now is. polled_none p e now;
-  hears = λ arrival d is. (let clash : true ≡ false = sym is ∙ apart in cc);
-  tells = λ told moment set. set;
-})
+call_none p e theirs call a apart = by_plain_call p e theirs (SetsNone e) call a cases_keep
+  where
+    cases_keep : Plain p e call (SetsNone e)
+    cases_keep (cases.times now expiry) may = expired_none e now expiry
+    cases_keep (cases.polls now) may = polled_none p e now
+    cases_keep (cases.hears arrival d) is = (let clash : true ≡ false = sym is ∙ apart in cc)
+    cases_keep c may = λ moment set. set
 
 -- ---- a delivery
 

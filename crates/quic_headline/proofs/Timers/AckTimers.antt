@@ -21,10 +21,13 @@ use Rattle.quic_machine.specs.Poll.{Polled, Draft, with_ack, polled, lazied_as, 
 use Rattle.quic_machine.specs.Timeouts.{Expiry, loss_judged, acks_expired, loss_expired, pacing_expired}
 use Rattle.quic_machine.specs.Machine.{World, Policies, after_call, Follows}
 use Rattle.quic_headline.specs.Headline.{AckTimerFollows, AckTimersFollow}
-use Rattle.quic_machine.specs.DraftLaws.{by_leave, MayLeave}
+use Rattle.quic_machine.specs.DraftLaws.{Writing, by_leave, MayLeave}
+use Rattle.quic_machine.specs.Puts as puts
 use Rattle.quic_machine.specs.LeaveCases.{at_expiry}
-use Rattle.quic_machine.specs.CallCases.{by_plain_call}
+use Rattle.quic_machine.specs.CallCases.{Plain, by_plain_call}
+use Rattle.quic_machine.specs.CallCases as cases
 use Rattle.quic_machine.specs.FrameCases.{Settling, Receives, named, acked_keeps, losses_keep, frame_keeps, frame_leaves, by_received}
+use Rattle.quic_machine.specs.Steps as steps
 use Rattle.quic_machine.specs.PollCases.{ready_at, ready_leaves, by_poll_to, draft_at, may_leave_at}
 use Rattle.quic_headline.proofs.Timers.BothEnds.{run_keeps}
 use Rattle.quic_headline.proofs.Packets.Probes.{by_going}
@@ -41,7 +44,8 @@ closed_follows reason e = unset_follows (closed_by reason e) refl
 
 -- acknowledged and lost packets leave the timer, and the packets that ask count on
 settling : Settling AckTimerFollows
-settling = record { known = λ n e i. i; reset = λ id e i. i; acked = λ m e i. i; lost = λ m e i. i; again = λ carried e i. i; searched = λ discovery e i. i; shortens = λ most e i. i; tracked = λ t e i. i; measured = λ r first e i. i; marked = λ m marking e i. i }
+settling (steps.known n) e i = i
+settling s e i = i
 
 -- the timer waits or is left: the count stays
 wait_counts : (b : Bool) (p : Pending) (now : ℕ) → (cond b (record p { since = Some now }) p).asking ≡ p.asking
@@ -76,15 +80,11 @@ lazied_follows (nothing held) e i = i
 
 -- an ACK that goes stops the timer, and no other frame changes it
 draft_follows : (leaving : Leaving) (e : End) → MayLeave leaving e → AckTimerFollows e → AckTimerFollows (draft_as leaving e).end
-draft_follows leaving e due i = by_leave (λ (d : Draft). AckTimerFollows d.end) (record {
-  ack = λ d filled may i. unset_follows (with_ack d).end refl;
-  ping = λ d i. i;
-  probes = λ f size i. i;
-  drops = λ d kind i. i;
-  control = λ d kind f is i. i;
-  message = λ d m ms is fit i. i;
-  stream = λ d id h room found first some is counts i. i;
-}) leaving e due (lazied_follows leaving e i)
+draft_follows leaving e due i = by_leave (λ (d : Draft). AckTimerFollows d.end) keep leaving e due (lazied_follows leaving e i)
+  where
+    keep : Writing (λ (d : Draft). AckTimerFollows d.end)
+    keep puts.ack d may i = unset_follows (with_ack d).end refl
+    keep p d may i = i
 
 -- what changes where an end is made ready leaves the timer
 ready_follows : (e : End) (now : ℕ) → AckTimerFollows e → AckTimerFollows (ready_at e now).end
@@ -122,17 +122,13 @@ expired_follows e now expiry i =
 
 -- what any call leaves
 call_follows : (p : Policy) (e : End) (theirs : List (List ℕ)) (call : Call) (a : Answer) → AckTimerFollows e → AckTimerFollows (after_call p e theirs call a)
-call_follows p e theirs call a i = by_plain_call p e theirs AckTimerFollows call a (record {
-  same = i;
-  on_streams = λ t. i;
-  on_messages = λ m. i;
-  pings = i;
-  heard = λ path same. i;
-  times = λ now expiry is. expired_follows e now expiry i;
-  polls = λ now is. polled_follows p e now i;
-  hears = λ arrival d is. by_received AckTimerFollows receives p e arrival d i;
-  tells = λ told. i;
-})
+call_follows p e theirs call a i = by_plain_call p e theirs AckTimerFollows call a cases_keep
+  where
+    cases_keep : Plain p e call AckTimerFollows
+    cases_keep (cases.times now expiry) may = expired_follows e now expiry i
+    cases_keep (cases.polls now) may = polled_follows p e now i
+    cases_keep (cases.hears arrival d) may = by_received AckTimerFollows receives p e arrival d i
+    cases_keep c may = i
 
 -- a run
 pub ack_timers_follow : (k : Policies) (w end : World) (events : List RunEvent) (told : List Answer) (views : List View) → Follows k w events told views end → AckTimersFollow w → AckTimersFollow end

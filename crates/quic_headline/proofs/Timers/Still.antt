@@ -9,7 +9,8 @@ use Rattle.quic_machine.specs.Closing.{Closing, ticked}
 use Rattle.quic_machine.specs.End.{End, with_closing}
 use Rattle.quic_machine.specs.Poll.{Polled, polled}
 use Rattle.quic_machine.specs.Machine.{after_call}
-use Rattle.quic_machine.specs.CallCases.{by_plain_call}
+use Rattle.quic_machine.specs.CallCases.{Plain, by_plain_call}
+use Rattle.quic_machine.specs.CallCases as cases
 use Rattle.quic_machine.specs.LeaveCases.{at_expiry, by_expired}
 use Rattle.quic_machine.specs.FrameCases.{Receives, named, frame_keeps, frame_leaves, by_received}
 use Rattle.quic_machine.specs.PollCases.{at_poll, by_poll, composes}
@@ -49,14 +50,10 @@ opened_polled p e now = by_poll p e now (λ (q : Polled). WasOpen e q.end) (reco
 
 -- behind any call
 pub was_open : (p : Policy) (e : End) (theirs : List (List ℕ)) (call : Call) (a : Answer) → WasOpen e (after_call p e theirs call a)
-was_open p e theirs call a = by_plain_call p e theirs (WasOpen e) call a (record {
-  same = λ opened. opened;
-  on_streams = λ t opened. opened;
-  on_messages = λ m opened. opened;
-  pings = λ opened. opened;
-  heard = λ path same opened. opened;
-  times = λ now expiry is. opened_expired e now expiry;
-  polls = λ now is. opened_polled p e now;
-  hears = λ arrival d is. by_received (WasOpen e) (opened_receives e) p e arrival d (λ opened. opened);
-  tells = λ told opened. opened;
-})
+was_open p e theirs call a = by_plain_call p e theirs (WasOpen e) call a keep
+  where
+    keep : Plain p e call (WasOpen e)
+    keep (cases.times now expiry) may = opened_expired e now expiry
+    keep (cases.polls now) may = opened_polled p e now
+    keep (cases.hears arrival d) may = by_received (WasOpen e) (opened_receives e) p e arrival d (λ opened. opened)
+    keep c may = λ opened. opened

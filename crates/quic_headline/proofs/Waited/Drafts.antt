@@ -20,6 +20,7 @@ use Rattle.quic_streams_laws.specs.AcknowledgedLaws.{half_arrived}
 use Rattle.quic_machine.specs.End.{End, streams_at}
 use Rattle.quic_machine.specs.Poll.{Draft, no_frames, with_ping_frame, ping_if, with_control_frames, with_message_frames, with_asking, ack_of, with_ack, ack_fits, ack_if, composed_if, composed, lazied, asking, asks_to_go, waits, draft_as, goes_as, goes, whole, alone, probe, nothing, Leaving}
 use Rattle.quic_machine.specs.DraftLaws.{Writing, HasRoom, SendsEntry, SendsHalf, room_most, lazy_due, by_entries, by_messages, by_streams}
+use Rattle.quic_machine.specs.Puts as puts
 use Rattle.quic_machine.specs.PollCases.{ready_at, draft_at, may_leave_at, whole_waits}
 use Rattle.quic_headline.specs.Runs.{In}
 use Rattle.quic_headline.specs.Observer.{Sent, HoldsOffset, HoldsEnd}
@@ -191,7 +192,7 @@ module _ (K : Streams → Type 0) (k : Spelling K) (acks : List Sent) (n : ℕ �
   controls_bring : SendsEntry IsBringing
   controls_bring d kind f is i = (
       let went = k.control (streams_at d.end) kind f is i.0 in
-      (went.1, settles.control d kind f is i.1, brings_more acks e d.frames f (control_brings acks e f (control_of f kind is.of_kind)) i.2))
+      (went.1, settles (puts.control kind f) d is i.1, brings_more acks e d.frames f (control_brings acks e f (control_of f kind is.of_kind)) i.2))
 
   halves_bring : SendsHalf IsBringing
   halves_bring d id h room found first left is counts i = (
@@ -202,7 +203,7 @@ module _ (K : Streams → Type 0) (k : Spelling K) (acks : List Sent) (n : ℕ �
       let held = (half_arrived (λ id o. HoldsOffset acks id o) (λ id. HoldsEnd acks id) w s id h there i.1.0.acked).0 in
       let settled : HalfSettles (acked_alone acks) t id h = half_settles (acked_alone acks) t s id h there i.1.1 in (
         one.2,
-        settles.stream d id h room found first left is counts i.1,
+        settles (puts.stream id h room) d (found, first, left, is, counts) i.1,
         brings_more acks e d.frames (stream (frame_of id h room)) (half_brings acks t (w id) id h room one.1 counts, half_unacked acks t (w id) id h room one.1 held settled) i.2,
       ))
 

@@ -20,6 +20,7 @@ use Rattle.quic_machine.specs.Poll.{Polled, Draft, no_frames, zeros_behind, with
 use Rattle.quic_machine.specs.DraftLaws.{by_entries, by_messages, by_streams}
 use Rattle.quic_machine.specs.PollCases.{ready_at, draft_at, gate_leaves, search_leaves, by_poll_to}
 use Rattle.quic_machine.specs.FrameCases.{Settling, Receives, named, acked_keeps, losses_keep, frame_keeps, frame_leaves, by_received}
+use Rattle.quic_machine.specs.Steps as steps
 use Rattle.quic_machine.specs.InjectionCases.{by_injection}
 use Rattle.quic_machine.specs.LeaveCases.{by_expiry, by_expired, by_event}
 use Rattle.quic_machine.specs.CallCases.{is_poll}
@@ -120,7 +121,8 @@ abbrev SamePing : End → End → Type 0
 SamePing e f = f.waiting.ping ≡ e.waiting.ping
 
 settling : (e : End) → Settling (SamePing e)
-settling e = record { known = λ n x i. i; reset = λ id x i. i; acked = λ m x i. i; lost = λ m x i. i; again = λ carried x i. i; searched = λ discovery x i. i; shortens = λ most x i. i; tracked = λ t x i. i; measured = λ r first x i. i; marked = λ m marking x i. i }
+settling e (steps.known n) x i = i
+settling e s x i = i
 
 receives_same : (e : End) → Receives (SamePing e)
 receives_same e = record {
