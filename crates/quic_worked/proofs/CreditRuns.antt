@@ -19,6 +19,7 @@ use Rattle.quic_worked.proofs.Codes.{no_codes}
 use Rattle.quic_worked.proofs.BrokenRuns.{IsRefused, stops, behind}
 use Rattle.quic_worked.proofs.WrongRuns.{NeverEnds, ends_here, step_on}
 use Rattle.quic_worked.proofs.WrongAcks.{byte_of}
+use Rattle.quic_worked.proofs.Steps.{counts_so}
 
 -- ---- what is seen
 
@@ -55,7 +56,7 @@ takes = record { answer = inl refl; end = refl; control = refl; heard = refl; ot
 
 pub accepts : IsStep worked_policies credit_taken accepts_stream (answers.Accept (Some 0)) credit_accepted
 unfolding credit_taken
-accepts = record { answer = refl; end = refl; control = refl; heard = refl; others = refl; lacking = tt }
+accepts = record { answer = refl; end = refl; control = refl; heard = counts_so worked_policies credit_taken accepts_stream (answers.Accept (Some 0)); others = refl; lacking = tt }
 
 reads_so : ReadsSo credit_accepted 0 true eight_bounds eight_nexts credit_read.server
 unfolding credit_taken
@@ -77,7 +78,7 @@ hears = record { answer = inl refl; end = refl; control = refl; heard = refl; ot
 
 writes_on_more : IsStep worked_policies credit_heard (writes_on 0 eight) (answers.Write (Ok 8)) credit_used
 unfolding credit_heard
-writes_on_more = record { answer = inl refl; end = refl; control = refl; heard = refl; others = refl; lacking = λ lacks. cc }
+writes_on_more = record { answer = inl refl; end = refl; control = refl; heard = counts_so worked_policies credit_heard (writes_on 0 eight) (answers.Write (Ok 8)); others = refl; lacking = λ lacks. cc }
 
 sent_seen : one_sent ≡ view_of credit_sent
 unfolding credit_sent
@@ -199,7 +200,7 @@ counts_take = record { answer = inl refl; end = refl; control = refl; heard = re
 
 pub counts_accept : IsStep worked_policies count_taken accepts_one_way (answers.Accept (Some 2)) count_accepted
 unfolding count_taken
-counts_accept = record { answer = refl; end = refl; control = refl; heard = refl; others = refl; lacking = tt }
+counts_accept = record { answer = refl; end = refl; control = refl; heard = counts_so worked_policies count_taken accepts_one_way (answers.Accept (Some 2)); others = refl; lacking = tt }
 
 counts_read_so : ReadsSo count_accepted 2 true two_chunks all_nexts count_read.server
 unfolding count_taken
@@ -221,7 +222,7 @@ counts_hear = record { answer = inl refl; end = refl; control = refl; heard = re
 
 opens_next : IsStep worked_policies count_heard opens_one_way (answers.Open (Some 6)) count_used
 unfolding count_heard
-opens_next = record { answer = refl; end = refl; control = refl; heard = refl; others = refl; lacking = tt }
+opens_next = record { answer = refl; end = refl; control = refl; heard = counts_so worked_policies count_heard opens_one_way (answers.Open (Some 6)); others = refl; lacking = tt }
 
 count_sent_seen : one_sent ≡ view_of count_sent
 unfolding count_sent

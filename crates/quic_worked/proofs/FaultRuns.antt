@@ -50,6 +50,7 @@ use Rattle.quic_worked.proofs.BrokenRuns.{IsRefused, stops, behind, behind_sent}
 use Rattle.quic_worked.proofs.LimitedRun.{limited_started, opens as opens_limited}
 use Rattle.quic_worked.proofs.ReorderedRun as reordered
 use Rattle.quic_worked.proofs.ReorderedRun.{writes_abc, gives_abc, writes_def, gives_def, takes_def}
+use Rattle.quic_worked.proofs.Steps.{counts_so}
 
 -- ---- limits that are the end's own
 
@@ -193,7 +194,7 @@ instead_is_honest = record { start = one_back_started; keys = are_keys; ids = ow
 
 accepts_none : IsStep worked_policies once_read accepts_stream (answers.Accept None) nothing_to_accept
 unfolding once_taken
-accepts_none = record { answer = refl; end = refl; control = refl; heard = refl; others = refl; lacking = tt }
+accepts_none = record { answer = refl; end = refl; control = refl; heard = counts_so worked_policies once_read accepts_stream (answers.Accept None); others = refl; lacking = tt }
 
 none_seen : record { client = sent_view; server = waiting_view } ≡ view_of nothing_to_accept
 unfolding once_taken

@@ -40,6 +40,7 @@ use Rattle.quic_worked.proofs.Named.{ack_of_hello}
 use Rattle.quic_worked.proofs.TimedRun.{moment_in, moment_of}
 use Rattle.quic_worked.proofs.HeldRun as held
 use Rattle.quic_worked.proofs.MessageRuns.{step_0}
+use Rattle.quic_worked.proofs.Steps.{counts_so}
 
 -- ---- what is dropped moves no clock
 
@@ -116,7 +117,7 @@ quiet_is_run read = record { codes = no_codes (quiet_run read).events refl; foll
 
 nothing_told : IsStep worked_policies once_told asks_event (answers.Event None) nothing_to_tell
 unfolding once_acked
-nothing_told = record { answer = refl; end = refl; control = refl; heard = refl; others = refl; lacking = tt }
+nothing_told = record { answer = refl; end = refl; control = refl; heard = counts_so worked_policies once_told asks_event (answers.Event None); others = refl; lacking = tt }
 
 told_seen : both_open ≡ view_of once_told
 unfolding once_acked
@@ -265,7 +266,7 @@ never_short views end is = not_short.never views end is.follows is.from_client
 
 waits_behind : IsStep worked_policies (once_held 3) (sends_message ping_message) is_sent held_message
 unfolding held_message
-waits_behind = record { answer = inl refl; end = refl; control = refl; heard = refl; others = refl; lacking = λ lacks. cc }
+waits_behind = record { answer = inl refl; end = refl; control = refl; heard = counts_so worked_policies (once_held 3) (sends_message ping_message) is_sent; others = refl; lacking = λ lacks. cc }
 
 holds_it : IsStep worked_policies held_message (asks_at Client 0) gives_nothing message_held
 unfolding message_held

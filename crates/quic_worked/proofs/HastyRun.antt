@@ -28,6 +28,7 @@ use Rattle.quic_worked.proofs.OwnIds.{AreOwn, own_ids}
 use Rattle.quic_worked.proofs.BrokenRuns.{IsRefused, stops, behind}
 use Rattle.quic_worked.proofs.WorkedHonest.{are_started}
 use Rattle.quic_worked.proofs.WorkedKeys.{are_keys}
+use Rattle.quic_worked.proofs.Steps.{counts_ran}
 
 -- ---- the machine's run
 
@@ -398,7 +399,7 @@ alone_taken = record { answer = inl refl; end = refl; control = refl; heard = re
 
 time_passed : IsStep worked_policies once_alone server_waits (answers.Timeout (Ok tt)) once_late
 unfolding once_late
-time_passed = record { answer = inl refl; end = refl; control = refl; heard = refl; others = refl; lacking = tt }
+time_passed = record { answer = inl refl; end = refl; control = refl; heard = counts_ran worked_policies once_alone server_waits (answers.Timeout (Ok tt)); others = refl; lacking = tt }
 
 late_no : IsRefused once_late server_polled gives_nothing
 unfolding once_late

@@ -22,6 +22,7 @@ use Rattle.quic_worked.proofs.Waited.{as_many}
 use Rattle.quic_worked.proofs.WorkedRun.{opens, writes, finishes, gives}
 use Rattle.quic_worked.proofs.BrokenRuns.{IsRefused, stops, behind}
 use Rattle.quic_worked.proofs.WrongRuns.{NeverEnds, ends_here, step_on, NotTo}
+use Rattle.quic_worked.proofs.Steps.{counts_so}
 
 -- ---- the events
 
@@ -50,7 +51,7 @@ takes_last = record { answer = inl refl; end = refl; control = refl; heard = ref
 
 waits_last : IsStep worked_policies last_taken server_waits (answers.Timeout (Ok tt)) last_due
 unfolding last_taken
-waits_last = record { answer = inl refl; end = refl; control = refl; heard = refl; others = refl; lacking = tt }
+waits_last = record { answer = inl refl; end = refl; control = refl; heard = counts_so worked_policies last_taken server_waits (answers.Timeout (Ok tt)); others = refl; lacking = tt }
 
 names_last : IsStep worked_policies last_due server_polled (gives_bytes 32) last_named
 unfolding last_named

@@ -16,7 +16,7 @@ use Rattle.quic_worked.specs.Worked.{worked_policies, started, once_taken, clien
 use Rattle.quic_worked.specs.Broken.{IsNoRun, duplicate}
 use Rattle.quic_worked.specs.Losses.{asks_ping}
 use Rattle.quic_worked.specs.Timed.{asks_at, comes_at, seen_with}
-use Rattle.quic_worked.specs.Messages.{ping_message, message_packet, sends_message, server_asks, server_reads, client_reads, is_sent, gives_message, gives_none, tells_message, once_messaged, message_told, nothing_told, message_read, message_end, message_run, message_twice, message_cut, message_made_up, message_back, long_message, too_large, message_refused, comes_to_server, server_pings, once_late, late_taken, late_read, late_end, both_seen, late_run, message_again}
+use Rattle.quic_worked.specs.Messages.{ping_message, message_packet, sends_message, server_asks, server_reads, client_reads, is_sent, gives_message, gives_none, tells_message, once_messaged, message_again, message_told, nothing_told, message_read, message_end, message_run, message_twice, message_cut, message_made_up, message_back, long_message, too_large, message_refused, comes_to_server, server_pings, once_late, late_taken, late_read, late_end, both_seen, late_run, message_again}
 use Rattle.quic_worked.proofs.Codes.{no_codes}
 use Rattle.quic_worked.proofs.OwnIds.{honest}
 use Rattle.quic_worked.proofs.BrokenRuns.{IsRefused, stops, behind}
@@ -47,11 +47,11 @@ seen_2 : seen_with (Some 1024000000) (Some 25000000) ≡ view_of (once_messaged 
 unfolding once_messaged
 seen_2 = refl
 
-step_3 : IsStep worked_policies (once_messaged 3) delivers (answers.Deliver duplicate) (once_messaged 3)
+step_3 : IsStep worked_policies (once_messaged 3) delivers (answers.Deliver duplicate) message_again
 unfolding once_messaged
 step_3 = record { answer = inl refl; end = refl; control = refl; heard = refl; others = refl; lacking = tt }
 
-seen_3 : seen_with (Some 1024000000) (Some 25000000) ≡ view_of (once_messaged 3)
+seen_3 : seen_with (Some 1024000000) (Some 25000000) ≡ view_of message_again
 unfolding once_messaged
 seen_3 = refl
 
@@ -59,7 +59,7 @@ pub answer_message_4 : tells_message ≡ answers.Event (end_tells (once_messaged
 unfolding once_messaged
 answer_message_4 = refl
 
-step_4 : IsStep worked_policies (once_messaged 3) server_asks tells_message message_told
+step_4 : IsStep worked_policies message_again server_asks tells_message message_told
 step_4 = record { answer = answer_message_4; end = refl; control = refl; heard = refl; others = refl; lacking = tt }
 
 seen_4 : seen_with (Some 1024000000) (Some 25000000) ≡ view_of message_told
@@ -100,7 +100,7 @@ unfolding once_messaged
 seen_7 = refl
 
 follows : Follows message_run.keys message_run.start message_run.events message_run.answers message_run.views message_end
-follows = (once_messaged 1, step_0, seen_0, (once_messaged 2, step_1, seen_1, (once_messaged 3, step_2, seen_2, (once_messaged 3, step_3, seen_3, (message_told, step_4, seen_4, (nothing_told, step_5, seen_5, (message_read, step_6, seen_6, (message_end, step_7, seen_7, refl))))))))
+follows = (once_messaged 1, step_0, seen_0, (once_messaged 2, step_1, seen_1, (once_messaged 3, step_2, seen_2, (message_again, step_3, seen_3, (message_told, step_4, seen_4, (nothing_told, step_5, seen_5, (message_read, step_6, seen_6, (message_end, step_7, seen_7, refl))))))))
 
 gave_message : message_run.from_client ≡ message_end.from_client
 unfolding once_messaged

@@ -24,6 +24,7 @@ use Rattle.quic_worked.specs.Raised.{server_pings, comes_to_client, client_waits
 use Rattle.quic_worked.proofs.Codes.{no_codes}
 use Rattle.quic_worked.proofs.CreditRuns as credit
 use Rattle.quic_worked.proofs.WrongRuns.{NeverEnds, ends_here, step_on}
+use Rattle.quic_worked.proofs.Steps.{counts_so}
 
 -- ---- the events
 
@@ -48,11 +49,11 @@ comes_third = record { answer = inl refl; end = refl; control = refl; heard = re
 
 waits_third : IsStep worked_policies third_came client_waits (answers.Timeout (Ok tt)) third_due
 unfolding third_came
-waits_third = record { answer = inl refl; end = refl; control = refl; heard = refl; others = refl; lacking = tt }
+waits_third = record { answer = inl refl; end = refl; control = refl; heard = counts_so worked_policies third_came client_waits (answers.Timeout (Ok tt)); others = refl; lacking = tt }
 
 names_third : IsStep worked_policies third_due client_polled (gives_unmarked 32) third_named
 unfolding third_named
-names_third = record { answer = inl refl; end = refl; control = refl; heard = refl; others = refl; lacking = tt }
+names_third = record { answer = inl refl; end = refl; control = refl; heard = counts_so worked_policies third_due client_polled (gives_unmarked 32); others = refl; lacking = tt }
 
 loses : IsStep worked_policies third_named ack_comes (answers.Deliver receives.Taken) limit_lost
 unfolding limit_lost
@@ -60,7 +61,7 @@ loses = record { answer = inl refl; end = refl; control = refl; heard = refl; ot
 
 gives_again : IsStep worked_policies limit_lost server_polled (gives_unmarked 33) limit_again
 unfolding limit_again
-gives_again = record { answer = inl refl; end = refl; control = refl; heard = refl; others = refl; lacking = tt }
+gives_again = record { answer = inl refl; end = refl; control = refl; heard = counts_so worked_policies limit_lost server_polled (gives_unmarked 33); others = refl; lacking = tt }
 
 comes_again : IsStep worked_policies limit_again (comes_to_client 4) (answers.Deliver receives.Taken) limit_came
 unfolding limit_came
@@ -68,7 +69,7 @@ comes_again = record { answer = inl refl; end = refl; control = refl; heard = re
 
 writes_on_more : IsStep worked_policies limit_came (writes_on 0 eight) (answers.Write (Ok 8)) limit_used
 unfolding limit_came
-writes_on_more = record { answer = inl refl; end = refl; control = refl; heard = refl; others = refl; lacking = λ lacks. cc }
+writes_on_more = record { answer = inl refl; end = refl; control = refl; heard = counts_so worked_policies limit_came (writes_on 0 eight) (answers.Write (Ok 8)); others = refl; lacking = λ lacks. cc }
 
 follows : (read : ReadCall) → ReadsEight read → Follows worked_policies narrow_bytes (raised_events read) raised_told raised_views limit_used
 follows read by = (

@@ -277,9 +277,21 @@ unfoldable once_expired : World
 unfolding once_rested
 once_expired = ran worked_policies (once_rested 4) (serves Client 1024000000 ∷ []) (answers.Timeout (Ok tt) ∷ [])
 
+-- what it has counted before and behind that: its datagram
+sent_before : (once_rested 4).client_heard ≡ record { received = 0; sent = 34; failures = 0 }
+unfolding once_rested
+sent_before = refl
+
+sent_behind : once_expired.client_heard ≡ record { received = 0; sent = 34; failures = 0 }
+unfolding once_expired
+sent_behind = refl
+
+sent_still : once_expired.client_heard ≡ (once_rested 4).client_heard
+sent_still = sent_behind ∙ sym sent_before
+
 expires : IsStep worked_policies (once_rested 4) (serves Client 1024000000) (answers.Timeout (Ok tt)) once_expired
 unfolding once_expired
-expires = record { answer = inl refl; end = refl; control = refl; heard = refl; others = refl; lacking = tt }
+expires = record { answer = inl refl; end = refl; control = refl; heard = sent_still; others = refl; lacking = tt }
 
 forgotten_no : IsRefused once_expired (asks_at Client 1024000000) gives_nothing
 unfolding once_expired

@@ -16,6 +16,7 @@ use Rattle.quic_worked.specs.Worked.{worked_policies, hello_payload, from_client
 use Rattle.quic_worked.specs.Losses.{asks_ping}
 use Rattle.quic_worked.specs.Closed.{closed_view, two_left, last_events, last_answers, last_ended, last_given, last_pinged, last_closed, last_run}
 use Rattle.quic_worked.proofs.Codes.{no_codes}
+use Rattle.quic_worked.proofs.Steps.{counts_so}
 
 opens : IsStep worked_policies two_left opens_stream (answers.Open (Some 0)) (ran worked_policies two_left (take 1 last_events) (take 1 last_answers))
 opens = record { answer = refl; end = refl; control = refl; heard = refl; others = refl; lacking = tt }
@@ -32,7 +33,7 @@ gives = record { answer = inl refl; end = refl; control = refl; heard = refl; ot
 
 pings : IsStep worked_policies last_given asks_ping answers.Ping last_pinged
 unfolding last_given
-pings = record { answer = refl; end = refl; control = refl; heard = refl; others = refl; lacking = tt }
+pings = record { answer = refl; end = refl; control = refl; heard = counts_so worked_policies last_given asks_ping answers.Ping; others = refl; lacking = tt }
 
 closes : IsStep worked_policies last_pinged asks_datagram (answers.Poll (Ok None)) last_closed
 unfolding last_closed

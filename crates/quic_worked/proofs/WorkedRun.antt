@@ -22,7 +22,7 @@ use Rattle.quic_machine.specs.Poll.{IsDatagram}
 use Rattle.quic_headline.specs.Runs.{Packet, WasTaken, HasArrived, EndHasArrived}
 use Rattle.quic_headline.specs.Observer.{took}
 use Rattle.quic_worked.specs.Worked.{with_server, steady, NextAnswers, ReadsAs, ReadsBy, two_chunks, worked_parameters, client_id, server_id, client_made, server_made, started, once_opened, once_written, once_ended, once_sent, once_taken, once_accepted, once_read, hello_frame, hello_payload, hello_datagram, opens_stream, writes_hello, finishes_stream, asks_datagram, delivers, accepts_stream, reads_stream, all_nexts, gives_bytes, worked_policies, worked_events, worked_answers, open_view, sent_view, waiting_view, worked_views, worked_run, once_again}
-use Rattle.quic_worked.proofs.Steps.{server_alone}
+use Rattle.quic_worked.proofs.Steps.{server_alone, counts_so}
 
 pub parameters_say : parameters_at worked_parameters ≡ Ok (parameters_of plain_settings)
 unfolding parameters_at judged values_met met_in met_within met_after whole_at entry_at
@@ -64,7 +64,7 @@ drops_duplicate = record { answer = inl refl; end = refl; control = refl; heard 
 
 pub accepts : IsStep worked_policies once_again accepts_stream (answers.Accept (Some 0)) once_accepted
 unfolding once_taken
-accepts = record { answer = refl; end = refl; control = refl; heard = refl; others = refl; lacking = tt }
+accepts = record { answer = refl; end = refl; control = refl; heard = counts_so worked_policies once_again accepts_stream (answers.Accept (Some 0)); others = refl; lacking = tt }
 
 -- a read of this stream at the server, in order or not, by these bounds, is answered so, and leaves this end
 pub record ReadsSo (w : World) (id : ℕ) (ordered : Bool) (mosts : List ℕ) (nexts : NextAnswers) (next : End) : Type 0 where

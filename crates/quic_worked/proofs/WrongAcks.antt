@@ -32,12 +32,13 @@ use Rattle.quic_worked.proofs.BrokenClauses.{reads_in_order, repeats}
 use Rattle.quic_worked.proofs.BrokenRuns.{IsRefused, stops, behind, behind_sent, read_of, other_chunk}
 use Rattle.quic_worked.proofs.WrongRuns.{NeverEnds, ends_here, step_on, NotTo, behind_gives}
 use Rattle.quic_worked.proofs.LostRuns.{pings, gives_first, never_behind_lost}
+use Rattle.quic_worked.proofs.Steps.{counts_so}
 
 -- ---- lost bytes go again with another last one
 
 gives_again : IsStep worked_policies once_lost client_polled (gives_unmarked 39) again_given
 unfolding again_given
-gives_again = record { answer = inl refl; end = refl; control = refl; heard = refl; others = refl; lacking = tt }
+gives_again = record { answer = inl refl; end = refl; control = refl; heard = counts_so worked_policies once_lost client_polled (gives_unmarked 39); others = refl; lacking = tt }
 
 takes_again : IsStep worked_policies again_given (delivers_at 5) (answers.Deliver receives.Taken) again_taken
 unfolding again_taken
@@ -45,7 +46,7 @@ takes_again = record { answer = inl refl; end = refl; control = refl; heard = re
 
 accepts_again : IsStep worked_policies again_taken accepts_stream (answers.Accept (Some 0)) again_accepted
 unfolding again_taken
-accepts_again = record { answer = refl; end = refl; control = refl; heard = refl; others = refl; lacking = tt }
+accepts_again = record { answer = refl; end = refl; control = refl; heard = counts_so worked_policies again_taken accepts_stream (answers.Accept (Some 0)); others = refl; lacking = tt }
 
 changed_nexts : (read : ReadCall) → read.id ≡ 0 → nexts 0 (until (changed_again read) Server 20) ≡ gives_chunk hellp ∷ []
 changed_nexts read e = ap (λ (n : ℕ). (if n == 0 then gives_chunk hellp ∷ [] else []) ++ []) e
@@ -71,7 +72,7 @@ no_changed_again read by = behind_sent (never_behind_lost (behind refl gives_aga
 
 pub waits_once : IsStep worked_policies once_taken server_waits (answers.Timeout (Ok tt)) once_due
 unfolding once_taken
-waits_once = record { answer = inl refl; end = refl; control = refl; heard = refl; others = refl; lacking = tt }
+waits_once = record { answer = inl refl; end = refl; control = refl; heard = counts_so worked_policies once_taken server_waits (answers.Timeout (Ok tt)); others = refl; lacking = tt }
 
 pub names_once : IsStep worked_policies once_due server_polled (gives_bytes 32) once_named
 unfolding once_named
@@ -147,7 +148,7 @@ twice_told read h = let most : 2 ≤ 1 = (h Client 0 10 refl).0 in omega (arith,
 
 pub tells_once : IsStep worked_policies once_acked asks_event tells_finished once_told
 unfolding once_acked
-tells_once = record { answer = refl; end = refl; control = refl; heard = refl; others = refl; lacking = tt }
+tells_once = record { answer = refl; end = refl; control = refl; heard = counts_so worked_policies once_acked asks_event tells_finished; others = refl; lacking = tt }
 
 told_no : IsRefused once_told asks_event tells_finished
 unfolding once_acked
@@ -164,7 +165,7 @@ takes_first = record { answer = inl refl; end = refl; control = refl; heard = re
 
 waits_first : IsStep worked_policies first_taken server_waits (answers.Timeout (Ok tt)) first_due
 unfolding first_taken
-waits_first = record { answer = inl refl; end = refl; control = refl; heard = refl; others = refl; lacking = tt }
+waits_first = record { answer = inl refl; end = refl; control = refl; heard = counts_so worked_policies first_taken server_waits (answers.Timeout (Ok tt)); others = refl; lacking = tt }
 
 names_first : IsStep worked_policies first_due server_polled (gives_bytes 32) first_named
 unfolding first_named

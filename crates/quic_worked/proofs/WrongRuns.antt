@@ -44,6 +44,7 @@ use Rattle.quic_worked.proofs.WorkedRun.{opens, writes, finishes, gives, takes, 
 use Rattle.quic_worked.proofs.BrokenClauses.{nexts_are, nexts_of, reads_in_order, hello_named, repeats}
 use Rattle.quic_worked.proofs.BrokenRuns.{IsRefused, stops, behind, behind_sent, read_of, not_next, never_reads, twice_no, accept_no, not_opened_no}
 use Rattle.quic_worked.proofs.Named.{ack_of_hello, is_named, early_frames}
+use Rattle.quic_worked.proofs.Steps.{counts_so}
 
 -- ---- a duplicate is taken again
 
@@ -446,11 +447,11 @@ takes_second = record { answer = inl refl; end = refl; control = refl; heard = r
 
 accepts_first : IsStep worked_policies two_taken accepts_stream (answers.Accept (Some 0)) first_accepted
 unfolding two_taken
-accepts_first = record { answer = refl; end = refl; control = refl; heard = refl; others = refl; lacking = tt }
+accepts_first = record { answer = refl; end = refl; control = refl; heard = counts_so worked_policies two_taken accepts_stream (answers.Accept (Some 0)); others = refl; lacking = tt }
 
 accepts_second : IsStep worked_policies first_accepted accepts_stream (answers.Accept (Some 4)) both_accepted
 unfolding two_taken
-accepts_second = record { answer = refl; end = refl; control = refl; heard = refl; others = refl; lacking = tt }
+accepts_second = record { answer = refl; end = refl; control = refl; heard = counts_so worked_policies first_accepted accepts_stream (answers.Accept (Some 4)); others = refl; lacking = tt }
 
 -- behind the datagram that came
 never_second : {events : List RunEvent} {told : List Answer} → NeverAnswers two_taken events told → NeverAnswers started (second_events ++ events) (second_answers ++ told)
