@@ -24,6 +24,7 @@ ghost use Rattle.quic_headline.specs.Rest.{DeliveredAtRest, NothingOwedAtRest};
 ghost use Rattle.quic_headline.specs.AcksDue.{AcksAreDue};
 ghost use Rattle.quic_headline.specs.Resets.{ResetsAreTold};
 ghost use Rattle.quic_headline.specs.Ids.{IdsAreNew, AcceptedWereOpened};
+ghost use Rattle.quic_headline.specs.ConnectionIds.{SentToFirstId, NoUnknownId, FirstIdStays};
 ghost use Rattle.quic_headline.specs.Reasons.{ClosedHasAReason};
 ghost use Rattle.quic_headline.specs.Views.{ViewsTell};
 ghost use Rattle.quic_headline.specs.Events.{MessagesAreTold, OpeningsAreTold, ReadablesAreTold};
@@ -545,7 +546,8 @@ fn view<H: HeaderKey + Drop, K: PacketKey + Drop, R: Rng + Drop, C: Controller>(
 /// came names only what the other end took, and packet numbers rise, one or two at a time. No end
 /// closes but for more than 2048 runs of a stream that wait to be read, or for used-up numbers, and
 /// each packet of the other end that comes is taken whole, but for such runs; each datagram with a
-/// number above all that the other end took opens there as it was sent. No stream is told to be
+/// number above all that the other end took opens there as it was sent; each goes to the id with
+/// which the other end began, and none is dropped for its id. No stream is told to be
 /// finished twice, and where an open end has nothing left to tell, each was that is wholly
 /// acknowledged and wasn't reset, and no other; all that was written waits to go, is under way, or
 /// arrived, and so does each limit that was said; a limit that grew waits to be said; a write at an
@@ -655,6 +657,11 @@ pub fn run<H: HeaderKey + Drop, K: PacketKey + Drop, R: Rng + Drop, C: Controlle
     ensures isolated_by_lists { OnRun H.protection K.aead R.stream (windows_of C.steps C.window_of) ends events.now result
         (λ r end. AreStarted r.start → IsolatedByLists r) }
     ensures numbers_rise { OnHonest H.protection K.aead R.stream (windows_of C.steps C.window_of) ends events.now result NumbersRise }
+    ensures sent_to_first_id { OnHonest H.protection K.aead R.stream (windows_of C.steps C.window_of) ends events.now result
+        SentToFirstId }
+    ensures no_unknown_id { OnHonest H.protection K.aead R.stream (windows_of C.steps C.window_of) ends events.now result NoUnknownId }
+    ensures first_id_stays { OnHonest H.protection K.aead R.stream (windows_of C.steps C.window_of) ends events.now result
+        FirstIdStays }
     ensures no_blame { OnHonest H.protection K.aead R.stream (windows_of C.steps C.window_of) ends events.now result NoBlame }
     ensures closed_has_a_reason { OnHonest H.protection K.aead R.stream (windows_of C.steps C.window_of) ends events.now result
         ClosedHasAReason }
@@ -739,6 +746,9 @@ pub fn run<H: HeaderKey + Drop, K: PacketKey + Drop, R: Rng + Drop, C: Controlle
     headline::isolated_by_answers();
     headline::isolated_by_lists();
     headline::numbers_rise();
+    headline::sent_to_first_id();
+    headline::no_unknown_id();
+    headline::first_id_stays();
     headline::no_blame();
     headline::closed_has_a_reason();
     headline::too_many_pieces();

@@ -26,6 +26,7 @@ ghost use Rattle.quic_headline.specs.Waited.{EachWaited};
 ghost use Rattle.quic_headline.specs.Events.{MessagesAreTold, OpeningsAreTold, ReadablesAreTold};
 ghost use Rattle.quic_headline.specs.Resets.{ResetsAreTold};
 ghost use Rattle.quic_headline.specs.Ids.{IdsAreNew, AcceptedWereOpened};
+ghost use Rattle.quic_headline.specs.ConnectionIds.{SentToFirstId, NoUnknownId, FirstIdStays};
 ghost use Rattle.quic_headline.specs.Reasons.{ClosedHasAReason};
 ghost use Rattle.quic_headline.specs.Views.{ViewsTell};
 ghost use Rattle.quic_headline.specs.Sizes.{SizeIsOfHistory, SizesMove, DatagramsAreSized};
@@ -155,8 +156,8 @@ pub fn ack_timers_follow()
     ensures starts { (w : World) → AreStarted w → AckTimersFollow w }
 {}
 
-/// An injection is answered `Opens` exactly where its bytes open by the run's lists: with the keys
-/// of its end, under an id that the end began with, and where one above the greatest number that it
+/// An injection is answered `Opens` exactly where its bytes open: with the keys of its end, under
+/// an id that the end has there, and where by the run's lists one above the greatest number that it
 /// took is expected (RFC 9000, section 12.2). So it is at an end in any state.
 pub fn opens_exactly()
     ensures { (r : Run) (end : World) → IsHonest r → IsRun r end → OpensExactly r }
@@ -164,8 +165,8 @@ pub fn opens_exactly()
 
 /// Each datagram that was given opens at the other end as it was sent, under its number and to its
 /// frames, where that end took none with a number above it: by the run's lists, with its keys,
-/// under an id that it began with, and where one above the greatest number that it took is
-/// expected. So the bytes that go of a number tell it (RFC 9000, sections 12.3 and 17.1, and A.3).
+/// whichever id it was sent to, and where one above the greatest number that it took is expected.
+/// So the bytes that go of a number tell it (RFC 9000, sections 12.3 and 17.1, and A.3).
 pub fn newest_opens()
     ensures { (r : Run) (end : World) → IsHonest r → IsRun r end → NewestOpens r }
 {}
@@ -181,8 +182,26 @@ pub fn names_were_taken()
     ensures { (r : Run) (end : World) → IsHonest r → IsRun r end → NamesWereTaken r }
 {}
 
-/// Each datagram given is the datagram of a number, the peer's id and stated frames, and its number
-/// is one or two above the one before (RFC 9000, section 12.3).
+/// Each datagram given was sent to the id with which the other end began, as its bytes say, since
+/// no end tells of another id yet (RFC 9000, section 5.1).
+pub fn sent_to_first_id()
+    ensures { (r : Run) (end : World) → IsHonest r → IsRun r end → SentToFirstId r }
+{}
+
+/// No delivery is answered `Dropped(UnknownId)`, whatever the state of its end: each datagram that
+/// is delivered was sent to an id that the end has (RFC 9000, section 5.2). So what a delivery
+/// brings can be read by the end's key alone.
+pub fn no_unknown_id()
+    ensures { (r : Run) (end : World) → IsHonest r → IsRun r end → NoUnknownId r }
+{}
+
+/// Wherever a run leads, each end has the id with which it began, and no other.
+pub fn first_id_stays()
+    ensures { (r : Run) (end : World) → IsHonest r → IsRun r end → FirstIdStays r }
+{}
+
+/// Each datagram given is the datagram of a number, the id that stands in it and stated frames, and
+/// its number is one or two above the one before (RFC 9000, section 12.3).
 pub fn numbers_rise()
     ensures { (r : Run) (end : World) → IsHonest r → IsRun r end → NumbersRise r }
 {}

@@ -50,7 +50,7 @@ twice_reset = refl
 
 late_resets : IsStep worked_policies (once_rested 10) (resets_with 7) reset_closed late_end
 unfolding once_rested
-late_resets = record { answer = inl refl; end = refl; control = refl; others = refl; lacking = λ lacks. cc }
+late_resets = record { answer = inl refl; end = refl; control = refl; heard = refl; others = refl; lacking = λ lacks. cc }
 
 late_seen : still_view ≡ view_of late_end
 unfolding once_rested

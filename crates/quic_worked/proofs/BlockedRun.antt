@@ -216,43 +216,43 @@ left_is_honest = record { start = left_started; keys = are_keys; ids = own_ids l
 
 left_opens : IsStep worked_policies (small_start 8) opens_stream (answers.Open (Some 0)) (once_left 1)
 unfolding once_left
-left_opens = record { answer = refl; end = refl; control = refl; others = refl; lacking = tt }
+left_opens = record { answer = refl; end = refl; control = refl; heard = refl; others = refl; lacking = tt }
 
 left_writes : IsStep worked_policies (once_left 1) (writes_on 0 (eight ++ eight)) (answers.Write (Ok 8)) (once_left 2)
 unfolding once_left
-left_writes = record { answer = inl refl; end = refl; control = refl; others = refl; lacking = λ lacks. cc }
+left_writes = record { answer = inl refl; end = refl; control = refl; heard = refl; others = refl; lacking = λ lacks. cc }
 
 left_gives : IsStep worked_policies (once_left 2) asks_datagram (gives_bytes 37) (once_left 3)
 unfolding once_left
-left_gives = record { answer = inl refl; end = refl; control = still_roomy; others = refl; lacking = tt }
+left_gives = record { answer = inl refl; end = refl; control = still_roomy; heard = refl; others = refl; lacking = tt }
 
 left_takes : IsStep worked_policies (once_left 3) (comes_at Server 10000000) (answers.Deliver receives.Taken) (once_left 4)
 unfolding once_left
-left_takes = record { answer = inl refl; end = refl; control = still_roomy; others = refl; lacking = tt }
+left_takes = record { answer = inl refl; end = refl; control = still_roomy; heard = refl; others = refl; lacking = tt }
 
 left_due : IsStep worked_policies (once_left 4) (serves Server 35000000) (answers.Timeout (Ok tt)) (once_left 5)
 unfolding once_left
-left_due = record { answer = inl refl; end = refl; control = still_roomy; others = refl; lacking = tt }
+left_due = record { answer = inl refl; end = refl; control = still_roomy; heard = refl; others = refl; lacking = tt }
 
 left_answers_it : IsStep worked_policies (once_left 5) (asks_at Server 35000000) (gives_bytes 32) (once_left 6)
 unfolding once_left
-left_answers_it = record { answer = inl refl; end = refl; control = still_roomy; others = refl; lacking = tt }
+left_answers_it = record { answer = inl refl; end = refl; control = still_roomy; heard = refl; others = refl; lacking = tt }
 
 left_answered : IsStep worked_policies (once_left 6) (comes_at Client 40000000) (answers.Deliver receives.Taken) (once_left 7)
 unfolding once_left
-left_answered = record { answer = inl refl; end = refl; control = still_roomy; others = refl; lacking = tt }
+left_answered = record { answer = inl refl; end = refl; control = still_roomy; heard = refl; others = refl; lacking = tt }
 
 left_client_rests : IsStep worked_policies (once_left 7) (asks_at Client 40000000) gives_nothing (once_left 8)
 unfolding once_left
-left_client_rests = record { answer = inl refl; end = refl; control = still_roomy; others = refl; lacking = tt }
+left_client_rests = record { answer = inl refl; end = refl; control = still_roomy; heard = refl; others = refl; lacking = tt }
 
 left_server_rests : IsStep worked_policies (once_left 8) (asks_at Server 40000000) gives_nothing (once_left 9)
 unfolding once_left
-left_server_rests = record { answer = inl refl; end = refl; control = still_roomy; others = refl; lacking = tt }
+left_server_rests = record { answer = inl refl; end = refl; control = still_roomy; heard = refl; others = refl; lacking = tt }
 
 left_blocks : IsStep worked_policies (once_left 9) (writes_on 0 eight) (answers.Write (Err write_errors.Blocked)) (once_left 10)
 unfolding once_left
-left_blocks = record { answer = inl refl; end = refl; control = refl; others = refl; lacking = λ lacks. cc }
+left_blocks = record { answer = inl refl; end = refl; control = refl; heard = refl; others = refl; lacking = λ lacks. cc }
 
 left_seen_1 : still_view ≡ view_of (once_left 1)
 unfolding once_left

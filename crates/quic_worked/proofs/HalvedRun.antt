@@ -24,7 +24,7 @@ use Rattle.quic_headline.specs.Observer as observer
 use Rattle.quic_headline.specs.Headline.{IsHonest, IsRun}
 use Rattle.quic_headline.specs.Telling.{Tellings, Judging, judging, first_behind, told_if, MayProbe, lost_at, but_for_probe, bytes_asking, acked_flight, TellsLosses, TellsAck, TellsNamed, TellsSettled, TellsPackets, TellsCall, TellsCalls, ControllersAreTold}
 use Rattle.quic_headline.proofs.Places.Theorems.{controllers_are_told}
-use Rattle.quic_worked.specs.Worked.{worked_policies, asks_datagram, gives_bytes, told_in}
+use Rattle.quic_worked.specs.Worked.{worked_policies, asks_datagram, gives_bytes, told_in, server_id}
 use Rattle.quic_worked.specs.Acknowledged.{client_acked, third_ack}
 use Rattle.quic_worked.specs.Reordered.{delivers_at}
 use Rattle.quic_worked.specs.Losses.{asks_ping}
@@ -69,7 +69,7 @@ untold_is_honest = record { start = halving_started; keys = are_keys; ids = own_
 
 step_0 : IsStep worked_policies halving asks_ping answers.Ping (once_halving 1)
 unfolding once_halving
-step_0 = record { answer = refl; end = refl; control = refl; others = refl; lacking = tt }
+step_0 = record { answer = refl; end = refl; control = refl; heard = refl; others = refl; lacking = tt }
 
 seen_0 : (seen_with None None) ≡ view_of (once_halving 1)
 unfolding once_halving
@@ -77,7 +77,7 @@ seen_0 = refl
 
 step_1 : IsStep worked_policies (once_halving 1) asks_datagram (gives_bytes 29) (once_halving 2)
 unfolding once_halving
-step_1 = record { answer = inl refl; end = refl; control = refl; others = refl; lacking = tt }
+step_1 = record { answer = inl refl; end = refl; control = refl; heard = refl; others = refl; lacking = tt }
 
 seen_1 : (seen_with (Some 1024000000) None) ≡ view_of (once_halving 2)
 unfolding once_halving
@@ -85,7 +85,7 @@ seen_1 = refl
 
 step_2 : IsStep worked_policies (once_halving 2) asks_ping answers.Ping (once_halving 3)
 unfolding once_halving
-step_2 = record { answer = refl; end = refl; control = refl; others = refl; lacking = tt }
+step_2 = record { answer = refl; end = refl; control = refl; heard = refl; others = refl; lacking = tt }
 
 seen_2 : (seen_with (Some 1024000000) None) ≡ view_of (once_halving 3)
 unfolding once_halving
@@ -93,7 +93,7 @@ seen_2 = refl
 
 step_3 : IsStep worked_policies (once_halving 3) asks_datagram (gives_bytes 29) (once_halving 4)
 unfolding once_halving
-step_3 = record { answer = inl refl; end = refl; control = refl; others = refl; lacking = tt }
+step_3 = record { answer = inl refl; end = refl; control = refl; heard = refl; others = refl; lacking = tt }
 
 seen_3 : (seen_with (Some 1024000000) None) ≡ view_of (once_halving 4)
 unfolding once_halving
@@ -101,7 +101,7 @@ seen_3 = refl
 
 step_4 : IsStep worked_policies (once_halving 4) asks_ping answers.Ping (once_halving 5)
 unfolding once_halving
-step_4 = record { answer = refl; end = refl; control = refl; others = refl; lacking = tt }
+step_4 = record { answer = refl; end = refl; control = refl; heard = refl; others = refl; lacking = tt }
 
 seen_4 : (seen_with (Some 1024000000) None) ≡ view_of (once_halving 5)
 unfolding once_halving
@@ -109,7 +109,7 @@ seen_4 = refl
 
 step_5 : IsStep worked_policies (once_halving 5) asks_datagram (gives_bytes 29) (once_halving 6)
 unfolding once_halving
-step_5 = record { answer = inl refl; end = refl; control = refl; others = refl; lacking = tt }
+step_5 = record { answer = inl refl; end = refl; control = refl; heard = refl; others = refl; lacking = tt }
 
 seen_5 : (seen_with (Some 1024000000) None) ≡ view_of (once_halving 6)
 unfolding once_halving
@@ -117,7 +117,7 @@ seen_5 = refl
 
 step_6 : IsStep worked_policies (once_halving 6) asks_ping answers.Ping (once_halving 7)
 unfolding once_halving
-step_6 = record { answer = refl; end = refl; control = refl; others = refl; lacking = tt }
+step_6 = record { answer = refl; end = refl; control = refl; heard = refl; others = refl; lacking = tt }
 
 seen_6 : (seen_with (Some 1024000000) None) ≡ view_of (once_halving 7)
 unfolding once_halving
@@ -125,7 +125,7 @@ seen_6 = refl
 
 step_7 : IsStep worked_policies (once_halving 7) asks_datagram (gives_bytes 29) (once_halving 8)
 unfolding once_halving
-step_7 = record { answer = inl refl; end = refl; control = refl; others = refl; lacking = tt }
+step_7 = record { answer = inl refl; end = refl; control = refl; heard = refl; others = refl; lacking = tt }
 
 seen_7 : (seen_with (Some 1024000000) None) ≡ view_of (once_halving 8)
 unfolding once_halving
@@ -133,7 +133,7 @@ seen_7 = refl
 
 step_8 : IsStep worked_policies (once_halving 8) (delivers_at 3) (answers.Deliver receives.Taken) (once_halving 9)
 unfolding once_halving
-step_8 = record { answer = inl refl; end = refl; control = refl; others = refl; lacking = tt }
+step_8 = record { answer = inl refl; end = refl; control = refl; heard = refl; others = refl; lacking = tt }
 
 seen_8 : (seen_with (Some 1024000000) None) ≡ view_of (once_halving 9)
 unfolding once_halving
@@ -141,7 +141,7 @@ seen_8 = refl
 
 step_9 : IsStep worked_policies (once_halving 9) asks_server (gives_bytes 31) (once_halving 10)
 unfolding once_halving
-step_9 = record { answer = inl refl; end = refl; control = refl; others = refl; lacking = tt }
+step_9 = record { answer = inl refl; end = refl; control = refl; heard = refl; others = refl; lacking = tt }
 
 seen_9 : (seen_with (Some 1024000000) None) ≡ view_of (once_halving 10)
 unfolding once_halving
@@ -149,7 +149,7 @@ seen_9 = refl
 
 step_10 : IsStep worked_policies (once_halving 10) (comes_at Client 100000000) (answers.Deliver receives.Taken) (once_halving 11)
 unfolding once_halving
-step_10 = record { answer = inl refl; end = refl; control = refl; others = refl; lacking = tt }
+step_10 = record { answer = inl refl; end = refl; control = refl; heard = refl; others = refl; lacking = tt }
 
 seen_10 : halved_view (Some 112500000) ≡ view_of (once_halving 11)
 unfolding once_halving
@@ -157,7 +157,7 @@ seen_10 = refl
 
 step_11 : IsStep worked_policies (once_halving 11) (serves Client 112500000) (answers.Timeout (Ok tt)) (once_halving 12)
 unfolding once_halving
-step_11 = record { answer = inl refl; end = refl; control = refl; others = refl; lacking = tt }
+step_11 = record { answer = inl refl; end = refl; control = refl; heard = refl; others = refl; lacking = tt }
 
 seen_11 : halved_view None ≡ view_of (once_halving 12)
 unfolding once_halving
@@ -250,7 +250,7 @@ clock_is = refl
 
 -- a datagram of PING alone, with two zeros
 abbrev pinged : ℕ → observer.Sent
-pinged n = record { number = n; reference = 0; frames = ping ∷ padding ∷ padding ∷ []; moment = 0; size = 29 }
+pinged n = record { id = server_id; number = n; reference = 0; frames = ping ∷ padding ∷ padding ∷ []; moment = 0; size = 29 }
 
 abbrev others : List observer.Sent
 others = filter (λ (s : observer.Sent). not (names third_ack s.number)) seen.flight.flying

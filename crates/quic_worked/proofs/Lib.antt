@@ -14,6 +14,7 @@ pub mod WorkedNumber
 pub mod Named
 mod Injected
 mod ClosedRuns
+mod DestinedRuns
 pub mod WrongRuns
 pub mod LostRuns
 pub mod WrongAcks

@@ -4,6 +4,7 @@ pub mod Acknowledged
 pub mod Broken
 pub mod Reordered
 pub mod Closed
+pub mod Destined
 pub mod Machines
 pub mod Paired
 pub mod Picked
