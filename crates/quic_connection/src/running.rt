@@ -8,6 +8,7 @@ ghost use Rattle.quic_machine.specs.Lacking.{LacksWhere, TakesOfItsOwn};
 ghost use Rattle.quic_machine.specs.Start.{AreStarted};
 ghost use Rattle.quic_time.specs.Timers.{each_timer};
 ghost use Rattle.quic_headline.specs.Waited.{EachWaited};
+ghost use Rattle.quic_headline.specs.Begins.{WaitingBegins};
 ghost use Rattle.quic_headline.specs.Queue.{MessagesGo, MessagesGoInOrder};
 ghost use Rattle.quic_headline.specs.Telling.{ControllersAreTold};
 ghost use Rattle.quic_headline.specs.Causes.{NoBlame, TooManyPieces, NumberLimit, TakenOrTooMany};
@@ -691,6 +692,8 @@ pub fn run<H: HeaderKey + Drop, K: PacketKey + Drop, R: Rng + Drop, C: Controlle
         MessagesGoInOrder }
     ensures each_waited { OnHonest H.protection K.aead R.stream (windows_of C.steps C.window_of) ends events.now result
         EachWaited }
+    ensures waiting_begins { OnHonest H.protection K.aead R.stream (windows_of C.steps C.window_of) ends events.now result
+        WaitingBegins }
     ensures messages_are_told { OnHonest H.protection K.aead R.stream (windows_of C.steps C.window_of) ends events.now result
         MessagesAreTold }
     ensures openings_are_told { OnHonest H.protection K.aead R.stream (windows_of C.steps C.window_of) ends events.now result
@@ -758,6 +761,7 @@ pub fn run<H: HeaderKey + Drop, K: PacketKey + Drop, R: Rng + Drop, C: Controlle
     headline::messages_go();
     headline::messages_go_in_order();
     headline::each_waited();
+    headline::waiting_begins();
     headline::messages_are_told();
     headline::openings_are_told();
     headline::readables_are_told();

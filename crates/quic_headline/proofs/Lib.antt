@@ -21,3 +21,4 @@ pub mod Allowed
 pub mod Events
 pub mod Tellings
 pub mod Waited
+pub mod Begins

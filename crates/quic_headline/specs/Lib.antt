@@ -25,3 +25,4 @@ pub mod Queue
 pub mod Events
 pub mod Telling
 pub mod Waited
+pub mod Begins

@@ -23,6 +23,7 @@ ghost use Rattle.quic_headline.specs.Undone.{NoneOpenedOnlyForUndone};
 ghost use Rattle.quic_headline.specs.Allowed.{ReadsAreAllowed, ReadsAreOver, WritesAreAllowed, ResetsAreAllowed};
 ghost use Rattle.quic_headline.specs.AcksDue.{AcksAreDue};
 ghost use Rattle.quic_headline.specs.Waited.{EachWaited};
+ghost use Rattle.quic_headline.specs.Begins.{WaitingBegins};
 ghost use Rattle.quic_headline.specs.Events.{MessagesAreTold, OpeningsAreTold, ReadablesAreTold};
 ghost use Rattle.quic_headline.specs.Resets.{ResetsAreTold};
 ghost use Rattle.quic_headline.specs.Ids.{IdsAreNew, AcceptedWereOpened};
@@ -437,6 +438,16 @@ pub fn acks_are_due()
 /// once behind what made them wait (RFC 9000, sections 12.2, 13.2 and 13.3).
 pub fn each_waited()
     ensures { (r : Run) (end : World) → IsHonest r → IsRun r end → EachWaited r }
+{}
+
+/// What waits at an open end behind a call waited before it, or has one of these causes: a call
+/// asks for it, as a write of bytes, a finish, a reset, a stop, a message or PING; a write is
+/// blocked; bytes are read, or a frame that comes uses up what may come, or may end a stream; a
+/// packet comes that is to be acknowledged, or waited for 25 ms; a datagram that bore it is lost;
+/// or the loss timer expired, and a PTO probe says it again. At the other end nothing begins to
+/// wait (RFC 9000, sections 13.2.1 and 13.3; RFC 9002, sections 6.1 and 6.2.4).
+pub fn waiting_begins()
+    ensures { (r : Run) (end : World) → IsHonest r → IsRun r end → WaitingBegins r }
 {}
 
 /// Where the application asks what is told next and nothing is, while messages wait to be received,

@@ -23,7 +23,7 @@ pub mod PairedRun
 mod PairedMachines
 mod PickedRun
 pub mod CreditRuns
-mod RaisedRun
+pub mod RaisedRun
 mod ChunkedRun
 pub mod TimedRun
 mod MeasuredRun
@@ -49,3 +49,4 @@ mod ToldRuns
 mod BoundedRun
 pub mod AllowedRun
 pub mod RepeatedRuns
+pub mod BegunRuns

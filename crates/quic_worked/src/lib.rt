@@ -4,6 +4,7 @@
 
 pub mod acknowledged;
 pub mod allowed;
+pub mod begun;
 pub mod blocked;
 pub mod bounded;
 pub mod broken;

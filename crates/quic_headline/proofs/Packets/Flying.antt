@@ -4,7 +4,7 @@ use Rattle.std.specs.Prelude.{if◌then◌else◌, nat_lt, unwrap_or}
 use Rattle.std.specs.List.{list_any}
 use Rattle.std.specs.Ordering.{nat_cmp}
 use Rattle.std.specs.BTreeMap.{is_at}
-use Rattle.std.proofs.lemmas.Bool.{eq-eqb}
+use Rattle.std.proofs.lemmas.Bool.{eq-eqb, both_ways, not-true}
 use Rattle.quic_wire.specs.Value.{FrameValue, AckValue, ack, padding, asks}
 use Rattle.quic_packet.specs.Number.{truncated, expanded}
 use Rattle.quic_packet.specs.Datagram.{Opening, opened_packet}
@@ -35,7 +35,7 @@ use Rattle.quic_headline.specs.Telling.{acked_flight}
 use Rattle.quic_headline.proofs.Packets.Searches.{by_losses}
 use Rattle.quic_headline.proofs.Packets.Invariant.{IsGiven}
 use Rattle.quic_headline.proofs.Packets.Carried.{carried_padded}
-use Rattle.quic_headline.proofs.Packets.Named.{in_filter, IsNoAck, by_frame}
+use Rattle.quic_headline.proofs.Packets.Named.{in_filter, filter_chose, IsNoAck, by_frame}
 use Rattle.quic_headline.proofs.Packets.Probes.{by_ready, after_going, by_going}
 use Rattle.quic_headline.proofs.Packets.Given.{draft_number}
 use Rattle.quic_headline.proofs.Packets.Delivered.{shown_if, expands, opened_given, frames_of_payload}
@@ -239,22 +239,27 @@ named_waits t now (s ∷ ss) others [] rises a f e is acked stay w = absurd acke
 
 -- ---- what losses and frames keep
 
+-- those that pass a test don't fail it
+pub apart_filter : (f : Sent → Bool) (ss : List Sent) (s : Sent) → In s (filter f ss) → In s (filter (λ t. not (f t)) ss) → ⊥
+apart_filter f ss s i j = both_ways (f s) (not-true (f s) (filter_chose (λ t. not (f t)) s ss j)) (filter_chose f s ss i)
+
 -- what holds of the datagrams in flight, of those that were acknowledged there, and of the end that gave them, stays where some of them are lost
 pub record Loses (P : List Sent → List Sent → End → Type 0) : Type 0 where
   -- other packets are tracked
   pub tracked : (flying acked : List Sent) (t : Tracking) (e : End) → P flying acked e → P flying acked (with_tracking e t)
   -- the search for a size learns of packets that are lost
   pub searches : (flying acked : List Sent) (lost : Table TrackedPacket) (e : End) → P flying acked e → P flying acked (search_lost lost e)
-  -- of the datagrams in flight some are lost, which are tracked as these packets, and others stay
-  pub loses : (flying acked gone left : List Sent) (ps : Table TrackedPacket) (e : End) → ((s : Sent) → In s gone → In s flying) → ((s : Sent) → In s left → In s flying) → AreWaited gone ps → P flying acked e → P left acked (packets_lost ps e)
+  -- of the datagrams in flight some are lost, which are tracked as these packets, and the others stay
+  pub loses : (flying acked gone left : List Sent) (ps : Table TrackedPacket) (e : End) → ((s : Sent) → In s gone → In s flying) → ((s : Sent) → In s left → In s flying) → ((s : Sent) → In s gone → In s left → ⊥) → AreWaited gone ps → P flying acked e → P left acked (packets_lost ps e)
 
 -- and while the end takes these frames
 pub record Flies (frames : List FrameValue) (P : List Sent → List Sent → End → Type 0) : Type 0 where
   pub losing : Loses P
   -- the greatest number of an ACK frame counts
   pub names : (flying acked : List Sent) (a : AckValue) (e : End) → In (ack a) frames → P flying acked e → P flying acked (named a e)
-  -- of the datagrams in flight these are acknowledged, which are tracked as these packets, and others stay
-  pub acks : (flying acked ss left : List Sent) (ps : Table TrackedPacket) (e : End) → ((s : Sent) → In s ss → In s flying) → ((s : Sent) → In s left → In s flying) → AreWaited ss ps → P flying acked e → P left (acked ++ ss) (packets_acked ps e)
+  -- of the datagrams in flight these are acknowledged by an ACK frame, which are tracked as these packets, and the others stay
+  pub acks : (flying acked ss left : List Sent) (ps : Table TrackedPacket) (e : End) (a : AckValue) → In (ack a) frames → ((s : Sent) → In s ss → In s flying) → ((s : Sent) → In s left → In s flying) → ((s : Sent) → In s ss → In s left → ⊥) → AreWaited ss ps → P flying acked e
+      → P left (acked ++ ss) (packets_acked ps e)
   -- the round trip is measured
   pub measured : (flying acked : List Sent) (r : Rtt) (first : Option ℕ) (e : End) → P flying acked e → P flying acked (with_rtt e r first)
   -- counts of marks came
@@ -271,7 +276,7 @@ losses_fly P c t now f acked e w i =
     let ps : Table TrackedPacket = lost_by (verdict e) e.tracking.packets in
     c.searches (after_losses t now f).flying acked ps (with_tracking (packets_lost ps e) (after_detection (verdict e) e.tracking))
     (c.tracked (after_losses t now f).flying acked (after_detection (verdict e) e.tracking) (packets_lost ps e)
-    (c.loses f.flying acked gone (after_losses t now f).flying ps e (λ s j. in_filter (λ s. is_lost t delay now greatest s) s f.flying j) (λ s j. in_filter (λ s. not (is_lost t delay now greatest s)) s f.flying j) (lost_waited t now f e w) i))
+    (c.loses f.flying acked gone (after_losses t now f).flying ps e (λ s j. in_filter (λ s. is_lost t delay now greatest s) s f.flying j) (λ s j. in_filter (λ s. not (is_lost t delay now greatest s)) s f.flying j) (apart_filter (λ s. is_lost t delay now greatest s) f.flying) (lost_waited t now f e w) i))
 
 -- the first frame, and then the others
 first_flight : (t : Terms) (now : ℕ) (f : FrameValue) (fs : List FrameValue) (x : Flight) → after_frames t now (f ∷ fs) x ≡ after_frames t now fs (after_frames t now (f ∷ []) x)
@@ -295,10 +300,10 @@ module _ (t : Terms) (now : ℕ) (frames : List FrameValue) (P : List Sent → L
   sampled_flies flying acked (Some p) a e i = c.measured flying acked (sampled (Some p) a e).path.rtt (sampled (Some p) a e).path.first_after_rtt e i
 
   -- an ACK frame that names these
-  named_flies : (ss others : List Sent) (ps : Table TrackedPacket) (rises : Bool) (x : Flight) (a : AckValue) (e : End) → rises ≡ is_greatest x.named a.largest → ((s : Sent) → In s ss → In s x.flying) → ((s : Sent) → In s others → In s x.flying)
-      → AreWaited ss ps → AreWaited others (not_acked_by a e.tracking.packets) → Tells t now (counted a x) (held e) → P x.flying x.acked e → P (settled_by t now a ss others x).flying (settled_by t now a ss others x).acked (after_named ps rises a e)
-  named_flies [] others [] rises x a e is inside stays acked stay w i = i
-  named_flies (s ∷ ss) others (p ∷ ps) rises x a e is inside stays acked stay w i =
+  named_flies : (ss others : List Sent) (ps : Table TrackedPacket) (rises : Bool) (x : Flight) (a : AckValue) (e : End) → In (ack a) frames → rises ≡ is_greatest x.named a.largest → ((s : Sent) → In s ss → In s x.flying) → ((s : Sent) → In s others → In s x.flying)
+      → ((s : Sent) → In s ss → In s others → ⊥) → AreWaited ss ps → AreWaited others (not_acked_by a e.tracking.packets) → Tells t now (counted a x) (held e) → P x.flying x.acked e → P (settled_by t now a ss others x).flying (settled_by t now a ss others x).acked (after_named ps rises a e)
+  named_flies [] others [] rises x a e among is inside stays apart acked stay w i = i
+  named_flies (s ∷ ss) others (p ∷ ps) rises x a e among is inside stays apart acked stay w i =
       let ss' : List Sent = s ∷ ss in
       let ps' : Table TrackedPacket = p ∷ ps in
       let left : End = without_acked ps' a e in
@@ -307,17 +312,17 @@ module _ (t : Terms) (now : ℕ) (frames : List FrameValue) (P : List Sent → L
       let kept : P (settled_by t now a ss' others x).flying (x.acked ++ ss') taken =
       c.losing.tracked (settled_by t now a ss' others x).flying (x.acked ++ ss') (after_answered found.tracking) found
       (losses_fly P c.losing t now (acked_flight t now a ss' others x) (x.acked ++ ss') (timed ps' rises a e) (timed_tells t now ss' others ps' rises a x e is acked stay w)
-      (sampled_flies others (x.acked ++ ss') (measured rises a ps') a left (c.losing.tracked others (x.acked ++ ss') left.tracking (packets_acked ps' e) (c.acks x.flying x.acked ss' others ps' e inside stays acked i)))) in
+      (sampled_flies others (x.acked ++ ss') (measured rises a ps') a left (c.losing.tracked others (x.acked ++ ss') left.tracking (packets_acked ps' e) (c.acks x.flying x.acked ss' others ps' e a among inside stays apart acked i)))) in
       by_marks rises (length ps') a taken (P (settled_by t now a ss' others x).flying (x.acked ++ ss')) (λ m marking. c.marked (settled_by t now a ss' others x).flying (x.acked ++ ss') m marking taken kept)
-  named_flies [] others (p ∷ ps) rises x a e is inside stays acked stay w i = absurd acked
-  named_flies (s ∷ ss) others [] rises x a e is inside stays acked stay w i = absurd acked
+  named_flies [] others (p ∷ ps) rises x a e among is inside stays apart acked stay w i = absurd acked
+  named_flies (s ∷ ss) others [] rises x a e among is inside stays apart acked stay w i = absurd acked
 
   -- an ACK frame that is taken
   ack_flies : (b : Bool) (a : AckValue) (x : Flight) (e : End) → (ack_taken b a e).fault ≡ None → In (ack a) frames → Flying x e → Flying (after_ack t now a x) (ack_taken b a e).end
   ack_flies true a x e none among f = cc
   ack_flies false a x e none among f = record {
     waits = named_waits t now acked others (acked_by a e.tracking.packets) rises a x (named a e) is first second counts;
-    holds = named_flies acked others (acked_by a e.tracking.packets) rises x a (named a e) is (λ s i. in_filter (λ t. names a t.number) s x.flying i) (λ s i. in_filter (λ t. not (names a t.number)) s x.flying i) first second counts.tells (c.names x.flying x.acked a e among f.holds);
+    holds = named_flies acked others (acked_by a e.tracking.packets) rises x a (named a e) among is (λ s i. in_filter (λ t. names a t.number) s x.flying i) (λ s i. in_filter (λ t. not (names a t.number)) s x.flying i) (apart_filter (λ t. names a t.number) x.flying) first second counts.tells (c.names x.flying x.acked a e among f.holds);
   }
     where
       acked : List Sent
@@ -375,9 +380,9 @@ module _ (t : Terms) (now : ℕ) (frames : List FrameValue) (P : List Sent → L
 -- so it waits for them, whatever else holds
 pub frames_wait : (t : Terms) (now : ℕ) (frames : List FrameValue) (x : Flight) (e : End) → (passed frames e).fault ≡ None → Waits t now x (held e) → Waits t now (after_frames t now frames x) (held (passed frames e).end)
 frames_wait t now frames x e none w = (frames_fly t now frames (λ flying acked g. Unit {0}) (record {
-  losing = record { tracked = λ flying acked u g i. tt; searches = λ flying acked lost g i. tt; loses = λ flying acked gone left ps g inside stays lost i. tt };
+  losing = record { tracked = λ flying acked u g i. tt; searches = λ flying acked lost g i. tt; loses = λ flying acked gone left ps g inside stays apart lost i. tt };
   names = λ flying acked a g among i. tt;
-  acks = λ flying acked ss left ps g inside stays all i. tt;
+  acks = λ flying acked ss left ps g a among inside stays apart all i. tt;
   measured = λ flying acked r first g i. tt;
   marked = λ flying acked m marking g i. tt;
   on_streams = λ flying acked f g among on i. tt;

@@ -97,7 +97,7 @@ first_left (y ∷ xs) zero x q = let same : y ≡ x = cc in ap (λ t. t ∷ xs) 
 first_left (y ∷ xs) (suc i) x q = first_left xs i x q
 
 -- so it is in the list
-stands_in : {X : Type 0} (xs : List X) (i : ℕ) (x : X) → slice_get xs i ≡ Some x → In x xs
+pub stands_in : {X : Type 0} (xs : List X) (i : ℕ) (x : X) → slice_get xs i ≡ Some x → In x xs
 stands_in [] i x q = cc
 stands_in (y ∷ xs) zero x q = let same : y ≡ x = cc in inl (sym same)
 stands_in (y ∷ xs) (suc i) x q = inr (stands_in xs i x q)

@@ -300,7 +300,7 @@ module _ (sents : List Sent) (w : ℕ → Wrote) (says : (s : Sent) → In s sen
   open_loses n = record {
     tracked = λ flying acked t e i. i;
     searches = λ flying acked lost e i. search_keeps (λ (x : End). AllSent sents flying × Open sents w n acked x) (λ d x j. j) (λ most x j. j) lost e i;
-    loses = λ flying acked gone left ps e inside stays waits i. (
+    loses = λ flying acked gone left ps e inside stays apart waits i. (
       (λ s j. i.0 s (stays s j)),
       lost_all (λ id o. HoldsOffset acked id o) (λ id. HoldsEnd acked id) (known_of sents acked) n ps e (flying_ended flying gone ps i.0 inside waits) i.1,
     );
@@ -310,7 +310,7 @@ module _ (sents : List Sent) (w : ℕ → Wrote) (says : (s : Sent) → In s sen
   open_flies n frames small = record {
     losing = open_loses n;
     names = λ flying acked a e among i. i;
-    acks = λ flying acked ss left ps e inside stays waits i. ((λ s j. i.0 s (stays s j)), sents_settle n w sents acked ss ps waits e (meta_sent n flying acked ss i.0 inside) i.1);
+    acks = λ flying acked ss left ps e a among inside stays apart waits i. ((λ s j. i.0 s (stays s j)), sents_settle n w sents acked ss ps waits e (meta_sent n flying acked ss i.0 inside) i.1);
     measured = λ flying acked r first e i. i;
     marked = λ flying acked m marking e i. i;
     on_streams = λ flying acked f e among on i. (i.0, settling_frame (λ id o. HoldsOffset acked id o) (λ id. HoldsEnd acked id) (known_of sents acked) n w f e on (small f among) i.1);

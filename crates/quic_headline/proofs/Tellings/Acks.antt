@@ -7,7 +7,7 @@ use Rattle.std.proofs.lemmas.Bool.{eq-eqb, ltb-true}
 use Rattle.std.proofs.lemmas.List.{append_assoc}
 use Rattle.quic_time.specs.Rtt.{Rtt, sampled_rtt, with_sample}
 use Rattle.quic_time.specs.Clocks.{saturated}
-use Rattle.quic_wire.specs.Value.{FrameValue, AckValue}
+use Rattle.quic_wire.specs.Value.{FrameValue, AckValue, ack}
 use Rattle.quic_config.specs.Transport.{TransportSettings}
 use Rattle.quic_congestion.specs.Congestion.{Told, Acked, AcksEnded, Congested, Resized}
 use Rattle.quic_congestion.specs.Search.{Search, Plan, Discovery, is_number, search_in, probed_by, acknowledged_probe, after_ack}
@@ -229,9 +229,9 @@ timed_moves flew least before flying acked ps rises a e m = go (measured rises a
 module _ (j : Judging) (now : ℕ) (flew : List Sent) (before : ℕ) where
   -- an ACK frame that names these
   settled_told : (ss others : List Sent) (ps : Table TrackedPacket) (rises : Bool) (a : AckValue) (f : Flight) (e : End) → rises ≡ is_greatest f.named a.largest → ((s : Sent) → In s ss → In s f.flying) → ((s : Sent) → In s others → In s f.flying)
-      → AreWaited ss ps → AreWaited others (not_acked_by a e.tracking.packets) → Tells j.terms now (counted a f) (held e) → IsSet j e → Moves flew j.settings.min_mtu before f.flying f.acked e
+      → ((s : Sent) → In s ss → In s others → ⊥) → AreWaited ss ps → AreWaited others (not_acked_by a e.tracking.packets) → Tells j.terms now (counted a f) (held e) → IsSet j e → Moves flew j.settings.min_mtu before f.flying f.acked e
       → TellsSettled j now a ss others f (told_of_losses ps rises a e ++ told_marks rises ps a (losses_taken ps rises a e))
-  settled_told ss others ps rises a f e is inside stays acked stay w set moves = record {
+  settled_told ss others ps rises a f e is inside stays apart acked stay w set moves = record {
     app_limited = e.path.app_limited;
     each = told_packets e ps;
     acks = subst (λ (r : Rtt). TellsAcked j.settings.min_mtu now e.path.app_limited r ss (told_packets e ps)) (sym w.rtt) (acked_told j.settings.min_mtu now ss ps e w.clock acked moves.sized (λ s i size shown. moves.probes s (moves.inside s (inside s i)) size shown));
@@ -255,7 +255,7 @@ module _ (j : Judging) (now : ℕ) (flew : List Sent) (before : ℕ) where
       told = timed_tells j.terms now ss others ps rises a f e is acked stay w
 
       after : Moves flew j.settings.min_mtu before others (f.acked ++ ss) x
-      after = timed_moves flew j.settings.min_mtu before others (f.acked ++ ss) ps rises a e ((moving_flies flew j.settings.min_mtu before []).acks f.flying f.acked ss others ps e inside stays acked moves)
+      after = timed_moves flew j.settings.min_mtu before others (f.acked ++ ss) ps rises a e ((moving_flies flew j.settings.min_mtu before (ack a ∷ [])).acks f.flying f.acked ss others ps e a (inl refl) inside stays apart acked moves)
 
       -- the observer measures the same round trip
       measured : x.path.first_after_rtt ≡ measured_first j.first j.next (acked_flight j.terms now a ss others f).rtt.smoothed
@@ -276,8 +276,8 @@ module _ (j : Judging) (now : ℕ) (flew : List Sent) (before : ℕ) where
 
   -- one that names these, or none
   pub named_told : (ss others : List Sent) (ps : Table TrackedPacket) (rises : Bool) (a : AckValue) (f : Flight) (e : End) → rises ≡ is_greatest f.named a.largest → ((s : Sent) → In s ss → In s f.flying) → ((s : Sent) → In s others → In s f.flying)
-      → AreWaited ss ps → AreWaited others (not_acked_by a e.tracking.packets) → Tells j.terms now (counted a f) (held e) → IsSet j e → Moves flew j.settings.min_mtu before f.flying f.acked e → TellsNamed j now a ss others f (told_named ps rises a e)
-  named_told [] others [] rises a f e is inside stays acked stay w set moves = refl
-  named_told (s ∷ ss) others (p ∷ ps) rises a f e is inside stays acked stay w set moves = settled_told (s ∷ ss) others (p ∷ ps) rises a f e is inside stays acked stay w set moves
-  named_told [] others (p ∷ ps) rises a f e is inside stays acked stay w set moves = absurd acked
-  named_told (s ∷ ss) others [] rises a f e is inside stays acked stay w set moves = absurd acked
+      → ((s : Sent) → In s ss → In s others → ⊥) → AreWaited ss ps → AreWaited others (not_acked_by a e.tracking.packets) → Tells j.terms now (counted a f) (held e) → IsSet j e → Moves flew j.settings.min_mtu before f.flying f.acked e → TellsNamed j now a ss others f (told_named ps rises a e)
+  named_told [] others [] rises a f e is inside stays apart acked stay w set moves = refl
+  named_told (s ∷ ss) others (p ∷ ps) rises a f e is inside stays apart acked stay w set moves = settled_told (s ∷ ss) others (p ∷ ps) rises a f e is inside stays apart acked stay w set moves
+  named_told [] others (p ∷ ps) rises a f e is inside stays apart acked stay w set moves = absurd acked
+  named_told (s ∷ ss) others [] rises a f e is inside stays apart acked stay w set moves = absurd acked

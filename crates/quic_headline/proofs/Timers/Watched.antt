@@ -26,7 +26,7 @@ abbrev pub Observed : Way
 Observed = And PacketsHold Sight
 
 -- what lies behind the first of two lists
-drop_all : (xs ys : List Sent) → drop (length xs) (xs ++ ys) ≡ ys
+pub drop_all : (xs ys : List Sent) → drop (length xs) (xs ++ ys) ≡ ys
 drop_all [] ys = refl
 drop_all (x ∷ xs) ys = drop_all xs ys
 

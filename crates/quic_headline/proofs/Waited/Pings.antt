@@ -150,7 +150,7 @@ call_pinged p e theirs (calls.Deliver delivery) a silent = inr (go (slice_get th
     go : (o : Option (List ℕ)) → SamePing e (after_delivered p e delivery o)
     go None = refl
     go (Some d) = by_received (SamePing e) (receives_same e) p e (delivered_by delivery) d refl
-call_pinged p e theirs (calls.Inject injection) a silent = inr (by_injection p e injection (SamePing e) refl (λ path same. refl))
+call_pinged p e theirs (calls.Inject injection) a silent = inr (by_injection p e injection (SamePing e) refl)
 call_pinged p e theirs calls.Event a silent = inr (by_event e (SamePing e) refl (λ told. refl))
 call_pinged p e theirs (calls.Timer timer) a silent = inr refl
 call_pinged p e theirs calls.NextTimeout a silent = inr refl
