@@ -10,6 +10,7 @@ ghost use Rattle.quic_time.specs.Timers.{each_timer};
 ghost use Rattle.quic_headline.specs.Waited.{EachWaited};
 ghost use Rattle.quic_headline.specs.Queue.{MessagesGo, MessagesGoInOrder};
 ghost use Rattle.quic_headline.specs.Telling.{ControllersAreTold};
+ghost use Rattle.quic_headline.specs.Spread.{PacerIsOfHistory};
 ghost use Rattle.quic_headline.specs.Causes.{NoBlame, TooManyPieces, NumberLimit, TakenOrTooMany};
 ghost use Rattle.quic_headline.specs.Headline.{CodeIsSmall, AreCodes, OrderedPrefix, Slices, Once, EndAfterAll, BlockedOnlyWithoutBytes, AcceptsAll, FinishedMeansArrived, FinishedIsTold, AcknowledgedWereTaken, NamesWereTaken, OpensExactly, NewestOpens, LossTimersFollow, AckTimersFollow, NumbersRise};
 ghost use Rattle.quic_headline.specs.Amounts.{WritesTakeWhatLimitsAllow};
@@ -554,16 +555,16 @@ fn view<H: HeaderKey + Drop, K: PacketKey + Drop, R: Rng + Drop, C: Controller>(
 /// messages, unless the congestion window is full or the pacer names a later moment, to which its
 /// timer is set, and gives nothing that these hold back but probes; no datagram has more bytes than
 /// the current size but an MTU probe, and that size grows only by one that was acknowledged; the
-/// window that a view shows is that of the controller behind all that it was told; and an open end
-/// tracks exactly the datagrams that it gave and that are neither acknowledged, nor lost by number
-/// or by time, nor forgotten, shows its loss timer set to the moment that is due for them and its
-/// own round trips, and not set once all that ask were named, and its timer of acknowledgements to
-/// one that is due for a packet that it took and hasn't acknowledged since. An end rests where its
-/// last call was a poll that gave nothing, and it is open, its path validated, and none of its
-/// timers of losses, of acknowledgements and of the pacer set: then all that it wrote, on streams
-/// that it didn't reset, has arrived, and it owes no acknowledgement, where the controllers keep
-/// their law and their windows hold two datagrams at first (`HaveRoom`), as those of [`Ends::new`]
-/// do.
+/// window that a view shows is that of the controller behind all that it was told; what the pacer
+/// holds follows from the polls up to there and the bytes that went; and an open end tracks exactly
+/// the datagrams that it gave and that are neither acknowledged, nor lost by number or by time, nor
+/// forgotten, shows its loss timer set to the moment that is due for them and its own round trips,
+/// and not set once all that ask were named, and its timer of acknowledgements to one that is due
+/// for a packet that it took and hasn't acknowledged since. An end rests where its last call was a
+/// poll that gave nothing, and it is open, its path validated, and none of its timers of losses, of
+/// acknowledgements and of the pacer set: then all that it wrote, on streams that it didn't reset,
+/// has arrived, and it owes no acknowledgement, where the controllers keep their law and their
+/// windows hold two datagrams at first (`HaveRoom`), as those of [`Ends::new`] do.
 ///
 /// Nor is a stream opened or accepted twice, or accepted where no frame opened it; a reset is told
 /// only with the code that the other end's application gave; each view shows why an end isn't open,
@@ -691,6 +692,8 @@ pub fn run<H: HeaderKey + Drop, K: PacketKey + Drop, R: Rng + Drop, C: Controlle
         MessagesGoInOrder }
     ensures each_waited { OnHonest H.protection K.aead R.stream (windows_of C.steps C.window_of) ends events.now result
         EachWaited }
+    ensures pacer_is_of_history { OnHonest H.protection K.aead R.stream (windows_of C.steps C.window_of) ends events.now result
+        PacerIsOfHistory }
     ensures messages_are_told { OnHonest H.protection K.aead R.stream (windows_of C.steps C.window_of) ends events.now result
         MessagesAreTold }
     ensures openings_are_told { OnHonest H.protection K.aead R.stream (windows_of C.steps C.window_of) ends events.now result
@@ -758,6 +761,7 @@ pub fn run<H: HeaderKey + Drop, K: PacketKey + Drop, R: Rng + Drop, C: Controlle
     headline::messages_go();
     headline::messages_go_in_order();
     headline::each_waited();
+    headline::pacer_is_of_history();
     headline::messages_are_told();
     headline::openings_are_told();
     headline::readables_are_told();

@@ -21,3 +21,5 @@ pub mod Allowed
 pub mod Events
 pub mod Tellings
 pub mod Waited
+pub mod Spread
+pub mod AppLimited

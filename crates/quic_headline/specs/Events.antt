@@ -21,7 +21,7 @@ use Rattle.quic_headline.specs.Runs.{Run, Told, Packet, Intake, nothing_came, an
 use Rattle.quic_headline.specs.Observer.{news, took}
 use Rattle.quic_headline.specs.Headline.{IsAt}
 use Rattle.quic_headline.specs.Ids.{WasOpened}
-use Rattle.quic_headline.specs.Credit.{is_read_up}
+use Rattle.quic_headline.specs.Credit.{was_reset, is_read_up}
 
 -- ---- messages (RFC 9221)
 
@@ -136,6 +136,11 @@ tells_readable id call a = false
 abbrev pub is_reading : Side → ℕ → List Packet → List Packet → List Told → Bool
 is_reading side id before after told = (is_own side id || brings id before) && not (is_read_up id after told)
 
+-- whether it is told of these packets, where they come behind others, and these are all: they bring
+-- something of a stream that it reads behind them, or the first reset of one that it read before them
+abbrev pub comes_to_read : Side → ℕ → List Packet → List Packet → List Packet → List Told → Bool
+comes_to_read side id before new after told = (brings id new && is_reading side id before after told) || (was_reset id new && is_reading side id before before told)
+
 -- what came to an end, what was told at it, and whether it is to be told that a stream may be read
 pub record Reading : Type 0 where
   pub intake : Intake
@@ -151,7 +156,7 @@ abbrev pub reading_behind : Side → ℕ → Told → Reading → Intake → Rea
 reading_behind side id t r after = record {
   intake = after;
   told = r.told ++ t ∷ [];
-  waits = if tells_readable id t.call t.answer then false else r.waits || (brings id (news r.intake after) && is_reading side id r.intake.took after.took (r.told ++ t ∷ []));
+  waits = if tells_readable id t.call t.answer then false else r.waits || comes_to_read side id r.intake.took (news r.intake after) after.took (r.told ++ t ∷ []);
 }
 
 abbrev pub reading_told : Side → Policy → List (List ℕ) → ℕ → Told → Reading → Reading
@@ -161,7 +166,7 @@ reading_told side p given id t r = reading_behind side id t r (and_told p given 
 abbrev pub reading : Run → Side → ℕ → ℕ → Reading
 reading r side id i = folded (reading_told side (policy_at side r.keys) (given_of r (other_side side)) id) (until r side i) (no_reading (known (end_at side r.start).ids))
 
--- where nothing is told next, it was told that a stream may be read since the last STREAM frame
--- came on it, of those that it is told of, whatever the state of the end
+-- where nothing is told next, it was told that a stream may be read since the last STREAM frame and
+-- the first RESET_STREAM frame came on it, of those that it is told of, whatever the state of the end
 abbrev pub ReadablesAreTold : Run → Type 0
 ReadablesAreTold r = (side : Side) (i id : ℕ) → AreServed r i → IsAt r i side calls.Event (answers.Event None) → (reading r side id i).waits ≡ false

@@ -23,5 +23,7 @@ pub mod Credit
 pub mod Allowed
 pub mod Queue
 pub mod Events
+pub mod AppLimited
 pub mod Telling
 pub mod Waited
+pub mod Spread

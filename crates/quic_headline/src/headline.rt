@@ -30,6 +30,7 @@ ghost use Rattle.quic_headline.specs.Reasons.{ClosedHasAReason};
 ghost use Rattle.quic_headline.specs.Views.{ViewsTell};
 ghost use Rattle.quic_headline.specs.Sizes.{SizeIsOfHistory, SizesMove, DatagramsAreSized};
 ghost use Rattle.quic_headline.specs.Telling.{ControllersAreTold};
+ghost use Rattle.quic_headline.specs.Spread.{PacerIsOfHistory};
 ghost use Rattle.quic_machine.specs.Start.{AreStarted};
 ghost use Rattle.quic_headline.specs.Headline.{IsHonest, IsRun, OrderedPrefix, Slices, Once, EndAfterAll, BlockedOnlyWithoutBytes, AcceptsAll, FinishedMeansArrived, FinishedIsTold, AcknowledgedWereTaken, NamesWereTaken, OpensExactly, NewestOpens, LossTimersFollow, AckTimersFollow, NumbersRise};
 
@@ -304,6 +305,16 @@ pub fn pacer_sets_its_timer()
     ensures { (r : Run) (end : World) → IsHonest r → IsRun r end → PacerSetsItsTimer r }
 {}
 
+/// The tokens of an end's pacer follow from the lists: which polls asked it, with which window,
+/// size of datagrams, round trip and moment, and how many bytes of ack-eliciting datagrams went,
+/// probes too. A poll leaves the pacer's timer set to the moment that the pacer names by them, or
+/// not set; where no PTO probe waits, an ack-eliciting datagram goes only where it names no later
+/// moment, or as an MTU probe; and where a poll gives nothing though a byte or an end waits, and
+/// the window has room, it names one, to which the timer is set (RFC 9002, section 7.7).
+pub fn pacer_is_of_history()
+    ensures { (r : Run) (end : World) → IsHonest r → IsRun r end → PacerIsOfHistory r }
+{}
+
 /// Where no PTO probe waits by the lists, an ack-eliciting datagram goes only where the congestion
 /// window, as the view before shows it, has room for one more beside those in flight, and the pacer
 /// names no later moment (RFC 9002, sections 7 and 7.7), or as an MTU probe where nothing waits:
@@ -455,9 +466,10 @@ pub fn openings_are_told()
 {}
 
 /// Where the application asks what is told next and nothing is, it was told that a stream may be
-/// read since the last STREAM frame came on it, of those that it is told of: on a stream that this
-/// end opened, or of which one came before, and of which the end wasn't read, which wasn't stopped,
-/// and whose reset didn't come (RFC 9000, section 2.2).
+/// read since the last STREAM frame and the first RESET_STREAM frame came on it, of those that it
+/// is told of: on a stream that this end opened, or of which a STREAM frame came before, and of
+/// which the end wasn't read, which wasn't stopped, and whose reset didn't come, or came first with
+/// that packet (RFC 9000, sections 2.2 and 3.2).
 pub fn readables_are_told()
     ensures { (r : Run) (end : World) → IsHonest r → IsRun r end → ReadablesAreTold r }
 {}

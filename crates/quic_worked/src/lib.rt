@@ -27,6 +27,7 @@ pub mod probed;
 pub mod raised;
 pub mod reordered;
 pub mod repeated;
+pub mod reset;
 pub mod rested;
 pub mod searched;
 pub mod timed;

@@ -112,7 +112,7 @@ halves_more (suc n) fair most t some = next (of_streams.next_stream most t) (λ 
     next (Some id) more = half id (at t.state.sending.halves.live id) more
 
 -- that of the stream that stands first goes, where there is room
-first_goes : (n : ℕ) (fair : Bool) (most : ℕ) (t : Sent) (id : ℕ) (h : SendHalf) → 1 ≤ n → length t.bytes + 25 ≤ most → first_queued t.state.sending.queue ≡ Some id → at t.state.sending.halves.live id ≡ Some h
+pub first_goes : (n : ℕ) (fair : Bool) (most : ℕ) (t : Sent) (id : ℕ) (h : SendHalf) → 1 ≤ n → length t.bytes + 25 ≤ most → first_queued t.state.sending.queue ≡ Some id → at t.state.sending.halves.live id ≡ Some h
     → frame_counts h (of_streams.stream_room most t id) ≡ true → 0 < length (stream_frames n fair most t).frames
 first_goes zero fair most t id h some room first found counts = absurd (omega arith)
 first_goes (suc n) fair most t id h some room first found counts =

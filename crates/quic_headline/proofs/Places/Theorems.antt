@@ -11,7 +11,6 @@ use Rattle.quic_headline.specs.Resets.{ResetsAreTold}
 use Rattle.quic_headline.specs.Ids.{IdsAreNew, AcceptedWereOpened}
 use Rattle.quic_headline.specs.Polls.{PacerSetsItsTimer, AskingGoesWhereLet, ProbesPass, WindowIsOfHistory}
 use Rattle.quic_headline.specs.Sizes.{SizeIsOfHistory, SizesMove, DatagramsAreSized}
-use Rattle.quic_headline.specs.Telling.{ControllersAreTold}
 use Rattle.quic_headline.specs.Headline.{IsHonest, IsRun, OrderedPrefix, Slices, Once, EndAfterAll, BlockedOnlyWithoutBytes, AcceptsAll, FinishedMeansArrived, AcknowledgedWereTaken, NamesWereTaken, OpensExactly, NewestOpens, NumbersRise}
 use Rattle.quic_headline.proofs.Halves.Ready.{Ready, ready_probes, ready_group}
 use Rattle.quic_headline.proofs.Places.Everything as everything
@@ -112,9 +111,6 @@ window_is_of_history r end honest run = windows.window_is_of_history r end run
 
 pub size_is_of_history : (r : Run) (end : World) → IsHonest r → IsRun r end → SizeIsOfHistory r
 size_is_of_history r end honest run = resized.size_is_of_history r end run
-
-pub controllers_are_told : (r : Run) (end : World) → IsHonest r → IsRun r end → ControllersAreTold r
-controllers_are_told = everything.controllers_are_told Ready ready
 
 pub asking_goes_where_let : (r : Run) (end : World) → IsHonest r → IsRun r end → AskingGoesWhereLet r
 asking_goes_where_let = everything.asking_goes_where_let Ready ready

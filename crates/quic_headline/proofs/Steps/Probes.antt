@@ -68,7 +68,7 @@ pub last_asks : (d : Draft) (f : FrameValue) → asks f ≡ true → asking (d.f
 last_asks d f is = list_any-append asks d.frames (f ∷ []) ∙ or_right (asking d.frames) (asking (f ∷ [])) (or_left (asks f) false is)
 
 -- whichever frames go behind
-asks_stay : Writing Asks
+pub asks_stay : Writing Asks
 asks_stay (puts.drops kind) d may is = is
 asks_stay p d may is = still_asks d _ is
 
@@ -111,7 +111,7 @@ module _ (K : Streams → Type 0) (k : Spelling K) (c : Bringing K) where
       pinged false on = more_ask (with_control_frames d) (control_frames_ask d room i (not-true _ on))
 
   -- and what is composed
-  composed_asks : (e : End) → Acks e.acknowledging e.marks.came → HasRoom e → K (streams_at e) → has_probe e ≡ true → Asks (composed e)
+  pub composed_asks : (e : End) → Acks e.acknowledging e.marks.came → HasRoom e → K (streams_at e) → has_probe e ≡ true → Asks (composed e)
   composed_asks e acks short i waits = go (can_send e.acknowledging) refl
     where
       late : (b : Bool) (d : Draft) → Asks d → Asks (ack_if b d)

@@ -68,7 +68,7 @@ urged e due = elim (or_cases e.acknowledging.due (nat_lt lazy_threshold e.acknow
 
 module _ (K : Streams → Type 0) (k : Spelling K) (c : Bringing K) where
   -- where no ACK frame is due, what is composed asks
-  composed_asking : (e : End) → HasRoom e → K (streams_at e) → waits e ≡ true → can_send (lazied e).acknowledging ≡ false → Asks (composed (lazied e))
+  pub composed_asking : (e : End) → HasRoom e → K (streams_at e) → waits e ≡ true → can_send (lazied e).acknowledging ≡ false → Asks (composed (lazied e))
   composed_asking e short i waiting none = subst (λ (b : Bool). Asks (composed_if b (lazied e))) (sym none) (late (ack_fits d) (elim (asking_asks (lazied e)) [
     | inl is ↦ is
     | inr empty ↦ (let some : 0 < length d.frames = asking_goes K k c (lazied e) (room_most e short) i asks in absurd (omega arith))

@@ -34,7 +34,7 @@ use Rattle.quic_headline.proofs.Steps.Probing.{IsProbing, unprobed, probe_goes}
 -- ---- an end that is ready
 
 -- what waits is what waits once something does for each probe of losses
-ready_waiting : (e : End) (now : ℕ) → (ready_at e now).end.waiting ≡ (probed (begun e now)).waiting
+pub ready_waiting : (e : End) (now : ℕ) → (ready_at e now).end.waiting ≡ (probed (begun e now)).waiting
 ready_waiting e now = ap (λ (x : End). x.waiting) (search_leaves (gated (probed (begun e now)))) ∙ ap (λ (x : End). x.waiting) (gate_leaves (probed (begun e now)))
 
 -- so it is as it was where no probe of losses waits
@@ -75,12 +75,12 @@ composed_unpinged e = go (can_send e.acknowledging)
     go false = late (ack_fits (with_asking (no_frames e))) (with_asking (no_frames e)) (asking_unpinged (no_frames e))
 
 -- PADDING is no PING
-none_padded : (count : ℕ) → list_any is_ping (replicate count padding) ≡ false
+pub none_padded : (count : ℕ) → list_any is_ping (replicate count padding) ≡ false
 none_padded zero = refl
 none_padded (suc count) = none_padded count
 
 -- an end to which nothing waits has no PING
-idle_unpinged : (e : End) → waits e ≡ false → e.waiting.ping ≡ false
+pub idle_unpinged : (e : End) → waits e ≡ false → e.waiting.ping ≡ false
 idle_unpinged e none = (or_parts e.waiting.ping (not (is_empty e.waiting.frames e.streams) || (message_waits e || can_send_stream_data e.streams)) (or_parts (can_send e.acknowledging) (asks_to_go e) none).1).0
 
 module _ (p : Policy) (e : End) (now : ℕ) where
@@ -150,7 +150,7 @@ call_pinged p e theirs (calls.Deliver delivery) a silent = inr (go (slice_get th
     go : (o : Option (List ℕ)) → SamePing e (after_delivered p e delivery o)
     go None = refl
     go (Some d) = by_received (SamePing e) (receives_same e) p e (delivered_by delivery) d refl
-call_pinged p e theirs (calls.Inject injection) a silent = inr (by_injection p e injection (SamePing e) refl (λ path same. refl))
+call_pinged p e theirs (calls.Inject injection) a silent = inr (by_injection p e injection (SamePing e) refl)
 call_pinged p e theirs calls.Event a silent = inr (by_event e (SamePing e) refl (λ told. refl))
 call_pinged p e theirs (calls.Timer timer) a silent = inr refl
 call_pinged p e theirs calls.NextTimeout a silent = inr refl
