@@ -148,7 +148,7 @@ poll_draws p e now = by_poll_to p e now (λ x. e.filter.drawn ≤ x.end.filter.d
   silent = omega arith;
   failed = omega arith;
   nothing = λ is_open none. (let same = ap (λ (f : Filter). f.drawn) (ready_filter e now) in omega arith);
-  used_up = let same = ap (λ (f : Filter). f.drawn) (ready_filter e now) in omega arith;
+  closes = let same = ap (λ (f : Filter). f.drawn) (ready_filter e now) in omega arith;
   gives = λ is_open can some. (let d = draft_at e now in
       let same = ap (λ (f : Filter). f.drawn) (draft_filter e now) in
       let paid = ap (λ (f : Filter). f.drawn) (paid_filter (asking d.frames) (with_number_given (p.words d.end.filter.drawn) (tracked d)) (datagram_size d)) in
@@ -196,7 +196,7 @@ one_given p e now t is = by_poll_to p e now (λ (x : Polled). x.answer ≡ Ok (S
   silent = λ i. cc;
   failed = λ i. cc;
   nothing = λ is_open none i. cc;
-  used_up = λ i. cc;
+  closes = λ i. cc;
   gives = λ is_open can some i. refl;
 }) is
 

@@ -8,8 +8,10 @@ ghost use Rattle.quic_machine.specs.Lacking.{LacksWhere, TakesOfItsOwn};
 ghost use Rattle.quic_machine.specs.Start.{AreStarted};
 ghost use Rattle.quic_time.specs.Timers.{each_timer};
 ghost use Rattle.quic_headline.specs.Waited.{EachWaited};
+ghost use Rattle.quic_headline.specs.Begins.{WaitingBegins};
 ghost use Rattle.quic_headline.specs.Queue.{MessagesGo, MessagesGoInOrder};
 ghost use Rattle.quic_headline.specs.Telling.{ControllersAreTold};
+ghost use Rattle.quic_headline.specs.Spread.{PacerIsOfHistory};
 ghost use Rattle.quic_headline.specs.Causes.{NoBlame, TooManyPieces, NumberLimit, TakenOrTooMany};
 ghost use Rattle.quic_headline.specs.Headline.{CodeIsSmall, AreCodes, OrderedPrefix, Slices, Once, EndAfterAll, BlockedOnlyWithoutBytes, AcceptsAll, FinishedMeansArrived, FinishedIsTold, AcknowledgedWereTaken, NamesWereTaken, OpensExactly, NewestOpens, LossTimersFollow, AckTimersFollow, NumbersRise};
 ghost use Rattle.quic_headline.specs.Amounts.{WritesTakeWhatLimitsAllow};
@@ -24,6 +26,7 @@ ghost use Rattle.quic_headline.specs.Rest.{DeliveredAtRest, NothingOwedAtRest};
 ghost use Rattle.quic_headline.specs.AcksDue.{AcksAreDue};
 ghost use Rattle.quic_headline.specs.Resets.{ResetsAreTold};
 ghost use Rattle.quic_headline.specs.Ids.{IdsAreNew, AcceptedWereOpened};
+ghost use Rattle.quic_headline.specs.ConnectionIds.{SentToFirstId, NoUnknownId, FirstIdStays};
 ghost use Rattle.quic_headline.specs.Reasons.{ClosedHasAReason};
 ghost use Rattle.quic_headline.specs.Views.{ViewsTell};
 ghost use Rattle.quic_headline.specs.Events.{MessagesAreTold, OpeningsAreTold, ReadablesAreTold};
@@ -545,7 +548,8 @@ fn view<H: HeaderKey + Drop, K: PacketKey + Drop, R: Rng + Drop, C: Controller>(
 /// came names only what the other end took, and packet numbers rise, one or two at a time. No end
 /// closes but for more than 2048 runs of a stream that wait to be read, or for used-up numbers, and
 /// each packet of the other end that comes is taken whole, but for such runs; each datagram with a
-/// number above all that the other end took opens there as it was sent. No stream is told to be
+/// number above all that the other end took opens there as it was sent; each goes to the id with
+/// which the other end began, and none is dropped for its id. No stream is told to be
 /// finished twice, and where an open end has nothing left to tell, each was that is wholly
 /// acknowledged and wasn't reset, and no other; all that was written waits to go, is under way, or
 /// arrived, and so does each limit that was said; a limit that grew waits to be said; a write at an
@@ -554,16 +558,16 @@ fn view<H: HeaderKey + Drop, K: PacketKey + Drop, R: Rng + Drop, C: Controller>(
 /// messages, unless the congestion window is full or the pacer names a later moment, to which its
 /// timer is set, and gives nothing that these hold back but probes; no datagram has more bytes than
 /// the current size but an MTU probe, and that size grows only by one that was acknowledged; the
-/// window that a view shows is that of the controller behind all that it was told; and an open end
-/// tracks exactly the datagrams that it gave and that are neither acknowledged, nor lost by number
-/// or by time, nor forgotten, shows its loss timer set to the moment that is due for them and its
-/// own round trips, and not set once all that ask were named, and its timer of acknowledgements to
-/// one that is due for a packet that it took and hasn't acknowledged since. An end rests where its
-/// last call was a poll that gave nothing, and it is open, its path validated, and none of its
-/// timers of losses, of acknowledgements and of the pacer set: then all that it wrote, on streams
-/// that it didn't reset, has arrived, and it owes no acknowledgement, where the controllers keep
-/// their law and their windows hold two datagrams at first (`HaveRoom`), as those of [`Ends::new`]
-/// do.
+/// window that a view shows is that of the controller behind all that it was told; what the pacer
+/// holds follows from the polls up to there and the bytes that went; and an open end tracks exactly
+/// the datagrams that it gave and that are neither acknowledged, nor lost by number or by time, nor
+/// forgotten, shows its loss timer set to the moment that is due for them and its own round trips,
+/// and not set once all that ask were named, and its timer of acknowledgements to one that is due
+/// for a packet that it took and hasn't acknowledged since. An end rests where its last call was a
+/// poll that gave nothing, and it is open, its path validated, and none of its timers of losses, of
+/// acknowledgements and of the pacer set: then all that it wrote, on streams that it didn't reset,
+/// has arrived, and it owes no acknowledgement, where the controllers keep their law and their
+/// windows hold two datagrams at first (`HaveRoom`), as those of [`Ends::new`] do.
 ///
 /// Nor is a stream opened or accepted twice, or accepted where no frame opened it; a reset is told
 /// only with the code that the other end's application gave; each view shows why an end isn't open,
@@ -655,6 +659,11 @@ pub fn run<H: HeaderKey + Drop, K: PacketKey + Drop, R: Rng + Drop, C: Controlle
     ensures isolated_by_lists { OnRun H.protection K.aead R.stream (windows_of C.steps C.window_of) ends events.now result
         (λ r end. AreStarted r.start → IsolatedByLists r) }
     ensures numbers_rise { OnHonest H.protection K.aead R.stream (windows_of C.steps C.window_of) ends events.now result NumbersRise }
+    ensures sent_to_first_id { OnHonest H.protection K.aead R.stream (windows_of C.steps C.window_of) ends events.now result
+        SentToFirstId }
+    ensures no_unknown_id { OnHonest H.protection K.aead R.stream (windows_of C.steps C.window_of) ends events.now result NoUnknownId }
+    ensures first_id_stays { OnHonest H.protection K.aead R.stream (windows_of C.steps C.window_of) ends events.now result
+        FirstIdStays }
     ensures no_blame { OnHonest H.protection K.aead R.stream (windows_of C.steps C.window_of) ends events.now result NoBlame }
     ensures closed_has_a_reason { OnHonest H.protection K.aead R.stream (windows_of C.steps C.window_of) ends events.now result
         ClosedHasAReason }
@@ -691,6 +700,10 @@ pub fn run<H: HeaderKey + Drop, K: PacketKey + Drop, R: Rng + Drop, C: Controlle
         MessagesGoInOrder }
     ensures each_waited { OnHonest H.protection K.aead R.stream (windows_of C.steps C.window_of) ends events.now result
         EachWaited }
+    ensures waiting_begins { OnHonest H.protection K.aead R.stream (windows_of C.steps C.window_of) ends events.now result
+        WaitingBegins }
+    ensures pacer_is_of_history { OnHonest H.protection K.aead R.stream (windows_of C.steps C.window_of) ends events.now result
+        PacerIsOfHistory }
     ensures messages_are_told { OnHonest H.protection K.aead R.stream (windows_of C.steps C.window_of) ends events.now result
         MessagesAreTold }
     ensures openings_are_told { OnHonest H.protection K.aead R.stream (windows_of C.steps C.window_of) ends events.now result
@@ -739,6 +752,9 @@ pub fn run<H: HeaderKey + Drop, K: PacketKey + Drop, R: Rng + Drop, C: Controlle
     headline::isolated_by_answers();
     headline::isolated_by_lists();
     headline::numbers_rise();
+    headline::sent_to_first_id();
+    headline::no_unknown_id();
+    headline::first_id_stays();
     headline::no_blame();
     headline::closed_has_a_reason();
     headline::too_many_pieces();
@@ -758,6 +774,8 @@ pub fn run<H: HeaderKey + Drop, K: PacketKey + Drop, R: Rng + Drop, C: Controlle
     headline::messages_go();
     headline::messages_go_in_order();
     headline::each_waited();
+    headline::waiting_begins();
+    headline::pacer_is_of_history();
     headline::messages_are_told();
     headline::openings_are_told();
     headline::readables_are_told();

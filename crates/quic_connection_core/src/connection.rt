@@ -218,7 +218,7 @@ impl<H, K, R, C: Controller> Model for Connection<H, K, R, C> {
         peer_params = c.peer_params;
         streams = c.streams.state;
         messages = record { queues = c.datagrams; to_tell = c.messages_to_tell };
-        waiting = record { ping = c.space.ping_pending; frames = c.streams.pending };
+        waiting = record { signals = record { ping = c.space.ping_pending }; frames = c.streams.pending };
       };
     } };
 
@@ -521,7 +521,7 @@ impl<H: HeaderKey + Drop, K: PacketKey + Drop, R: Rng + Drop, C: Controller> Con
 
     /// A PING that waits is taken: whether one did.
     fn take_ping(&mut self) -> bool
-        ensures waited { result ≡ self.old.end.waiting.ping }
+        ensures waited { result ≡ self.old.end.waiting.signals.ping }
         ensures end { self.new ≡ with_end self.old (with_ping self.old.end false) }
     {
         let waited = self.space.ping_pending;

@@ -108,7 +108,7 @@ module _ (p : Policy) (e : End) (theirs : List (List ℕ)) (P : End → Type 0) 
   by_call calls.Recv a c = c.on_messages refl (λ is. is)
   by_call calls.Ping a c = c.pings
   by_call (calls.Poll now) a c = c.polls now refl
-  by_call (calls.Timeout now) a c = by_expiry e now P c.same (λ expiry. c.times now expiry refl)
+  by_call (calls.Timeout now) a c = by_expiry p e now P c.same (λ expiry. c.times now expiry refl)
   by_call (calls.Deliver delivery) a c = delivered_case (slice_get theirs delivery.index) delivery c.same (λ d. c.hears (delivered_by delivery) d refl)
   by_call (calls.Inject injection) a c = by_injection p e injection P c.same
   by_call calls.Event a c = c.tells refl

@@ -25,7 +25,7 @@ use Rattle.quic_streams_state.specs.declared.state.StreamsState.{StreamsState}
 use Rattle.quic_streams_state.specs.State.{Streams, streams_of, new_streams, after_set_params}
 use Rattle.quic_congestion.specs.Search.{Discovery}
 use Rattle.quic_spaces.specs.Marks.{Counts}
-use Rattle.quic_machine.specs.Parts.{Path, Windows, first_path, Marks, no_marks, Messaging, no_messaging, with_queues, Waiting, nothing_waits}
+use Rattle.quic_machine.specs.Parts.{Path, Windows, first_path, Marks, no_marks, Messaging, no_messaging, with_queues, Signals, Waiting, nothing_waits}
 use Rattle.quic_messages.specs.Messages.{Messages}
 use Rattle.quic_machine.specs.Policy.{Policy, keys_policy}
 
@@ -192,9 +192,13 @@ with_queued e queues = with_messages e (with_queues e.messages queues)
 abbrev pub with_waiting : End → Waiting → End
 with_waiting e w = record e { waiting = w }
 
+-- the end where these signals wait
+abbrev pub with_signals : End → Signals → End
+with_signals e signals = with_waiting e (record e.waiting { signals = signals })
+
 -- the end with PING waiting or not
 abbrev pub with_ping : End → Bool → End
-with_ping e waits = with_waiting e (record e.waiting { ping = waits })
+with_ping e waits = with_signals e (record e.waiting.signals { ping = waits })
 
 -- an end that met want of memory where a datagram was taken or given, or packets were lost at a timeout: it is failed for good, for no reason, and
 -- keeps its keys and its random source. What else stands in it, and what it counted, isn't said

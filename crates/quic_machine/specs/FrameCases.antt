@@ -1,7 +1,7 @@
 -- What a datagram that comes leaves, as cases: of the packets that an ACK frame names or that are lost, of frames, and of the packet that has them.
 use Rattle.std.proofs.Common.{◌≡◌, ℕ, Bool, true, false, not, ◌||◌, ◌==◌, List, [], ◌∷◌, map, length, Option, Some, None, Result, Ok, Err, refl, sym, ◌∙◌}
 use Rattle.std.specs.Prelude.{if◌then◌else◌}
-use Rattle.quic_wire.specs.Value.{FrameValue, AckValue, ack, stream, reset_stream, stop_sending, max_data, max_stream_data, max_streams, new_token, handshake_done, datagram}
+use Rattle.quic_wire.specs.Value.{FrameValue, AckValue, ack, stream, reset_stream, stop_sending, max_data, max_stream_data, max_streams, datagram}
 use Rattle.quic_wire_core.specs.declared.shared.EcnCodepoint.{EcnCodepoint}
 use Rattle.quic_wire.specs.Items.{items}
 use Rattle.quic_wire.specs.declared.frame.InvalidFrame.{InvalidFrame}
@@ -20,7 +20,9 @@ use Rattle.quic_machine.specs.declared.answers.DropReason.TheVariants as drops
 use Rattle.quic_machine.specs.declared.answers.LostReason.{LostReason}
 use Rattle.quic_machine.specs.Policy.{Policy}
 use Rattle.quic_machine.specs.Closing.{ticked}
-use Rattle.quic_machine.specs.Ids.{known}
+use Rattle.quic_machine.specs.Ids.{Ids, known}
+use Rattle.quic_recovery_core.specs.PendingAcks.{Pending}
+use Rattle.quic_wire_core.specs.declared.shared.IssuedCid.{IssuedCid}
 use Rattle.quic_spaces.specs.Numbers.{number_opened, number_named}
 use Rattle.quic_spaces.specs.Marks.{Counts}
 use Rattle.quic_spaces.specs.declared.space.EcnError.{EcnError}
@@ -169,6 +171,40 @@ OnStreams (max_stream_data f) = Unit {0}
 OnStreams (max_streams f) = Unit {0}
 OnStreams f = ⊥
 
+-- a frame apart from streams, which says nothing of what is tracked, and is no message
+abbrev pub IsApart : FrameValue → Type 0
+IsApart (ack a) = ⊥
+IsApart (stream f) = ⊥
+IsApart (reset_stream f) = ⊥
+IsApart (stop_sending f) = ⊥
+IsApart (max_data limit) = ⊥
+IsApart (max_stream_data f) = ⊥
+IsApart (max_streams f) = ⊥
+IsApart (datagram m) = ⊥
+IsApart f = Unit {0}
+
+-- what such a frame may change: ids, and which wait to be told of and to be retired; whether the peer's address is validated; and what is to be acknowledged, but for
+-- the numbers
+pub record Apart : Type 0 where
+  pub ids : Ids
+  pub new_cids : List IssuedCid
+  pub retire_cids : List ℕ
+  pub validated : Bool
+  pub acknowledging : Pending
+
+-- the end with that
+abbrev pub with_apart : End → Apart → End
+with_apart e c = record e {
+  ids = c.ids;
+  waiting = record e.waiting { frames = record e.waiting.frames { new_cids = c.new_cids; retire_cids = c.retire_cids } };
+  path = record e.path { validated = c.validated };
+  acknowledging = record c.acknowledging { runs = e.acknowledging.runs };
+}
+
+-- that of an end as it is
+abbrev pub apart_of : End → Apart
+apart_of e = record { ids = e.ids; new_cids = e.waiting.frames.new_cids; retire_cids = e.waiting.frames.retire_cids; validated = e.path.validated; acknowledging = e.acknowledging }
+
 -- the frames that change an end, by kind
 pub record TakesFrame (P : End → Type 0) : Type 0 where
   pub ack : (rises : Bool) (a : AckValue) (e : End) → P e → P (after_acked rises a (named a e))
@@ -176,6 +212,8 @@ pub record TakesFrame (P : End → Type 0) : Type 0 where
   pub on_streams : (f : FrameValue) (e : End) → OnStreams f → P e → P (take_frame f e).end
   -- a message: others wait, and it is told of or isn't
   pub message : (m : Messaging) (e : End) → P e → P (with_messages e m)
+  -- a frame apart from these
+  pub apart : (f : FrameValue) (e : End) → IsApart f → P e → P (take_frame f e).end
 
 -- a message leaves the end as it was, or with other messages
 pub message_leaves : (P : End → Type 0) (m : List ℕ) (e : End) → P e → ((left : Messaging) → P (with_messages e left)) → P (take_message m e).end
@@ -199,9 +237,7 @@ frame_keeps P c (max_data limit) e i = c.on_streams (max_data limit) e tt i
 frame_keeps P c (max_stream_data f) e i = c.on_streams (max_stream_data f) e tt i
 frame_keeps P c (max_streams f) e i = c.on_streams (max_streams f) e tt i
 frame_keeps P c (datagram m) e i = message_leaves P m e i (λ left. c.message left e i)
-frame_keeps P c (new_token t) e i = i
-frame_keeps P c handshake_done e i = i
-frame_keeps P c f e i = i
+frame_keeps P c f e i = c.apart f e tt i
 
 -- a frame on streams leaves other streams, and another end in nothing else
 pub frame_leaves : (P : End → Type 0) (f : FrameValue) (e : End) → OnStreams f → ((t : Streams) → P (with_streams e t)) → P (take_frame f e).end
@@ -212,6 +248,30 @@ frame_leaves P (max_data limit) e on all = all _
 frame_leaves P (max_stream_data f) e on all = all _
 frame_leaves P (max_streams f) e on all = all _
 frame_leaves P f e on all = absurd on
+
+-- a frame apart from streams leaves what such a one may change, and another end in nothing else
+pub apart_leaves : (P : End → Type 0) (f : FrameValue) (e : End) → IsApart f → ((c : Apart) → P (with_apart e c)) → P (take_frame f e).end
+apart_leaves P (ack a) e apart all = absurd apart
+apart_leaves P (stream f) e apart all = absurd apart
+apart_leaves P (reset_stream f) e apart all = absurd apart
+apart_leaves P (stop_sending f) e apart all = absurd apart
+apart_leaves P (max_data limit) e apart all = absurd apart
+apart_leaves P (max_stream_data f) e apart all = absurd apart
+apart_leaves P (max_streams f) e apart all = absurd apart
+apart_leaves P (datagram m) e apart all = absurd apart
+apart_leaves P f e apart all = all (apart_of e)
+
+-- none of them changes an end so far
+pub apart_same : (f : FrameValue) (e : End) → IsApart f → (take_frame f e).end ≡ e
+apart_same (ack a) e apart = absurd apart
+apart_same (stream f) e apart = absurd apart
+apart_same (reset_stream f) e apart = absurd apart
+apart_same (stop_sending f) e apart = absurd apart
+apart_same (max_data limit) e apart = absurd apart
+apart_same (max_stream_data f) e apart = absurd apart
+apart_same (max_streams f) e apart = absurd apart
+apart_same (datagram m) e apart = absurd apart
+apart_same f e apart = refl
 
 module _ (P : End → Type 0) (step : (f : FrameValue) (e : End) → P e → P (take_frame f e).end) where
   -- an item of a payload

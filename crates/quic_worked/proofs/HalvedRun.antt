@@ -1,6 +1,6 @@
 -- The run in which a window is halved, event by event, and a machine whose controller is told of no
 -- loss.
-use Rattle.std.proofs.Common.{◌≡◌, ◌≤◌, ℕ, min, Bool, true, false, not, ◌||◌, cond, List, [], ◌∷◌, ◌++◌, filter, Option, Some, None, Ok, refl, inl, sym, ap, ◌∙◌, subst, arith}
+use Rattle.std.proofs.Common.{◌≡◌, ◌≤◌, ℕ, suc, min, Bool, true, false, not, ◌||◌, cond, List, [], ◌∷◌, ◌++◌, filter, Option, Some, None, Ok, refl, inl, sym, ap, ◌∙◌, subst, arith}
 use Rattle.std.specs.Prelude.{if◌then◌else◌, slice_get}
 use Rattle.std.specs.List.{list_any}
 use Rattle.quic_wire_core.specs.declared.stream_id.Side.{Side}
@@ -23,8 +23,9 @@ use Rattle.quic_headline.specs.Observer.{Watch, Lens, asks_of, news, has_opened,
 use Rattle.quic_headline.specs.Observer as observer
 use Rattle.quic_headline.specs.Headline.{IsHonest, IsRun}
 use Rattle.quic_headline.specs.Telling.{Tellings, Judging, judging, first_behind, told_if, MayProbe, lost_at, but_for_probe, bytes_asking, acked_flight, TellsLosses, TellsAck, TellsNamed, TellsSettled, TellsPackets, TellsCall, TellsCalls, ControllersAreTold}
-use Rattle.quic_headline.proofs.Places.Theorems.{controllers_are_told}
-use Rattle.quic_worked.specs.Worked.{worked_policies, asks_datagram, gives_bytes, told_in}
+use Rattle.quic_worked.specs.Worked.{worked_policies, asks_datagram, gives_bytes, told_in, server_id}
+use Rattle.quic_headline.specs.AppLimited.{CountsAt}
+use Rattle.quic_headline.proofs.AppLimited.Clause.{controllers_are_told}
 use Rattle.quic_worked.specs.Acknowledged.{client_acked, third_ack}
 use Rattle.quic_worked.specs.Reordered.{delivers_at}
 use Rattle.quic_worked.specs.Losses.{asks_ping}
@@ -209,12 +210,12 @@ told_one true now sent persistent lost some = refl
 told_one false now sent persistent lost some = cc
 
 -- what the last of some calls tells is told among the rest
-last_told : (l : Lens) (c : TransportSettings) (first : Option ℕ) (w : Watch) (ts : List of_runs.Told) (t : of_runs.Told) (told : Tellings) → TellsCalls l c first w (ts ++ t ∷ []) told
-    → (known : Option ℕ) × (now : Tellings) × TellsCall l c known (folded (watch_told l) ts w) t now × (list_any is_congestion now ≡ true → list_any is_congestion told ≡ true)
-last_told l c first w [] t told m = (first, m.0, m.2, λ some. subst (λ (us : Tellings). list_any is_congestion us ≡ true) (sym m.4) (any_left m.0 m.1 some))
-last_told l c first w (u ∷ ts) t told m =
-    let rest = last_told l c (first_behind first (watch_told l u w)) (watch_told l u w) ts t m.1 m.3 in
-    (rest.0, rest.1, rest.2, λ some. subst (λ (us : Tellings). list_any is_congestion us ≡ true) (sym m.4) (any_right m.0 m.1 (rest.3 some)))
+last_told : (l : Lens) (c : TransportSettings) (may : ℕ → Bool → Type 0) (n : ℕ) (first : Option ℕ) (w : Watch) (ts : List of_runs.Told) (t : of_runs.Told) (told : Tellings) → TellsCalls l c may n first w (ts ++ t ∷ []) told
+    → (known : Option ℕ) × (limited : Bool) × (now : Tellings) × TellsCall l c known limited (folded (watch_told l) ts w) t now × (list_any is_congestion now ≡ true → list_any is_congestion told ≡ true)
+last_told l c may n first w [] t told m = (first, m.0, m.1, m.4, λ some. subst (λ (us : Tellings). list_any is_congestion us ≡ true) (sym m.6) (any_left m.1 m.2 some))
+last_told l c may n first w (u ∷ ts) t told m =
+    let rest = last_told l c may (suc n) (first_behind first (watch_told l u w)) (watch_told l u w) ts t m.2 m.5 in
+    (rest.0, rest.1, rest.2, rest.3, λ some. subst (λ (us : Tellings). list_any is_congestion us ≡ true) (sym m.6) (any_right m.1 m.2 (rest.4 some)))
 
 -- the acknowledgement that comes, and what is known before it
 abbrev comes : of_runs.Told
@@ -250,7 +251,7 @@ clock_is = refl
 
 -- a datagram of PING alone, with two zeros
 abbrev pinged : ℕ → observer.Sent
-pinged n = record { number = n; reference = 0; frames = ping ∷ padding ∷ padding ∷ []; moment = 0; size = 29 }
+pinged n = record { id = server_id; number = n; reference = 0; frames = ping ∷ padding ∷ padding ∷ []; moment = 0; size = 29 }
 
 abbrev others : List observer.Sent
 others = filter (λ (s : observer.Sent). not (names third_ack s.number)) seen.flight.flying
@@ -280,10 +281,10 @@ one_asks probe pings = ap (λ (ss : List observer.Sent). list_any asks_of (but_f
     go true is = absurd (no_probe (pings (pinged 0) among is))
     go false is = ap (λ (b : Bool). list_any asks_of (cond (not b) (pinged 0 ∷ []) [])) is
 
-module _ (first : Option ℕ) where
+module _ (first : Option ℕ) (limited : Bool) where
   -- by what losses are judged there, where this number went next as a round trip was first measured
   abbrev j : Judging
-  j = judging lens settings first seen
+  j = judging lens settings first limited seen
 
   losses_congest : (told : Tellings) → TellsLosses j 100000000 true behind told → list_any is_congestion told ≡ true
   losses_congest told x =
@@ -291,13 +292,13 @@ module _ (first : Option ℕ) where
       ∙ any_right (told_if x.falls (Resized settings.min_mtu)) _ (told_one (list_any asks_of (but_for_probe x.probe (lost_at lens.terms 100000000 behind))) 100000000 _ x.persists _ (one_asks x.probe x.pinged))
 
   -- the ACK frame ends so
-  abbrev ended : Bool → Told
-  ended app_limited = AcksEnded 100000000 (min (bytes_asking others) observer.latest) app_limited (Some (greatest_of seen.flight.named third_ack.largest))
+  abbrev ended : Told
+  ended = AcksEnded 100000000 (min (bytes_asking others) observer.latest) limited (Some (greatest_of seen.flight.named third_ack.largest))
 
   settled_congests : (told : Tellings) → TellsSettled j 100000000 third_ack (pinged 3 ∷ []) others seen.flight told → list_any is_congestion told ≡ true
   settled_congests told x =
       ap (λ (us : Tellings). list_any is_congestion us) x.is
-      ∙ any_left (x.each ++ ended x.app_limited ∷ x.lost) _ (any_right x.each (ended x.app_limited ∷ x.lost) (losses_congest x.lost x.losses))
+      ∙ any_left (x.each ++ ended ∷ x.lost) _ (any_right x.each (ended ∷ x.lost) (losses_congest x.lost x.losses))
 
   packets_congest : (told : Tellings) → TellsPackets j 100000000 (packet ∷ []) seen.flight told → list_any is_congestion told ≡ true
   packets_congest told m =
@@ -306,7 +307,7 @@ module _ (first : Option ℕ) where
       subst (λ (us : Tellings). list_any is_congestion us ≡ true) (sym m.4)
       (any_right m.0 m.1 (subst (λ (us : Tellings). list_any is_congestion us ≡ true) (sym frames.4) (any_left frames.0 frames.1 (settled_congests frames.0 settled))))
 
-  call_congests : (now : Tellings) → TellsCall lens settings first seen comes now → list_any is_congestion now ≡ true
+  call_congests : (now : Tellings) → TellsCall lens settings first limited seen comes now → list_any is_congestion now ≡ true
   call_congests now x = ap (λ (us : Tellings). list_any is_congestion us) x.is ∙ any_left (x.taken ++ x.refused ++ x.late) _ (any_left (x.taken ++ x.refused) x.late (any_left x.taken x.refused (packets_congest x.taken takes)))
     where
       clock : x.clock ≡ 100000000
@@ -324,9 +325,9 @@ module _ (first : Option ℕ) where
 pub untold_not : ControllersAreTold untold_run → ⊥
 untold_not h =
     let all = h Client 10 (seen_with (Some 112500000) None) refl refl in
-    let last = last_told lens settings None (watch_from (end_at Client halving) untold_run.from_client) (until untold_run Client 10) comes all.0 (subst (λ (ts : List of_runs.Told). TellsCalls lens settings None (watch_from (end_at Client halving) untold_run.from_client) ts all.0) comes_last all.1) in
+    let last = last_told lens settings (CountsAt untold_run Client) 0 None (watch_from (end_at Client halving) untold_run.from_client) (until untold_run Client 10) comes all.0 (subst (λ (ts : List of_runs.Told). TellsCalls lens settings (CountsAt untold_run Client) 0 None (watch_from (end_at Client halving) untold_run.from_client) ts all.0) comes_last all.1) in
     let shows : ◌≡◌ {A = ℕ} 12000 (if list_any is_congestion all.0 then 6000 else 12000) = all.2 in
-    let halves : ◌≡◌ {A = ℕ} 12000 6000 = shows ∙ ap (λ (b : Bool). if b then 6000 else 12000) (last.3 (call_congests last.0 last.1 last.2)) in
+    let halves : ◌≡◌ {A = ℕ} 12000 6000 = shows ∙ ap (λ (b : Bool). if b then 6000 else 12000) (last.4 (call_congests last.0 last.1 last.2 last.3)) in
     absurd (omega (arith, halves))
 
 -- the window that a view shows

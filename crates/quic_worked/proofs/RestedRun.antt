@@ -1,5 +1,5 @@
 -- The run in which both ends come to rest, event by event, and those of machines that rest too early or not at all.
-use Rattle.std.proofs.Common.{◌≡◌, ℕ, ◌^◌, ◌<◌, List, [], ◌∷◌, ◌++◌, replicate, take, true, Option, Some, None, Ok, refl, inl, inr, sym, ap, ◌∙◌, subst, lit<, lit≤, arith}
+use Rattle.std.proofs.Common.{◌≡◌, ℕ, ◌^◌, ◌<◌, List, [], ◌∷◌, ◌++◌, replicate, take, true, Option, Some, None, Ok, refl, ◌⊎◌, inl, inr, sym, ap, ◌∙◌, subst, lit<, lit≤, arith}
 use Rattle.std.specs.Prelude.{slice_get}
 use Rattle.std.proofs.lemmas.List.Elements.{All-head, All-tail}
 use Rattle.quic_wire_core.specs.declared.stream_id.Side.{Side}
@@ -9,6 +9,7 @@ use Rattle.quic_congestion.specs.Congestion.{Told, Sent, Acked, AcksEnded, Conge
 use Rattle.quic_worked.specs.Settings.{plain_settings}
 use Rattle.quic_machine.specs.declared.answers.Received.TheVariants as receives
 use Rattle.quic_machine.specs.declared.run.RunEvent.{RunEvent}
+use Rattle.quic_machine.specs.declared.run.Call.TheVariants as calls
 use Rattle.quic_machine.specs.declared.run.Answer.{Answer}
 use Rattle.quic_machine.specs.declared.run.Answer.TheVariants as answers
 use Rattle.quic_machine.specs.declared.run.View.{View}
@@ -21,6 +22,7 @@ use Rattle.quic_headline.specs.Observer.{Sent as SentAs, took, sents_until}
 use Rattle.quic_headline.specs.Moments.{loss_timer, ack_timer, AllNamed, LossTimerQuiet}
 use Rattle.quic_headline.specs.Polls.{pacing_timer, IsPaced}
 use Rattle.quic_headline.specs.Headline.{IsHonest, IsRun}
+use Rattle.quic_headline.specs.Spread.{named_at, PacerIsOfHistory}
 use Rattle.quic_headline.specs.Rest.{ShowsStill, Rests, HaveRoom, unanswered, IsUnacknowledged, DeliveredAtRest, NothingOwedAtRest}
 use Rattle.quic_worked.specs.Worked.{ran, worked_policies, client_id, server_id, opens_stream, writes_hello, finishes_stream, asks_datagram, gives_bytes, hello_frame}
 use Rattle.quic_worked.specs.Acknowledged.{client_acked}
@@ -375,7 +377,7 @@ never_unanswered end f =
 
 -- the client's datagram, as it was sent
 abbrev hello_sent : SentAs
-hello_sent = record { number = 0; reference = 0; frames = stream hello_frame ∷ []; moment = 0; size = 34 }
+hello_sent = record { id = server_id; number = 0; reference = 0; frames = stream hello_frame ∷ []; moment = 0; size = 34 }
 
 sent_one : sents_until timed_on Client 8 ≡ hello_sent ∷ []
 unfolding client_acked
@@ -414,6 +416,17 @@ shows_paced = record { moment = 1000000; shown = refl; later = lit< tt }
 
 pub paced_rests : Rests paced_run Client 3 → ⊥
 paced_rests at = (let shown : paced_view ≡ at.view = cc in set_and_not 1000000 (ap (λ (v : View). pacing_timer v Client) shown ∙ at.still.no_pacing_timer))
+
+-- by the lists the pacer names no later moment
+paced_names : named_at paced_run Client 2 0 ≡ None
+paced_names = refl
+
+set_otherwise : (o : Option ℕ) (moment : ℕ) → o ≡ None → (◌≡◌ {A = Option (Option ℕ)} (Some (Some moment)) (Some None)) ⊎ (◌≡◌ {A = Option (Option ℕ)} (Some (Some moment)) (Some o)) → ⊥
+set_otherwise o moment none (inl is) = set_and_not moment is
+set_otherwise o moment none (inr is) = set_and_not moment (is ∙ ap (λ (x : Option ℕ). Some x) none)
+
+pub paced_paces : PacerIsOfHistory paced_run → ⊥
+paced_paces h = set_otherwise (named_at paced_run Client 2 0) 1000000 paced_names (h Client 2 (calls.Poll 0) gives_nothing paced_view refl (record { event = refl; answer = refl }) refl refl).sets
 
 timed_own : (side : Side) → AreOwn side [] timed_on.events timed_on.answers timed_on.views
 timed_own Client = (tt, (inl refl, (inl refl, (tt, (tt, (tt, (tt, (tt, (tt, (tt, tt))))))))))

@@ -89,7 +89,7 @@ polled_timer p e now = by_poll_to p e now (λ (q : Polled). acknowledges (sent_i
   silent = λ none opened. refl;
   failed = λ none opened. refl;
   nothing = λ is quiet none opened. ready_timer e now;
-  used_up = λ none opened. cc;
+  closes = λ none opened. cc;
   gives = λ is may some none opened.
       let g : Ready = ready_at e now in
       by_going (λ (x : End). x.timers.max_ack_delay ≡ e.timers.max_ack_delay) p (draft_at e now) (λ pacing.
@@ -150,7 +150,7 @@ expired_clock e now = by_expired e now (λ (x : End). x.closing ≡ ticked e.clo
 -- a timer that is set behind a timeout is set to a later moment
 pub timeout_later : (p : Policy) (e : End) (theirs : List (List ℕ)) (now : ℕ) (a : Answer) (moment : ℕ) → e.closing.state ≡ states.Open → (after_call p e theirs (calls.Timeout now) a).timers.max_ack_delay ≡ Some moment → (after_call p e theirs (calls.Timeout now) a).closing.clock < moment
 timeout_later p e theirs now a moment opened =
-    subst (λ (x : End). x.timers.max_ack_delay ≡ Some moment → x.closing.clock < moment) (sym (ap (λ (s : State). (timed_out_in s e now).end) opened))
+    subst (λ (x : End). x.timers.max_ack_delay ≡ Some moment → x.closing.clock < moment) (sym (ap (λ (s : State). (timed_out_in s p e now).end) opened))
     (λ set. subst (λ (c : Closing). c.clock < moment) (sym (expired_clock e now expiry)) (go (has_come e.timers.max_ack_delay (ticked e.closing now).clock) refl set))
   where
     expiry : Expiry
@@ -286,7 +286,7 @@ module _ (x y : Party) (call : Call) (a : Answer) (c : Calls Observed x y call a
 
   -- the observer within it
   pub debt_watched : before.watch ≡ watch_of x y
-  debt_watched = owed_watch (lens x y) x.told (first_debt (first_watch (x.id ∷ []) x.final x.began x.initial_rtt))
+  debt_watched = owed_watch (lens x y) x.told (first_debt (first_watch x.final x.began x.initial_rtt))
 
   abbrev after : Watch
   after = watch_behind x y call a c before.watch debt_watched
@@ -294,7 +294,7 @@ module _ (x y : Party) (call : Call) (a : Answer) (c : Calls Observed x y call a
   -- what isn't answered behind the call
   arrivals_told : (debt_of (called x y.given call a) y).arrivals ≡ (if acknowledges (sents_by x.end call a) then [] else arrivals_of (news (came_to x y) (came_to (called x y.given call a) y)) after.clock ++ before.arrivals)
   arrivals_told =
-      ap (λ (d : Debt). d.arrivals) (folded_more (debt_told (lens x y)) x.told (told_of call a x.end.closing.state) (first_debt (first_watch (x.id ∷ []) x.final x.began x.initial_rtt)))
+      ap (λ (d : Debt). d.arrivals) (folded_more (debt_told (lens x y)) x.told (told_of call a x.end.closing.state) (first_debt (first_watch x.final x.began x.initial_rtt)))
       ∙ ap (λ (ss : List Sent). if acknowledges ss then [] else arrivals_of (news before.watch.intake after.intake) after.clock ++ before.arrivals) (went_behind x y call a c before.watch debt_watched)
       ∙ ap (λ (i : Intake). if acknowledges (sents_by x.end call a) then [] else arrivals_of (news i after.intake) after.clock ++ before.arrivals) (came_before x y call a c before.watch debt_watched)
       ∙ ap (λ (j : Intake). if acknowledges (sents_by x.end call a) then [] else arrivals_of (news (came_to x y) j) after.clock ++ before.arrivals) (came_behind x y call a c before.watch debt_watched)

@@ -151,7 +151,7 @@ nothing_goes = record {
 
 -- a datagram that isn't whole yet, behind those that were sent
 abbrev drafted : List FrameValue → Sent
-drafted fs = record { number = 0; reference = 0; frames = fs; moment = 0; size = 0 }
+drafted fs = record { id = []; number = 0; reference = 0; frames = fs; moment = 0; size = 0 }
 
 no_stream : (f : FrameValue) (g : StreamValue) → IsNoStream f → stream g ≡ f → ⊥
 no_stream f g is same = subst IsNoStream (sym same) is
@@ -232,7 +232,7 @@ module _ (arrived : ℕ → ℕ → Type 0) (end_arrived : ℕ → Type 0) (n : 
     silent = i;
     failed = i;
     nothing = λ c. i;
-    used_up = λ c. i;
+    closes = λ c. i;
     gives = λ leaving c left is may ready some.
         let x : End = at_poll e now c in
         draft_settles arrived end_arrived n w (λ fs. nothing_known) nothing_goes leaving x (may_leave e now leaving x ready) i;
@@ -245,7 +245,7 @@ module _ (arrived : ℕ → ℕ → Type 0) (end_arrived : ℕ → Type 0) (n : 
     silent = same;
     failed = same;
     nothing = λ c. same;
-    used_up = λ c. same;
+    closes = λ c. same;
     gives = λ leaving c left is may ready some.
         let x : End = at_poll e now c in
         let d : Draft = draft_as leaving x in
