@@ -106,14 +106,14 @@ module _ {H K R C : Type 0} (steps : Steps C) (window : C → ℕ) (p : Policy) 
   poll_answers now (Err x) is = inr refl
 
   -- a moment
-  pub timeout_answers : (now : ℕ) (r : Result (Unit {0}) Failed) → OnOk r (r ≡ (timed_out old.end now).answer)
+  pub timeout_answers : (now : ℕ) (r : Result (Unit {0}) Failed) → OnOk r (r ≡ (timed_out p old.end now).answer)
       → IsAnswer p (reads_window (windows_of steps window old.control) (calls.Timeout now) old.end) [] (calls.Timeout now) (answers.Timeout r)
   timeout_answers now (Ok x) is = inl (ap answers.Timeout is)
   timeout_answers now (Err x) is = inr refl
 
-  pub timeout_told : (now : ℕ) (r : Result (Unit {0}) Failed) → OnOk r (new ≡ telling steps old (told_timed_out old.end now) (timed_out old.end now).end)
+  pub timeout_told : (now : ℕ) (r : Result (Unit {0}) Failed) → OnOk r (new ≡ telling steps old (told_timed_out old.end now) (timed_out p old.end now).end)
       → IsTold (fails (answers.Timeout r)) p (windows_of steps window old.control) old.end [] (calls.Timeout now) (windows_of steps window new.control)
-  timeout_told now (Ok x) left = windows_left (told_timed_out old.end now) (timed_out old.end now).end left
+  timeout_told now (Ok x) left = windows_left (told_timed_out old.end now) (timed_out p old.end now).end left
   timeout_told now (Err x) left = tt
 
   -- a datagram of the other end
@@ -154,7 +154,7 @@ module _ {H K R C : Type 0} (steps : Steps C) (window : C → ℕ) (p : Policy) 
   poll_heard now (Err x) is = tt
 
   -- a moment
-  pub timeout_heard : (now : ℕ) (r : Result (Unit {0}) Failed) → OnOk r (new ≡ telling steps old (told_timed_out old.end now) (timed_out old.end now).end) → IsHeard (fails (answers.Timeout r)) [] (calls.Timeout now) (answers.Timeout r) old.heard new.heard
+  pub timeout_heard : (now : ℕ) (r : Result (Unit {0}) Failed) → OnOk r (new ≡ telling steps old (told_timed_out old.end now) (timed_out p old.end now).end) → IsHeard (fails (answers.Timeout r)) [] (calls.Timeout now) (answers.Timeout r) old.heard new.heard
   timeout_heard now (Ok x) left = ap (λ w. w.heard) left
   timeout_heard now (Err x) left = tt
 

@@ -55,11 +55,11 @@ go_then stream a b c first next = record { client = goes_then stream a.client b.
 
 -- ---- policies of two ends
 
-module _ {H K R C : Type 0} (protection : H → Protection) (aead : K → Aead) (stream : R → Stream) where
+module _ {H K R C : Type 0} (protection : H → Protection) (aead : K → Aead) (seals openings : K → ℕ) (stream : R → Stream) where
   -- what an end's own policy says goes on
-  pub serve_on : (k : Policy) (old new : ConnectionValue H K R C) → Serves k (policy_of protection aead (words_of stream) old) old.end → GoesOn stream old new → Serves k (policy_of protection aead (words_of stream) new) new.end
+  pub serve_on : (k : Policy) (old new : ConnectionValue H K R C) → Serves k (policy_of protection aead seals openings (words_of stream) old) old.end → GoesOn stream old new → Serves k (policy_of protection aead seals openings (words_of stream) new) new.end
   serve_on k old new s g = record {
-    keys = s.keys ∙ ap (λ ks. keys_policy protection aead ks k.words) (sym g.keys);
+    keys = s.keys ∙ ap (λ ks. keys_policy protection aead seals openings ks k.words) (sym g.keys);
     words = λ o n high.
         let more = g.drawn o in
         let low : old.end.filter.drawn ≤ n = omega arith in
@@ -71,9 +71,9 @@ module _ {H K R C : Type 0} (protection : H → Protection) (aead : K → Aead) 
   }
 
   -- the ends' own policies
-  pub are_own : (ends : Ends H K R C) → AreOf (policies_of protection aead stream ends) protection aead stream ends
+  pub are_own : (ends : Ends H K R C) → AreOf (policies_of protection aead seals openings stream ends) protection aead seals openings stream ends
   are_own ends = record { client = record { keys = refl; words = λ o n h. refl }; server = record { keys = refl; words = λ o n h. refl } }
 
   -- they go on
-  pub are_on : (k : Policies) (old new : Ends H K R C) → AreOf k protection aead stream old → GoOn stream old new → AreOf k protection aead stream new
+  pub are_on : (k : Policies) (old new : Ends H K R C) → AreOf k protection aead seals openings stream old → GoOn stream old new → AreOf k protection aead seals openings stream new
   are_on k old new s g = record { client = serve_on k.client old.client new.client s.client g.client; server = serve_on k.server old.server new.server s.server g.server }

@@ -4,7 +4,7 @@ ghost use Rattle.quic_parameters.specs.ParametersWritten.{written_parameters};
 ghost use Rattle.quic_parameters.specs.ParametersRead.{parameters_at};
 ghost use Rattle.quic_config.specs.Transport.{parameters_of, first_mtu, IsInRange};
 ghost use Rattle.quic_machine.specs.Policy.{KeysCanOpen};
-ghost use Rattle.quic_machine.specs.End.{MadeFrom, refusal_of};
+ghost use Rattle.quic_machine.specs.End.{MadeFrom, limits_of, refusal_of};
 ghost use Rattle.quic_machine.specs.Heard.{nothing_heard};
 ghost use Rattle.quic_machine.specs.Start.{AreStarted, AreControlled, AreKeys};
 ghost use Rattle.quic_machine.specs.declared.answers.ConfigError.TheVariants as config_errors;
@@ -78,9 +78,11 @@ fn end_for<
     ensures random { IfOk result (λ c. R.stream c.random ≡ after_words 1 (R.stream own.random)) }
     ensures heard { IfOk result (λ c. c.heard ≡ nothing_heard) }
     ensures refusal { IfErr result (λ e.
-        Some e ≡ refusal_of own.config.settings (C.window_of (controller_for F.built own.config now)) (parameters_at peer_parameters.entry.now) own.id peer_id) }
+        Some e ≡ refusal_of own.config.settings (C.window_of (controller_for F.built own.config now))
+        (limits_of K.seal_limit K.refusal_limit own.keys) (parameters_at peer_parameters.entry.now) own.id peer_id) }
     ensures lawful { OnOk result (
-        refusal_of own.config.settings (C.window_of (controller_for F.built own.config now)) (parameters_at peer_parameters.entry.now) own.id peer_id ≡ None) }
+        refusal_of own.config.settings (C.window_of (controller_for F.built own.config now))
+        (limits_of K.seal_limit K.refusal_limit own.keys) (parameters_at peer_parameters.entry.now) own.id peer_id ≡ None) }
 {
     let Making {
         config,
@@ -113,7 +115,8 @@ impl<H: HeaderKey + Drop, K: PacketKey + Drop, R: Rng + Drop, C: Controller> End
     /// [`ConfigError`], the client's before the server's: `IdLength` where an id hasn't eight
     /// bytes, `Size` where a size of datagrams is above what a UDP payload may have or the least is
     /// above what the other end takes, `Window` where the congestion controller's window doesn't
-    /// hold two datagrams of the size that the path begins with, `Memory` where memory lacks.
+    /// hold two datagrams of the size that the path begins with, `KeyLimit` where a key may seal or
+    /// refuse fewer than 16 packets, `Memory` where memory lacks.
     pub fn new<F: ControllerFactory<Controller = C> + Drop>(
         alloc: Global,
         now: Instant,
@@ -146,14 +149,18 @@ impl<H: HeaderKey + Drop, K: PacketKey + Drop, R: Rng + Drop, C: Controller> End
             e ≢ config_errors.Memory
             → IsRefused e client.config.settings server.config.settings
             (C.window_of (controller_for F.built client.config now))
-            (C.window_of (controller_for F.built server.config now)) client.id server.id) }
+            (C.window_of (controller_for F.built server.config now))
+            (limits_of K.seal_limit K.refusal_limit client.keys)
+            (limits_of K.seal_limit K.refusal_limit server.keys) client.id server.id) }
         ensures lawful { OnOk result (
             refusal_for client.config.settings
-            (C.window_of (controller_for F.built client.config now)) server.config.settings
+            (C.window_of (controller_for F.built client.config now))
+            (limits_of K.seal_limit K.refusal_limit client.keys) server.config.settings
             client.id server.id ≡ None) }
         ensures lawful_server { OnOk result (
             refusal_for server.config.settings
-            (C.window_of (controller_for F.built server.config now)) client.config.settings
+            (C.window_of (controller_for F.built server.config now))
+            (limits_of K.seal_limit K.refusal_limit server.keys) client.config.settings
             server.id client.id ≡ None) }
         ensures controlled { IfOk result (λ ends.
             AreControlled (first_world (windows_of C.steps C.window_of) ends)) }
@@ -163,7 +170,7 @@ impl<H: HeaderKey + Drop, K: PacketKey + Drop, R: Rng + Drop, C: Controller> End
         ensures keys { IfOk result (λ ends.
             KeysCanOpen H.protection K.aead client.keys server.keys
             → KeysCanOpen H.protection K.aead server.keys client.keys
-            → AreKeys (policies_of H.protection K.aead R.stream ends)) }
+            → AreKeys (policies_of H.protection K.aead K.seal_limit K.refusal_limit R.stream ends)) }
     {
         // A controller keeps room for two datagrams: a law, which does nothing.
         two_datagrams_have_room::<C>();

@@ -4,7 +4,7 @@ ghost use Rattle.quic_parameters.specs.Parameters.{AreInRange};
 ghost use Rattle.quic_parameters.specs.ParametersRead.{parameters_at};
 ghost use Rattle.quic_config.specs.Transport.{Settings, transport_of, first_mtu};
 ghost use Rattle.quic_machine.specs.declared.answers.State.TheVariants as states;
-ghost use Rattle.quic_machine.specs.End.{MadeFrom, refusal_of, with_end, with_closing, closed_by, with_numbers, with_loss_timer, with_ping, side_of, first_streams, are_sizes_wrong, peer_delay, probe_timeout, HasFailed};
+ghost use Rattle.quic_machine.specs.End.{MadeFrom, refusal_of, limits_of, with_end, with_closing, with_numbers, with_loss_timer, with_ping, side_of, first_streams, are_sizes_wrong, peer_delay, probe_timeout, HasFailed};
 ghost use Rattle.quic_spaces.specs.Filter.{first_filter};
 ghost use Rattle.quic_spaces.specs.Marks.{is_congested};
 ghost use Rattle.quic_connection_core.specs.Drawn.{words_of, after_words};
@@ -23,9 +23,12 @@ ghost use Rattle.quic_recovery_core.specs.Duplicates.{is_duplicate};
 ghost use Rattle.quic_time.specs.Timers.{no_timers};
 
 mod acked;
+mod closes;
 mod closing;
+mod idle;
 mod ids;
 mod leaving;
+mod limits;
 mod losses;
 mod messages;
 mod packet;
@@ -40,7 +43,9 @@ mod timeouts;
 
 use crate::config::Config;
 use crate::connection::closing::Closing;
+use crate::connection::idle::negotiate_max_idle_timeout;
 use crate::connection::ids::{Ids, OWN_ID_LENGTH};
+use crate::connection::limits::are_keys_short;
 use quic_config::MAX_UDP_PAYLOAD;
 use quic_congestion::{Controller, ControllerFactory};
 use quic_machine::{ConfigError, Instant, LostReason, State, TransportConfig};
@@ -156,6 +161,10 @@ pub struct Connection<H, K, R, C: Controller> {
     // Which packet numbers are left out.
     filter: PacketNumberFilter,
     timers: TimerTable,
+    // How long the connection may be without a packet, if both ends don't let it be so without end;
+    // and whether the next packet that is given and asks lets that time begin anew.
+    idle_timeout: Option<Duration>,
+    permit_idle_reset: bool,
     // The path to the peer, with its controller, its pacer and what is in flight.
     path: PathData<C>,
     // What the controller showed at the last poll.
@@ -184,6 +193,7 @@ impl<H, K, R, C: Controller> Model for Connection<H, K, R, C> {
     ghost use Rattle.quic_parameters.specs.Parameters.{AreInRange};
     ghost use Rattle.quic_wire.specs.AckView.{counts_view};
     ghost use Rattle.quic_machine.specs.End.{ConnectionValue};
+    ghost use Rattle.quic_machine.specs.Idle.{agreed_timeout};
     ghost use Rattle.quic_connection_core.specs.Telling.{AreSizes};
     ghost use Rattle.quic_connection_core.specs.Flying.{IsInFlight};
 
@@ -203,6 +213,7 @@ impl<H, K, R, C: Controller> Model for Connection<H, K, R, C> {
         marks = record { came = counts_view c.space.ecn_counters; told = counts_view c.space.ecn_feedback };
         timers = c.timers;
         tracking = c.space.tracking;
+        idle_armed = c.permit_idle_reset;
         path = record {
           validated = c.path.validated;
           generation = c.path.generation;
@@ -218,14 +229,16 @@ impl<H, K, R, C: Controller> Model for Connection<H, K, R, C> {
         peer_params = c.peer_params;
         streams = c.streams.state;
         messages = record { queues = c.datagrams; to_tell = c.messages_to_tell };
-        waiting = record { ping = c.space.ping_pending; frames = c.streams.pending };
+        waiting = record { signals = record { ping = c.space.ping_pending }; frames = c.streams.pending };
       };
     } };
 
-    // Nothing asks for IMMEDIATE_ACK yet. The size of datagrams lies between 1200 bytes and what
-    // the peer takes, the controller was told no less, and two datagrams fit the window. In flight
-    // is what is tracked, asks, and went on the path.
+    // Nothing asks for IMMEDIATE_ACK yet. The idle timeout is that of both ends' settings. The size
+    // of datagrams lies between 1200 bytes and what the peer takes, the controller was told no
+    // less, and two datagrams fit the window. In flight is what is tracked, asks, and went on the
+    // path.
     ghost invariant = { λ c. (c.space.immediate_ack_pending ≡ false)
+        × (c.idle_timeout ≡ agreed_timeout c.transport c.peer_params)
         × AreInRange c.peer_params
         × AreSizes C.size_of C.window_of c.peer_params.max_udp_payload_size c.path.discovery c.path.congestion c.window
         × IsInFlight c.path.generation c.space.numbers.next c.space.tracking.packets c.path.in_flight };
@@ -268,8 +281,8 @@ impl<H: HeaderKey + Drop, K: PacketKey + Drop, R: Rng + Drop, C: Controller> Con
         ensures keys { IfOk result (λ c. c.keys ≡ keys) }
         ensures random { IfOk result (λ c. R.stream c.random ≡ after_words 1 (R.stream random)) }
         ensures heard { IfOk result (λ c. c.heard ≡ nothing_heard) }
-        ensures refusal { IfErr result (λ e. Some e ≡ refusal_of config.now.settings (C.window_of (F.built config.now.factory now (first_mtu (transport_of config.now.settings)))) (parameters_at peer_parameters.now) own_id peer_id) }
-        ensures lawful { OnOk result (refusal_of config.now.settings (C.window_of (F.built config.now.factory now (first_mtu (transport_of config.now.settings)))) (parameters_at peer_parameters.now) own_id peer_id ≡ None) }
+        ensures refusal { IfErr result (λ e. Some e ≡ refusal_of config.now.settings (C.window_of (F.built config.now.factory now (first_mtu (transport_of config.now.settings)))) (limits_of K.seal_limit K.refusal_limit keys) (parameters_at peer_parameters.now) own_id peer_id) }
+        ensures lawful { OnOk result (refusal_of config.now.settings (C.window_of (F.built config.now.factory now (first_mtu (transport_of config.now.settings)))) (limits_of K.seal_limit K.refusal_limit keys) (parameters_at peer_parameters.now) own_id peer_id ≡ None) }
     {
         let Ok(theirs) = TransportParameters::read(side, peer_parameters) else {
             return Err(ConfigError::Parameters);
@@ -290,6 +303,9 @@ impl<H: HeaderKey + Drop, K: PacketKey + Drop, R: Rng + Drop, C: Controller> Con
         if window < 2 * u64::from(mtu) {
             return Err(ConfigError::Window);
         }
+        if are_keys_short(&keys) {
+            return Err(ConfigError::KeyLimit);
+        }
         path.validated = validated;
         let mut random = random;
         let filter = first_filter(&mut random);
@@ -299,6 +315,8 @@ impl<H: HeaderKey + Drop, K: PacketKey + Drop, R: Rng + Drop, C: Controller> Con
             space: PacketSpace::new(alloc, now),
             filter,
             timers: TimerTable::default(),
+            idle_timeout: negotiate_max_idle_timeout(&transport, &theirs),
+            permit_idle_reset: true,
             path,
             window,
             app_limited: false,
@@ -315,7 +333,7 @@ impl<H: HeaderKey + Drop, K: PacketKey + Drop, R: Rng + Drop, C: Controller> Con
         })
     }
 
-    /// Whether the end is no longer open: it is closing, drained or failed.
+    /// Whether the end is no longer open: it is closing, drained or failed (RFC 9000, section 10).
     pub fn is_closed(&self) -> bool
         ensures { IsTrue result ↔ (self.now.end.closing.state ≢ states.Open) }
     {
@@ -359,7 +377,7 @@ impl<H: HeaderKey + Drop, K: PacketKey + Drop, R: Rng + Drop, C: Controller> Con
     }
 
     /// Why the end isn't open: what closed it, or none where nothing did. A failed end has no
-    /// reason.
+    /// reason, whether it had closed before or not.
     pub fn lost(&self) -> Option<&LostReason>
         ensures { option_copied result ≡ self.now.end.closing.reason }
     {
@@ -391,8 +409,8 @@ impl<H: HeaderKey + Drop, K: PacketKey + Drop, R: Rng + Drop, C: Controller> Con
     }
 
     /// The whole payload of a packet of this number was taken, which asks for an acknowledgement or
-    /// doesn't, and came with this mark: its number is to be acknowledged. An error is want of
-    /// memory, and nothing has changed.
+    /// doesn't, and came with this mark: its number is to be acknowledged, and the times without a
+    /// packet begin anew. An error is want of memory, and nothing has changed.
     fn take_number(
         &mut self,
         number: u64,
@@ -417,6 +435,7 @@ impl<H: HeaderKey + Drop, K: PacketKey + Drop, R: Rng + Drop, C: Controller> Con
         if waits {
             self.timers.set(Timer::MaxAckDelay, ack_due(now));
         }
+        self.on_packet_taken();
         self.set_loss_timer();
         Ok(())
     }
@@ -467,14 +486,6 @@ impl<H: HeaderKey + Drop, K: PacketKey + Drop, R: Rng + Drop, C: Controller> Con
         self.streams.state.side()
     }
 
-    /// Closes for a reason: no timer is set any more.
-    fn close_by(&mut self, reason: LostReason)
-        ensures { self.new ≡ with_end self.old (closed_by reason self.old.end) }
-    {
-        self.closing.close(reason);
-        self.stop_timers();
-    }
-
     /// Fails for good: no timer is set any more.
     fn fail(&mut self)
         ensures failed { HasFailed self.old self.new }
@@ -521,7 +532,7 @@ impl<H: HeaderKey + Drop, K: PacketKey + Drop, R: Rng + Drop, C: Controller> Con
 
     /// A PING that waits is taken: whether one did.
     fn take_ping(&mut self) -> bool
-        ensures waited { result ≡ self.old.end.waiting.ping }
+        ensures waited { result ≡ self.old.end.waiting.signals.ping }
         ensures end { self.new ≡ with_end self.old (with_ping self.old.end false) }
     {
         let waited = self.space.ping_pending;

@@ -24,6 +24,7 @@ pub mod Sizes
 pub mod Numbered
 pub mod Waited
 pub mod Flying
+pub mod Closeless
 pub mod Watching
 pub mod Entries
 pub mod Naming

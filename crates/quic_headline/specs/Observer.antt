@@ -4,7 +4,7 @@ use Rattle.std.specs.Prelude.{ℕ, ◌+◌, ◌-◌, ◌*◌, ◌/◌, ◌^◌, 
 use Rattle.std.specs.List.{list_any}
 use Rattle.quic_wire_core.specs.declared.stream_id.Side.{Side}
 use Rattle.quic_wire_core.specs.StreamId.{other_side}
-use Rattle.quic_wire.specs.Value.{FrameValue, StreamValue, AckValue, ack, stream, asks}
+use Rattle.quic_wire.specs.Value.{FrameValue, StreamValue, AckValue, ack, stream, connection_close, application_close, asks}
 use Rattle.quic_wire.specs.Items.{items}
 use Rattle.quic_packet.specs.Datagram.{Opening, opened_packet}
 use Rattle.quic_time.specs.Rtt.{Rtt, assumed_rtt, best_rtt, conservative_rtt, with_sample}
@@ -208,8 +208,22 @@ abbrev pub kept_flying : Bool → Flight → List Sent
 kept_flying asks f = if not asks && nat_lt 1000 (length (unasked f)) then without_oldest (unasked f) f.flying else f.flying
 
 -- a datagram is in flight from when it goes; one that asks takes away a probe that waits
+abbrev pub and_flying : Sent → Flight → Flight
+and_flying s f = record f { flying = kept_flying (asks_of s) f ++ s ∷ []; asked = if asks_of s then Some s else f.asked; probes = if asks_of s then f.probes - 1 else f.probes }
+
+-- whether a frame is a close (RFC 9000, section 19.19)
+abbrev pub is_close : FrameValue → Bool
+is_close (connection_close c) = true
+is_close (application_close c) = true
+is_close f = false
+
+-- whether a datagram closes its connection
+abbrev pub closes_of : Sent → Bool
+closes_of s = list_any is_close s.frames
+
+-- one that closes its connection isn't in flight: no acknowledgement of it is waited for (RFC 9000, section 10.2.1)
 abbrev pub and_sent : Sent → Flight → Flight
-and_sent s f = record f { flying = kept_flying (asks_of s) f ++ s ∷ []; asked = if asks_of s then Some s else f.asked; probes = if asks_of s then f.probes - 1 else f.probes }
+and_sent s f = if closes_of s then f else and_flying s f
 
 -- ---- the timer of losses (RFC 9002, section 6.2.1)
 

@@ -111,8 +111,7 @@ pub fn too_many_pieces()
     ensures { (r : Run) (end : World) → IsHonest r → IsRun r end → TooManyPieces r }
 {}
 
-/// No view shows an end that closed for a rule that the other one broke: an end closes only for too
-/// many pieces of a stream that wait to be read, or for used-up numbers. So each frame of the other
+/// No view shows an end that closed for a rule that the other one broke. So each frame of the other
 /// end keeps the rules of receiving: the limits of the connection and of each stream, final sizes,
 /// which streams there are, and which numbers were given (RFC 9000, sections 4.1, 4.5, 4.6 and
 /// 13.1).
@@ -466,8 +465,9 @@ pub fn readables_are_told()
 /// dropped while it wasn't closing, is a run again: the calls that stay are answered as they were,
 /// the views behind them are the same, both ends gave the same datagrams, and the same ends are
 /// left, whatever they have counted. So datagrams that don't open, and repeated ones, change
-/// nothing else (RFC 9000, sections 5.2, 12.2 and 12.3). It wants no premise, and holds where
-/// memory lacks too.
+/// nothing else (RFC 9000, sections 5.2, 12.2 and 12.3), while keys last: up to a limit each packet
+/// that doesn't open counts, and no answer says that it was reached (RFC 9001, section 6.6). It
+/// wants no other premise, and holds where memory lacks too.
 pub fn isolated()
     ensures { (r : Run) (end : World) → IsRun r end → Isolated r end }
 {}

@@ -4,7 +4,7 @@ use Rattle.std.specs.Prelude.{if◌then◌else◌, map, ◌*◌}
 use Rattle.std.specs.List.{fold}
 use Rattle.std.proofs.lemmas.Bool.{and_parts}
 use Rattle.std.proofs.lemmas.List.{length-append, append_assoc, append-nil}
-use Rattle.quic_wire.specs.Value.{FrameValue, StreamValue, stream, datagram, ack}
+use Rattle.quic_wire.specs.Value.{FrameValue, StreamValue, ping, stream, datagram, ack, connection_close, application_close, asks}
 use Rattle.quic_wire.specs.Writing.{spelling, spelled_all, stream_spelling}
 use Rattle.quic_packet.specs.Number.{width_for}
 use Rattle.quic_send_buffer.specs.Buffered.{writes_length}
@@ -21,10 +21,10 @@ use Rattle.quic_streams_laws.specs.ControlWalk.{GoesOn, by_control, by_stream_fr
 use Rattle.quic_recovery_core.specs.PendingAcks.{lazy_threshold, can_send, is_filled}
 use Rattle.quic_spaces.specs.Numbers.{cut_against}
 use Rattle.quic_machine.specs.End.{End, number_of}
-use Rattle.quic_machine.specs.Parts.{current_mtu}
-use Rattle.quic_machine.specs.Poll.{Draft, frame_room, fits, left, ping_if, behind_control, with_control_frames, with_message, with_messages_of, with_message_frames, behind_stream, no_stream_frames, with_stream_frames, Kind, order, put, with_asking, no_frames, ack_of, with_ack, ack_fits, ack_if, composed_if, composed, lazied, lazied_as, Leaving, whole, alone, probe, nothing, least_left, with_ping_frame, draft_left, draft_as}
+use Rattle.quic_machine.specs.Parts.{current_mtu, Signals, signals_wait}
+use Rattle.quic_machine.specs.Poll.{Draft, frame_room, fits, left, with_signal, ping_if, behind_control, with_control_frames, with_message, with_messages_of, with_message_frames, behind_stream, no_stream_frames, with_stream_frames, Kind, order, put, with_asking, no_frames, ack_of, with_ack, ack_fits, ack_if, composed_if, composed, lazied, lazied_as, Leaving, whole, alone, probe, closing, nothing, with_frame, least_left, with_signal_frames, draft_left, draft_as}
 use Rattle.quic_machine.specs.Poll as poll
-use Rattle.quic_machine.specs.Puts.{Put, after, May, stream_room, without_entry, with_entry, with_half_frame}
+use Rattle.quic_machine.specs.Puts.{Put, after, May, MayClose, stream_room, without_entry, with_entry, with_half_frame}
 use Rattle.quic_machine.specs.Puts as puts
 
 -- a number takes four bytes at most
@@ -84,6 +84,34 @@ module _ (P : Draft → Type 0) (w : Writing P) where
 
   pub message_of : SendsMessage P
   message_of d m ms is fit i = w (puts.message m ms) d (is, fit) i
+
+-- ---- signals
+
+-- whether a frame is a signal: it asks, and no packet's record has it
+abbrev pub IsSignal : FrameValue → Type 0
+IsSignal ping = Unit {0}
+IsSignal f = ⊥
+
+-- it asks
+pub signal_asks : (f : FrameValue) → IsSignal f → asks f ≡ true
+signal_asks ping is = refl
+signal_asks f is = absurd is
+
+-- what holds of a draft, and stays where one goes, holds where those go that wait
+pub by_signals : (P : Draft → Type 0) → ((d : Draft) (f : FrameValue) (left : Signals) → IsSignal f → P d → P (with_signal d f left)) → (d : Draft) → P d → P (with_signal_frames d)
+by_signals P goes d p = go d.end.waiting.signals.ping
+  where
+    go : (b : Bool) → P (ping_if b d)
+    go true = goes d ping (record d.end.waiting.signals { ping = false }) tt p
+    go false = p
+
+-- where one waits, one goes last
+pub by_some_signal : (P : Draft → Type 0) → ((d : Draft) (f : FrameValue) (left : Signals) → IsSignal f → P (with_signal d f left)) → (d : Draft) → signals_wait d.end.waiting.signals ≡ true → P (with_signal_frames d)
+by_some_signal P goes d some = subst (λ (b : Bool). P (ping_if b d)) (sym some) (goes d ping (record d.end.waiting.signals { ping = false }) tt)
+
+-- where none waits, none goes
+pub no_signal : (d : Draft) → signals_wait d.end.waiting.signals ≡ false → with_signal_frames d ≡ d
+no_signal d none = ap (λ (b : Bool). ping_if b d) none
 
 -- ---- all of them
 
@@ -157,7 +185,7 @@ module _ (P : Draft → Type 0) (goes : SendsMessage P) where
 module _ (P : Draft → Type 0) (w : Writing P) where
   -- one kind
   kind_keeps : (kind : Kind) (d : Draft) → P d → P (put d kind)
-  kind_keeps poll.pings d p = go d.end.waiting.ping
+  kind_keeps poll.signals d p = go d.end.waiting.signals.ping
     where
       go : (b : Bool) → P (ping_if b d)
       go true = w puts.ping d tt p
@@ -190,9 +218,21 @@ by_writing P w e p = go (can_send e.acknowledging) refl
     go true due = by_asking P w (with_ack (no_frames e)) (w puts.ack (no_frames e) ((and_parts e.acknowledging.due (is_filled e.acknowledging.runs) due).1, inl refl) p)
     go false due = late_keeps P w (ack_fits (with_asking (no_frames e))) (with_asking (no_frames e)) refl (by_asking P w (no_frames e) p)
 
--- where an ACK goes alone, it is due
+-- whether a frame is a close (RFC 9000, section 19.19)
+abbrev pub IsClose : FrameValue → Type 0
+IsClose (connection_close c) = Unit {0}
+IsClose (application_close c) = Unit {0}
+IsClose f = ⊥
+
+-- what may go: an ACK alone that is due, and a close that has a form, and room
+abbrev pub MayGo : Leaving → End → Type 0
+MayGo alone e = can_send e.acknowledging ≡ true
+MayGo (closing f) e = IsClose f × MayClose (no_frames e) f
+MayGo leaving e = Unit {0}
+
+-- so it is where an acknowledgement became due
 abbrev pub MayLeave : Leaving → End → Type 0
-MayLeave leaving e = leaving ≡ alone → can_send (lazied e).acknowledging ≡ true
+MayLeave leaving e = MayGo leaving (lazied_as leaving e)
 
 -- one that is due is due where many packets came that don't ask
 pub lazy_due : (e : End) → can_send e.acknowledging ≡ true → can_send (lazied e).acknowledging ≡ true
@@ -203,37 +243,33 @@ lazy_due e is = go e.acknowledging.due (is_filled e.acknowledging.runs) is
     go true false is = absurd cc
     go false filled is = absurd cc
 
--- what goes: what is composed, a due ACK alone, a probe of a size, or nothing
-pub by_left : (P : Draft → Type 0) → Writing P → (leaving : Leaving) (e : End) → (leaving ≡ alone → can_send e.acknowledging ≡ true) → P (no_frames e) → P (draft_left leaving e)
-by_left P w whole e due p = by_writing P w e p
-by_left P w alone e due p = w puts.ack (no_frames e) ((and_parts e.acknowledging.due (is_filled e.acknowledging.runs) (due refl)).1, inl refl) p
-by_left P w (probe size) e due p = w (puts.probes size) (no_frames e) tt p
-by_left P w (nothing held) e due p = p
+-- what goes: what is composed, a due ACK alone, a probe of a size, a close, or nothing
+pub by_left : (P : Draft → Type 0) → Writing P → (leaving : Leaving) (e : End) → MayGo leaving e → P (no_frames e) → P (draft_left leaving e)
+by_left P w whole e may p = by_writing P w e p
+by_left P w alone e due p = w puts.ack (no_frames e) ((and_parts e.acknowledging.due (is_filled e.acknowledging.runs) due).1, inl refl) p
+by_left P w (probe size) e may p = w (puts.probes size) (no_frames e) tt p
+by_left P w (closing f) e may p = go f may.0 may.1
+  where
+    go : (g : FrameValue) → IsClose g → MayClose (no_frames e) g → P (with_frame (no_frames e) g (spelling g) e)
+    go (connection_close c) is may = w (puts.connection_close c) (no_frames e) may p
+    go (application_close c) is may = w (puts.application_close c) (no_frames e) may p
+    go g is may = absurd is
+by_left P w (nothing held) e may p = p
 
 -- so it is where an acknowledgement became due
 pub by_leave : (P : Draft → Type 0) → Writing P → (leaving : Leaving) (e : End) → MayLeave leaving e → P (no_frames (lazied_as leaving e)) → P (draft_as leaving e)
-by_leave P w leaving e may p = by_left P w leaving (lazied_as leaving e) (due leaving may) p
-  where
-    due : (l : Leaving) → MayLeave l e → l ≡ alone → can_send (lazied_as l e).acknowledging ≡ true
-    due whole may is = cc
-    due alone may is = may is
-    due (probe size) may is = cc
-    due (nothing held) may is = cc
+by_leave P w leaving e may p = by_left P w leaving (lazied_as leaving e) may p
 
 -- ---- its least size
 
 -- what asks leaves it
 asking_least : (d : Draft) → (with_asking d).least ≡ d.least
-asking_least d = by_streams Keeps (λ x id h room found first some is counts same. same) (with_message_frames (with_control_frames (with_ping_frame d)))
-    (by_messages Keeps (λ x m ms is fit same. same) (with_control_frames (with_ping_frame d))
-    (by_entries Keeps (λ x kind same. same) (λ x kind f is same. same) (with_ping_frame d) (pinged d.end.waiting.ping)))
+asking_least d = by_streams Keeps (λ x id h room found first some is counts same. same) (with_message_frames (with_control_frames (with_signal_frames d)))
+    (by_messages Keeps (λ x m ms is fit same. same) (with_control_frames (with_signal_frames d))
+    (by_entries Keeps (λ x kind same. same) (λ x kind f is same. same) (with_signal_frames d) (by_signals Keeps (λ x f left is same. same) d refl)))
   where
     Keeps : Draft → Type 0
     Keeps x = x.least ≡ d.least
-
-    pinged : (b : Bool) → (ping_if b d).least ≡ d.least
-    pinged true = refl
-    pinged false = refl
 
 composed_least : (e : End) → (composed e).least ≡ 0
 composed_least e = go (can_send e.acknowledging)
@@ -251,4 +287,5 @@ pub left_least : (leaving : Leaving) (e : End) → (draft_left leaving e).least 
 left_least whole e = composed_least e
 left_least alone e = refl
 left_least (probe size) e = refl
+left_least (closing f) e = refl
 left_least (nothing held) e = refl

@@ -1,7 +1,7 @@
 -- What a datagram that comes leaves, as cases: of the packets that an ACK frame names or that are lost, of frames, and of the packet that has them.
 use Rattle.std.proofs.Common.{◌≡◌, ℕ, Bool, true, false, not, ◌||◌, ◌==◌, List, [], ◌∷◌, map, length, Option, Some, None, Result, Ok, Err, refl, sym, ◌∙◌}
 use Rattle.std.specs.Prelude.{if◌then◌else◌}
-use Rattle.quic_wire.specs.Value.{FrameValue, AckValue, ack, stream, reset_stream, stop_sending, max_data, max_stream_data, max_streams, new_token, handshake_done, datagram}
+use Rattle.quic_wire.specs.Value.{FrameValue, AckValue, ack, stream, reset_stream, stop_sending, max_data, max_stream_data, max_streams, datagram}
 use Rattle.quic_wire_core.specs.declared.shared.EcnCodepoint.{EcnCodepoint}
 use Rattle.quic_wire.specs.Items.{items}
 use Rattle.quic_wire.specs.declared.frame.InvalidFrame.{InvalidFrame}
@@ -18,9 +18,13 @@ use Rattle.quic_machine.specs.declared.answers.State.{State}
 use Rattle.quic_machine.specs.declared.answers.State.TheVariants as states
 use Rattle.quic_machine.specs.declared.answers.DropReason.TheVariants as drops
 use Rattle.quic_machine.specs.declared.answers.LostReason.{LostReason}
+use Rattle.quic_machine.specs.declared.answers.LostReason.TheVariants as reasons
+use Rattle.quic_wire.specs.Close.{CloseValue}
 use Rattle.quic_machine.specs.Policy.{Policy}
-use Rattle.quic_machine.specs.Closing.{ticked}
-use Rattle.quic_machine.specs.Ids.{known}
+use Rattle.quic_machine.specs.Closing.{ticked, close_asked}
+use Rattle.quic_machine.specs.Ids.{Ids, known}
+use Rattle.quic_recovery_core.specs.PendingAcks.{Pending}
+use Rattle.quic_wire_core.specs.declared.shared.IssuedCid.{IssuedCid}
 use Rattle.quic_spaces.specs.Numbers.{number_opened, number_named}
 use Rattle.quic_spaces.specs.Marks.{Counts}
 use Rattle.quic_spaces.specs.declared.space.EcnError.{EcnError}
@@ -28,7 +32,7 @@ use Rattle.quic_messages.specs.declared.errors.ReceivedError.{ReceivedError}
 use Rattle.quic_messages.specs.Messages.{received_answer}
 use Rattle.quic_machine.specs.Parts.{Messaging}
 use Rattle.quic_machine.specs.Tracking.{TrackedPacket, Carried, acked_by, Verdict, lost_by, after_detection}
-use Rattle.quic_machine.specs.End.{End, with_closing, closed_by, with_numbers, with_streams, with_messages, with_tracking, with_told, with_marking, with_discovery, with_queued}
+use Rattle.quic_machine.specs.End.{End, with_closing, closed_by, drained_by, with_numbers, with_streams, with_messages, with_tracking, with_told, with_marking, with_discovery, with_queued}
 use Rattle.quic_machine.specs.Opens.{own_id_length}
 use Rattle.quic_messages.specs.Messages.{without_longer}
 use Rattle.quic_congestion.specs.Search.{Discovery}
@@ -37,7 +41,7 @@ use Rattle.quic_machine.specs.Sizes.{is_resized, with_acked, search_acked, after
 use Rattle.quic_machine.specs.Steps.{Step, after}
 use Rattle.quic_machine.specs.Steps as steps
 use Rattle.quic_machine.specs.Acked.{without_known, reset_acked, resets_acked, stream_acked, streams_acked, packet_acked, packets_acked, stream_lost, streams_lost, again, carried_lost, packets_lost, lost_as, verdict, losses_detected, measured, sampled, without_acked, counts_judged, counts_answer, counts_seen, marks_seen, losses_taken, after_named, after_acked}
-use Rattle.quic_machine.specs.Receive.{Fault, violation, reason_of, Progress, goes_on, is_above, names_ungiven, message_taken, message_judged, take_message, take_frame, take_item, unless_fault, take_items, is_empty, take_payload, asks_in, after_taken, dropped, ends_as, by_state, opened_to, opened_as, opening, headed, received_in, received}
+use Rattle.quic_machine.specs.Receive.{Fault, broke, too_many_pieces, closed_by_peer, exhausted, unopened_in, violation, reason_of, Progress, goes_on, is_above, names_ungiven, message_taken, message_judged, take_message, take_frame, take_item, unless_fault, take_items, is_empty, take_payload, asks_in, after_taken, dropped, ends_as, by_state, opened_to, opened_as, opening, headed, received_in, received}
 
 -- ---- packets that are acknowledged, and those that are lost
 
@@ -169,6 +173,40 @@ OnStreams (max_stream_data f) = Unit {0}
 OnStreams (max_streams f) = Unit {0}
 OnStreams f = ⊥
 
+-- a frame apart from streams, which says nothing of what is tracked, and is no message
+abbrev pub IsApart : FrameValue → Type 0
+IsApart (ack a) = ⊥
+IsApart (stream f) = ⊥
+IsApart (reset_stream f) = ⊥
+IsApart (stop_sending f) = ⊥
+IsApart (max_data limit) = ⊥
+IsApart (max_stream_data f) = ⊥
+IsApart (max_streams f) = ⊥
+IsApart (datagram m) = ⊥
+IsApart f = Unit {0}
+
+-- what such a frame may change: ids, and which wait to be told of and to be retired; whether the peer's address is validated; and what is to be acknowledged, but for
+-- the numbers
+pub record Apart : Type 0 where
+  pub ids : Ids
+  pub new_cids : List IssuedCid
+  pub retire_cids : List ℕ
+  pub validated : Bool
+  pub acknowledging : Pending
+
+-- the end with that
+abbrev pub with_apart : End → Apart → End
+with_apart e c = record e {
+  ids = c.ids;
+  waiting = record e.waiting { frames = record e.waiting.frames { new_cids = c.new_cids; retire_cids = c.retire_cids } };
+  path = record e.path { validated = c.validated };
+  acknowledging = record c.acknowledging { runs = e.acknowledging.runs };
+}
+
+-- that of an end as it is
+abbrev pub apart_of : End → Apart
+apart_of e = record { ids = e.ids; new_cids = e.waiting.frames.new_cids; retire_cids = e.waiting.frames.retire_cids; validated = e.path.validated; acknowledging = e.acknowledging }
+
 -- the frames that change an end, by kind
 pub record TakesFrame (P : End → Type 0) : Type 0 where
   pub ack : (rises : Bool) (a : AckValue) (e : End) → P e → P (after_acked rises a (named a e))
@@ -176,6 +214,8 @@ pub record TakesFrame (P : End → Type 0) : Type 0 where
   pub on_streams : (f : FrameValue) (e : End) → OnStreams f → P e → P (take_frame f e).end
   -- a message: others wait, and it is told of or isn't
   pub message : (m : Messaging) (e : End) → P e → P (with_messages e m)
+  -- a frame apart from these
+  pub apart : (f : FrameValue) (e : End) → IsApart f → P e → P (take_frame f e).end
 
 -- a message leaves the end as it was, or with other messages
 pub message_leaves : (P : End → Type 0) (m : List ℕ) (e : End) → P e → ((left : Messaging) → P (with_messages e left)) → P (take_message m e).end
@@ -199,9 +239,7 @@ frame_keeps P c (max_data limit) e i = c.on_streams (max_data limit) e tt i
 frame_keeps P c (max_stream_data f) e i = c.on_streams (max_stream_data f) e tt i
 frame_keeps P c (max_streams f) e i = c.on_streams (max_streams f) e tt i
 frame_keeps P c (datagram m) e i = message_leaves P m e i (λ left. c.message left e i)
-frame_keeps P c (new_token t) e i = i
-frame_keeps P c handshake_done e i = i
-frame_keeps P c f e i = i
+frame_keeps P c f e i = c.apart f e tt i
 
 -- a frame on streams leaves other streams, and another end in nothing else
 pub frame_leaves : (P : End → Type 0) (f : FrameValue) (e : End) → OnStreams f → ((t : Streams) → P (with_streams e t)) → P (take_frame f e).end
@@ -212,6 +250,30 @@ frame_leaves P (max_data limit) e on all = all _
 frame_leaves P (max_stream_data f) e on all = all _
 frame_leaves P (max_streams f) e on all = all _
 frame_leaves P f e on all = absurd on
+
+-- a frame apart from streams leaves what such a one may change, and another end in nothing else
+pub apart_leaves : (P : End → Type 0) (f : FrameValue) (e : End) → IsApart f → ((c : Apart) → P (with_apart e c)) → P (take_frame f e).end
+apart_leaves P (ack a) e apart all = absurd apart
+apart_leaves P (stream f) e apart all = absurd apart
+apart_leaves P (reset_stream f) e apart all = absurd apart
+apart_leaves P (stop_sending f) e apart all = absurd apart
+apart_leaves P (max_data limit) e apart all = absurd apart
+apart_leaves P (max_stream_data f) e apart all = absurd apart
+apart_leaves P (max_streams f) e apart all = absurd apart
+apart_leaves P (datagram m) e apart all = absurd apart
+apart_leaves P f e apart all = all (apart_of e)
+
+-- none of them changes an end so far
+pub apart_same : (f : FrameValue) (e : End) → IsApart f → (take_frame f e).end ≡ e
+apart_same (ack a) e apart = absurd apart
+apart_same (stream f) e apart = absurd apart
+apart_same (reset_stream f) e apart = absurd apart
+apart_same (stop_sending f) e apart = absurd apart
+apart_same (max_data limit) e apart = absurd apart
+apart_same (max_stream_data f) e apart = absurd apart
+apart_same (max_streams f) e apart = absurd apart
+apart_same (datagram m) e apart = absurd apart
+apart_same f e apart = refl
 
 module _ (P : End → Type 0) (step : (f : FrameValue) (e : End) → P e → P (take_frame f e).end) where
   -- an item of a payload
@@ -268,6 +330,12 @@ pub record Receives (P : End → Type 0) : Type 0 where
   -- all was taken, or a frame was at fault
   pub takes : (n : ℕ) (asks : Bool) (mark : Option EcnCodepoint) (e : End) → P e → P (after_taken n asks mark e)
   pub closes : (reason : LostReason) (e : End) → P e → P (closed_by reason e)
+  -- the peer closed
+  pub drains : (close : CloseValue) (e : End) → P e → P (drained_by (reasons.Peer close) e)
+  -- an end that is closing owes its close once more
+  pub asks_close : (e : End) → P e → P (with_closing e (close_asked e.closing))
+  -- the last packet came that may not open
+  pub exhausts : (now : ℕ) (e : End) → P e → P (exhausted now e)
 
 module _ (P : End → Type 0) (c : Receives P) where
   -- a payload
@@ -281,14 +349,16 @@ module _ (P : End → Type 0) (c : Receives P) where
   -- all frames were taken, or one was at fault
   ends_keep : (fault : Option Fault) (asks : Bool) (n : ℕ) (mark : Option EcnCodepoint) (e : End) → P e → P (ends_as fault asks n mark e).end
   ends_keep None asks n mark e i = c.takes n asks mark e i
-  ends_keep (Some fault) asks n mark e i = c.closes (reason_of fault) e i
+  ends_keep (Some (closed_by_peer close)) asks n mark e i = c.drains close e i
+  ends_keep (Some (broke error)) asks n mark e i = c.closes (reason_of (broke error)) e i
+  ends_keep (Some too_many_pieces) asks n mark e i = c.closes (reason_of too_many_pieces) e i
 
   -- a packet whose number is new
   state_keeps : (state : State) (o : Opening) (arrival : Arrival) (e : End) → P e → P (by_state state o arrival (with_numbers e (number_opened e.numbers o.number))).end
   state_keeps states.Open o arrival e i =
       let taken = take_payload o.first (items o.payload) (begun e arrival.now o.number) in
       ends_keep taken.fault (asks_in (items o.payload)) o.number arrival.mark taken.end (payload_keeps o.first (items o.payload) (begun e arrival.now o.number) (c.begins arrival.now o.number e i))
-  state_keeps states.Closing o arrival e i = c.notes o.number e i
+  state_keeps states.Closing o arrival e i = c.asks_close (with_numbers e (number_opened e.numbers o.number)) (c.notes o.number e i)
   state_keeps states.Drained o arrival e i = c.notes o.number e i
   state_keeps states.Failed o arrival e i = c.notes o.number e i
 
@@ -302,7 +372,14 @@ module _ (P : End → Type 0) (c : Receives P) where
       go false false = state_keeps e.closing.state o arrival e i
 
   packet_keeps : (o : Option Opening) (arrival : Arrival) (e : End) → P e → P (opened_as o arrival e).end
-  packet_keeps None arrival e i = i
+  packet_keeps None arrival e i = go e.closing.state arrival.last
+    where
+      go : (state : State) (b : Bool) → P (unopened_in state b arrival e).end
+      go states.Open true = c.exhausts arrival.now e i
+      go states.Open false = i
+      go states.Closing b = i
+      go states.Drained b = i
+      go states.Failed b = i
   packet_keeps (Some o) arrival e i = opened_keeps o arrival e i
 
   headed_keeps : (r : Result (List ℕ) HeaderError) (p : Policy) (e : End) (arrival : Arrival) (d : List ℕ) → P e → P (headed r p e arrival d).end

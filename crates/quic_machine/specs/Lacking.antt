@@ -85,7 +85,7 @@ StreamCallLacks is_open s p call a = Unit {0}
 -- there is such a datagram, and its frames are taken
 abbrev pub DeliveryTakes : Policy → End → Delivery → Option (List ℕ) → Type 0
 DeliveryTakes p e delivery None = ⊥
-DeliveryTakes p e delivery (Some d) = TakesFrames (received p e (delivered_by delivery) d).answer
+DeliveryTakes p e delivery (Some d) = TakesFrames (received p e (delivered_by false delivery) d).answer
 
 -- a probe takes what has to be sent again of a packet
 abbrev pub MovesRecord : End → Type 0
@@ -109,11 +109,12 @@ LacksWhere p e theirs (calls.Timeout now) (answers.Timeout (Err x)) = LosesOrHas
 LacksWhere p e theirs (calls.Deliver delivery) (answers.Deliver receives.Failed) = DeliveryTakes p e delivery (slice_get theirs delivery.index)
 LacksWhere p e theirs call a = StreamCallLacks (is_open e.closing.state) e.streams e.waiting.frames call a
 
--- a call for which a run takes memory of its own, before it makes it: a datagram that is given is kept, a message that is sent and what comes are copied, and
--- so are the answers of a read
+-- a call for which a run takes memory of its own, before it makes it: a datagram that is given is kept, a message that is sent, a text of a close and what comes
+-- are copied, and so are the answers of a read
 abbrev pub TakesOfItsOwn : List (List ℕ) → Call → Type 0
 TakesOfItsOwn theirs (calls.Read read) = Unit {0}
 TakesOfItsOwn theirs (calls.Send message makes_room) = Unit {0}
+TakesOfItsOwn theirs (calls.Close close) = Unit {0}
 TakesOfItsOwn theirs (calls.Poll now) = Unit {0}
 TakesOfItsOwn theirs (calls.Deliver delivery) = IsSome (slice_get theirs delivery.index)
 TakesOfItsOwn theirs (calls.Inject injection) = Unit {0}

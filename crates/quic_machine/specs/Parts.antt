@@ -73,11 +73,19 @@ no_messaging = record { queues = no_messages; to_tell = 0 }
 abbrev pub with_queues : Messaging → Messages → Messaging
 with_queues m queues = record m { queues = queues }
 
--- whether PING waits to be sent (RFC 9000, section 19.2), and what waits beside the bytes of streams (section 13.3)
-pub record Waiting : Type 0 where
+-- frames that ask for an acknowledgement and that no packet's record has: each goes once, and not again where it is lost. Whether PING waits (RFC 9000, section 19.2)
+pub record Signals : Type 0 where
   pub ping : Bool
+
+-- whether one of them waits
+abbrev pub signals_wait : Signals → Bool
+signals_wait s = s.ping
+
+-- which of them wait to be sent, and what waits beside the bytes of streams (RFC 9000, section 13.3)
+pub record Waiting : Type 0 where
+  pub signals : Signals
   pub frames : retransmits.Retransmits
 
 -- nothing waits
 abbrev pub nothing_waits : Waiting
-nothing_waits = record { ping = false; frames = retransmits.nothing_waits }
+nothing_waits = record { signals = record { ping = false }; frames = retransmits.nothing_waits }

@@ -11,7 +11,7 @@ ghost use Rattle.quic_run_core.specs.Words.{stream_from};
 use bytes::Bytes;
 use quic_connection::{
     Answer, Call, Config, ConfigError, Delivery, Ends, Given, Instant, Making, NewReno,
-    NewRenoConfig, ReadCall, Received, RunEvent, TransportConfig, run, step,
+    NewRenoConfig, ReadCall, Received, RunEvent, TransportConfig, View, run, step,
 };
 use quic_run_core::Words;
 use quic_run_core::key::{PlainHeaderKey, PlainKey, keys_for};
@@ -52,7 +52,8 @@ fn making(
 /// promises on runs ask.
 fn ends_with(alloc: Global, transport: TransportConfig) -> Result<BothEnds, ConfigError>
     ensures started { IfOk result (λ ends. AreStarted (first_world window_after ends)) }
-    ensures keys { IfOk result (λ ends. AreKeys (policies_of (λ _. plain_protection) (λ k. plain_aead k.mark) stream_from ends)) }
+    ensures keys { IfOk result (λ ends. AreKeys (policies_of (λ _. plain_protection) (λ k. plain_aead k.mark)
+        (λ k. k.confidentiality_limit) (λ k. k.integrity_limit) stream_from ends)) }
 {
     keys_meet_the_premises();
     let now = Instant::from_nanos(0);
@@ -64,13 +65,14 @@ fn ends_with(alloc: Global, transport: TransportConfig) -> Result<BothEnds, Conf
 /// Two such ends where nothing is set.
 pub(crate) fn new_ends(alloc: Global) -> Result<BothEnds, ConfigError>
     ensures started { IfOk result (λ ends. AreStarted (first_world window_after ends)) }
-    ensures keys { IfOk result (λ ends. AreKeys (policies_of (λ _. plain_protection) (λ k. plain_aead k.mark) stream_from ends)) }
+    ensures keys { IfOk result (λ ends. AreKeys (policies_of (λ _. plain_protection) (λ k. plain_aead k.mark)
+        (λ k. k.confidentiality_limit) (λ k. k.integrity_limit) stream_from ends)) }
 {
     ends_with(alloc, TransportConfig::default())
 }
 
 /// Small limits: 48 bytes on all streams, 16 on each, 40 that aren't acknowledged, two streams of
-/// either kind at once.
+/// either kind at once. No idle timeout runs.
 pub(crate) fn limited() -> TransportConfig {
     let mut transport = TransportConfig::default();
     transport.receive_window(VarInt::from_u32(48));
@@ -78,6 +80,7 @@ pub(crate) fn limited() -> TransportConfig {
     transport.send_window(40);
     transport.max_concurrent_bidi_streams(VarInt::from_u32(2));
     transport.max_concurrent_uni_streams(VarInt::from_u32(2));
+    transport.max_idle_timeout(None);
     transport
 }
 
@@ -127,6 +130,12 @@ pub(crate) fn with_pair<T, F: FnOnce(&mut Pair) -> Result<T, Fail>>(
 pub(crate) fn ran(alloc: Global, events: &[RunEvent]) -> Result<(Vec<Answer>, bool), ConfigError> {
     let outcome = run(alloc, new_ends(alloc)?, events);
     Ok((outcome.answers, outcome.cut_short))
+}
+
+/// What is seen of new ends behind each event of a run.
+pub(crate) fn viewed(alloc: Global, events: &[RunEvent]) -> Result<Vec<View>, ConfigError> {
+    let outcome = run(alloc, new_ends(alloc)?, events);
+    Ok(outcome.views)
 }
 
 /// The stream that the client opens.

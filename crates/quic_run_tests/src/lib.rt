@@ -8,6 +8,8 @@ mod arrivals;
 #[cfg(test)]
 mod chance;
 #[cfg(test)]
+mod closing;
+#[cfg(test)]
 mod config;
 #[cfg(test)]
 mod ends;

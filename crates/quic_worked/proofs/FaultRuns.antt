@@ -136,18 +136,18 @@ one_back_started = record {
 }
 
 opens_way : IsStep worked_policies one_back opens_one_way (answers.Open (Some 2)) one_way_opened
-opens_way = record { answer = refl; end = refl; control = refl; heard = refl; others = refl; lacking = tt }
+opens_way = record { answer = refl; end = refl; control = refl; heard = refl; openings = tt; others = refl; lacking = tt }
 
 writes_way : IsStep worked_policies one_way_opened (writes_on 2 hello) (answers.Write (Ok 5)) one_way_written
-writes_way = record { answer = inl refl; end = refl; control = refl; heard = refl; others = refl; lacking = λ lacks. cc }
+writes_way = record { answer = inl refl; end = refl; control = refl; heard = refl; openings = tt; others = refl; lacking = λ lacks. cc }
 
 gives_way : IsStep worked_policies one_way_written asks_datagram (gives_bytes 34) one_way_sent
 unfolding one_way_sent
-gives_way = record { answer = inl refl; end = refl; control = refl; heard = refl; others = refl; lacking = tt }
+gives_way = record { answer = inl refl; end = refl; control = refl; heard = refl; openings = tt; others = refl; lacking = tt }
 
 takes_way : IsStep worked_policies one_way_sent delivers (answers.Deliver receives.Taken) one_way_taken
 unfolding one_way_taken
-takes_way = record { answer = inl refl; end = refl; control = refl; heard = refl; others = refl; lacking = tt }
+takes_way = record { answer = inl refl; end = refl; control = refl; heard = refl; openings = tt; others = refl; lacking = tt }
 
 -- the stream that an answer accepts
 abbrev accepted_in : Answer → ℕ
@@ -193,7 +193,7 @@ instead_is_honest = record { start = one_back_started; keys = are_keys; ids = ow
 
 accepts_none : IsStep worked_policies once_read accepts_stream (answers.Accept None) nothing_to_accept
 unfolding once_taken
-accepts_none = record { answer = refl; end = refl; control = refl; heard = refl; others = refl; lacking = tt }
+accepts_none = record { answer = refl; end = refl; control = refl; heard = refl; openings = tt; others = refl; lacking = tt }
 
 none_seen : record { client = sent_view; server = waiting_view } ≡ view_of nothing_to_accept
 unfolding once_taken
@@ -357,7 +357,7 @@ noted_takes h = not_dropped (hello_datagram ∷ []) (until noted_early Server 6)
 
 spoilt_drops : IsStep worked_policies once_sent (injects Server spoilt_datagram) (answers.Inject (receives.Dropped drops.NotOpened)) once_spoilt
 unfolding once_sent
-spoilt_drops = record { answer = refl; end = refl; control = refl; heard = refl; others = refl; lacking = tt }
+spoilt_drops = record { answer = refl; end = refl; control = refl; heard = refl; openings = refl; others = refl; lacking = tt }
 
 noted_no : IsRefused once_sent delivers (answers.Deliver duplicate)
 unfolding once_taken

@@ -54,7 +54,7 @@ pub moved_is_honest : IsHonest clock_moved
 moved_is_honest = honest clock_moved (record { start = refl; keys = refl; client = (tt, (tt, (inl refl, (inl refl, (tt, tt))))); server = (tt, (tt, (tt, (tt, (tt, tt))))) })
 
 drops_late : IsStep worked_policies started injects_late (answers.Inject (receives.Dropped drops.TooShort)) started
-drops_late = record { answer = refl; end = refl; control = refl; heard = refl; others = refl; lacking = tt }
+drops_late = record { answer = refl; end = refl; control = refl; heard = refl; openings = tt; others = refl; lacking = tt }
 
 -- the machine shows the moment that is reckoned
 stays : Follows worked_policies started (injected_before 1024000000).events (injected_before 1024000000).answers (injected_before 1024000000).views once_sent
@@ -116,7 +116,7 @@ quiet_is_run read = record { codes = no_codes (quiet_run read).events refl; foll
 
 nothing_told : IsStep worked_policies once_told asks_event (answers.Event None) nothing_to_tell
 unfolding once_acked
-nothing_told = record { answer = refl; end = refl; control = refl; heard = refl; others = refl; lacking = tt }
+nothing_told = record { answer = refl; end = refl; control = refl; heard = refl; openings = tt; others = refl; lacking = tt }
 
 told_seen : both_open ≡ view_of once_told
 unfolding once_acked
@@ -265,11 +265,11 @@ never_short views end is = not_short.never views end is.follows is.from_client
 
 waits_behind : IsStep worked_policies (once_held 3) (sends_message ping_message) is_sent held_message
 unfolding held_message
-waits_behind = record { answer = inl refl; end = refl; control = refl; heard = refl; others = refl; lacking = λ lacks. cc }
+waits_behind = record { answer = inl refl; end = refl; control = refl; heard = refl; openings = tt; others = refl; lacking = λ lacks. cc }
 
 holds_it : IsStep worked_policies held_message (asks_at Client 0) gives_nothing message_held
 unfolding message_held
-holds_it = record { answer = inl refl; end = refl; control = refl; heard = refl; others = refl; lacking = tt }
+holds_it = record { answer = inl refl; end = refl; control = refl; heard = refl; openings = tt; others = refl; lacking = tt }
 
 waits_seen : full_view ≡ view_of held_message
 unfolding held_message

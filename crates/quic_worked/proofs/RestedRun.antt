@@ -84,46 +84,46 @@ have_room = record { controlled = record { client = roomy; server = roomy }; cli
 
 opens : IsStep worked_policies rested_start opens_stream (answers.Open (Some 0)) (once_rested 1)
 unfolding once_rested
-opens = record { answer = refl; end = refl; control = refl; heard = refl; others = refl; lacking = tt }
+opens = record { answer = refl; end = refl; control = refl; heard = refl; openings = tt; others = refl; lacking = tt }
 
 writes : IsStep worked_policies (once_rested 1) writes_hello (answers.Write (Ok 5)) (once_rested 2)
 unfolding once_rested
-writes = record { answer = inl refl; end = refl; control = refl; heard = refl; others = refl; lacking = λ lacks. cc }
+writes = record { answer = inl refl; end = refl; control = refl; heard = refl; openings = tt; others = refl; lacking = λ lacks. cc }
 
 finishes : IsStep worked_policies (once_rested 2) finishes_stream (answers.Finish (Ok tt)) (once_rested 3)
 unfolding once_rested
-finishes = record { answer = inl refl; end = refl; control = refl; heard = refl; others = refl; lacking = λ lacks. cc }
+finishes = record { answer = inl refl; end = refl; control = refl; heard = refl; openings = tt; others = refl; lacking = λ lacks. cc }
 
 gives : IsStep worked_policies (once_rested 3) asks_datagram (gives_bytes 34) (once_rested 4)
 unfolding once_rested
-gives = record { answer = inl refl; end = refl; control = refl; heard = refl; others = refl; lacking = tt }
+gives = record { answer = inl refl; end = refl; control = refl; heard = refl; openings = tt; others = refl; lacking = tt }
 
 takes : IsStep worked_policies (once_rested 4) (comes_at Server 10000000) (answers.Deliver receives.Taken) (once_rested 5)
 unfolding once_rested
-takes = record { answer = inl refl; end = refl; control = refl; heard = refl; others = refl; lacking = tt }
+takes = record { answer = inl refl; end = refl; control = refl; heard = refl; openings = tt; others = refl; lacking = tt }
 
 is_due : IsStep worked_policies (once_rested 5) (serves Server 35000000) (answers.Timeout (Ok tt)) (once_rested 6)
 unfolding once_rested
-is_due = record { answer = inl refl; end = refl; control = refl; heard = refl; others = refl; lacking = tt }
+is_due = record { answer = inl refl; end = refl; control = refl; heard = refl; openings = tt; others = refl; lacking = tt }
 
 pub still_roomy : roomy_control ≡ roomy_control
 still_roomy = refl
 
 answers_it : IsStep worked_policies (once_rested 6) (asks_at Server 35000000) (gives_bytes 32) (once_rested 7)
 unfolding once_rested
-answers_it = record { answer = inl refl; end = refl; control = still_roomy; heard = refl; others = refl; lacking = tt }
+answers_it = record { answer = inl refl; end = refl; control = still_roomy; heard = refl; openings = tt; others = refl; lacking = tt }
 
 is_answered : IsStep worked_policies (once_rested 7) (comes_at Client 40000000) (answers.Deliver receives.Taken) (once_rested 8)
 unfolding once_rested
-is_answered = record { answer = inl refl; end = refl; control = refl; heard = refl; others = refl; lacking = tt }
+is_answered = record { answer = inl refl; end = refl; control = refl; heard = refl; openings = tt; others = refl; lacking = tt }
 
 client_rests : IsStep worked_policies (once_rested 8) (asks_at Client 40000000) gives_nothing (once_rested 9)
 unfolding once_rested
-client_rests = record { answer = inl refl; end = refl; control = refl; heard = refl; others = refl; lacking = tt }
+client_rests = record { answer = inl refl; end = refl; control = refl; heard = refl; openings = tt; others = refl; lacking = tt }
 
 server_rests : IsStep worked_policies (once_rested 9) (asks_at Server 40000000) gives_nothing (once_rested 10)
 unfolding once_rested
-server_rests = record { answer = inl refl; end = refl; control = still_roomy; heard = refl; others = refl; lacking = tt }
+server_rests = record { answer = inl refl; end = refl; control = still_roomy; heard = refl; openings = tt; others = refl; lacking = tt }
 
 opened_seen : still_view ≡ view_of (once_rested 1)
 unfolding once_rested
@@ -279,7 +279,7 @@ once_expired = ran worked_policies (once_rested 4) (serves Client 1024000000 ∷
 
 expires : IsStep worked_policies (once_rested 4) (serves Client 1024000000) (answers.Timeout (Ok tt)) once_expired
 unfolding once_expired
-expires = record { answer = inl refl; end = refl; control = refl; heard = refl; others = refl; lacking = tt }
+expires = record { answer = inl refl; end = refl; control = refl; heard = refl; openings = tt; others = refl; lacking = tt }
 
 forgotten_no : IsRefused once_expired (asks_at Client 1024000000) gives_nothing
 unfolding once_expired
@@ -325,7 +325,7 @@ once_heard = ran worked_policies (once_rested 5) (asks_at Server 10000000 ∷ []
 
 waits : IsStep worked_policies (once_rested 5) (asks_at Server 10000000) gives_nothing once_heard
 unfolding once_heard
-waits = record { answer = inl refl; end = refl; control = refl; heard = refl; others = refl; lacking = tt }
+waits = record { answer = inl refl; end = refl; control = refl; heard = refl; openings = tt; others = refl; lacking = tt }
 
 heard_seen : taken_view ≡ view_of once_heard
 unfolding once_heard

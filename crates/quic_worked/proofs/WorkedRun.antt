@@ -41,30 +41,30 @@ server_is_made =
     (sym parameters_say) refl
 
 pub opens : IsStep worked_policies started opens_stream (answers.Open (Some 0)) once_opened
-opens = record { answer = refl; end = refl; control = refl; heard = refl; others = refl; lacking = tt }
+opens = record { answer = refl; end = refl; control = refl; heard = refl; openings = tt; others = refl; lacking = tt }
 
 pub writes : IsStep worked_policies once_opened writes_hello (answers.Write (Ok 5)) once_written
-writes = record { answer = inl refl; end = refl; control = refl; heard = refl; others = refl; lacking = λ lacks. cc }
+writes = record { answer = inl refl; end = refl; control = refl; heard = refl; openings = tt; others = refl; lacking = λ lacks. cc }
 
 pub finishes : IsStep worked_policies once_written finishes_stream (answers.Finish (Ok tt)) once_ended
-finishes = record { answer = inl refl; end = refl; control = refl; heard = refl; others = refl; lacking = λ lacks. cc }
+finishes = record { answer = inl refl; end = refl; control = refl; heard = refl; openings = tt; others = refl; lacking = λ lacks. cc }
 
 pub gives : IsStep worked_policies once_ended asks_datagram (gives_bytes 34) once_sent
 unfolding once_sent
-gives = record { answer = inl refl; end = refl; control = refl; heard = refl; others = refl; lacking = tt }
+gives = record { answer = inl refl; end = refl; control = refl; heard = refl; openings = tt; others = refl; lacking = tt }
 
 pub takes : IsStep worked_policies once_sent delivers (answers.Deliver receives.Taken) once_taken
 unfolding once_taken
-takes = record { answer = inl refl; end = refl; control = refl; heard = refl; others = refl; lacking = tt }
+takes = record { answer = inl refl; end = refl; control = refl; heard = refl; openings = tt; others = refl; lacking = tt }
 
 pub drops_duplicate : IsStep worked_policies once_taken delivers
     (answers.Deliver (receives.Dropped drops.Duplicate)) once_again
 unfolding once_taken
-drops_duplicate = record { answer = inl refl; end = refl; control = refl; heard = refl; others = refl; lacking = tt }
+drops_duplicate = record { answer = inl refl; end = refl; control = refl; heard = refl; openings = tt; others = refl; lacking = tt }
 
 pub accepts : IsStep worked_policies once_again accepts_stream (answers.Accept (Some 0)) once_accepted
 unfolding once_taken
-accepts = record { answer = refl; end = refl; control = refl; heard = refl; others = refl; lacking = tt }
+accepts = record { answer = refl; end = refl; control = refl; heard = refl; openings = tt; others = refl; lacking = tt }
 
 -- a read of this stream at the server, in order or not, by these bounds, is answered so, and leaves this end
 pub record ReadsSo (w : World) (id : ℕ) (ordered : Bool) (mosts : List ℕ) (nexts : NextAnswers) (next : End) : Type 0 where
@@ -92,6 +92,7 @@ reads_at w next id ordered mosts nexts so alone read by =
       end = all.end;
       control = control;
       heard = heard;
+      openings = tt;
       others =
           alone
           ∙ server_alone w next.server

@@ -15,7 +15,7 @@ ghost use Rattle.quic_machine.specs.Acked.{after_acked};
 ghost use Rattle.quic_machine.specs.Tracking.{nothing_tracked, loss_moment};
 ghost use Rattle.quic_spaces.specs.Acknowledging.{written_delay};
 ghost use Rattle.quic_spaces.specs.Numbers.{cut_against};
-ghost use Rattle.quic_machine.specs.End.{closed_by, probe_timeout};
+ghost use Rattle.quic_machine.specs.End.{drained_by, probe_timeout};
 ghost use Rattle.quic_machine.specs.Calls.{end_tells, end_after_event, end_after_ping};
 ghost use Rattle.quic_machine.specs.Opens.{would_open};
 ghost use Rattle.quic_machine.specs.Poll.{composed};
@@ -31,10 +31,10 @@ pub fn hello_is_acknowledged()
     ensures set { timer_at MaxAckDelay once_taken.server.timers ≡ Some 25000000 }
     ensures next { next_timer once_taken.server.timers ≡ Some 25000000 }
     ensures nothing_yet { (server_gives once_taken.server 0).answer ≡ Ok None }
-    ensures early { (timed_out once_taken.server 24999999).answer ≡ Ok tt }
+    ensures early { (timed_out worked_policies.server once_taken.server 24999999).answer ≡ Ok tt }
     ensures still_set { timer_at MaxAckDelay server_early.timers ≡ Some 25000000 }
     ensures nothing_early { (server_gives server_early 24999999).answer ≡ Ok None }
-    ensures due { (timed_out once_taken.server 25000000).answer ≡ Ok tt }
+    ensures due { (timed_out worked_policies.server once_taken.server 25000000).answer ≡ Ok tt }
     ensures stopped { next_timer server_due.timers ≡ None }
     ensures given { (server_gives server_due 25000000).datagram ≡ Some (from_server 0 ack_payload) }
     ensures size { (server_gives server_due 25000000).answer
@@ -83,9 +83,9 @@ pub fn lost_bytes_go_again()
 #[tactic(auto, unfolding(crate::specs::Worked::once_sent))]
 pub fn timeouts_are_probed()
     ensures set { timer_at LossDetection once_sent.client.timers ≡ Some 1024000000 }
-    ensures early { (timed_out once_sent.client 1023999999).end.tracking
+    ensures early { (timed_out worked_policies.client once_sent.client 1023999999).end.tracking
         ≡ once_sent.client.tracking }
-    ensures still_set { timer_at LossDetection (timed_out once_sent.client 1023999999).end.timers
+    ensures still_set { timer_at LossDetection (timed_out worked_policies.client once_sent.client 1023999999).end.timers
         ≡ Some 1024000000 }
     ensures expired { client_timed_out.tracking.probes ≡ 2 }
     ensures again { timer_at LossDetection client_timed_out.timers ≡ Some 2048000000 }
@@ -105,7 +105,7 @@ pub fn timeouts_are_probed()
 pub fn injections_are_judged()
     ensures opens { would_open worked_policies.server server_made hello_datagram ≡ true }
     ensures again { would_open worked_policies.server once_taken.server hello_datagram ≡ true }
-    ensures drained { would_open worked_policies.server (closed_by NumberLimit server_made)
+    ensures drained { would_open worked_policies.server (drained_by NumberLimit server_made)
         hello_datagram ≡ true }
     ensures elsewhere { would_open worked_policies.client client_made hello_datagram ≡ false }
     ensures nothing { would_open worked_policies.server server_made [] ≡ false }
@@ -117,10 +117,10 @@ pub fn injections_are_judged()
 /// Why an end is lost is told once, and of an open end nothing.
 pub fn losses_are_told_once()
     ensures open { end_tells client_made ≡ None }
-    ensures lost { end_tells (closed_by NumberLimit client_made) ≡ Some (events.Lost NumberLimit) }
-    ensures once { end_tells (end_after_event (closed_by NumberLimit client_made)) ≡ None }
-    ensures stays { (end_after_event (end_after_event (closed_by NumberLimit client_made))).closing
-        ≡ (end_after_event (closed_by NumberLimit client_made)).closing }
-    ensures reason { (end_after_event (closed_by NumberLimit client_made)).closing.reason
+    ensures lost { end_tells (drained_by NumberLimit client_made) ≡ Some (events.Lost NumberLimit) }
+    ensures once { end_tells (end_after_event (drained_by NumberLimit client_made)) ≡ None }
+    ensures stays { (end_after_event (end_after_event (drained_by NumberLimit client_made))).closing
+        ≡ (end_after_event (drained_by NumberLimit client_made)).closing }
+    ensures reason { (end_after_event (drained_by NumberLimit client_made)).closing.reason
         ≡ Some NumberLimit }
 {}

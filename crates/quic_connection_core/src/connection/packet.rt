@@ -15,8 +15,10 @@ ghost use Rattle.quic_machine.specs.End.{with_end, with_number_given, number_of,
 ghost use Rattle.quic_spaces.specs.Acknowledging.{most_ack_bytes};
 ghost use Rattle.quic_spaces.specs.Numbers.{can_number, cut_against};
 ghost use Rattle.quic_machine.specs.Tracking.{carried_in, retransmits_in};
-ghost use Rattle.quic_machine.specs.Poll.{alone, draft_left, draft_as, lazied_as, most_of, composed, frame_room, payload_of, datagram_of, datagram_size, paid_if, told_draft, after_given, asking, tracked, ack_of, after_ack};
+ghost use Rattle.quic_machine.specs.DraftLaws.{MayGo, MayLeave};
+ghost use Rattle.quic_machine.specs.Poll.{draft_left, draft_as, lazied_as, most_of, composed, frame_room, payload_of, datagram_of, datagram_size, paid_if, told_draft, after_given, asking, tracked, ack_of, after_ack};
 ghost use Rattle.quic_connection_core.specs.Leaving.{leaving_of, IsLooked, least_of};
+ghost use Rattle.quic_machine.specs.Idle.{packet_given};
 ghost use Rattle.quic_machine.specs.Parts.{current_mtu};
 ghost use Rattle.quic_connection_core.specs.Frames.{control_part, content, content_at, with_content, asked, ping_bytes, pinged, fits_behind, ack_bytes_if, acked_if, end_after_ack_if};
 ghost use Rattle.quic_connection_core.specs.Drawn.{words_of, after_words};
@@ -72,12 +74,12 @@ impl<H: HeaderKey + Drop, K: PacketKey + Drop, R: Rng + Drop, C: Controller> Con
     /// memory lacks, nothing is appended, and the end fails for good.
     pub(crate) fn give(&mut self, leaving: Leaving, out: &mut Vec<u8>) -> Result<usize, Failed>
         requires number { can_number self.old.end.numbers ≡ true }
-        requires due { leaving_of leaving ≡ alone → can_send (lazied_as (leaving_of leaving) self.old.end).acknowledging ≡ true }
+        requires due { MayLeave (leaving_of leaving) self.old.end }
         requires looked { IsLooked leaving self.old.end }
-        ensures items { OnOk result (out.new.items ≡ out.old.items ++ datagram_of (policy_of H.protection K.aead (words_of R.stream) self.old) (draft_as (leaving_of leaving) self.old.end)) }
+        ensures items { OnOk result (out.new.items ≡ out.old.items ++ datagram_of (policy_of H.protection K.aead K.seal_limit K.refusal_limit (words_of R.stream) self.old) (draft_as (leaving_of leaving) self.old.end)) }
         ensures size { IfOk result (λ size. vec_len out.new ≡ vec_len out.old + size) }
         ensures most { IfOk result (λ size. size ≤ most_of (leaving_of leaving) self.old.end) }
-        ensures end { OnOk result (self.new.end ≡ after_given (policy_of H.protection K.aead (words_of R.stream) self.old) (draft_as (leaving_of leaving) self.old.end)) }
+        ensures end { OnOk result (self.new.end ≡ after_given (policy_of H.protection K.aead K.seal_limit K.refusal_limit (words_of R.stream) self.old) (draft_as (leaving_of leaving) self.old.end)) }
         ensures control { OnOk result (self.new.control ≡ after_calls C.steps self.old.control (told_draft (draft_as (leaving_of leaving) self.old.end))) }
         ensures keys { self.new.keys ≡ self.old.keys }
         ensures heard { OnOk result (self.new.heard ≡ self.old.heard) }
@@ -98,13 +100,13 @@ impl<H: HeaderKey + Drop, K: PacketKey + Drop, R: Rng + Drop, C: Controller> Con
     /// packets came that don't ask.
     fn put_datagram(&mut self, leaving: Leaving, out: &mut Vec<u8>) -> Result<usize, Failed>
         requires number { can_number self.old.end.numbers ≡ true }
-        requires due { leaving_of leaving ≡ alone → can_send self.old.end.acknowledging ≡ true }
+        requires due { MayGo (leaving_of leaving) self.old.end }
         requires looked { IsLooked leaving self.old.end }
         requires room { vec_len out.old + most_of (leaving_of leaving) self.old.end ≤ vec_capacity out.old }
-        ensures items { OnOk result (out.new.items ≡ out.old.items ++ datagram_of (policy_of H.protection K.aead (words_of R.stream) self.old) (draft_left (leaving_of leaving) self.old.end)) }
+        ensures items { OnOk result (out.new.items ≡ out.old.items ++ datagram_of (policy_of H.protection K.aead K.seal_limit K.refusal_limit (words_of R.stream) self.old) (draft_left (leaving_of leaving) self.old.end)) }
         ensures size { IfOk result (λ size. vec_len out.new ≡ vec_len out.old + size) }
         ensures most { IfOk result (λ size. size ≤ most_of (leaving_of leaving) self.old.end) }
-        ensures end { OnOk result (self.new.end ≡ after_given (policy_of H.protection K.aead (words_of R.stream) self.old) (draft_left (leaving_of leaving) self.old.end)) }
+        ensures end { OnOk result (self.new.end ≡ after_given (policy_of H.protection K.aead K.seal_limit K.refusal_limit (words_of R.stream) self.old) (draft_left (leaving_of leaving) self.old.end)) }
         ensures control { OnOk result (self.new.control ≡ after_calls C.steps self.old.control (told_draft (draft_left (leaving_of leaving) self.old.end))) }
         ensures keys { self.new.keys ≡ self.old.keys }
         ensures heard { OnOk result (self.new.heard ≡ self.old.heard) }
@@ -131,14 +133,14 @@ impl<H: HeaderKey + Drop, K: PacketKey + Drop, R: Rng + Drop, C: Controller> Con
     /// the packet may stand in `out`.
     fn put_tracked(&mut self, leaving: Leaving, out: &mut Vec<u8>) -> Result<(), AllocError>
         requires number { can_number self.old.end.numbers ≡ true }
-        requires due { leaving_of leaving ≡ alone → can_send self.old.end.acknowledging ≡ true }
+        requires due { MayGo (leaving_of leaving) self.old.end }
         requires looked { IsLooked leaving self.old.end }
         requires room { vec_len out.old + most_of (leaving_of leaving) self.old.end ≤ vec_capacity out.old }
         ensures items { OnOk result (out.new.items ≡ out.old.items ++ (header_bytes self.old.end.ids.active.id (truncated (number_of self.old.end) (cut_against self.old.end.numbers)) ++ payload_of (draft_left (leaving_of leaving) self.old.end))) }
         ensures four { OnOk result (vec_len out.old + 1 + length self.old.end.ids.active.id + 4 ≤ vec_len out.new) }
         ensures within { OnOk result (vec_len out.new + 16 ≤ vec_len out.old + most_of (leaving_of leaving) self.old.end) }
         ensures capacity { vec_capacity out.old ≤ vec_capacity out.new }
-        ensures end { OnOk result (self.new.end ≡ paid_if (asking (draft_left (leaving_of leaving) self.old.end).frames) (with_number_given (words_of R.stream self.old.random 0) (tracked (draft_left (leaving_of leaving) self.old.end))) (datagram_size (draft_left (leaving_of leaving) self.old.end))) }
+        ensures end { OnOk result (self.new.end ≡ packet_given (asking (draft_left (leaving_of leaving) self.old.end).frames) (paid_if (asking (draft_left (leaving_of leaving) self.old.end).frames) (with_number_given (words_of R.stream self.old.random 0) (tracked (draft_left (leaving_of leaving) self.old.end))) (datagram_size (draft_left (leaving_of leaving) self.old.end)))) }
         ensures control { OnOk result (self.new.control ≡ after_calls C.steps self.old.control (told_draft (draft_left (leaving_of leaving) self.old.end))) }
         ensures random { OnOk result (R.stream self.new.random ≡ after_words (self.new.end.filter.drawn - self.old.end.filter.drawn) (R.stream self.old.random)) }
         ensures ids { OnOk result (self.new.end.ids ≡ self.old.end.ids) }
@@ -161,7 +163,7 @@ impl<H: HeaderKey + Drop, K: PacketKey + Drop, R: Rng + Drop, C: Controller> Con
     /// packet may stand in `out`.
     fn put_plain(&mut self, leaving: Leaving, out: &mut Vec<u8>) -> Result<SentFrames, AllocError>
         requires number { can_number self.old.end.numbers ≡ true }
-        requires due { leaving_of leaving ≡ alone → can_send self.old.end.acknowledging ≡ true }
+        requires due { MayGo (leaving_of leaving) self.old.end }
         requires looked { IsLooked leaving self.old.end }
         requires room { vec_len out.old + most_of (leaving_of leaving) self.old.end ≤ vec_capacity out.old }
         ensures items { OnOk result (out.new.items ≡ out.old.items ++ (header_bytes self.old.end.ids.active.id (truncated (number_of self.old.end) (cut_against self.old.end.numbers)) ++ payload_of (draft_left (leaving_of leaving) self.old.end))) }
@@ -197,7 +199,7 @@ impl<H: HeaderKey + Drop, K: PacketKey + Drop, R: Rng + Drop, C: Controller> Con
     /// memory; the end is of no more use then, and some of the frames may stand in `out`.
     fn put_leave(&mut self, leaving: Leaving, out: &mut Vec<u8>) -> Result<SentFrames, AllocError>
         requires number { can_number self.old.end.numbers ≡ true }
-        requires due { leaving_of leaving ≡ alone → can_send self.old.end.acknowledging ≡ true }
+        requires due { MayGo (leaving_of leaving) self.old.end }
         requires looked { IsLooked leaving self.old.end }
         requires some { 1159 ≤ frame_room self.old.end }
         requires room { vec_len out.old + frame_room self.old.end ≤ vec_capacity out.old }
@@ -376,9 +378,9 @@ impl<H: HeaderKey + Drop, K: PacketKey + Drop, R: Rng + Drop, C: Controller> Con
     /// Appends PING if it waits, for which there is room.
     fn put_ping(&mut self, out: &mut Vec<u8>)
         requires { vec_len out.old + 1 ≤ vec_capacity out.old }
-        ensures items { out.new.items ≡ out.old.items ++ ping_bytes self.old.end.waiting.ping }
-        ensures len { vec_len out.new ≡ vec_len out.old + length (ping_bytes self.old.end.waiting.ping) }
-        ensures few { length (ping_bytes self.old.end.waiting.ping) ≤ 1 }
+        ensures items { out.new.items ≡ out.old.items ++ ping_bytes self.old.end.waiting.signals.ping }
+        ensures len { vec_len out.new ≡ vec_len out.old + length (ping_bytes self.old.end.waiting.signals.ping) }
+        ensures few { length (ping_bytes self.old.end.waiting.signals.ping) ≤ 1 }
         ensures capacity { vec_capacity out.old ≤ vec_capacity out.new }
         ensures end { self.new ≡ with_end self.old (pinged self.old.end) }
     {
@@ -442,7 +444,7 @@ impl<H: HeaderKey + Drop, K: PacketKey + Drop, R: Rng + Drop, C: Controller> Con
     }
 
     /// How many bytes are left for frames in the next datagram.
-    fn frame_room(&self) -> usize
+    pub(crate) fn frame_room(&self) -> usize
         requires number { can_number self.now.end.numbers ≡ true }
         ensures room { result ≡ frame_room self.now.end }
         ensures some { 1159 ≤ result }
@@ -455,7 +457,7 @@ impl<H: HeaderKey + Drop, K: PacketKey + Drop, R: Rng + Drop, C: Controller> Con
 
     /// Appends the header of the next datagram, for which there is room: how many bytes its number
     /// takes.
-    fn put_header(&self, out: &mut Vec<u8>) -> usize
+    pub(crate) fn put_header(&self, out: &mut Vec<u8>) -> usize
         requires number { can_number self.now.end.numbers ≡ true }
         requires room { vec_len out.old + 25 ≤ vec_capacity out.old }
         ensures items { out.new.items ≡ out.old.items ++ header_bytes self.now.end.ids.active.id (truncated (number_of self.now.end) (cut_against self.now.end.numbers)) }
@@ -474,7 +476,7 @@ impl<H: HeaderKey + Drop, K: PacketKey + Drop, R: Rng + Drop, C: Controller> Con
     }
 
     /// Seals the packet of this number that stands behind the first bytes.
-    fn seal(&self, start: usize, number: u64, out: &mut Vec<u8>)
+    pub(crate) fn seal(&self, start: usize, number: u64, out: &mut Vec<u8>)
         requires start { start + 1 + length self.now.end.ids.active.id + 4 ≤ vec_len out.old }
         requires room { vec_len out.old + 16 ≤ vec_capacity out.old }
         requires number { number < 2 ^ 62 }

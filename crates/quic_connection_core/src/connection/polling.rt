@@ -18,7 +18,7 @@ ghost use Rattle.quic_time.specs.Rtt.{best_rtt};
 use crate::connection::Connection;
 use crate::connection::leaving::Leaving;
 use quic_congestion::Controller;
-use quic_machine::{Failed, Instant, LostReason, State, Timer, Transmit};
+use quic_machine::{Failed, Instant, State, Timer, Transmit};
 use quic_packet::crypto::{HeaderKey, PacketKey};
 use quic_paths::PathData;
 use quic_streams_handles::EndStreams;
@@ -55,9 +55,14 @@ impl<H: HeaderKey + Drop, K: PacketKey + Drop, R: Rng + Drop, C: Controller> Con
     ///
     /// The datagram has at most [`Connection::current_mtu`] bytes, or is such an MTU probe, which
     /// has the size that is looked for. It is to be marked as the answer says: ECT(0), until an ACK
-    /// shows that marks don't come through (section 13.4.2). Where something goes and the packet
-    /// numbers are used up, the end closes, no timer of it is set any more, and nothing is given.
-    /// An end that gives nothing and is open has nothing left to send but what is held back.
+    /// shows that marks don't come through (section 13.4.2). An end that gives nothing and is open
+    /// has nothing left to send but what is held back.
+    ///
+    /// Where something would go and the packet numbers are used up, or the packets that the key may
+    /// seal, the end closes instead, and gives its close (section 12.3; RFC 9001, section 6.6).
+    /// Sixteen numbers and eight seals are kept for closes. An end that is closing gives its close
+    /// once, and once more for each new packet that came (section 10.2.1), while numbers and seals
+    /// last; a drained end gives nothing.
     ///
     /// # Errors
     ///
@@ -68,17 +73,17 @@ impl<H: HeaderKey + Drop, K: PacketKey + Drop, R: Rng + Drop, C: Controller> Con
         now: Instant,
         out: &mut Vec<u8>,
     ) -> Result<Option<Transmit>, Failed>
-        ensures answer { OnOk result (result ≡ (polled (policy_of H.protection K.aead (words_of R.stream) self.old) (reading C.window_of self.old) now).answer) }
-        ensures end { OnOk result (self.new.end ≡ (polled (policy_of H.protection K.aead (words_of R.stream) self.old) (reading C.window_of self.old) now).end) }
-        ensures control { OnOk result (self.new.control ≡ after_calls C.steps self.old.control (told_polled (reading C.window_of self.old) now)) }
+        ensures answer { OnOk result (result ≡ (polled (policy_of H.protection K.aead K.seal_limit K.refusal_limit (words_of R.stream) self.old) (reading C.window_of self.old) now).answer) }
+        ensures end { OnOk result (self.new.end ≡ (polled (policy_of H.protection K.aead K.seal_limit K.refusal_limit (words_of R.stream) self.old) (reading C.window_of self.old) now).end) }
+        ensures control { OnOk result (self.new.control ≡ after_calls C.steps self.old.control (told_polled (policy_of H.protection K.aead K.seal_limit K.refusal_limit (words_of R.stream) self.old) (reading C.window_of self.old) now)) }
         ensures keys { self.new.keys ≡ self.old.keys }
         ensures heard { IfOk result (λ given. self.new.heard ≡ heard_given given self.old.heard) }
         ensures random { OnOk result (R.stream self.new.random ≡ after_words (self.new.end.filter.drawn - self.old.end.filter.drawn) (R.stream self.old.random)) }
-        ensures datagram { OnOk result (out.new.items ≡ out.old.items ++ given_bytes (polled (policy_of H.protection K.aead (words_of R.stream) self.old) (reading C.window_of self.old) now).datagram) }
+        ensures datagram { OnOk result (out.new.items ≡ out.old.items ++ given_bytes (polled (policy_of H.protection K.aead K.seal_limit K.refusal_limit (words_of R.stream) self.old) (reading C.window_of self.old) now).datagram) }
         ensures failed { OnErr result (HasFailed self.old self.new) }
         ensures stopped { self.old.end.closing.state ≢ State.Failed → OnErr result (self.new.end.timers ≡ no_timers) }
         ensures nothing { OnErr result (out.new.items ≡ out.old.items) }
-        ensures lacking { OnErr result (PollTakes (policy_of H.protection K.aead (words_of R.stream) self.old) (reading C.window_of self.old) now) }
+        ensures lacking { OnErr result (PollTakes (policy_of H.protection K.aead K.seal_limit K.refusal_limit (words_of R.stream) self.old) (reading C.window_of self.old) now) }
         ensures still { self.old.end.closing.state ≡ State.Failed → self.new ≡ self.old }
         ensures size { IfOk result (λ given. IfSome given (λ transmit. transmit.size ≤ 65527)) }
         ensures silent { result ≡ Ok None → self.new.end.closing.state ≡ State.Open → IsSilent self.new.end }
@@ -87,26 +92,27 @@ impl<H: HeaderKey + Drop, K: PacketKey + Drop, R: Rng + Drop, C: Controller> Con
             State::Failed => return Err(Failed),
             State::Closing | State::Drained | State::Open => self.read_window(),
         }
-        if !self.is_open() {
-            return Ok(None);
+        match self.state() {
+            State::Open => self.poll_open(now, out),
+            State::Closing => self.poll_closing(now, out),
+            State::Drained | State::Failed => Ok(None),
         }
-        self.poll_open(now, out)
     }
 
     /// The same of an open end that has read the window.
     fn poll_open(&mut self, now: Instant, out: &mut Vec<u8>) -> Result<Option<Transmit>, Failed>
         requires { self.old.end.closing.state ≡ State.Open }
-        ensures answer { OnOk result (result ≡ (polled (policy_of H.protection K.aead (words_of R.stream) self.old) self.old.end now).answer) }
-        ensures end { OnOk result (self.new.end ≡ (polled (policy_of H.protection K.aead (words_of R.stream) self.old) self.old.end now).end) }
-        ensures control { OnOk result (self.new.control ≡ after_calls C.steps self.old.control (told_polled self.old.end now)) }
+        ensures answer { OnOk result (result ≡ (polled (policy_of H.protection K.aead K.seal_limit K.refusal_limit (words_of R.stream) self.old) self.old.end now).answer) }
+        ensures end { OnOk result (self.new.end ≡ (polled (policy_of H.protection K.aead K.seal_limit K.refusal_limit (words_of R.stream) self.old) self.old.end now).end) }
+        ensures control { OnOk result (self.new.control ≡ after_calls C.steps self.old.control (told_polled (policy_of H.protection K.aead K.seal_limit K.refusal_limit (words_of R.stream) self.old) self.old.end now)) }
         ensures keys { self.new.keys ≡ self.old.keys }
         ensures heard { IfOk result (λ given. self.new.heard ≡ heard_given given self.old.heard) }
         ensures random { OnOk result (R.stream self.new.random ≡ after_words (self.new.end.filter.drawn - self.old.end.filter.drawn) (R.stream self.old.random)) }
-        ensures datagram { OnOk result (out.new.items ≡ out.old.items ++ given_bytes (polled (policy_of H.protection K.aead (words_of R.stream) self.old) self.old.end now).datagram) }
+        ensures datagram { OnOk result (out.new.items ≡ out.old.items ++ given_bytes (polled (policy_of H.protection K.aead K.seal_limit K.refusal_limit (words_of R.stream) self.old) self.old.end now).datagram) }
         ensures failed { OnErr result (HasFailed self.old self.new) }
         ensures stopped { OnErr result (self.new.end.timers ≡ no_timers) }
         ensures nothing { OnErr result (out.new.items ≡ out.old.items) }
-        ensures lacking { OnErr result (PollTakes (policy_of H.protection K.aead (words_of R.stream) self.old) self.old.end now) }
+        ensures lacking { OnErr result (PollTakes (policy_of H.protection K.aead K.seal_limit K.refusal_limit (words_of R.stream) self.old) self.old.end now) }
         ensures size { IfOk result (λ given. IfSome given (λ transmit. transmit.size ≤ 65527)) }
         ensures silent { result ≡ Ok None → self.new.end.closing.state ≡ State.Open → IsSilent self.new.end }
     {
@@ -115,9 +121,9 @@ impl<H: HeaderKey + Drop, K: PacketKey + Drop, R: Rng + Drop, C: Controller> Con
         let Some(leaving) = self.make_ready(now)? else {
             return Ok(None);
         };
-        if !self.can_number() {
-            self.close_by(LostReason::NumberLimit);
-            return Ok(None);
+        if let Some((reason, code)) = self.bound_reached() {
+            self.close_by(reason, code);
+            return self.give_close(out);
         }
         let size = self.give(leaving, out)?;
         self.count_bytes(size);
@@ -128,7 +134,7 @@ impl<H: HeaderKey + Drop, K: PacketKey + Drop, R: Rng + Drop, C: Controller> Con
     }
 
     /// A datagram of so many bytes went on the path (RFC 9000, section 8.1).
-    fn count_bytes(&mut self, size: usize)
+    pub(crate) fn count_bytes(&mut self, size: usize)
         ensures { self.new ≡ hearing self.old (heard_sent size self.old.heard) }
     {
         self.path.on_datagram_sent(size as u64);
@@ -150,7 +156,7 @@ impl<H: HeaderKey + Drop, K: PacketKey + Drop, R: Rng + Drop, C: Controller> Con
     }
 
     /// The mark of a datagram: ECT(0), while the path is marked (RFC 9000, section 13.4).
-    fn mark(&self) -> Option<EcnCodepoint>
+    pub(crate) fn mark(&self) -> Option<EcnCodepoint>
         ensures { result ≡ mark_of self.now.end.path.marking }
     {
         if self.path.sending_ecn {

@@ -5,6 +5,7 @@ ghost use Rattle.quic_machine.specs.End.{with_tracking, with_number_given, numbe
 ghost use Rattle.quic_spaces.specs.Numbers.{can_number};
 ghost use Rattle.quic_machine.specs.Tracking.{after_sent};
 ghost use Rattle.quic_machine.specs.Poll.{paid_if};
+ghost use Rattle.quic_machine.specs.Idle.{packet_given};
 ghost use Rattle.quic_machine.specs.Control.{told_sent};
 ghost use Rattle.quic_connection_core.specs.Frames.{tracked_as};
 ghost use Rattle.quic_connection_core.specs.Drawn.{words_of, after_words};
@@ -120,7 +121,7 @@ impl<H: HeaderKey + Drop, K: PacketKey + Drop, R: Rng + Drop, C: Controller> Con
     /// want of memory, and nothing has changed.
     pub(crate) fn track(&mut self, size: u16, sent: SentFrames) -> Result<(), AllocError>
         requires { can_number self.old.end.numbers ≡ true }
-        ensures end { OnOk result (self.new.end ≡ paid_if sent.asks (with_number_given (words_of R.stream self.old.random 0) (tracked_as sent.asks size sent.carried self.old.end)) size) }
+        ensures end { OnOk result (self.new.end ≡ packet_given sent.asks (paid_if sent.asks (with_number_given (words_of R.stream self.old.random 0) (tracked_as sent.asks size sent.carried self.old.end)) size)) }
         ensures control { OnOk result (self.new.control ≡ after_calls C.steps self.old.control (told_sent sent.asks self.old.end size (number_of self.old.end))) }
         ensures keys { self.new.keys ≡ self.old.keys }
         ensures heard { OnOk result (self.new.heard ≡ self.old.heard) }
@@ -142,6 +143,7 @@ impl<H: HeaderKey + Drop, K: PacketKey + Drop, R: Rng + Drop, C: Controller> Con
         if asks {
             self.tell_sent(number, size);
         }
+        self.on_packet_given(asks);
         self.count_sent(size);
         Ok(())
     }

@@ -43,9 +43,7 @@ Keeps taken e = Ruled e.acknowledging taken
 -- an acknowledgement that became due leaves the rules
 lazied_ruled : (taken : List Packet) (leaving : Leaving) (e : End) → Keeps taken e → Keeps taken (lazied_as leaving e)
 lazied_ruled taken whole e i = i
-lazied_ruled taken alone e i = i
-lazied_ruled taken (probe size) e i = i
-lazied_ruled taken (nothing held) e i = i
+lazied_ruled taken other e i = i
 
 -- an ACK frame that goes leaves the rules too
 draft_ruled : (taken : List Packet) (leaving : Leaving) (e : End) → MayLeave leaving e → Keeps taken e → Keeps taken (draft_as leaving e).end
@@ -63,7 +61,7 @@ polled_ruled taken p e now i = by_poll_to p e now (λ (q : Polled). Keeps taken 
   silent = i;
   failed = i;
   nothing = λ is none. ready_ruled taken e now i;
-  used_up = ready_ruled taken e now i;
+  closes = ready_ruled taken e now i;
   gives = λ is may some.
       let g : Ready = ready_at e now in
       by_going (Keeps taken) p (draft_at e now) (λ pacing. draft_ruled taken g.leaving g.end (may_leave_at e now) (ready_ruled taken e now i));

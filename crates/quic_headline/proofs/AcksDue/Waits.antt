@@ -89,7 +89,7 @@ polled_timer p e now = by_poll_to p e now (λ (q : Polled). acknowledges (sent_i
   silent = λ none opened. refl;
   failed = λ none opened. refl;
   nothing = λ is quiet none opened. ready_timer e now;
-  used_up = λ none opened. cc;
+  closes = λ none opened. cc;
   gives = λ is may some none opened.
       let g : Ready = ready_at e now in
       by_going (λ (x : End). x.timers.max_ack_delay ≡ e.timers.max_ack_delay) p (draft_at e now) (λ pacing.
@@ -150,7 +150,7 @@ expired_clock e now = by_expired e now (λ (x : End). x.closing ≡ ticked e.clo
 -- a timer that is set behind a timeout is set to a later moment
 pub timeout_later : (p : Policy) (e : End) (theirs : List (List ℕ)) (now : ℕ) (a : Answer) (moment : ℕ) → e.closing.state ≡ states.Open → (after_call p e theirs (calls.Timeout now) a).timers.max_ack_delay ≡ Some moment → (after_call p e theirs (calls.Timeout now) a).closing.clock < moment
 timeout_later p e theirs now a moment opened =
-    subst (λ (x : End). x.timers.max_ack_delay ≡ Some moment → x.closing.clock < moment) (sym (ap (λ (s : State). (timed_out_in s e now).end) opened))
+    subst (λ (x : End). x.timers.max_ack_delay ≡ Some moment → x.closing.clock < moment) (sym (ap (λ (s : State). (timed_out_in s p e now).end) opened))
     (λ set. subst (λ (c : Closing). c.clock < moment) (sym (expired_clock e now expiry)) (go (has_come e.timers.max_ack_delay (ticked e.closing now).clock) refl set))
   where
     expiry : Expiry

@@ -202,6 +202,8 @@ module _ (stop over : ℕ → Type 0) where
     limits = λ p s f i goes. tt;
     pads = tt;
     pings = tt;
+    connection_closes = λ c. tt;
+    application_closes = λ c. tt;
     acks = λ a. tt;
     messages = λ m. tt;
     streams = λ f. tt;

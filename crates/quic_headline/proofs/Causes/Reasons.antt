@@ -18,10 +18,10 @@ use Rattle.quic_machine.specs.Timeouts.{Expiry, loss_judged, acks_expired, loss_
 use Rattle.quic_machine.specs.Machine.{World, Policies, HasStopped, after_call, view_of, Follows}
 use Rattle.quic_machine.specs.DraftLaws.{Writing, by_leave, MayLeave}
 use Rattle.quic_machine.specs.Puts as puts
-use Rattle.quic_machine.specs.LeaveCases.{at_expiry}
+use Rattle.quic_machine.specs.LeaveCases.{at_expiry, Expired, by_timers}
 use Rattle.quic_machine.specs.CallCases.{Plain, by_plain_call}
 use Rattle.quic_machine.specs.CallCases as cases
-use Rattle.quic_machine.specs.FrameCases.{Settling, Receives, named, acked_keeps, losses_keep, frame_keeps, frame_leaves, by_received}
+use Rattle.quic_machine.specs.FrameCases.{Settling, Receives, named, acked_keeps, losses_keep, frame_keeps, frame_leaves, by_received, apart_leaves}
 use Rattle.quic_machine.specs.Steps as steps
 use Rattle.quic_machine.specs.PollCases.{ready_at, ready_leaves, by_poll_to, draft_at, may_leave_at}
 use Rattle.quic_headline.specs.Runs.{Run, state_in}
@@ -31,6 +31,7 @@ use Rattle.quic_headline.specs.Reasons.{Explains, ClosedHasAReason}
 use Rattle.quic_headline.proofs.Packets.Probes.{by_going}
 use Rattle.quic_headline.proofs.Places.Placed.{start_is}
 use Rattle.quic_headline.proofs.Timers.BothEnds.{AtBoth, IsKept, step_keeps}
+use Rattle.quic_machine.specs.LeaveCases as expiring
 
 -- ---- an end
 
@@ -48,7 +49,7 @@ receives : Receives IsExplained
 receives = record {
   notes = λ n e i. i;
   begins = λ now n e i. i;
-  frame = frame_keeps IsExplained (record { ack = λ rises a e i. acked_keeps IsExplained settling rises a (named a e) i; on_streams = λ f e on i. frame_leaves IsExplained f e on (λ t. i); message = λ m e i. i });
+  frame = frame_keeps IsExplained (record { ack = λ rises a e i. acked_keeps IsExplained settling rises a (named a e) i; on_streams = λ f e on i. frame_leaves IsExplained f e on (λ t. i); apart = λ f e is i. apart_leaves IsExplained f e is (λ c. i); message = λ m e i. i });
   takes = λ n asks mark e i. i;
   closes = λ reason e i. tt;
 }
@@ -56,9 +57,7 @@ receives = record {
 -- an acknowledgement that became due leaves it
 lazied_keeps : (leaving : Leaving) (e : End) → IsExplained e → IsExplained (lazied_as leaving e)
 lazied_keeps whole e i = i
-lazied_keeps alone e i = i
-lazied_keeps (probe size) e i = i
-lazied_keeps (nothing held) e i = i
+lazied_keeps other e i = i
 
 -- what goes closes nothing
 draft_keeps : (leaving : Leaving) (e : End) → MayLeave leaving e → IsExplained e → IsExplained (draft_as leaving e).end
@@ -77,7 +76,7 @@ polled_keeps p e now i = by_poll_to p e now (λ (q : Polled). IsExplained q.end)
   silent = i;
   failed = i;
   nothing = λ is none. ready_keeps e now i;
-  used_up = tt;
+  closes = tt;
   gives = λ is may some. by_going IsExplained p (draft_at e now) (λ pacing. draft_keeps (ready_at e now).leaving (ready_at e now).end (may_leave_at e now) (ready_keeps e now i));
 })
 
@@ -86,20 +85,12 @@ judged_keeps : (o : Option ℕ) (e : End) → IsExplained e → IsExplained (los
 judged_keeps None e i = i
 judged_keeps (Some moment) e i = losses_keep IsExplained settling e i
 
-acks_keep : (acks loss : Bool) (e : End) → IsExplained e → IsExplained (acks_expired acks (loss_expired loss e))
-acks_keep true true e i = judged_keeps e.tracking.loss_time e i
-acks_keep true false e i = i
-acks_keep false true e i = judged_keeps e.tracking.loss_time e i
-acks_keep false false e i = i
-
-pacing_keeps : (pacing : Bool) (e : End) → IsExplained e → IsExplained (with_loss_timer (pacing_expired pacing e))
-pacing_keeps true e i = i
-pacing_keeps false e i = i
+expires_keeps : (s : Expired) (e : End) → IsExplained e → IsExplained (expiring.after s e)
+expires_keeps expiring.of_acks e i = i
+expires_keeps s e i = i
 
 expired_keeps : (e : End) (now : ℕ) (expiry : Expiry) → IsExplained e → IsExplained (at_expiry e now expiry)
-expired_keeps e now expiry i =
-    let begun : End = with_closing e (ticked e.closing now) in
-    pacing_keeps expiry.pacing (acks_expired expiry.acks (loss_expired expiry.loss begun)) (acks_keep expiry.acks expiry.loss begun i)
+expired_keeps e now expiry i = by_timers IsExplained IsExplained judged_keeps expires_keeps (λ f j. j) expiry (with_closing e (ticked e.closing now)) i
 
 -- what any call leaves
 call_keeps : (p : Policy) (e : End) (theirs : List (List ℕ)) (call : Call) (a : Answer) → IsExplained e → IsExplained (after_call p e theirs call a)

@@ -40,9 +40,9 @@ use Rattle.quic_headline.proofs.Packets.Probes.{ready_streams, ready_state}
 use Rattle.quic_machine.specs.End.{End}
 use Rattle.quic_machine.specs.Receive.{take_frame}
 use Rattle.quic_machine.specs.Poll.{zeros_behind, Draft, lazied, draft_as, with_ack, no_frames, probe, alone, whole, Leaving, nothing}
-use Rattle.quic_machine.specs.DraftLaws.{Writing, by_writing}
+use Rattle.quic_machine.specs.DraftLaws.{Writing, by_writing, MayLeave, by_leave}
 use Rattle.quic_machine.specs.Puts as puts
-use Rattle.quic_machine.specs.PollCases.{ready_at, draft_at, frames_at}
+use Rattle.quic_machine.specs.PollCases.{ready_at, draft_at, frames_at, may_leave_at}
 use Rattle.quic_machine.specs.FrameCases.{passed, frames_keep}
 use Rattle.quic_machine.specs.CallCases.{is_delivery}
 use Rattle.quic_machine.specs.Machine.{IsAnswer, after_call}
@@ -229,11 +229,8 @@ module _ (s : StreamsState) where
   }
   goes_on p d may g = record { shape = g.shape; back = g.back; stops = g.stops; frames = more_given d.frames _ g.frames tt }
 
-  draft_goes : (leaving : Leaving) (e : End) → Goes s (no_frames e) → Goes s (draft_as leaving e)
-  draft_goes whole e first = by_writing (Goes s) goes_on (lazied e) (record { shape = first.shape; back = first.back; stops = first.stops; frames = first.frames })
-  draft_goes alone e first = acked_goes (no_frames (lazied e)) (record { shape = first.shape; back = first.back; stops = first.stops; frames = first.frames })
-  draft_goes (probe size) e first = goes_on (puts.probes size) (no_frames e) tt first
-  draft_goes (nothing held) e first = first
+  draft_goes : (leaving : Leaving) (e : End) → MayLeave leaving e → Goes s (no_frames e) → Goes s (draft_as leaving e)
+  draft_goes leaving e may first = by_leave (Goes s) goes_on leaving e may (record { shape = first.shape; back = first.back; stops = first.stops; frames = first.frames })
 
   padded_given : (fs : List FrameValue) (count : ℕ) → ((f : FrameValue) → In f fs → Given s f) → (f : FrameValue) → In f (fs ++ replicate count padding) → Given s f
   padded_given fs count all f i = elim (in_append f fs (replicate count padding) i) [ inl here ↦ all f here | inr behind ↦ zeros count behind ]
@@ -247,7 +244,7 @@ module _ (s : StreamsState) where
 pub polled_given : (e : End) (now : ℕ) → IsShaped e.streams → StopsHold e.streams e.waiting.frames → ((n : ℕ) (t : TrackedPacket) → In (n, t) e.tracking.packets → StopsHold e.streams t.carried.retransmits) → (f : FrameValue) → In f (frames_at e now) → Given e.streams f
 polled_given e now shape stops carried =
     let d : Draft = draft_at e now in
-    padded_given e.streams d.frames (zeros_behind d) (draft_goes e.streams (ready_at e now).leaving (ready_at e now).end ready).frames
+    padded_given e.streams d.frames (zeros_behind d) (draft_goes e.streams (ready_at e now).leaving (ready_at e now).end (may_leave_at e now) ready).frames
   where
     -- what waits, with what a packet carried
     more : (n : ℕ) (t : TrackedPacket) → In (n, t) e.tracking.packets → StopsHold e.streams (merged e.waiting.frames t.carried.retransmits)

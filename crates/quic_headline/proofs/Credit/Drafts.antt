@@ -1,6 +1,6 @@
 -- What holds of the frames that go into a datagram, where something is known of the streams that each of them leaves known, and from which it follows of each limit.
 use Rattle.std.proofs.Common.{◌≡◌, ℕ, zero, suc, Bool, List, [], ◌∷◌, ◌++◌, replicate, Some, sym, subst, inl, inr}
-use Rattle.quic_wire.specs.Value.{FrameValue, AckValue, StreamValue, padding, ack, ping, stream, datagram}
+use Rattle.quic_wire.specs.Value.{FrameValue, AckValue, StreamValue, padding, ack, ping, stream, datagram, ConnectionCloseValue, ApplicationCloseValue, connection_close, application_close}
 use Rattle.quic_streams_parts.specs.Table.{at}
 use Rattle.quic_streams_parts.specs.SendHalf.{SendHalf, frame_of}
 use Rattle.quic_retransmits.specs.Retransmits.{Retransmits}
@@ -29,6 +29,8 @@ pub record AreFine (Known : StreamsState → Type 0) (Fine : FrameValue → Type
   pub limits : (p : Retransmits) (s : StreamsState) (f : FrameValue) → Known s → Goes p s f → Fine f
   pub pads : Fine padding
   pub pings : Fine ping
+  pub connection_closes : (c : ConnectionCloseValue) → Fine (connection_close c)
+  pub application_closes : (c : ApplicationCloseValue) → Fine (application_close c)
   pub acks : (a : AckValue) → Fine (ack a)
   pub messages : (m : List ℕ) → Fine (datagram m)
   pub streams : (f : StreamValue) → Fine (stream f)
@@ -61,6 +63,8 @@ module _ (Known : StreamsState → Type 0) (Fine : FrameValue → Type 0) (k : A
   writing (puts.control kind f) d is j = (k.told f d.end.streams j.0, and_fine d.frames f j.1 (k.limits d.end.waiting.frames d.end.streams f j.0 is.says))
   writing (puts.message m ms) d may j = (j.0, and_fine d.frames (datagram m) j.1 (k.messages m))
   writing (puts.stream id h room) d (found, first, some, is, counts) j = (k.sent d.end.transport.send_fairness d.end.streams id room h found j.0, and_fine d.frames (stream (frame_of id h room)) j.1 (k.streams (frame_of id h room)))
+  writing (puts.connection_close c) d may j = (j.0, and_fine d.frames (connection_close c) j.1 (k.connection_closes c))
+  writing (puts.application_close c) d may j = (j.0, and_fine d.frames (application_close c) j.1 (k.application_closes c))
   writing p d may j = (j.0, and_fine d.frames _ j.1 k.pings)
 
   draft_is : (leaving : Leaving) (e : End) → MayLeave leaving e → Known e.streams → DraftIs (draft_as leaving e)
@@ -72,7 +76,7 @@ module _ (Known : StreamsState → Type 0) (Fine : FrameValue → Type 0) (k : A
     silent = λ t i. absurd i;
     failed = λ t i. absurd i;
     nothing = λ is none t i. absurd i;
-    used_up = λ t i. absurd i;
+    closes = λ t i. absurd i;
     gives = λ is numbered some t i f j. (
         let d : Draft = draft_at e now in
         let ready : Known (ready_at e now).end.streams = subst Known (sym (ready_state e now)) (known is) in

@@ -41,8 +41,8 @@ use Rattle.quic_machine.specs.Closing.{ticked}
 use Rattle.quic_machine.specs.Tracking.{Tracking, TrackedPacket, is_behind, after_sent, without_record}
 use Rattle.quic_machine.specs.End.{End, with_closing, streams_at, number_of}
 use Rattle.quic_machine.specs.Calls.{is_open}
-use Rattle.quic_machine.specs.Poll.{zeros_behind, Polled, Draft, no_frames, ack_of, with_ping_frame, ping_if, with_control_frames, with_asking, with_ack, ack_fits, ack_if, composed_if, composed, asking, frame_room, lazied, packet_of, tracked, record_moved, polled, with_message_frames, goes, draft_as, whole, alone, probe, Leaving, nothing}
-use Rattle.quic_machine.specs.DraftLaws.{Writing, by_streams, by_messages, by_leave, MayLeave}
+use Rattle.quic_machine.specs.Poll.{zeros_behind, Polled, Draft, no_frames, ack_of, with_signal_frames, with_control_frames, with_asking, with_ack, ack_fits, ack_if, composed_if, composed, asking, frame_room, lazied, packet_of, tracked, record_moved, polled, with_message_frames, goes, draft_as, whole, alone, probe, Leaving, nothing}
+use Rattle.quic_machine.specs.DraftLaws.{Writing, by_streams, by_messages, by_leave, MayLeave, by_signals}
 use Rattle.quic_machine.specs.Puts.{with_half_frame}
 use Rattle.quic_machine.specs.Puts as puts
 use Rattle.quic_machine.specs.PollCases.{ready_at, ready_leaves, draft_at, frames_padded, by_poll_to, composes, may_leave_at}
@@ -214,24 +214,20 @@ moved_more what value d f (inr (inr said)) = inr (inr (says_left what value d.fr
 
 module _ (e : End) (what : Limited) (value : ℕ) (told : IsTold e.streams (limit_frame what value)) (may : Given e.streams (limit_frame what value)) (stays : Stays e.streams e.streams) (knows : AllReceiving (Knows what) e.streams)
     (was : limit_waits e.waiting.frames what ≡ true) where
-  -- no frame went but ACK and PING
+  -- no frame went but ACK and signals
   record Untouched (d : Draft) : Type 0 where
     streams : e.streams ≡ d.end.streams
     waits : e.waiting.frames ≡ d.end.waiting.frames
 
   -- what asks goes
   asking_moved : (d : Draft) → Untouched d → IsMoved what value (with_asking d)
-  asking_moved d u = by_streams (IsMoved what value) (λ x i h room found first left is counts m. stream_goes x i h room found m) (with_message_frames (with_control_frames (with_ping_frame d)))
-      (by_messages (IsMoved what value) (λ x m ms is fit moved. moved_more what value x (datagram m) moved) (with_control_frames (with_ping_frame d)) (controls (with_ping_frame d) (pinged d.end.waiting.ping)))
+  asking_moved d u = by_streams (IsMoved what value) (λ x i h room found first left is counts m. stream_goes x i h room found m) (with_message_frames (with_control_frames (with_signal_frames d)))
+      (by_messages (IsMoved what value) (λ x m ms is fit moved. moved_more what value x (datagram m) moved) (with_control_frames (with_signal_frames d)) (controls (with_signal_frames d) (by_signals Untouched (λ x f left is v. record { streams = v.streams; waits = v.waits }) d u)))
     where
       stream_goes : (x : Draft) (i : ℕ) (h : SendHalf) (room : ℕ) → at x.end.streams.sending.halves.live i ≡ Some h → IsMoved what value x → IsMoved what value (with_half_frame x i h room)
       stream_goes x i h room found (inl waits) = inl waits
       stream_goes x i h room found (inr (inl ends)) = inr (inl (by_frame (AllReceiving (Ends what)) (lasting (Ends what) (ends_lasts what)) x.end.transport.send_fairness x.end.streams i room h found tt ends))
       stream_goes x i h room found (inr (inr said)) = inr (inr (says_left what value x.frames (stream (frame_of i h room) ∷ []) said))
-
-      pinged : (b : Bool) → Untouched (ping_if b d)
-      pinged true = record { streams = u.streams; waits = u.waits }
-      pinged false = u
 
       controls : (x : Draft) → Untouched x → IsMoved what value (with_control_frames x)
       controls x v =
@@ -256,13 +252,11 @@ module _ (e : End) (what : Limited) (value : ℕ) (told : IsTold e.streams (limi
       go true = asking_moved (with_ack (no_frames e)) (record { streams = refl; waits = refl })
       go false = late (ack_fits (with_asking (no_frames e))) (with_asking (no_frames e)) (asking_moved (no_frames e) (record { streams = refl; waits = refl }))
 
--- so it is of what goes, where that is composed, or is a due ACK or a probe of a size alone, and where nothing goes
+-- so it is of what goes, where that is composed, or is a due ACK, a probe of a size or a close alone, and where nothing goes
 draft_moved : (e : End) (what : Limited) (value : ℕ) → IsTold e.streams (limit_frame what value) → Given e.streams (limit_frame what value) → Stays e.streams e.streams → AllReceiving (Knows what) e.streams
     → limit_waits e.waiting.frames what ≡ true → (leaving : Leaving) → IsMoved what value (draft_as leaving e)
 draft_moved e what value told may stays knows was whole = composed_moved (lazied e) what value told may stays knows was
-draft_moved e what value told may stays knows was alone = inl was
-draft_moved e what value told may stays knows was (probe size) = inl was
-draft_moved e what value told may stays knows was (nothing held) = inl was
+draft_moved e what value told may stays knows was other = inl was
 
 -- ---- what goes is said of a half in use
 
@@ -432,7 +426,7 @@ module _ (took : List Packet) (own : List Sent) (what : Limited) (value : ℕ) w
       silent = stands_more took own [] what value e i;
       failed = stands_more took own [] what value e i;
       nothing = λ is none. stands_more took own [] what value (ready_at e now).end (ready_stands i);
-      used_up = stands_more took own [] what value (ready_at e now).end (ready_stands i);
+      closes = stands_more took own [] what value (ready_at e now).end (ready_stands i);
       gives = λ is_open numbered some. by_going (LimitStands took (own ++ sent_by e now ∷ []) what value) p d (λ pacing. given_stands d (sent_by e now) (number some) refl (asked some) (fresh_number some) (draft some (ready_stands i)));
     })
       where
@@ -451,7 +445,7 @@ module _ (took : List Packet) (own : List Sent) (what : Limited) (value : ℕ) w
           silent = λ i said. absurd i;
           failed = λ i said. absurd i;
           nothing = λ is none i said. absurd i;
-          used_up = λ i said. absurd i;
+          closes = λ i said. absurd i;
           gives = λ is_open numbered some i said. by_going (λ (x : End). AllReceiving (Knows what) x.streams × LimitStands took (own ++ sent_by e now ∷ []) what value x) p d (λ pacing. sends some (among i said));
         })
       where

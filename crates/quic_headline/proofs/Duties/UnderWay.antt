@@ -25,7 +25,7 @@ use Rattle.quic_machine.specs.Poll.{Polled, Draft, asking, packet_of, tracked, p
 use Rattle.quic_machine.specs.DraftLaws.{Writing, by_leave, MayLeave}
 use Rattle.quic_machine.specs.Puts as puts
 use Rattle.quic_machine.specs.PollCases.{ready_at, ready_leaves, draft_at, by_poll_to, composes, may_leave_at}
-use Rattle.quic_machine.specs.FrameCases.{OnStreams, named, ack_taken, begun, passed, resets_acked_keep, frames_leave, by_marks}
+use Rattle.quic_machine.specs.FrameCases.{OnStreams, named, ack_taken, begun, passed, resets_acked_keep, frames_leave, by_marks, apart_leaves}
 use Rattle.quic_machine.specs.CallCases.{is_delivery, by_call}
 use Rattle.quic_machine.specs.LeaveCases.{by_expired, by_event}
 use Rattle.quic_machine.specs.Machine.{IsAnswer, after_call}
@@ -197,6 +197,7 @@ module _ (done : ℕ → Wrote) where
   frame_fly f e small ends i = by_frame f e (λ g p. Fly done p.end) (λ a is. ack_fly (names_ungiven a e) a e ends i)
       (λ other on. subst (λ (t : Tracking). AllFly (InPackets t.packets) done (take_frame f e).end.streams) (sym (frame_tracks f e on)) (frame_stands (InPackets e.tracking.packets) f e on small i))
       (λ other m same. subst (Fly done) (sym same) i)
+      (λ other apart. apart_leaves (Fly done) f e apart (λ c. i))
 
   -- over the frames of a packet
   record Going (left : List FrameValue) (e : End) : Type 0 where
@@ -297,7 +298,7 @@ module _ (done : ℕ → Wrote) (sents : List Sent) (e : End) (now : ℕ) (ascen
     silent = i;
     failed = i;
     nothing = λ is none. ready_fly i;
-    used_up = ready_fly i;
+    closes = ready_fly i;
     gives = λ is may some. by_going (Fly done) p (draft_at e now) (λ pacing. gives some);
   })
     where

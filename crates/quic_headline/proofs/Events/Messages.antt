@@ -56,7 +56,7 @@ module _ (P : List (List ℕ) → ℕ → Type 0) where
     silent = here;
     failed = here;
     nothing = λ c. here;
-    used_up = λ c. here;
+    closes = λ c. here;
     gives = λ leaving c left is may ready some.
         let x : End = at_poll e now c in
         drafted leaving x (may_leave e now leaving x ready) here;

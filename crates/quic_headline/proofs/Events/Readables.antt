@@ -315,6 +315,7 @@ frames_open : (frames : List FrameValue) (e : End) → StaysOpen e → StaysOpen
 frames_open frames e is = frames_keep StaysOpen (frame_cases.frame_keeps StaysOpen (record {
   ack = λ rises a x i. frame_cases.acked_keeps StaysOpen open_settles rises a (frame_cases.named a x) i;
   on_streams = λ f x on i. frame_cases.frame_leaves StaysOpen f x on (λ t. i);
+  apart = λ f x is i. frame_cases.apart_leaves StaysOpen f x is (λ c. i);
   message = λ m x i. i;
 })) frames e is
 

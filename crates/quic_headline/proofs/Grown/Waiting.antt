@@ -46,8 +46,8 @@ use Rattle.quic_machine.specs.End.{End, with_closing, streams_at}
 use Rattle.quic_machine.specs.Calls.{AreNexts, after_nexts, is_open}
 use Rattle.quic_machine.specs.StreamCalls.{if_ok, IsStreamAnswer, after_on_streams}
 use Rattle.quic_machine.specs.Receive.{take_frame}
-use Rattle.quic_machine.specs.Poll.{Draft, no_frames, with_ping_frame, ping_if, with_control_frames, with_message_frames, with_asking, with_ack, ack_fits, ack_if, composed_if, composed, frame_room}
-use Rattle.quic_machine.specs.DraftLaws.{by_streams, by_messages}
+use Rattle.quic_machine.specs.Poll.{Draft, no_frames, with_signal_frames, with_control_frames, with_message_frames, with_asking, with_ack, ack_fits, ack_if, composed_if, composed, frame_room}
+use Rattle.quic_machine.specs.DraftLaws.{by_streams, by_messages, by_signals}
 use Rattle.quic_machine.specs.FrameCases.{OnStreams, Settling, named, acked_keeps, losses_keep, passed, frames_keep}
 use Rattle.quic_machine.specs.FrameCases as cases
 use Rattle.quic_machine.specs.Steps as steps
@@ -187,6 +187,7 @@ frames_wait fs e w = frames_keep (λ (x : End). Waits (streams_at x)) (cases.fra
   ack = λ rises a x v. acked_keeps (λ (y : End). Waits (streams_at y)) settles rises a (named a x) v;
   on_streams = on_streams_waits;
   message = λ m x v. v;
+  apart = λ f x is v. subst (λ (y : End). Waits (streams_at y)) (sym (cases.apart_same f x is)) v;
 })) fs e w
 
 -- ---- frames that go
@@ -296,12 +297,8 @@ asking_waits : (d : Draft) → Drafted d → Drafted (with_asking d)
 asking_waits d w = by_streams Drafted (λ x id h room found first left is counts i. record {
   all = record { bytes = i.all.bytes; counts = i.all.counts };
   each = by_frame (Grown (IsListed x.end.waiting.frames.max_stream_data)) (grown_kept (IsListed x.end.waiting.frames.max_stream_data)) x.end.transport.send_fairness x.end.streams id room h found tt i.each;
-}) (with_message_frames (with_control_frames (with_ping_frame d))) (by_messages Drafted (λ x m ms is fit i. i) (with_control_frames (with_ping_frame d))
-    (control_waits (frame_room (with_ping_frame d).end) (length (with_ping_frame d).bytes) (streams_at (with_ping_frame d).end) (pinged d.end.waiting.ping)))
-  where
-    pinged : (b : Bool) → Drafted (ping_if b d)
-    pinged true = w
-    pinged false = w
+}) (with_message_frames (with_control_frames (with_signal_frames d))) (by_messages Drafted (λ x m ms is fit i. i) (with_control_frames (with_signal_frames d))
+    (control_waits (frame_room (with_signal_frames d).end) (length (with_signal_frames d).bytes) (streams_at (with_signal_frames d).end) (by_signals Drafted (λ x f left is i. i) d w)))
 
 -- whichever frames go
 composed_waits : (e : End) → Waits (streams_at e) → Drafted (composed e)

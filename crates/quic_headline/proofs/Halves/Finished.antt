@@ -18,7 +18,7 @@ use Rattle.quic_streams_laws.specs.FinishedLaws.{finished_kept, finished_write, 
 use Rattle.quic_machine.specs.Tracking.{Carried}
 use Rattle.quic_machine.specs.End.{End}
 use Rattle.quic_machine.specs.Receive.{Outcome}
-use Rattle.quic_machine.specs.FrameCases.{begun}
+use Rattle.quic_machine.specs.FrameCases.{begun, apart_leaves}
 use Rattle.quic_machine.specs.Poll.{tracked}
 use Rattle.quic_machine.specs.Steps as steps
 use Rattle.quic_headline.specs.Runs.{Packet, Intake, In}
@@ -134,4 +134,5 @@ module _ (took : List Packet) (sents : List Sent) (stands : Stands took sents) (
         names = λ a x among h. h;
         on_streams = λ f x among on h. frame_on (FinishedHave arrived end_arrived) (finished_words arrived end_arrived) wrote f x on (small f among) h;
         message = λ m x h. h;
+        apart = λ f x among apart h. apart_leaves Holds f x apart (λ c. h);
       }) (begun e now n) names tracked i

@@ -380,7 +380,7 @@ polled_holds p e now ascends h = by_poll_to p e now (λ (q : Polled). HoldsAll q
   silent = h;
   failed = h;
   nothing = λ is none. again_all (ready_at e now).end _ refl refl refl ready;
-  used_up = again_all (ready_at e now).end _ refl refl refl ready;
+  closes = again_all (ready_at e now).end _ refl refl refl ready;
   gives = λ is may some. by_going HoldsAll p (draft_at e now) (λ pacing. again_all (tracked (draft_at e now)) (after_going p (draft_at e now) pacing) refl refl refl (gives some));
 })
   where

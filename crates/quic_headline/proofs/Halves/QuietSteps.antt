@@ -23,9 +23,9 @@ use Rattle.quic_machine.specs.Calls.{is_open}
 use Rattle.quic_machine.specs.StreamCalls.{if_ok, after_on_streams, IsStreamAnswer}
 use Rattle.quic_machine.specs.Machine.{IsAnswer, after_call}
 use Rattle.quic_machine.specs.Receive.{is_above, names_ungiven, take_frame}
-use Rattle.quic_machine.specs.Poll.{Draft, Kind, pings, controls, messages, streams, order, put, with_asking, no_frames, with_ack, ack_if, ack_fits, ping_if, composed, composed_if, polled, frame_room, left, no_stream_frames}
+use Rattle.quic_machine.specs.Poll.{Draft, Kind, signals, controls, messages, streams, order, put, with_asking, no_frames, with_ack, ack_if, ack_fits, composed, composed_if, polled, frame_room, left, no_stream_frames}
 use Rattle.quic_machine.specs.CallCases.{is_delivery, by_call}
-use Rattle.quic_machine.specs.DraftLaws.{by_messages}
+use Rattle.quic_machine.specs.DraftLaws.{by_messages, by_signals}
 use Rattle.quic_machine.specs.FrameCases.{Settling, acked_keeps, losses_keep, named, ack_taken, message_leaves}
 use Rattle.quic_machine.specs.Steps as steps
 use Rattle.quic_machine.specs.LeaveCases.{by_expired, by_event}
@@ -86,11 +86,7 @@ module _ (P : StreamsState → Type 0) (q : IsQuiet P) where
 
   -- one kind of what goes
   kind_quiet : (d : Draft) (kind : Kind) → P d.end.streams → P (put d kind).end.streams
-  kind_quiet d pings i = go d.end.waiting.ping
-    where
-      go : (b : Bool) → P (ping_if b d).end.streams
-      go true = i
-      go false = i
+  kind_quiet d signals i = by_signals (λ (x : Draft). P x.end.streams) (λ x f left is j. j) d i
   kind_quiet d controls i = q.control_frames (frame_room d.end) (control.no_frames (length d.bytes) d.end.streams d.end.waiting.frames nothing_waits) i
   kind_quiet d messages i = by_messages (λ (x : Draft). P x.end.streams) (λ x m ms is fit j. j) d i
   kind_quiet d streams i = q.stream_frames d.end.transport.send_fairness (left d) (no_stream_frames d) i

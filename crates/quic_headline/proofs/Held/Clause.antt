@@ -28,19 +28,20 @@ use Rattle.quic_headline.proofs.Settled.Group.{Settled, settled_group}
 use Rattle.quic_headline.proofs.Held.Behind.{open_now, held_back}
 use Rattle.quic_headline.proofs.Held.Messages.{AreShort, short_waits, short_group}
 use Rattle.quic_headline.proofs.Held.Unsent.{offset_queued, end_queued}
+use Rattle.quic_machine.specs.Parts.{signals_wait}
 
 -- ---- what waits asks to go
 
 -- where a stream has something to send
 queued_asks : (e : End) → can_send_stream_data e.streams ≡ true → asks_to_go e ≡ true
 queued_asks e queued =
-    or_right e.waiting.ping (not (is_empty e.waiting.frames e.streams) || (message_waits e || can_send_stream_data e.streams))
+    or_right (signals_wait e.waiting.signals) (not (is_empty e.waiting.frames e.streams) || (message_waits e || can_send_stream_data e.streams))
     (or_right (not (is_empty e.waiting.frames e.streams)) (message_waits e || can_send_stream_data e.streams) (or_right (message_waits e) (can_send_stream_data e.streams) queued))
 
 -- and where a message waits
 message_asks : (e : End) → message_waits e ≡ true → asks_to_go e ≡ true
 message_asks e waits =
-    or_right e.waiting.ping (not (is_empty e.waiting.frames e.streams) || (message_waits e || can_send_stream_data e.streams))
+    or_right (signals_wait e.waiting.signals) (not (is_empty e.waiting.frames e.streams) || (message_waits e || can_send_stream_data e.streams))
     (or_right (not (is_empty e.waiting.frames e.streams)) (message_waits e || can_send_stream_data e.streams) (or_left (message_waits e) (can_send_stream_data e.streams) waits))
 
 -- ---- bytes of streams, and their ends

@@ -34,7 +34,7 @@ use Rattle.quic_machine.specs.Receive.{Fault, Progress, Outcome, error_of, viola
 use Rattle.quic_machine.specs.Poll.{Polled, Draft, polled, draft_as, lazied_as, Leaving, whole, alone, probe, nothing}
 use Rattle.quic_machine.specs.DraftLaws.{Writing, by_leave, MayLeave}
 use Rattle.quic_machine.specs.Puts as puts
-use Rattle.quic_machine.specs.FrameCases.{Settling, begun, named, losses_keep, acked_keeps, frame_keeps, frame_leaves, items_keep}
+use Rattle.quic_machine.specs.FrameCases.{Settling, begun, named, losses_keep, acked_keeps, frame_keeps, frame_leaves, items_keep, apart_same}
 use Rattle.quic_machine.specs.Steps as steps
 use Rattle.quic_machine.specs.LeaveCases.{by_expired}
 use Rattle.quic_machine.specs.PollCases.{ready_at, ready_leaves, by_poll_to, draft_at, may_leave_at}
@@ -75,9 +75,7 @@ module _ (i : Intake) where
   -- an acknowledgement that became due leaves it
   lazied_still : (leaving : Leaving) (e : End) → Still e → Still (lazied_as leaving e)
   lazied_still whole e i = i
-  lazied_still alone e i = i
-  lazied_still (probe size) e i = i
-  lazied_still (nothing held) e i = i
+  lazied_still other e i = i
 
   draft_still : (leaving : Leaving) (e : End) → MayLeave leaving e → Still e → Still (draft_as leaving e).end
   draft_still leaving e due k = by_leave (λ (d : Draft). Still d.end) keep leaving e due (lazied_still leaving e k)
@@ -94,7 +92,7 @@ module _ (i : Intake) where
     silent = k;
     failed = k;
     nothing = λ is none. ready_still e now k;
-    used_up = let x : End = (ready_at e now).end in drained_keeps x.ids x.numbers.opened x.numbers.taken i;
+    closes = let x : End = (ready_at e now).end in drained_keeps x.ids x.numbers.opened x.numbers.taken i;
     gives = λ is may some. by_going Still p (draft_at e now) (λ pacing. draft_still (ready_at e now).leaving (ready_at e now).end (may_leave_at e now) (ready_still e now k));
   })
 
@@ -129,7 +127,7 @@ module _ (e : End) (n : ℕ) where
   begun_settles s x b = b
 
   frame_begun : (f : FrameValue) (x : End) → Begun x → Begun (take_frame f x).end
-  frame_begun = frame_keeps Begun (record { ack = λ rises a x b. acked_keeps Begun begun_settles rises a (named a x) b; on_streams = λ f x on b. frame_leaves Begun f x on (λ t. b); message = λ m x b. b })
+  frame_begun = frame_keeps Begun (record { ack = λ rises a x b. acked_keeps Begun begun_settles rises a (named a x) b; on_streams = λ f x on b. frame_leaves Begun f x on (λ t. b); apart = λ f x is b. subst Begun (sym (apart_same f x is)) b; message = λ m x b. b })
 
   payload_begun : (now first : ℕ) (is : List (Result FrameValue InvalidFrame)) → Begun (take_payload first is (begun e now n)).end
   payload_begun now first is = go (not (reserved_bits first == 0) || is_empty is)

@@ -45,7 +45,7 @@ polled_leaves p e now = by_poll p e now (λ (q : Polled). q.end.messages.queues.
       silent = refl;
       failed = refl;
       nothing = λ c. refl;
-      used_up = λ c. refl;
+      closes = λ c. refl;
       gives = λ leaving c left is may ready some.
           let x : End = at_poll e now c in
           drafted leaving x (may_leave e now leaving x ready);

@@ -111,7 +111,7 @@ module _ (m : List ℕ) where
   polled_goes : (p : Policy) (e : End) (now : ℕ)
       → often m (gone (sent_if (gave (answers.Poll (polled p e now).answer)) (sent_by e now))) + often m (polled p e now).end.messages.queues.outgoing ≤ often m e.messages.queues.outgoing
   polled_goes p e now = by_poll p e now (λ (q : Polled). often m (gone (sent_if (gave (answers.Poll q.answer)) (sent_by e now))) + often m q.end.messages.queues.outgoing ≤ often m e.messages.queues.outgoing)
-      (record { silent = nothing; failed = nothing; nothing = λ c. nothing; used_up = λ c. nothing; gives = λ leaving c left is may. one leaving c })
+      (record { silent = nothing; failed = nothing; nothing = λ c. nothing; closes = λ c. nothing; gives = λ leaving c left is may. one leaving c })
     where
       nothing : often m [] + often m e.messages.queues.outgoing ≤ often m e.messages.queues.outgoing
       nothing = let none = often_none m in omega arith

@@ -72,7 +72,7 @@ polled_order p e now = by_poll p e now (λ (q : Polled). gave (answers.Poll q.an
   silent = λ is. cc;
   failed = λ is. cc;
   nothing = λ c is. cc;
-  used_up = λ c is. cc;
+  closes = λ c is. cc;
   gives = λ leaving c left is may ready some given. given_order e now leaving (at_poll e now c) ready;
 })
 
@@ -93,7 +93,7 @@ polled_leaves room p e now = by_poll p e now (λ (q : Polled). Leaves room (call
   silent = λ more. refl;
   failed = λ more. refl;
   nothing = λ c more. refl;
-  used_up = λ c more. refl;
+  closes = λ c more. refl;
   gives = λ leaving c left is may ready some more.
       ap (λ (ms : List (List ℕ)). record { waiting = ms; left = more }) (drop_front (messages_in (frames_at e now)) (draft_as leaving (at_poll e now c)).end.messages.queues.outgoing e.messages.queues.outgoing (given_order e now leaving (at_poll e now c) ready));
 })

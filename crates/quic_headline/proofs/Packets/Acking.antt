@@ -126,9 +126,7 @@ TellsAs e f = (f.acknowledging.runs ≡ e.acknowledging.runs) × (f.marks.came �
 -- they are the same where an acknowledgement becomes due
 lazied_tells : (leaving : Leaving) (e : End) → TellsAs e (lazied_as leaving e)
 lazied_tells whole e = (refl, refl)
-lazied_tells alone e = (refl, refl)
-lazied_tells (probe size) e = (refl, refl)
-lazied_tells (nothing held) e = (refl, refl)
+lazied_tells other e = (refl, refl)
 
 -- whichever frames go, they stay: an ACK that tells them may be lost
 draft_runs : (leaving : Leaving) (e : End) → MayLeave leaving e → TellsAs e (draft_as leaving e).end
@@ -144,7 +142,7 @@ polled_runs p e now = by_poll p e now (λ (q : Polled). TellsAs e q.end) (record
   silent = (refl, refl);
   failed = (refl, refl);
   nothing = λ c. (refl, refl);
-  used_up = λ c. (refl, refl);
+  closes = λ c. (refl, refl);
   gives = λ leaving c left is may ready some.
       let x : End = at_poll e now c in
       draft_runs leaving x (may_leave e now leaving x ready);

@@ -17,7 +17,7 @@ use Rattle.quic_machine.specs.Receive.{received}
 use Rattle.quic_machine.specs.Poll.{Polled, Draft, packet_of, tracked, polled, goes, Ready}
 use Rattle.quic_machine.specs.PollCases.{ready_at, by_poll_to, composes, draft_at, may_leave_at}
 use Rattle.quic_machine.specs.LeaveCases.{by_expired}
-use Rattle.quic_machine.specs.FrameCases.{named, frame_keeps, frame_leaves, by_received, by_marks}
+use Rattle.quic_machine.specs.FrameCases.{named, frame_keeps, frame_leaves, by_received, by_marks, apart_leaves}
 use Rattle.quic_machine.specs.CallCases.{Plain, by_plain_call}
 use Rattle.quic_machine.specs.CallCases as cases
 use Rattle.quic_machine.specs.Machine.{after_call}
@@ -142,6 +142,7 @@ ascends_received = by_received Ascends (record {
   frame = frame_keeps Ascends (record {
     ack = λ rises k x a. ascends_named (acked_by k x.tracking.packets) rises k (named k x) a;
     on_streams = λ f x on a. frame_leaves Ascends f x on (λ streams. a);
+    apart = λ f x is a. apart_leaves Ascends f x is (λ c. a);
     message = λ m x a. a;
   });
   takes = λ n asks mark x a. a;
@@ -168,7 +169,7 @@ ascends_polled p e now a = by_poll_to p e now (λ (q : Polled). Ascends q.end) (
   silent = a;
   failed = a;
   nothing = λ is none. ready;
-  used_up = ready;
+  closes = ready;
   gives = λ is may some. by_going Ascends p d (λ pacing. gives some);
 })
   where

@@ -27,10 +27,10 @@ use Rattle.quic_machine.specs.Acked.{without_known, reset_acked, stream_acked, p
 use Rattle.quic_machine.specs.Receive.{is_above, names_ungiven, take_frame}
 use Rattle.quic_machine.specs.Poll.{Draft, asking, datagram_size, packet_of, after_given, draft_as, Leaving}
 use Rattle.quic_machine.specs.Timeouts.{loss_judged, loss_expired}
-use Rattle.quic_machine.specs.FrameCases.{OnStreams, named, ack_taken, passed, streams_acked_keep, resets_acked_keep, packets_lost_keep, frame_leaves, frames_taken, by_marks}
+use Rattle.quic_machine.specs.FrameCases.{OnStreams, named, ack_taken, passed, streams_acked_keep, resets_acked_keep, packets_lost_keep, frame_leaves, frames_taken, by_marks, IsApart, apart_same}
 use Rattle.quic_machine.specs.PollCases.{ready_at, frames_padded, Composes, composes}
 use Rattle.quic_headline.specs.Runs.{In, names}
-use Rattle.quic_headline.specs.Observer.{Sent, Terms, terms_of, asks_of, Flight, latest, late_by, is_lost, after_losses, is_greatest, of_number, measures, rtt_behind, settled_by, after_ack, after_frames, is_behind_asked, unasked, without_oldest, kept_flying, and_sent, waited, probe_due, due_or, loss_due, most_probes, expired_for, sent_as}
+use Rattle.quic_headline.specs.Observer.{Sent, Terms, terms_of, asks_of, Flight, latest, late_by, is_lost, after_losses, is_greatest, of_number, measures, rtt_behind, settled_by, after_ack, after_frames, is_behind_asked, unasked, without_oldest, kept_flying, and_flying, waited, probe_due, due_or, loss_due, most_probes, expired_for, sent_as}
 use Rattle.quic_headline.specs.Telling.{acked_flight}
 use Rattle.quic_headline.proofs.Packets.Searches.{by_losses}
 use Rattle.quic_headline.proofs.Packets.Invariant.{IsGiven}
@@ -261,6 +261,7 @@ pub record Flies (frames : List FrameValue) (P : List Sent → List Sent → End
   pub marked : (flying acked : List Sent) (counts : Counts) (marking : Bool) (e : End) → P flying acked e → P flying acked (with_marking (with_told e counts) marking)
   pub on_streams : (flying acked : List Sent) (f : FrameValue) (e : End) → In f frames → OnStreams f → P flying acked e → P flying acked (take_frame f e).end
   pub message : (flying acked : List Sent) (m : Messaging) (e : End) → P flying acked e → P flying acked (with_messages e m)
+  pub apart : (flying acked : List Sent) (f : FrameValue) (e : End) → In f frames → IsApart f → P flying acked e → P flying acked (take_frame f e).end
 
 -- where an end knows what its observer does, losses are such
 pub losses_fly : (P : List Sent → List Sent → End → Type 0) → Loses P → (t : Terms) (now : ℕ) (f : Flight) (acked : List Sent) (e : End) → Tells t now f (held e) → P f.flying acked e → P (after_losses t now f).flying acked (losses_detected e)
@@ -352,6 +353,9 @@ module _ (t : Terms) (now : ℕ) (frames : List FrameValue) (P : List Sent → L
   other_flies : (f : FrameValue) (x : Flight) (e : End) → OnStreams f → In f frames → Flying x e → Flying x (take_frame f e).end
   other_flies f x e on among i = record { waits = frame_leaves (λ (g : End). Waits t now x (held g)) f e on (λ u. i.waits); holds = c.on_streams x.flying x.acked f e among on i.holds }
 
+  apart_flies : (f : FrameValue) (x : Flight) (e : End) → IsApart f → In f frames → Flying x e → Flying x (take_frame f e).end
+  apart_flies f x e apart among i = record { waits = subst (λ (g : End). Waits t now x (held g)) (sym (apart_same f e apart)) i.waits; holds = c.apart x.flying x.acked f e among apart i.holds }
+
   -- any frame that is taken
   frame_flies : (f : FrameValue) (x : Flight) (e : End) → (take_frame f e).fault ≡ None → In f frames → Flying x e → Flying (after_frames t now (f ∷ []) x) (take_frame f e).end
   frame_flies f x e none among i =
@@ -359,6 +363,7 @@ module _ (t : Terms) (now : ℕ) (frames : List FrameValue) (P : List Sent → L
       (λ a is ok. ack_flies (names_ungiven a e) a x e ok (subst (λ (g : FrameValue). In g frames) (sym is) among) i)
       (λ other on ok. subst (λ (y : Flight). Flying y (take_frame f e).end) (sym (no_ack_flight t now f x other)) (other_flies f x e on among i))
       (λ other m same ok. subst (λ (y : Flight). Flying y (take_frame f e).end) (sym (no_ack_flight t now f x other)) (subst (λ (g : End). Flying x g) (sym same) (record { waits = i.waits; holds = c.message x.flying x.acked m e i.holds })))
+      (λ other apart ok. subst (λ (y : Flight). Flying y (take_frame f e).end) (sym (no_ack_flight t now f x other)) (apart_flies f x e apart among i))
       none
 
   -- where all frames of a packet were taken, an end waits for what they leave in flight
@@ -382,6 +387,7 @@ frames_wait t now frames x e none w = (frames_fly t now frames (λ flying acked 
   marked = λ flying acked m marking g i. tt;
   on_streams = λ flying acked f g among on i. tt;
   message = λ flying acked m g i. tt;
+  apart = λ flying acked f g among apart i. tt;
 }) x e none (record { waits = w; holds = tt })).waits
 
 -- ---- the timer of losses
@@ -467,9 +473,9 @@ kept_lies (Some p) low high ps lies = lies_remove (is_at (nat_cmp p.0)) low high
 
 -- a datagram that goes is in flight, and its end waits for it
 given_waits : (t : Terms) (now : ℕ) (tr : Tracking) (n next : ℕ) (p : TrackedPacket) (s : Sent) (f : Flight) (h : Held) → IsWaited s (n, p) → Lies 0 next h.tracking.packets → next ≤ n → Waits t now f h → (numbers : Numbers) → numbers.largest_acked ≡ h.numbers.largest_acked
-    → tr ≡ asking_sent p.asks n p.time_sent (record h.tracking { packets = added (without_packet (forgotten h.tracking p) h.tracking.packets) n p }) → Waits t now (and_sent s f) (record h { tracking = tr; numbers = numbers })
+    → tr ≡ asking_sent p.asks n p.time_sent (record h.tracking { packets = added (without_packet (forgotten h.tracking p) h.tracking.packets) n p }) → Waits t now (and_flying s f) (record h { tracking = tr; numbers = numbers })
 given_waits t now tr n next p s f h is lies above w numbers same tracks =
-    subst (λ (u : Tracking). Waits t now (and_sent s f) (record h { tracking = u; numbers = numbers })) (sym tracks)
+    subst (λ (u : Tracking). Waits t now (and_flying s f) (record h { tracking = u; numbers = numbers })) (sym tracks)
     (subst (λ (b : Bool). Waits t now (record f { flying = kept_flying (asks_of s) f ++ s ∷ []; asked = if b then Some s else f.asked; probes = if b then f.probes - 1 else f.probes }) (record h { tracking = asking_sent p.asks n p.time_sent (record h.tracking { packets = added kept n p }); numbers = numbers })) is.asks
     (go p.asks))
   where
@@ -508,8 +514,8 @@ given_waits t now tr n next p s f h is lies above w numbers same tracks =
 
 -- what an end gives is in flight, and waited for
 pub draft_waits : (p : Policy) (t : Terms) (now : ℕ) (b : Leaving) (e : End) (s : Sent) (f : Flight) → MayLeave b e → e.path.generation ≡ 0 → s.number ≡ number_of e → s.moment ≡ e.closing.clock → s.frames ≡ frames_padded (draft_as b e) → s.size ≡ datagram_size (draft_as b e)
-    → Lies 0 e.numbers.next e.tracking.packets → e.numbers.next ≤ number_of e → Waits t now f (held e) → Waits t now (and_sent s f) (held (after_given p (draft_as b e)))
-draft_waits p t now b e s f may path number moment frames size lies above w = by_going (λ (x : End). Waits t now (and_sent s f) (held x)) p d (λ pacing.
+    → Lies 0 e.numbers.next e.tracking.packets → e.numbers.next ≤ number_of e → Waits t now f (held e) → Waits t now (and_flying s f) (held (after_given p (draft_as b e)))
+draft_waits p t now b e s f may path number moment frames size lies above w = by_going (λ (x : End). Waits t now (and_flying s f) (held x)) p d (λ pacing.
     let x : End = after_going p d pacing in
     given_waits t now x.tracking (number_of d.end) e.numbers.next (packet_of d) s f (held d.end) is (subst (λ (x : Tracking). Lies 0 e.numbers.next x.packets) (sym c.tracking) lies) (subst (λ (n : ℕ). e.numbers.next ≤ n) (sym given) above)
     (subst (λ (h : Held). Waits t now f h) same w) x.numbers refl refl)

@@ -160,7 +160,7 @@ polled_gives : (p : Policy) (e : End) (now : ℕ) (id : List ℕ) (sents : List 
     → Gives p id (polled p e now).end.numbers (polled p e now).end.filter.last (sents ++ sent_if (gave (answers.Poll (polled p e now).answer)) (sent_by e now)) (given ++ given_as (polled p e now).answer (polled p e now).datagram)
 polled_gives p e now id sents given active spellable before =
     by_poll p e now (λ (q : Polled). Gives p id q.end.numbers q.end.filter.last (sents ++ sent_if (gave (answers.Poll q.answer)) (sent_by e now)) (given ++ given_as q.answer q.datagram))
-    (record { silent = nothing; failed = nothing; nothing = λ c. nothing; used_up = λ c. nothing; gives = λ leaving c left is. one leaving c })
+    (record { silent = nothing; failed = nothing; nothing = λ c. nothing; closes = λ c. nothing; gives = λ leaving c left is. one leaving c })
   where
     nothing : Gives p id e.numbers e.filter.last (sents ++ []) (given ++ [])
     nothing = gives_quiet p id e.numbers e.numbers e.filter.last sents given refl (λ b. b) before

@@ -28,10 +28,10 @@ use Rattle.quic_messages.specs.Messages.{fitting, frame_bytes}
 use Rattle.quic_spaces.specs.Numbers.{cut_against}
 use Rattle.quic_machine.specs.Ids.{Ids}
 use Rattle.quic_machine.specs.End.{End, number_of, streams_at}
-use Rattle.quic_machine.specs.Poll.{Draft, no_frames, frame_room, least_room, fits, left, no_stream_frames, ping_if, with_control_frames, with_message, with_messages_of, with_message_frames, with_stream_frames, with_asking, ack_of, with_ack, ack_fits, ack_if, composed_if, composed, lazied, message_waits, asks_to_go, waits, draft_as, goes, probe, alone, whole, Leaving, Ready, nothing, goes_as}
+use Rattle.quic_machine.specs.Poll.{Draft, no_frames, frame_room, least_room, fits, left, no_stream_frames, with_control_frames, with_message, with_messages_of, with_message_frames, with_stream_frames, with_asking, ack_of, with_ack, ack_fits, ack_if, composed_if, composed, lazied, message_waits, asks_to_go, waits, draft_as, goes, probe, alone, whole, Leaving, Ready, nothing, goes_as, closing, with_signal_frames}
 use Rattle.quic_machine.specs.PollCases.{ready_at, ready_leaves, whole_waits, may_leave_at}
-use Rattle.quic_machine.specs.Parts.{current_mtu}
-use Rattle.quic_machine.specs.DraftLaws.{Writing, drops_of, entry_of, half_of, message_of, HasRoom, room_most, by_entries, by_messages, by_streams, by_asking}
+use Rattle.quic_machine.specs.Parts.{current_mtu, signals_wait}
+use Rattle.quic_machine.specs.DraftLaws.{Writing, drops_of, entry_of, half_of, message_of, HasRoom, room_most, by_entries, by_messages, by_streams, by_asking, by_some_signal, no_signal}
 use Rattle.quic_machine.specs.Puts.{without_entry}
 use Rattle.quic_machine.specs.Puts as puts
 use Rattle.quic_headline.specs.Runs.{In}
@@ -291,7 +291,7 @@ module _ (K : Streams → Type 0) (k : Spelling K) (c : Bringing K) where
 
   -- where something waits that asks, a frame goes
   pub asking_goes : (e : End) → 1159 ≤ frame_room e → K (streams_at e) → asks_to_go e ≡ true → HasFrames (with_asking (no_frames e))
-  asking_goes e room i asks = pinged e.waiting.ping asks
+  asking_goes e room i asks = signalled (signals_wait e.waiting.signals) refl asks
     where
       -- messages and frames of streams go behind others
       more : (d : Draft) → HasFrames d → HasFrames (with_stream_frames (with_message_frames d))
@@ -317,9 +317,11 @@ module _ (K : Streams → Type 0) (k : Spelling K) (c : Bringing K) where
         ]
       ]
 
-      pinged : (b : Bool) → (b || (not (is_empty e.waiting.frames e.streams) || (message_waits e || can_send_stream_data e.streams))) ≡ true → HasFrames (with_stream_frames (with_message_frames (with_control_frames (ping_if b (no_frames e)))))
-      pinged true on = more (with_control_frames (ping_if true (no_frames e))) (by_entries HasFrames (drops_of HasFrames frames_stay) (entry_of HasFrames frames_stay) (ping_if true (no_frames e)) (omega arith))
-      pinged false on = quiet on
+      signalled : (b : Bool) → signals_wait e.waiting.signals ≡ b → (b || (not (is_empty e.waiting.frames e.streams) || (message_waits e || can_send_stream_data e.streams))) ≡ true → HasFrames (with_asking (no_frames e))
+      signalled true some on =
+          let d : Draft = with_signal_frames (no_frames e) in
+          more (with_control_frames d) (by_entries HasFrames (drops_of HasFrames frames_stay) (entry_of HasFrames frames_stay) d (by_some_signal HasFrames (λ x f left is. one_more x f) (no_frames e) some))
+      signalled false none on = subst (λ (x : Draft). HasFrames (with_stream_frames (with_message_frames (with_control_frames x)))) (sym (no_signal (no_frames e) none)) (quiet on)
 
   -- where something waits, a frame goes
   pub composed_some : (e : End) → HasRoom e → K (streams_at e) → waits e ≡ true → HasFrames (composed e)
@@ -346,6 +348,7 @@ module _ (K : Streams → Type 0) (k : Spelling K) (c : Bringing K) where
       go whole is on = composed_some (lazied g.end) short i (waits_lazied g.end (whole_waits e now is))
       go alone is on = omega arith
       go (probe size) is on = omega arith
+      go (closing f) is on = omega arith
       go (nothing held) is on = cc
 
   -- at any moment

@@ -101,7 +101,7 @@ knows_poll p e now i k =
       silent = k;
       failed = k;
       nothing = λ c. k;
-      used_up = λ c. expects_in e.closing.state e.numbers i k;
+      closes = λ c. expects_in e.closing.state e.numbers i k;
       gives = λ leaving c left is may ready some. gives leaving (at_poll e now c) refl refl (may_leave e now leaving (at_poll e now c) ready);
     })
   where

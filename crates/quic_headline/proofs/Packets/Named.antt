@@ -16,7 +16,7 @@ use Rattle.quic_machine.specs.Acked.{without_known, resets_acked, stream_acked, 
 use Rattle.quic_machine.specs.Receive.{Progress, is_above, names_ungiven, take_message, take_frame, received}
 use Rattle.quic_machine.specs.Steps.{Step, after}
 use Rattle.quic_machine.specs.Steps as steps
-use Rattle.quic_machine.specs.FrameCases.{resets_acked_keep, OnStreams, named, ack_taken, passed, message_leaves, frame_keeps, frame_leaves, frames_leave, by_received, by_marks}
+use Rattle.quic_machine.specs.FrameCases.{resets_acked_keep, OnStreams, named, ack_taken, passed, message_leaves, frame_keeps, frame_leaves, frames_leave, by_received, by_marks, IsApart, apart_leaves}
 use Rattle.quic_headline.specs.Runs.{Packet, In, IsTaken, names}
 use Rattle.quic_headline.specs.Observer.{Sent}
 use Rattle.quic_headline.proofs.Packets.Searches.{by_losses, losses_searched}
@@ -75,6 +75,7 @@ pub frame_fewer : (e : End) (f : FrameValue) (x : End) → WaitsForFewer e x →
 frame_fewer e = frame_keeps (WaitsForFewer e) (record {
   ack = λ rises a x w n t i. w n t (named_fewer (acked_by a x.tracking.packets) rises a (named a x) n t i);
   on_streams = λ f x on w. frame_leaves (WaitsForFewer e) f x on (λ streams. w);
+  apart = λ f x is w. apart_leaves (WaitsForFewer e) f x is (λ c. w);
   message = λ m x w. w;
 })
 
@@ -222,33 +223,32 @@ module _ (took : List Packet) (sents : List Sent) (P : End → Type 0) (s : Sett
 
 -- ---- frames of a packet that an end takes
 
--- what holds over the frames of a packet: its ACK frames settle what they do, its frames on streams leave them so, and its messages wait to be read
+-- what holds over the frames of a packet: its ACK frames settle what they do, its frames on streams leave them so, its messages wait to be read, and those apart leave it
 pub record TakesOn (took : List Packet) (sents : List Sent) (frames : List FrameValue) (P : End → Type 0) : Type 0 where
   pub settles : SettlesOn took sents P
   -- the greatest number of an ACK frame counts
   pub names : (a : AckValue) (e : End) → In (ack a) frames → P e → P (named a e)
   pub on_streams : (f : FrameValue) (e : End) → In f frames → OnStreams f → P e → P (take_frame f e).end
   pub message : (m : Messaging) (e : End) → P e → P (with_messages e m)
+  pub apart : (f : FrameValue) (e : End) → In f frames → IsApart f → P e → P (take_frame f e).end
 
 -- a frame that is no ACK frame
 abbrev pub IsNoAck : FrameValue → Type 0
 IsNoAck (ack a) = ⊥
 IsNoAck f = Unit {0}
 
--- a frame is an ACK frame, or one on streams, or changes nothing but messages
+-- a frame is an ACK frame, one on streams, a message, or one apart from these
 pub by_frame : (f : FrameValue) (e : End) (Q : FrameValue → Progress → Type 0) → ((a : AckValue) → ack a ≡ f → Q (ack a) (ack_taken (names_ungiven a e) a e)) → (IsNoAck f → OnStreams f → Q f (take_frame f e))
-    → (IsNoAck f → (m : Messaging) → (take_frame f e).end ≡ with_messages e m → Q f (take_frame f e)) → Q f (take_frame f e)
-by_frame (ack a) e Q acks on same = acks a refl
-by_frame (stream f) e Q acks on same = on tt tt
-by_frame (reset_stream f) e Q acks on same = on tt tt
-by_frame (stop_sending f) e Q acks on same = on tt tt
-by_frame (max_data limit) e Q acks on same = on tt tt
-by_frame (max_stream_data f) e Q acks on same = on tt tt
-by_frame (max_streams f) e Q acks on same = on tt tt
-by_frame (datagram m) e Q acks on same = same tt (take_message m e).end.messages (message_leaves (λ (x : End). x ≡ with_messages e x.messages) m e refl (λ left. refl))
-by_frame (new_token t) e Q acks on same = same tt e.messages refl
-by_frame handshake_done e Q acks on same = same tt e.messages refl
-by_frame f e Q acks on same = same tt e.messages refl
+    → (IsNoAck f → (m : Messaging) → (take_frame f e).end ≡ with_messages e m → Q f (take_frame f e)) → (IsNoAck f → IsApart f → Q f (take_frame f e)) → Q f (take_frame f e)
+by_frame (ack a) e Q acks on same apart = acks a refl
+by_frame (stream f) e Q acks on same apart = on tt tt
+by_frame (reset_stream f) e Q acks on same apart = on tt tt
+by_frame (stop_sending f) e Q acks on same apart = on tt tt
+by_frame (max_data limit) e Q acks on same apart = on tt tt
+by_frame (max_stream_data f) e Q acks on same apart = on tt tt
+by_frame (max_streams f) e Q acks on same apart = on tt tt
+by_frame (datagram m) e Q acks on same apart = same tt (take_message m e).end.messages (message_leaves (λ (x : End). x ≡ with_messages e x.messages) m e refl (λ left. refl))
+by_frame f e Q acks on same apart = apart tt tt
 
 module _ (took : List Packet) (sents : List Sent) (stands : Stands took sents) (frames : List FrameValue) (P : End → Type 0) (c : TakesOn took sents frames P) where
   -- an ACK frame, taken or refused
@@ -261,7 +261,7 @@ module _ (took : List Packet) (sents : List Sent) (stands : Stands took sents) (
   frame_on : (f : FrameValue) (e : End) → In f frames → ((a : AckValue) → In (ack a) frames → NamesTaken took a) → AreTracked sents e.tracking.packets → P e → P (take_frame f e).end
   frame_on f e among takes tracked i =
       by_frame f e (λ g p. P p.end) (λ a is. (let there : In (ack a) frames = subst (λ (g : FrameValue). In g frames) (sym is) among in ack_on (names_ungiven a e) a e there (takes a there) tracked i))
-      (λ other on. c.on_streams f e among on i) (λ other m same. subst P (sym same) (c.message m e i))
+      (λ other on. c.on_streams f e among on i) (λ other m same. subst P (sym same) (c.message m e i)) (λ other apart. c.apart f e among apart i)
 
   -- what holds over such frames, while what is waited for was given
   record Going (left : List FrameValue) (e : End) : Type 0 where

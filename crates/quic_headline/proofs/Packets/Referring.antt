@@ -68,7 +68,7 @@ open_gives p e now a is served gives = opened (ap gave (sym (poll_answer p e now
   where
     opened : gave (answers.Poll (polled p e now).answer) ≡ true → e.closing.state ≡ states.Open
     opened = by_poll p e now (λ (q : Polled). gave (answers.Poll q.answer) ≡ true → e.closing.state ≡ states.Open)
-        (record { silent = λ some. cc; failed = λ some. cc; nothing = λ c some. cc; used_up = λ c some. cc; gives = λ leaving c left is may ready goes some. is })
+        (record { silent = λ some. cc; failed = λ some. cc; nothing = λ c some. cc; closes = λ c some. cc; gives = λ leaving c left is may ready goes some. is })
 
 -- ---- the group
 

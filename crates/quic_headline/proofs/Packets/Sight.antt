@@ -72,7 +72,7 @@ poll_gives p e now d = by_poll p e now (λ (r : Polled). r.datagram ≡ Some d �
   silent = λ is. cc;
   failed = λ is. cc;
   nothing = λ c is. cc;
-  used_up = λ c is. cc;
+  closes = λ c is. cc;
   gives = λ leaving c left s n ready some is. (let same : datagram_of p (draft_as leaving (at_poll e now c)) ≡ d = cc in record { gave = refl; given = ap (λ (x : List ℕ). x ∷ []) same });
 })
 
@@ -150,7 +150,7 @@ module _ (x y : Party) (joined : AreJoined x y) (meets : Meets y x) (gives_befor
   timeout_seen now a is =
       let t : Told = told_of (calls.Timeout now) a x.end.closing.state in
       subst (λ (v : Watch). IsWatched x.terms v (after_call x.policy x.end y.given (calls.Timeout now) a)) (sym (told_timed (lens x y) t seen (only_polls_give x.policy x.end y.given (calls.Timeout now) a refl is) (none_comes (lens x y) t seen.intake refl)))
-      (timeout_watched x.terms seen x.end now sight.stands sight.watched)
+      (timeout_watched x.policy x.terms seen x.end now sight.stands sight.watched)
 
   -- what a poll gives was sent so, where it holds behind the call of all that was given
   gives_at : (now : ℕ) → InStep (IsSent x.policy y.id) (x.sents ++ sents_by x.end (calls.Poll now) (answers.Poll (polled x.policy x.end now).answer)) (x.given ++ gives x.policy x.end (calls.Poll now) (answers.Poll (polled x.policy x.end now).answer))

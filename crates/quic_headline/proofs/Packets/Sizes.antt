@@ -135,7 +135,7 @@ polled_search Q asks p e now i = by_poll_to p e now (λ (q : Polled). Q q.end.pa
   silent = i;
   failed = i;
   nothing = λ is none. ready;
-  used_up = ready;
+  closes = ready;
   gives = λ is may some. by_going (λ (x : End). Q x.path.discovery) p (draft_at e now) (λ pacing. subst (λ (x : Path). Q x.discovery) (sym (composes (ready_at e now).leaving (ready_at e now).end (may_leave_at e now)).path) ready);
 })
   where

@@ -25,7 +25,7 @@ use Rattle.quic_machine.specs.Acked.{losses_detected, after_acked}
 use Rattle.quic_machine.specs.Receive.{is_above, names_ungiven, take_frame, received}
 use Rattle.quic_machine.specs.Poll.{Polled}
 use Rattle.quic_machine.specs.Machine.{after_call}
-use Rattle.quic_machine.specs.FrameCases.{Settling, losses_keep, named, ack_taken, passed, acked_keeps, message_leaves, frame_keeps, frame_leaves, frames_keep, frames_taken, by_received}
+use Rattle.quic_machine.specs.FrameCases.{Settling, losses_keep, named, ack_taken, passed, acked_keeps, message_leaves, frame_keeps, frame_leaves, frames_keep, frames_taken, by_received, apart_same}
 use Rattle.quic_machine.specs.Steps as steps
 use Rattle.quic_machine.specs.LeaveCases.{at_timeout, at_losses, at_event, by_expired}
 use Rattle.quic_machine.specs.PollCases.{at_poll, by_poll, composes}
@@ -154,6 +154,7 @@ pub keeps_frames : (fs : List FrameValue) (e : End) → Keeps e (passed fs e).en
 keeps_frames fs e = frames_keep (Keeps e) (frame_keeps (Keeps e) (record {
   ack = λ rises a x k. keeps_ack e rises a x k;
   on_streams = λ f x on k. frame_leaves (Keeps e) f x on (λ t. k);
+  apart = λ f x is k. subst (Keeps e) (sym (apart_same f x is)) k;
   message = λ m x k. k;
 })) fs e (keeps_same e)
 
@@ -299,7 +300,7 @@ placed_call p e theirs (calls.Poll now) a = by_poll p e now (λ (q : Polled). Is
   silent = record { ids = refl; generation = refl; transport = refl; peer = refl };
   failed = record { ids = refl; generation = refl; transport = refl; peer = refl };
   nothing = λ c. record { ids = refl; generation = refl; transport = refl; peer = refl };
-  used_up = λ c. record { ids = refl; generation = refl; transport = refl; peer = refl };
+  closes = λ c. record { ids = refl; generation = refl; transport = refl; peer = refl };
   gives = λ leaving c left is may ready some.
       let x : End = at_poll e now c in
       let c = composes leaving x (may_leave e now leaving x ready) in

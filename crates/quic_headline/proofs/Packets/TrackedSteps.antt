@@ -101,7 +101,7 @@ tracked_polled p e now sents i =
       silent = tracked_more sents [] e.tracking.packets i;
       failed = tracked_more sents [] e.tracking.packets i;
       nothing = λ is none. tracked_more sents [] (ready_at e now).end.tracking.packets ready;
-      used_up = tracked_more sents [] (ready_at e now).end.tracking.packets ready;
+      closes = tracked_more sents [] (ready_at e now).end.tracking.packets ready;
       gives = λ is may some. gives some;
     })
   where

@@ -23,8 +23,8 @@ use Rattle.quic_machine.specs.Timeouts.{Expiry, loss_judged, acks_expired, loss_
 use Rattle.quic_machine.specs.Machine.{IsAnswer, after_call, fails, gave}
 use Rattle.quic_machine.specs.CallCases.{Plain, is_delivery, is_poll, by_plain_call}
 use Rattle.quic_machine.specs.CallCases as cases
-use Rattle.quic_machine.specs.LeaveCases.{at_expiry}
-use Rattle.quic_machine.specs.FrameCases.{Settling, named, passed, acked_keeps, frame_keeps, frame_leaves, frames_keep, packets_lost_keep}
+use Rattle.quic_machine.specs.LeaveCases.{at_expiry, others_acknowledge}
+use Rattle.quic_machine.specs.FrameCases.{Settling, named, passed, acked_keeps, frame_keeps, frame_leaves, frames_keep, packets_lost_keep, apart_same}
 use Rattle.quic_machine.specs.Steps as steps
 use Rattle.quic_machine.specs.PollCases.{ready_at, draft_at, frames_at, by_poll_to, may_leave_at}
 use Rattle.quic_machine.specs.DraftLaws.{Writing, by_leave, MayLeave}
@@ -51,6 +51,7 @@ pub frame_acks : (e : End) (f : FrameValue) (x : End) → OnlyRuns e x → OnlyR
 frame_acks e = frame_keeps (OnlyRuns e) (record {
   ack = λ rises a x i. acked_keeps (OnlyRuns e) (settling e) rises a (named a x) i;
   on_streams = λ f x on i. frame_leaves (OnlyRuns e) f x on (λ t. i);
+  apart = λ f x is i. subst (OnlyRuns e) (sym (apart_same f x is)) i;
   message = λ m x i. i;
 })
 
@@ -68,20 +69,14 @@ judged_acks (Some moment) e = losses_searched (λ (x : End). x.acknowledging ≡
 
 -- so timers change it only where that of acknowledgements expires
 pub expired_acks : (e : End) (now : ℕ) (expiry : Expiry) → (at_expiry e now expiry).acknowledging ≡ (if expiry.acks then after_timeout e.acknowledging else e.acknowledging)
-expired_acks e now expiry = go expiry.acks expiry.loss expiry.pacing
+expired_acks e now expiry = others_acknowledge expiry (loss_expired expiry.loss begins) ∙ ap (λ (p : Pending). if expiry.acks then after_timeout p else p) (lost expiry.loss)
   where
     begins : End
     begins = with_closing e (ticked e.closing now)
 
-    go : (acks loss pacing : Bool) → (with_loss_timer (pacing_expired pacing (acks_expired acks (loss_expired loss begins)))).acknowledging ≡ (if acks then after_timeout e.acknowledging else e.acknowledging)
-    go true true true = ap after_timeout (judged_acks e.tracking.loss_time begins)
-    go true true false = ap after_timeout (judged_acks e.tracking.loss_time begins)
-    go false true true = judged_acks e.tracking.loss_time begins
-    go false true false = judged_acks e.tracking.loss_time begins
-    go true false true = refl
-    go true false false = refl
-    go false false true = refl
-    go false false false = refl
+    lost : (loss : Bool) → (loss_expired loss begins).acknowledging ≡ e.acknowledging
+    lost true = judged_acks e.tracking.loss_time begins
+    lost false = refl
 
 -- ---- a call that gives no ACK frame
 
@@ -112,8 +107,7 @@ module _ (P : Pending → Type 0) (e : End) (same : P e.acknowledging) (lazy : P
       begins : (l : Leaving) → P (lazied_as l x).acknowledging
       begins whole = subst (λ (p : Pending). P (after_lazy p)) (sym is) lazy
       begins alone = subst (λ (p : Pending). P (after_lazy p)) (sym is) lazy
-      begins (probe size) = subst P (sym is) same
-      begins (nothing held) = subst P (sym is) same
+      begins other = subst P (sym is) same
 
   ready_same : (now : ℕ) → P (ready_at e now).end.acknowledging
   ready_same now = subst P (sym (ready_acks e now)) same
@@ -123,7 +117,7 @@ module _ (P : Pending → Type 0) (e : End) (same : P e.acknowledging) (lazy : P
     silent = λ none. same;
     failed = λ none. same;
     nothing = λ is quiet none. ready_same now;
-    used_up = λ none. ready_same now;
+    closes = λ none. ready_same now;
     gives = λ is may some none.
         let g : Ready = ready_at e now in
         by_going (λ (x : End). P x.acknowledging) p (draft_at e now) (λ pacing. draft_leaves g.leaving g.end (may_leave_at e now) (ready_acks e now) (none_padded (draft_at e now).frames _ (or_parts (list_any is_ack (frames_at e now)) false none).0));

@@ -40,13 +40,13 @@ use Rattle.quic_machine.specs.Poll.{polled, tracked}
 use Rattle.quic_machine.specs.Machine.{IsAnswer, after_call, gave}
 use Rattle.quic_machine.specs.CallCases.{is_delivery, is_poll, asks_event, by_call}
 use Rattle.quic_machine.specs.LeaveCases.{by_expired}
-use Rattle.quic_machine.specs.FrameCases.{begun}
+use Rattle.quic_machine.specs.FrameCases.{begun, apart_leaves}
 use Rattle.quic_packet.specs.Datagram.{opened_packet}
 use Rattle.quic_machine.specs.Opens.{own_id_length}
 use Rattle.quic_machine.specs.declared.answers.Event.{Event}
 use Rattle.quic_machine.specs.Steps as steps
 use Rattle.quic_headline.specs.Runs.{Told, Packet, Intake, In, acknowledged, and_told, finish_told_by, finishes_told}
-use Rattle.quic_headline.specs.Observer.{Sent, Terms, Flight, HoldsOffset, HoldsEnd, Watch, Lens, first_watch, has_opened, moment_of, clock_behind, after_packets, after_frames, and_sent, and_all_sent, loss_due, is_past, expired_for, sent_as, watch_sent, watch_given, is_timely, watch_moment, watch_came, watch_told}
+use Rattle.quic_headline.specs.Observer.{Sent, Terms, Flight, HoldsOffset, HoldsEnd, Watch, Lens, first_watch, has_opened, moment_of, clock_behind, after_packets, after_frames, and_sent, and_flying, closes_of, and_all_sent, loss_due, is_past, expired_for, sent_as, watch_sent, watch_given, is_timely, watch_moment, watch_came, watch_told}
 use Rattle.quic_headline.specs.InFlight.{all_offsets}
 use Rattle.quic_headline.proofs.Packets.Invariant.{IsSent, AreTracked, WereSent, carried_stream}
 use Rattle.quic_headline.proofs.Packets.Growth.{step_of}
@@ -164,7 +164,11 @@ acks x y = (watch_of x y).flight.acked
 
 sent_acked : (ss : List Sent) (f : Flight) → (and_all_sent ss f).acked ≡ f.acked
 sent_acked [] f = refl
-sent_acked (s ∷ ss) f = sent_acked ss (and_sent s f)
+sent_acked (s ∷ ss) f = sent_acked ss (and_sent s f) ∙ go (closes_of s)
+  where
+    go : (b : Bool) → (if b then f else and_flying s f).acked ≡ f.acked
+    go true = refl
+    go false = refl
 
 datagram_acked : (taker : Policy) (ds : List (List ℕ)) (w : Watch) → (watch_sent taker ds w).flight.acked ≡ w.flight.acked
 datagram_acked taker [] w = refl
@@ -315,6 +319,7 @@ module _ (sents : List Sent) (w : ℕ → Wrote) (says : (s : Sent) → In s sen
     marked = λ flying acked m marking e i. i;
     on_streams = λ flying acked f e among on i. (i.0, settling_frame (λ id o. HoldsOffset acked id o) (λ id. HoldsEnd acked id) (known_of sents acked) n w f e on (small f among) i.1);
     message = λ flying acked m e i. i;
+    apart = λ flying acked f e among apart i. apart_leaves (λ (g : End). AllSent sents flying × Open sents w n acked g) f e apart (λ c. i);
   }
 
 -- ---- a packet of any end, taken or refused
@@ -395,6 +400,7 @@ module _ (B : Way) (b : SettlesOver B) (x y : Party) (call : Call) (a : Answer) 
         names = λ ak e i j. j;
         on_streams = λ f e i on j. settling_frame Any AnyEnd nothing_known (told_so x) (wrote x.told) f e on (small d among f i) j;
         message = λ m e j. j;
+        apart = λ f e i apart j. apart_leaves (Always (told_so x) (wrote x.told)) f e apart (λ c. j);
       }) (begun x.end now d.number) (λ ak i k named. takes.named d ak k among i named) gives.tracked s.always
 
   -- of an open end

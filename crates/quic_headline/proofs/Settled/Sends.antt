@@ -232,7 +232,7 @@ module _ (arrived : ℕ → ℕ → Type 0) (end_arrived : ℕ → Type 0) (n : 
     silent = i;
     failed = i;
     nothing = λ c. i;
-    used_up = λ c. i;
+    closes = λ c. i;
     gives = λ leaving c left is may ready some.
         let x : End = at_poll e now c in
         draft_settles arrived end_arrived n w (λ fs. nothing_known) nothing_goes leaving x (may_leave e now leaving x ready) i;
@@ -245,7 +245,7 @@ module _ (arrived : ℕ → ℕ → Type 0) (end_arrived : ℕ → Type 0) (n : 
     silent = same;
     failed = same;
     nothing = λ c. same;
-    used_up = λ c. same;
+    closes = λ c. same;
     gives = λ leaving c left is may ready some.
         let x : End = at_poll e now c in
         let d : Draft = draft_as leaving x in

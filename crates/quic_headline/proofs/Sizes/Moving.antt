@@ -12,7 +12,7 @@ use Rattle.quic_machine.specs.Tracking.{TrackedPacket}
 use Rattle.quic_machine.specs.End.{End}
 use Rattle.quic_machine.specs.Acked.{packet_acked, packets_acked}
 use Rattle.quic_machine.specs.Sizes.{after_lost, search_acked}
-use Rattle.quic_machine.specs.FrameCases.{packets_lost_keep, by_searched, frame_leaves}
+use Rattle.quic_machine.specs.FrameCases.{packets_lost_keep, by_searched, frame_leaves, apart_leaves}
 use Rattle.quic_headline.specs.Runs.{In}
 use Rattle.quic_headline.specs.Observer.{Sent}
 use Rattle.quic_headline.proofs.Packets.Waited.{AreWaited}
@@ -143,4 +143,5 @@ module _ (flew : List Sent) (least before : ℕ) where
     marked = λ flying acked counts marking e m. m;
     on_streams = λ flying acked f e among on m. frame_leaves (Moves flying acked) f e on (λ t. m);
     message = λ flying acked q e m. m;
+    apart = λ flying acked f e among apart m. apart_leaves (Moves flying acked) f e apart (λ c. m);
   }

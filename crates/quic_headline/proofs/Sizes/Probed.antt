@@ -200,7 +200,7 @@ module _ (p : Policy) (e : End) (now : ℕ) (sents : List Sent) (room : HasRoom 
           | inl fewer ↦ subst (λ (n : ℕ). IsProbed (sents ++ []) n (ready_at e now).end.path.discovery) (sym next) (fewer_probed (sents ++ []) e.numbers.next e.path.discovery (ready_at e now).end.path.discovery fewer none_goes)
           | inr goes_so ↦ absurd (let clash : true ≡ false = sym (ap goes_as goes_so.1) ∙ none in cc)
         ];
-    used_up = λ opened below. cc;
+    closes = λ opened below. cc;
     gives = λ is may some opened below.
         let f : End = after_given p (draft_at e now) in
         let above : number_of e < f.numbers.next = below (sent_by e now) (in_right (sent_by e now) sents (sent_by e now ∷ []) (inl refl)) in

@@ -24,13 +24,15 @@ use Rattle.quic_spaces.specs.Acknowledging.{with_due}
 use Rattle.quic_machine.specs.Machine.{after_call, end_at, control_at, given_by, policy_at}
 use Rattle.quic_machine.specs.CallCases.{Plain, is_poll, by_plain_call}
 use Rattle.quic_machine.specs.CallCases as cases
-use Rattle.quic_machine.specs.FrameCases.{Settling, Receives, named, acked_keeps, losses_keep, frame_keeps, frame_leaves, by_received}
+use Rattle.quic_machine.specs.FrameCases.{Settling, Receives, named, acked_keeps, losses_keep, frame_keeps, frame_leaves, by_received, apart_leaves}
 use Rattle.quic_machine.specs.Steps as steps
 use Rattle.quic_machine.specs.PollCases.{ready_at, draft_at, probe_leaves, by_gate, search_leaves, composes, may_leave_at}
 use Rattle.quic_headline.specs.Runs.{Run}
 use Rattle.quic_headline.specs.Polls.{PacerSetsItsTimer, pacing_at, pacer_names}
 use Rattle.quic_headline.proofs.Packets.Probes.{by_going}
 use Rattle.quic_headline.proofs.Steps.Made.{made_end}
+use Rattle.quic_machine.specs.LeaveCases.{Expired, by_timers}
+use Rattle.quic_machine.specs.LeaveCases as expiring
 
 -- the timer isn't set, or is set as this says
 abbrev Paces : Option ℕ → End → Type 0
@@ -98,7 +100,7 @@ module _ (o : Option ℕ) where
   receives = record {
     notes = λ n e i. i;
     begins = λ now n e i. i;
-    frame = frame_keeps (Paces o) (record { ack = λ rises a e i. acked_keeps (Paces o) settling rises a (named a e) i; on_streams = λ f e on i. frame_leaves (Paces o) f e on (λ t. i); message = λ m e i. i });
+    frame = frame_keeps (Paces o) (record { ack = λ rises a e i. acked_keeps (Paces o) settling rises a (named a e) i; on_streams = λ f e on i. frame_leaves (Paces o) f e on (λ t. i); apart = λ f e is i. apart_leaves (Paces o) f e is (λ c. i); message = λ m e i. i });
     takes = λ n asks mark e i. subst (λ (q : Option ℕ). (q ≡ None) ⊎ (q ≡ o)) (sym (pacing_after e.timers (with_due (is_congested mark) (after_insert e.acknowledging n e.closing.clock)) e.closing.clock n asks e.numbers.opened)) i;
     closes = λ reason e i. inl refl;
   }
@@ -108,27 +110,17 @@ module _ (o : Option ℕ) where
   judged_paces None e i = i
   judged_paces (Some moment) e i = losses_keep (Paces o) settling e i
 
-  -- the timer of losses expires or doesn't
-  lost_paces : (loss : Bool) (e : End) → Paces o e → Paces o (loss_expired loss e)
-  lost_paces true e i = judged_paces e.tracking.loss_time e i
-  lost_paces false e i = i
-
-  -- so does that of acknowledgements
-  acks_pace : (acks : Bool) (e : End) → Paces o e → Paces o (acks_expired acks e)
-  acks_pace true e i = i
-  acks_pace false e i = i
-
-  -- and that of the pacer, which is stopped then
-  expired_paces : (pacing : Bool) (e : End) → Paces o e → Paces o (with_loss_timer (pacing_expired pacing e))
-  expired_paces true e i = inl refl
-  expired_paces false e i = i
+  -- so does that of acknowledgements; that of the pacer is stopped
+  expires_paces : (s : Expired) (e : End) → Paces o e → Paces o (expiring.after s e)
+  expires_paces expiring.of_pacer e i = inl refl
+  expires_paces s e i = i
 
   -- so any call but a poll leaves the timer, or stops it
   other_paces : (p : Policy) (e : End) (theirs : List (List ℕ)) (call : Call) (a : Answer) → is_poll call ≡ false → Paces o e → Paces o (after_call p e theirs call a)
   other_paces p e theirs call a other i = by_plain_call p e theirs (Paces o) call a keep
     where
       keep : Plain p e call (Paces o)
-      keep (cases.times now expiry) may = expired_paces expiry.pacing (acks_expired expiry.acks (loss_expired expiry.loss (with_closing e (ticked e.closing now)))) (acks_pace expiry.acks (loss_expired expiry.loss (with_closing e (ticked e.closing now))) (lost_paces expiry.loss (with_closing e (ticked e.closing now)) i))
+      keep (cases.times now expiry) may = by_timers (Paces o) (Paces o) judged_paces expires_paces (λ f j. j) expiry (with_closing e (ticked e.closing now)) i
       keep (cases.polls now) is = cc
       keep (cases.hears arrival d) may = by_received (Paces o) receives p e arrival d i
       keep c may = i

@@ -19,16 +19,16 @@ use Rattle.quic_machine.specs.declared.answers.Transmit.{Transmit}
 use Rattle.quic_machine.specs.declared.run.Call.TheVariants as calls
 use Rattle.quic_machine.specs.declared.run.Answer.{Answer}
 use Rattle.quic_machine.specs.declared.run.Answer.TheVariants as answers
-use Rattle.quic_machine.specs.Parts.{current_mtu}
+use Rattle.quic_machine.specs.Parts.{current_mtu, signals_wait}
 use Rattle.quic_machine.specs.Policy.{Policy}
 use Rattle.quic_machine.specs.Closing.{ticked}
 use Rattle.quic_machine.specs.Ids.{Ids}
 use Rattle.quic_machine.specs.Tracking.{Tracking, TrackedPacket, forgotten, without_packet, asking_sent, after_sent}
 use Rattle.quic_machine.specs.End.{End, number_of, with_closing, with_window, streams_at}
 use Rattle.quic_machine.specs.Control.{Gated, lets, gated_if, with_pacing_timer}
-use Rattle.quic_machine.specs.Poll.{gated, mark_of, Polled, Draft, no_frames, frame_room, ping_if, with_control_frames, with_message_frames, with_stream_frames, with_asking, ack_of, with_ack, ack_fits, ack_if, composed_if, composed, datagram_of, asking, packet_of, probed, lazied, message_waits, asks_to_go, draft_of, sends, polled_if, polled_in, polled, whole, Ready, leaves, free_if, waits, goes}
+use Rattle.quic_machine.specs.Poll.{gated, mark_of, Polled, Draft, no_frames, frame_room, with_control_frames, with_message_frames, with_stream_frames, with_asking, ack_of, with_ack, ack_fits, ack_if, composed_if, composed, datagram_of, asking, packet_of, probed, lazied, message_waits, asks_to_go, draft_of, sends, polled_if, polled_in, polled, whole, Ready, leaves, free_if, waits, goes, with_signal_frames}
 use Rattle.quic_machine.specs.Machine.{World, end_at, control_at, policy_at}
-use Rattle.quic_machine.specs.DraftLaws.{Writing, drops_of, entry_of, half_of, message_of, HasRoom, room_most, by_entries, by_messages, by_streams}
+use Rattle.quic_machine.specs.DraftLaws.{Writing, drops_of, entry_of, half_of, message_of, HasRoom, room_most, by_entries, by_messages, by_streams, signal_asks, by_some_signal, no_signal}
 use Rattle.quic_machine.specs.Puts as puts
 use Rattle.quic_machine.specs.PollCases.{ready_at, frames_padded, frames_at, by_probed, composes}
 use Rattle.quic_headline.specs.Runs.{Run}
@@ -104,11 +104,13 @@ module _ (K : Streams → Type 0) (k : Spelling K) (c : Bringing K) where
 
   -- so what asks does, where something waits for a probe
   with_asking_asks : (d : Draft) → length d.bytes + 25 ≤ frame_room d.end → K (streams_at d.end) → has_probe d.end ≡ true → Asks (with_asking d)
-  with_asking_asks d room i waits = pinged d.end.waiting.ping waits
+  with_asking_asks d room i waits = signalled (signals_wait d.end.waiting.signals) refl waits
     where
-      pinged : (b : Bool) → (b || not (is_empty d.end.waiting.frames d.end.streams)) ≡ true → Asks (with_stream_frames (with_message_frames (with_control_frames (ping_if b d))))
-      pinged true on = more_ask (with_control_frames (ping_if true d)) (by_entries Asks (drops_of Asks asks_stay) (entry_of Asks asks_stay) (ping_if true d) (last_asks d ping refl))
-      pinged false on = more_ask (with_control_frames d) (control_frames_ask d room i (not-true _ on))
+      signalled : (b : Bool) → signals_wait d.end.waiting.signals ≡ b → (b || not (is_empty d.end.waiting.frames d.end.streams)) ≡ true → Asks (with_asking d)
+      signalled true some on =
+          let x : Draft = with_signal_frames d in
+          more_ask (with_control_frames x) (by_entries Asks (drops_of Asks asks_stay) (entry_of Asks asks_stay) x (by_some_signal Asks (λ y f left is. last_asks y f (signal_asks f is)) d some))
+      signalled false none on = subst (λ (x : Draft). Asks (with_stream_frames (with_message_frames (with_control_frames x)))) (sym (no_signal d none)) (more_ask (with_control_frames d) (control_frames_ask d room i (not-true _ on)))
 
   -- and what is composed
   composed_asks : (e : End) → Acks e.acknowledging e.marks.came → HasRoom e → K (streams_at e) → has_probe e ≡ true → Asks (composed e)
@@ -146,7 +148,7 @@ module _ (e : End) (now : ℕ) (probes : 0 < e.tracking.probes) where
 
   readied_waits : waits readied ≡ true
   readied_waits =
-      or_right (can_send readied.acknowledging) (asks_to_go readied) (asks_more readied.waiting.ping (not (is_empty readied.waiting.frames readied.streams)) (message_waits readied || can_send_stream_data readied.streams) readied_has)
+      or_right (can_send readied.acknowledging) (asks_to_go readied) (asks_more (signals_wait readied.waiting.signals) (not (is_empty readied.waiting.frames readied.streams)) (message_waits readied || can_send_stream_data readied.streams) readied_has)
     where
       asks_more : (a b d : Bool) → (a || b) ≡ true → (a || (b || d)) ≡ true
       asks_more true b d is = refl
@@ -214,7 +216,7 @@ module _ (K : Streams → Type 0) (k : Spelling K) (c : Bringing K) (p : Policy)
   fewer : (sends true p all_goes).end.tracking.probes + 1 ≡ e.tracking.probes
   fewer =
       let d : Draft = composed (lazied x) in
-      let tracking : d.end.tracking ≡ x.tracking = (composes whole x (λ alone. cc)).tracking in
+      let tracking : d.end.tracking ≡ x.tracking = (composes whole x tt).tracking in
       let there : d.end.tracking.probes ≡ x.tracking.probes = ap (λ (t : Tracking). t.probes) tracking in
       let same = readied_probes e now probes in
       by_going (λ (z : End). z.tracking.probes + 1 ≡ e.tracking.probes) p d (λ pacing. (let one = one_fewer d.end.tracking (number_of d.end) (packet_of d) goes_asks in omega arith))

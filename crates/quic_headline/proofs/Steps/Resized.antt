@@ -63,6 +63,8 @@ use Rattle.quic_headline.proofs.Packets.Searches.{losses_search}
 use Rattle.quic_headline.proofs.Packets.Sizes.{Sizing, sized_lost, same_size, carried_same, polled_search}
 use Rattle.quic_headline.proofs.Places.Moments.{last_view}
 use Rattle.quic_headline.proofs.Steps.Windows.{history, first_lead}
+use Rattle.quic_machine.specs.LeaveCases.{Expired, by_expiring}
+use Rattle.quic_machine.specs.LeaveCases as expiring
 
 -- ---- what tells no size
 
@@ -328,8 +330,8 @@ expired_tells : (b : Bool) (e : End) → Tells e.path.discovery (told_expired b 
 expired_tells true e = judged_tells e.tracking.loss_time e
 expired_tells false e = still e.path.discovery [] tt
 
-timed_out_tells : (s : State) (e : End) (now : ℕ) → Tells e.path.discovery (told_timed_out_in s e now) (timed_out_in s e now).end.path.discovery
-timed_out_tells states.Open e now = others x.acks x.pacing
+timed_out_tells : (s : State) (p : Policy) (e : End) (now : ℕ) → Tells e.path.discovery (told_timed_out_in s e now) (timed_out_in s p e now).end.path.discovery
+timed_out_tells states.Open p e now = by_expiring TellsSo TellsSo others (λ f i. i) x (loss_expired x.loss begun) (expired_tells x.loss begun)
   where
     begun : End
     begun = with_closing e (ticked e.closing now)
@@ -337,15 +339,16 @@ timed_out_tells states.Open e now = others x.acks x.pacing
     x : Expiry
     x = expiry_at begun.closing.clock begun.timers
 
+    TellsSo : End → Type 0
+    TellsSo f = Tells e.path.discovery (told_expired x.loss begun) f.path.discovery
+
     -- the other timers leave the search
-    others : (acks pacing : Bool) → Tells e.path.discovery (told_expired x.loss begun) (with_loss_timer (pacing_expired pacing (acks_expired acks (loss_expired x.loss begun)))).path.discovery
-    others true true = expired_tells x.loss begun
-    others true false = expired_tells x.loss begun
-    others false true = expired_tells x.loss begun
-    others false false = expired_tells x.loss begun
-timed_out_tells states.Closing e now = still e.path.discovery [] tt
-timed_out_tells states.Drained e now = still e.path.discovery [] tt
-timed_out_tells states.Failed e now = still e.path.discovery [] tt
+    others : (s : Expired) (f : End) → TellsSo f → TellsSo (expiring.after s f)
+    others expiring.of_acks f i = i
+    others s f i = i
+timed_out_tells states.Closing p e now = still e.path.discovery [] tt
+timed_out_tells states.Drained p e now = still e.path.discovery [] tt
+timed_out_tells states.Failed p e now = still e.path.discovery [] tt
 
 -- an end is polled
 polled_tells : (p : Policy) (e : End) (now : ℕ) → Tells e.path.discovery (told_polled_in e.closing.state e now) (polled p e now).end.path.discovery
@@ -369,7 +372,7 @@ other_tells p e theirs call a apart silent timeless = subst (λ (f : Discovery).
 -- what a call tells
 pub call_tells : (p : Policy) (e : End) (theirs : List (List ℕ)) (call : Call) (a : Answer) → Tells e.path.discovery (tells p e theirs call) (after_call p e theirs call a).path.discovery
 call_tells p e theirs (calls.Poll now) a = polled_tells p e now
-call_tells p e theirs (calls.Timeout now) a = timed_out_tells e.closing.state e now
+call_tells p e theirs (calls.Timeout now) a = timed_out_tells e.closing.state p e now
 call_tells p e theirs (calls.Deliver delivery) a = delivered_tells p e delivery (slice_get theirs delivery.index)
 call_tells p e theirs call a = other_tells p e theirs call a refl refl refl
 

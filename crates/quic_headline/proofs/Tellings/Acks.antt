@@ -24,7 +24,7 @@ use Rattle.quic_machine.specs.Control.{bytes_in_flight, last_sent, told_packet, 
 use Rattle.quic_machine.specs.Sizes.{is_resized, search_acked, told_packets, told_probe}
 use Rattle.quic_machine.specs.Acked.{packets_acked, verdict, losses_detected, told_delay, first_measured, after_named, counts_answer, told_grown, told_seen, told_marks, told_detected, told_of_losses, told_named, measured, sampled, without_acked, losses_taken}
 use Rattle.quic_machine.specs.Receive.{take_frame}
-use Rattle.quic_machine.specs.FrameCases.{packets_lost_keep, by_marks, named, frame_keeps, frame_leaves}
+use Rattle.quic_machine.specs.FrameCases.{packets_lost_keep, by_marks, named, frame_keeps, frame_leaves, apart_leaves}
 use Rattle.quic_headline.specs.Runs.{In}
 use Rattle.quic_headline.specs.Observer.{Sent, asks_of, Flight, latest, is_greatest}
 use Rattle.quic_headline.specs.Telling.{Judging, measured_first, told_if, IsPinged, MayProbe, bytes_asking, last_moment, TellsAcked, acked_flight, MayMark, TellsSettled, TellsNamed}
@@ -215,6 +215,7 @@ pub frame_set : (j : Judging) (f : FrameValue) (e : End) → IsSet j e → IsSet
 frame_set j = frame_keeps (IsSet j) (record {
   ack = λ rises a e i. named_set j (acked_by a (named a e).tracking.packets) rises a (named a e) i;
   on_streams = λ f e on i. frame_leaves (IsSet j) f e on (λ t. i);
+  apart = λ f e is i. apart_leaves (IsSet j) f e is (λ c. i);
   message = λ m e i. i;
 })
 

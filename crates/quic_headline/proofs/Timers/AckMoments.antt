@@ -24,8 +24,8 @@ use Rattle.quic_machine.specs.Timeouts.{Expiry, loss_judged, acks_expired, loss_
 use Rattle.quic_machine.specs.Machine.{World, IsAnswer, after_call, fails, gave, end_at}
 use Rattle.quic_machine.specs.CallCases.{Plain, is_delivery, by_plain_call}
 use Rattle.quic_machine.specs.CallCases as cases
-use Rattle.quic_machine.specs.LeaveCases.{at_expiry}
-use Rattle.quic_machine.specs.FrameCases.{Settling, named, begun, passed, acked_keeps, losses_keep, frame_keeps, frame_leaves, frames_keep}
+use Rattle.quic_machine.specs.LeaveCases.{at_expiry, Expired, by_timers}
+use Rattle.quic_machine.specs.FrameCases.{Settling, named, begun, passed, acked_keeps, losses_keep, frame_keeps, frame_leaves, frames_keep, apart_leaves}
 use Rattle.quic_machine.specs.Steps as steps
 use Rattle.quic_machine.specs.PollCases.{ready_at, ready_leaves, draft_at, frames_at, by_poll_to, may_leave_at}
 use Rattle.quic_machine.specs.DraftLaws.{Writing, by_leave, MayLeave}
@@ -49,6 +49,7 @@ use Rattle.quic_headline.proofs.Places.Placed.{Placed, party_at, known_first}
 use Rattle.quic_headline.proofs.Timers.Still.{was_open}
 use Rattle.quic_headline.proofs.Timers.Watched.{Observed, watched_behind, timers_behind, open_behind, went_behind, came_before, came_behind}
 use Rattle.quic_headline.proofs.Packets.Probes.{by_going}
+use Rattle.quic_machine.specs.LeaveCases as expiring
 
 -- ---- what goes
 
@@ -100,7 +101,7 @@ module _ (Q : Pending → Option ℕ → Type 0) (acked : (p : Pending) → Q (a
     silent = λ some. cc;
     failed = λ some. cc;
     nothing = λ is none some. cc;
-    used_up = λ some. cc;
+    closes = λ some. cc;
     gives = λ is may some acks. by_going (λ (x : End). Q x.acknowledging x.timers.max_ack_delay) p (draft_at e now) (λ pacing. draft_answered (ready_at e now).leaving (ready_at e now).end (may_leave_at e now) (sym (any_padded (draft_at e now).frames _) ∙ first_only (list_any is_ack (frames_at e now)) acks));
   })
     where
@@ -132,18 +133,13 @@ pub judged_none : (o : Option ℕ) (e : End) → (loss_judged o e).timers.max_ac
 judged_none None e = refl
 judged_none (Some moment) e = losses_keep (HasTimer e.timers.max_ack_delay) (timer_settles e.timers.max_ack_delay) e refl
 
-acks_none : (e : End) (now : ℕ) (acks loss : Bool) → SetsNone e (acks_expired acks (loss_expired loss (with_closing e (ticked e.closing now))))
-acks_none e now true loss moment set = cc
-acks_none e now false true moment set = sym (judged_none e.tracking.loss_time (with_closing e (ticked e.closing now))) ∙ set
-acks_none e now false false moment set = set
-
--- nor does that of the pacer
-pacing_none : (pacing : Bool) (e : End) → (with_loss_timer (pacing_expired pacing e)).timers.max_ack_delay ≡ e.timers.max_ack_delay
-pacing_none true e = refl
-pacing_none false e = refl
-
+-- nor does a timer that expires but that of acknowledgements
 expired_none : (e : End) (now : ℕ) (expiry : Expiry) → SetsNone e (at_expiry e now expiry)
-expired_none e now expiry moment set = acks_none e now expiry.acks expiry.loss moment (sym (pacing_none expiry.pacing (acks_expired expiry.acks (loss_expired expiry.loss (with_closing e (ticked e.closing now))))) ∙ set)
+expired_none e now expiry = by_timers (SetsNone e) (SetsNone e) (λ o f i moment set. i moment (sym (judged_none o f) ∙ set)) each (λ f i. i) expiry (with_closing e (ticked e.closing now)) (λ moment set. set)
+  where
+    each : (s : Expired) (f : End) → SetsNone e f → SetsNone e (expiring.after s f)
+    each expiring.of_acks f i moment set = cc
+    each s f i = i
 
 draft_none : (leaving : Leaving) (e : End) → MayLeave leaving e → SetsNone e (draft_as leaving e).end
 draft_none leaving e alone = by_leave (λ (d : Draft). SetsNone e d.end) put_keeps leaving e alone (λ moment set. set)
@@ -161,7 +157,7 @@ polled_none p e now = by_poll_to p e now (λ (q : Polled). SetsNone e q.end) (re
   silent = λ moment set. set;
   failed = λ moment set. set;
   nothing = λ is none. ready_none e now;
-  used_up = λ moment set. none_set moment set;
+  closes = λ moment set. none_set moment set;
   gives = λ is may some. by_going (SetsNone e) p (draft_at e now) (λ pacing moment set. ready_none e now moment (draft_none (ready_at e now).leaving (ready_at e now).end (may_leave_at e now) moment set));
 })
   where
@@ -188,6 +184,7 @@ pub frames_timer : (fs : List FrameValue) (e : End) → HasTimer e.timers.max_ac
 frames_timer fs e = frames_keep (HasTimer e.timers.max_ack_delay) (frame_keeps (HasTimer e.timers.max_ack_delay) (record {
   ack = λ rises a x i. acked_keeps (HasTimer e.timers.max_ack_delay) (timer_settles e.timers.max_ack_delay) rises a (named a x) i;
   on_streams = λ f x on i. frame_leaves (HasTimer e.timers.max_ack_delay) f x on (λ t. i);
+  apart = λ f x is i. apart_leaves (HasTimer e.timers.max_ack_delay) f x is (λ c. i);
   message = λ m x i. i;
 })) fs e refl
 

@@ -23,14 +23,15 @@ use Rattle.quic_machine.specs.Machine.{World, Policies, after_call, Follows}
 use Rattle.quic_headline.specs.Headline.{AckTimerFollows, AckTimersFollow}
 use Rattle.quic_machine.specs.DraftLaws.{Writing, by_leave, MayLeave}
 use Rattle.quic_machine.specs.Puts as puts
-use Rattle.quic_machine.specs.LeaveCases.{at_expiry}
+use Rattle.quic_machine.specs.LeaveCases.{at_expiry, Expired, by_timers}
 use Rattle.quic_machine.specs.CallCases.{Plain, by_plain_call}
 use Rattle.quic_machine.specs.CallCases as cases
-use Rattle.quic_machine.specs.FrameCases.{Settling, Receives, named, acked_keeps, losses_keep, frame_keeps, frame_leaves, by_received}
+use Rattle.quic_machine.specs.FrameCases.{Settling, Receives, named, acked_keeps, losses_keep, frame_keeps, frame_leaves, by_received, apart_same}
 use Rattle.quic_machine.specs.Steps as steps
 use Rattle.quic_machine.specs.PollCases.{ready_at, ready_leaves, by_poll_to, draft_at, may_leave_at}
 use Rattle.quic_headline.proofs.Timers.BothEnds.{run_keeps}
 use Rattle.quic_headline.proofs.Packets.Probes.{by_going}
+use Rattle.quic_machine.specs.LeaveCases as expiring
 
 -- no timer is set
 unset_follows : (e : End) → e.timers.max_ack_delay ≡ None → AckTimerFollows e
@@ -64,7 +65,7 @@ receives : Receives AckTimerFollows
 receives = record {
   notes = λ n e i. i;
   begins = λ now n e i. i;
-  frame = frame_keeps AckTimerFollows (record { ack = λ rises a e i. acked_keeps AckTimerFollows settling rises a (named a e) i; on_streams = λ f e on i. frame_leaves AckTimerFollows f e on (λ t. i); message = λ m e i. i });
+  frame = frame_keeps AckTimerFollows (record { ack = λ rises a e i. acked_keeps AckTimerFollows settling rises a (named a e) i; on_streams = λ f e on i. frame_leaves AckTimerFollows f e on (λ t. i); apart = λ f e is i. subst AckTimerFollows (sym (apart_same f e is)) i; message = λ m e i. i });
   takes = λ n asks mark e i opened. packet_counts asks e.timers (with_due (is_congested mark) (after_insert e.acknowledging n e.closing.clock)) e.closing.clock n e.numbers.opened (i opened);
   closes = λ reason e i. closed_follows reason e;
 }
@@ -74,9 +75,7 @@ receives = record {
 -- an acknowledgement that became due leaves it
 lazied_follows : (leaving : Leaving) (e : End) → AckTimerFollows e → AckTimerFollows (lazied_as leaving e)
 lazied_follows whole e i = i
-lazied_follows alone e i = i
-lazied_follows (probe size) e i = i
-lazied_follows (nothing held) e i = i
+lazied_follows other e i = i
 
 -- an ACK that goes stops the timer, and no other frame changes it
 draft_follows : (leaving : Leaving) (e : End) → MayLeave leaving e → AckTimerFollows e → AckTimerFollows (draft_as leaving e).end
@@ -95,7 +94,7 @@ polled_follows p e now i = by_poll_to p e now (λ (q : Polled). AckTimerFollows 
   silent = i;
   failed = i;
   nothing = λ is none. ready_follows e now i;
-  used_up = closed_follows reasons.NumberLimit (ready_at e now).end;
+  closes = closed_follows reasons.NumberLimit (ready_at e now).end;
   gives = λ is may some. by_going AckTimerFollows p (draft_at e now) (λ pacing. draft_follows (ready_at e now).leaving (ready_at e now).end (may_leave_at e now) (ready_follows e now i));
 })
 
@@ -106,19 +105,12 @@ judged_follows : (o : Option ℕ) (e : End) → AckTimerFollows e → AckTimerFo
 judged_follows None e i = i
 judged_follows (Some moment) e i = losses_keep AckTimerFollows settling e i
 
-acks_follow : (acks loss : Bool) (e : End) → AckTimerFollows e → AckTimerFollows (acks_expired acks (loss_expired loss e))
-acks_follow true loss e i = unset_follows (acks_expired true (loss_expired loss e)) refl
-acks_follow false true e i = judged_follows e.tracking.loss_time e i
-acks_follow false false e i = i
-
-pacing_follows : (pacing : Bool) (e : End) → AckTimerFollows e → AckTimerFollows (with_loss_timer (pacing_expired pacing e))
-pacing_follows true e i = i
-pacing_follows false e i = i
+expires_follows : (s : Expired) (e : End) → AckTimerFollows e → AckTimerFollows (expiring.after s e)
+expires_follows expiring.of_acks e i = unset_follows (acks_expired true e) refl
+expires_follows s e i = i
 
 expired_follows : (e : End) (now : ℕ) (expiry : Expiry) → AckTimerFollows e → AckTimerFollows (at_expiry e now expiry)
-expired_follows e now expiry i =
-    let begun : End = with_closing e (ticked e.closing now) in
-    pacing_follows expiry.pacing (acks_expired expiry.acks (loss_expired expiry.loss begun)) (acks_follow expiry.acks expiry.loss begun i)
+expired_follows e now expiry i = by_timers AckTimerFollows AckTimerFollows judged_follows expires_follows (λ f j. j) expiry (with_closing e (ticked e.closing now)) i
 
 -- what any call leaves
 call_follows : (p : Policy) (e : End) (theirs : List (List ℕ)) (call : Call) (a : Answer) → AckTimerFollows e → AckTimerFollows (after_call p e theirs call a)

@@ -38,10 +38,10 @@ use Rattle.quic_machine.specs.Receive.{Fault, violation, reason_of, take_frame, 
 use Rattle.quic_machine.specs.Poll.{Polled, Draft, packet_of, after_given, record_moved, draft_as, polled, Leaving, Ready}
 use Rattle.quic_machine.specs.Timeouts.{Expiry, acks_expired, loss_judged, loss_expired, pacing_expired}
 use Rattle.quic_machine.specs.Machine.{World, Policies, after_call, Follows}
-use Rattle.quic_machine.specs.LeaveCases.{at_expiry}
+use Rattle.quic_machine.specs.LeaveCases.{at_expiry, Expired, by_timers}
 use Rattle.quic_machine.specs.CallCases.{Plain, by_plain_call}
 use Rattle.quic_machine.specs.CallCases as cases
-use Rattle.quic_machine.specs.FrameCases.{Settling, named, begun, acked_keeps, losses_keep, frame_keeps, frame_leaves, items_keep, by_marks}
+use Rattle.quic_machine.specs.FrameCases.{Settling, named, begun, acked_keeps, losses_keep, frame_keeps, frame_leaves, items_keep, by_marks, apart_leaves}
 use Rattle.quic_machine.specs.Steps as steps
 use Rattle.quic_machine.specs.PollCases.{ready_at, by_poll_to, Composes, composes, may_leave_at}
 use Rattle.quic_headline.specs.Runs.{In}
@@ -54,6 +54,7 @@ use Rattle.quic_headline.proofs.Packets.Growth.{in_more}
 use Rattle.quic_headline.proofs.Packets.Numbered.{Lies, lies_below, lies_filter, lies_remove, lies_put, lies_push, one_key, added_last, in_remove, oldest_in, asks_last, asks_remove, asks_put, late_asks, is_at_same}
 use Rattle.quic_headline.proofs.Timers.BothEnds.{AtBoth, run_keeps}
 use Rattle.quic_machine.specs.DraftLaws.{MayLeave}
+use Rattle.quic_machine.specs.LeaveCases as expiring
 
 -- ---- a datagram, where frames keep less
 
@@ -272,7 +273,7 @@ hears : Hears LossStands FrameStands
 hears = record {
   notes = λ n e i opened. (let s = i opened in record { stands = record { lies = s.stands.lies; asked = s.stands.asked; late = s.stands.late }; set = s.set });
   begins = λ now n e i opened. (i opened).stands;
-  frame = frame_keeps FrameStands (record { ack = ack_stands; on_streams = λ f e on i. frame_leaves FrameStands f e on (λ t. i); message = λ m e i. i });
+  frame = frame_keeps FrameStands (record { ack = ack_stands; on_streams = λ f e on i. frame_leaves FrameStands f e on (λ t. i); apart = λ f e is i. apart_leaves FrameStands f e is (λ c. i); message = λ m e i. i });
   takes = λ n asks mark e i opened. record { stands = i opened; set = refl };
   closes = λ reason e i. closed_stands reason e;
 }
@@ -338,7 +339,7 @@ polled_stands p e now i = by_poll_to p e now (λ (q : Polled). LossStands q.end)
   silent = i;
   failed = i;
   nothing = λ is none opened. (let s = ready_stands e now i opened in record { stands = s.stands; set = s.set });
-  used_up = closed_stands reasons.NumberLimit (ready_at e now).end;
+  closes = closed_stands reasons.NumberLimit (ready_at e now).end;
   gives = λ is may some.
       let g : Ready = ready_at e now in
       given_stands p g.leaving g.end (may_leave_at e now) (λ opened. (let s = ready_stands e now i opened in record { stands = s.stands; set = s.set }));
@@ -355,22 +356,11 @@ judged_stands e (Some moment) i opened =
     subst (λ (n : Numbers). Stands n.next (losses_detected e).tracking) (sym quiet.numbers) (by_losses (λ (x : End). Stands e.numbers.next x.tracking) e (λ discovery queues. stands_detected e.numbers.next (verdict e) e.tracking s.lies s.asked))
 
 expired_stands : (e : End) (now : ℕ) (expiry : Expiry) → LossStands e → LossStands (at_expiry e now expiry)
-expired_stands e now expiry i = after expiry.pacing (acks_expired expiry.acks (loss_expired expiry.loss begun)) (acked expiry.acks (loss_expired expiry.loss begun) (judged expiry.loss))
+expired_stands e now expiry i = by_timers FrameStands LossStands (λ o f. judged_stands f o) each (λ f j opened. record { stands = j opened; set = refl }) expiry (with_closing e (ticked e.closing now)) (λ opened. (i opened).stands)
   where
-    begun : End
-    begun = with_closing e (ticked e.closing now)
-
-    judged : (loss : Bool) → FrameStands (loss_expired loss begun)
-    judged true = judged_stands begun e.tracking.loss_time (λ opened. (i opened).stands)
-    judged false = λ opened. (i opened).stands
-
-    acked : (acks : Bool) (f : End) → FrameStands f → FrameStands (acks_expired acks f)
-    acked true f j opened = let s = j opened in record { lies = s.lies; asked = s.asked; late = s.late }
-    acked false f j opened = j opened
-
-    after : (pacing : Bool) (f : End) → FrameStands f → LossStands (with_loss_timer (pacing_expired pacing f))
-    after true f j opened = record { stands = j opened; set = refl }
-    after false f j opened = record { stands = j opened; set = refl }
+    each : (s : Expired) (f : End) → FrameStands f → FrameStands (expiring.after s f)
+    each expiring.of_acks f j = j
+    each s f j = j
 
 -- what any call leaves
 pub call_stands : (p : Policy) (e : End) (theirs : List (List ℕ)) (call : Call) (a : Answer) → LossStands e → LossStands (after_call p e theirs call a)

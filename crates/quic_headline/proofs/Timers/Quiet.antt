@@ -18,7 +18,7 @@ use Rattle.quic_machine.specs.Opens.{own_id_length, opens}
 use Rattle.quic_machine.specs.End.{End}
 use Rattle.quic_machine.specs.Machine.{World, gave}
 use Rattle.quic_headline.specs.Runs.{Run, Told, Packet, Intake, In, IsTaken, IsNamed, names, acknowledged, handed, is_again, is_refused, packet_of, expected_behind, and_opened, and_handed, AreServed}
-use Rattle.quic_headline.specs.Observer.{Sent, asks_of, Terms, Flight, is_lost, late_by, after_losses, settled_by, after_ack, after_frames, after_packets, without_number, without_oldest, unasked, kept_flying, and_sent, loss_due, is_past, expired_for, Watch, first_watch, news, sent_as, and_all_sent, watch_sent, Lens, watch_given, is_timely, watch_moment, watch_told, watch}
+use Rattle.quic_headline.specs.Observer.{Sent, asks_of, Terms, Flight, is_lost, late_by, after_losses, settled_by, after_ack, after_frames, after_packets, without_number, without_oldest, unasked, kept_flying, and_sent, loss_due, is_past, expired_for, Watch, first_watch, news, sent_as, and_all_sent, watch_sent, Lens, watch_given, is_timely, watch_moment, watch_told, watch, and_flying, closes_of}
 use Rattle.quic_headline.specs.Headline.{IsHonest}
 use Rattle.quic_headline.specs.Moments.{LossTimerQuiet}
 use Rattle.quic_headline.proofs.Packets.Named.{in_filter, filter_chose}
@@ -135,12 +135,16 @@ kept_leaves asks f s i = go (not asks && nat_lt 1000 (length (unasked f))) (unas
 sent_leaves : (ss : List Sent) (f : Flight) (s : Sent) → In s (and_all_sent ss f).flying → In s f.flying ⊎ In s ss
 sent_leaves [] f s i = inl i
 sent_leaves (u ∷ ss) f s i = elim (sent_leaves ss (and_sent u f) s i) [
-  | inl before ↦ elim (in_append s (kept_flying (asks_of u) f) (u ∷ []) before) [
-    | inl kept ↦ inl (kept_leaves (asks_of u) f s kept)
-    | inr new ↦ elim new [ inl same ↦ inr (inl same) | inr none ↦ absurd none ]
-  ]
+  | inl before ↦ one (closes_of u) before
   | inr more ↦ inr (inr more)
 ]
+  where
+    one : (b : Bool) → In s (if b then f else and_flying u f).flying → In s f.flying ⊎ In s (u ∷ ss)
+    one true before = inl before
+    one false before = elim (in_append s (kept_flying (asks_of u) f) (u ∷ []) before) [
+      | inl kept ↦ inl (kept_leaves (asks_of u) f s kept)
+      | inr new ↦ elim new [ inl same ↦ inr (inl same) | inr none ↦ absurd none ]
+    ]
 
 -- ---- one call more
 

@@ -12,7 +12,7 @@ use Rattle.quic_machine.specs.Machine.{after_call}
 use Rattle.quic_machine.specs.CallCases.{Plain, by_plain_call}
 use Rattle.quic_machine.specs.CallCases as cases
 use Rattle.quic_machine.specs.LeaveCases.{at_expiry, by_expired}
-use Rattle.quic_machine.specs.FrameCases.{Receives, named, frame_keeps, frame_leaves, by_received}
+use Rattle.quic_machine.specs.FrameCases.{Receives, named, frame_keeps, frame_leaves, by_received, apart_leaves}
 use Rattle.quic_machine.specs.PollCases.{at_poll, by_poll, composes}
 use Rattle.quic_headline.proofs.Packets.Probes.{may_leave}
 use Rattle.quic_headline.proofs.Packets.Stays.{settles_ack, settles_losses}
@@ -28,6 +28,7 @@ opened_receives e = record {
   frame = frame_keeps (WasOpen e) (record {
     ack = λ rises a f i opened. i (ap (λ (c : Closing). c.state) (sym (settles_ack rises a (named a f)).closing) ∙ opened);
     on_streams = λ f g on i. frame_leaves (WasOpen e) f g on (λ t. i);
+    apart = λ f g is i. apart_leaves (WasOpen e) f g is (λ c. i);
     message = λ m f i. i;
   });
   takes = λ n asks mark f i. i;
@@ -42,7 +43,7 @@ opened_polled p e now = by_poll p e now (λ (q : Polled). WasOpen e q.end) (reco
   silent = λ opened. opened;
   failed = λ opened. opened;
   nothing = λ c opened. opened;
-  used_up = λ c opened. cc;
+  closes = λ c opened. cc;
   gives = λ leaving c left is may ready some opened.
       let x : End = at_poll e now c in
       ap (λ (c : Closing). c.state) (sym (composes leaving x (may_leave e now leaving x ready)).closing) ∙ opened;

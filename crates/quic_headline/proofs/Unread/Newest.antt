@@ -279,7 +279,7 @@ module _ (window stream_window : ℕ) (counts : Counts) where
       silent = still_says [] e.streams i;
       failed = still_says [] e.streams i;
       nothing = λ is none. still_says [] (ready_at e now).end.streams ready;
-      used_up = still_says [] (ready_at e now).end.streams ready;
+      closes = still_says [] (ready_at e now).end.streams ready;
       gives = λ is_open numbered some. by_going (λ (x : End). Of (Says (WasGiven (own ++ sent_by e now ∷ [])) window stream_window counts) x.streams) p (draft_at e now)
           (λ pacing. given_says (draft_at e now) (sent_by e now) refl (draft_says (ready_at e now).leaving (ready_at e now).end (may_leave_at e now) ready));
     })
