@@ -99,6 +99,7 @@ CALLS = {
     "send": [("H", octets)],
     "recv": [],
     "ping": [],
+    "use_next_id": [],
     "poll": [("T", natural)],
     "timeout": [("T", natural)],
     "event": [],

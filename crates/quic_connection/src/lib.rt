@@ -25,8 +25,8 @@ pub use quic_connection_core::{Config, Connection};
 pub use quic_copies::Copies;
 pub use quic_machine::{
     Answer, Call, ConfigError, Datagram, Delivery, DropReason, EndView, Event, Failed, IdleTimeout,
-    Injection, Instant, LostReason, Nexts, ReadCall, Received, RunEvent, State, Timer, Transmit,
-    TransportConfig, View,
+    Injection, Instant, LostReason, NextIdError, Nexts, ReadCall, Received, RunEvent, State, Timer,
+    Transmit, TransportConfig, View,
 };
 pub use quic_messages::{DatagramLimits, DatagramState, Datagrams, SendDatagramError};
 pub use quic_packet::crypto::{

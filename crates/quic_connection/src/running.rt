@@ -3,7 +3,7 @@ ghost use Rattle.std.specs.Prelude.{◌≡◌, ◌++◌, [], length, ◌≤◌, 
 ghost use Rattle.quic_wire_core.specs.StreamId.{other_side};
 ghost use Rattle.quic_machine.specs.End.{policy_of, with_end};
 ghost use Rattle.quic_machine.specs.Machine.{Policies, IsAnswer, reads_window, IsLeft, IsTold, IsHeard, fails, gives, given_by, IsStep, view_of, end_view, Follows};
-ghost use Rattle.quic_machine.specs.CallCases.{is_poll};
+ghost use Rattle.quic_machine.specs.CallCases.{may_draw};
 ghost use Rattle.quic_machine.specs.Lacking.{LacksWhere, TakesOfItsOwn};
 ghost use Rattle.quic_machine.specs.Start.{AreStarted};
 ghost use Rattle.quic_time.specs.Timers.{each_timer};
@@ -24,6 +24,7 @@ ghost use Rattle.quic_headline.specs.Rest.{DeliveredAtRest, NothingOwedAtRest};
 ghost use Rattle.quic_headline.specs.AcksDue.{AcksAreDue};
 ghost use Rattle.quic_headline.specs.Resets.{ResetsAreTold};
 ghost use Rattle.quic_headline.specs.Ids.{IdsAreNew, AcceptedWereOpened};
+ghost use Rattle.quic_headline.specs.ConnectionIds.{IdsAreIssued, UnknownOnlyWhereRetired, ToldIdsAreKnown, NewestOpensAtEnd, NoIdIsExact, TooManyIsExact};
 ghost use Rattle.quic_headline.specs.Reasons.{ClosedHasAReason};
 ghost use Rattle.quic_headline.specs.Views.{ViewsTell};
 ghost use Rattle.quic_headline.specs.Events.{MessagesAreTold, OpeningsAreTold, ReadablesAreTold};
@@ -160,8 +161,9 @@ fn make<H: HeaderKey + Drop, K: PacketKey + Drop, R: Rng + Drop, C: Controller>(
 }
 
 /// Makes one call at one end whose peer is elsewhere, and appends a datagram that it gives. The end
-/// keeps its keys, and draws words of its random source only at a poll. A datagram of the peer is
-/// handed in by [`Connection::receive`]: [`Call::Deliver`] finds none here.
+/// keeps its keys, and draws words of its random source only at a poll or where a datagram comes.
+/// A datagram of the peer is handed in by [`Connection::receive`]: [`Call::Deliver`] finds none
+/// here.
 ///
 /// The call answers want of memory only where it takes some. An error is want of memory of its own,
 /// with no call made and nothing changed: it takes some at each poll, whether that gives a datagram
@@ -191,8 +193,8 @@ pub fn call_at<H: HeaderKey + Drop, K: PacketKey + Drop, R: Rng + Drop, C: Contr
         given.new.items
         ≡ given.old.items ++ gives (policy_of H.protection K.aead (words_of R.stream) end.old)
         (reads_window (windows_of C.steps C.window_of end.old.control) call.now end.old.end) call.now a) }
-    ensures keys { is_poll call.now ≡ false → KeepsKeys end.old end.new }
-    ensures polled { is_poll call.now ≡ true → GoesOn R.stream end.old end.new }
+    ensures keys { may_draw call.now ≡ false → KeepsKeys end.old end.new }
+    ensures draws { may_draw call.now ≡ true → GoesOn R.stream end.old end.new }
     ensures err { OnErr result (end.new ≡ end.old) }
     ensures err_given { OnErr result (given.new.items ≡ given.old.items) }
     ensures own { OnErr result (TakesOfItsOwn [] call.now) }
@@ -227,8 +229,8 @@ fn at_end<H: HeaderKey + Drop, K: PacketKey + Drop, R: Rng + Drop, C: Controller
         mine.new.items
         ≡ mine.old.items ++ gives (policy_of H.protection K.aead (words_of R.stream) end.old)
         (reads_window (windows_of C.steps C.window_of end.old.control) call.now end.old.end) call.now a) }
-    ensures keys { is_poll call.now ≡ false → KeepsKeys end.old end.new }
-    ensures polled { is_poll call.now ≡ true → GoesOn R.stream end.old end.new }
+    ensures keys { may_draw call.now ≡ false → KeepsKeys end.old end.new }
+    ensures draws { may_draw call.now ≡ true → GoesOn R.stream end.old end.new }
     ensures err { OnErr result (end.new ≡ end.old) }
     ensures err_given { OnErr result (mine.new.items ≡ mine.old.items) }
     ensures own { OnErr result (TakesOfItsOwn theirs.now call.now) }
@@ -257,6 +259,7 @@ fn at_end<H: HeaderKey + Drop, K: PacketKey + Drop, R: Rng + Drop, C: Controller
         Call::Send(message, makes_room) => send_at(alloc, end, message, *makes_room),
         Call::Recv => Ok(recv_at(end)),
         Call::Ping => Ok(ping_at(end)),
+        Call::UseNextId => Ok(use_next_id_at(end)),
         Call::Poll(now) => poll_at(alloc, end, mine, *now),
         Call::Timeout(now) => Ok(timeout_at(end, *now)),
         Call::Deliver(delivery) => deliver_at(alloc, end, theirs, delivery),
@@ -348,6 +351,30 @@ fn ping_at<H: HeaderKey + Drop, K: PacketKey + Drop, R: Rng + Drop, C: Controlle
 {
     end.ping();
     Answer::Ping
+}
+
+/// The next id of the peer is used.
+fn use_next_id_at<H: HeaderKey + Drop, K: PacketKey + Drop, R: Rng + Drop, C: Controller>(
+    end: &mut Connection<H, K, R, C>,
+) -> Answer
+    ensures answer { IsAnswer (policy_of H.protection K.aead (words_of R.stream) end.old)
+        (reads_window (windows_of C.steps C.window_of end.old.control) Call.UseNextId end.old.end) [] Call.UseNextId
+        result }
+    ensures lacking { LacksWhere (policy_of H.protection K.aead (words_of R.stream) end.old)
+        (reads_window (windows_of C.steps C.window_of end.old.control) Call.UseNextId end.old.end) [] Call.UseNextId
+        result }
+    ensures end { IsLeft (fails result) (policy_of H.protection K.aead (words_of R.stream) end.old)
+        (windows_of C.steps C.window_of end.old.control) end.old.end [] Call.UseNextId result end.new.end }
+    ensures control { IsTold (fails result) (policy_of H.protection K.aead (words_of R.stream) end.old)
+        (windows_of C.steps C.window_of end.old.control) end.old.end [] Call.UseNextId
+        (windows_of C.steps C.window_of end.new.control) }
+    ensures heard { IsHeard (fails result) [] Call.UseNextId result end.old.heard end.new.heard }
+    ensures given { gives (policy_of H.protection K.aead (words_of R.stream) end.old)
+        (reads_window (windows_of C.steps C.window_of end.old.control) Call.UseNextId end.old.end) Call.UseNextId result
+        ≡ [] }
+    ensures keys { KeepsKeys end.old end.new }
+{
+    Answer::UseNextId(end.use_next_id())
 }
 
 /// A poll, whose datagram is kept.
@@ -443,7 +470,7 @@ fn deliver_at<H: HeaderKey + Drop, K: PacketKey + Drop, R: Rng + Drop, C: Contro
         (windows_of C.steps C.window_of end.new.control)) }
     ensures heard { IfOk result (λ a.
         IsHeard (fails a) theirs.now (Call.Deliver delivery.entry.now) a end.old.heard end.new.heard) }
-    ensures keys { KeepsKeys end.old end.new }
+    ensures draws { GoesOn R.stream end.old end.new }
     ensures err { OnErr result (end.new ≡ end.old) }
     ensures own { OnErr result (IsSome (slice_get theirs.now delivery.entry.now.index)) }
 {
@@ -545,7 +572,8 @@ fn view<H: HeaderKey + Drop, K: PacketKey + Drop, R: Rng + Drop, C: Controller>(
 /// came names only what the other end took, and packet numbers rise, one or two at a time. No end
 /// closes but for more than 2048 runs of a stream that wait to be read, or for used-up numbers, and
 /// each packet of the other end that comes is taken whole, but for such runs; each datagram with a
-/// number above all that the other end took opens there as it was sent. No stream is told to be
+/// number above all that the other end took opens there as it was sent; each goes to the id with
+/// which the other end began, and none is dropped for its id. No stream is told to be
 /// finished twice, and where an open end has nothing left to tell, each was that is wholly
 /// acknowledged and wasn't reset, and no other; all that was written waits to go, is under way, or
 /// arrived, and so does each limit that was said; a limit that grew waits to be said; a write at an
@@ -655,6 +683,18 @@ pub fn run<H: HeaderKey + Drop, K: PacketKey + Drop, R: Rng + Drop, C: Controlle
     ensures isolated_by_lists { OnRun H.protection K.aead R.stream (windows_of C.steps C.window_of) ends events.now result
         (λ r end. AreStarted r.start → IsolatedByLists r) }
     ensures numbers_rise { OnHonest H.protection K.aead R.stream (windows_of C.steps C.window_of) ends events.now result NumbersRise }
+    ensures ids_are_issued { OnHonest H.protection K.aead R.stream (windows_of C.steps C.window_of) ends events.now result
+        IdsAreIssued }
+    ensures unknown_only_where_retired { OnHonest H.protection K.aead R.stream (windows_of C.steps C.window_of) ends events.now result
+        UnknownOnlyWhereRetired }
+    ensures told_ids_are_known { OnHonest H.protection K.aead R.stream (windows_of C.steps C.window_of) ends events.now result
+        ToldIdsAreKnown }
+    ensures newest_opens_at_end { OnHonest H.protection K.aead R.stream (windows_of C.steps C.window_of) ends events.now result
+        NewestOpensAtEnd }
+    ensures no_id_is_exact { OnHonest H.protection K.aead R.stream (windows_of C.steps C.window_of) ends events.now result
+        NoIdIsExact }
+    ensures too_many_is_exact { OnHonest H.protection K.aead R.stream (windows_of C.steps C.window_of) ends events.now result
+        TooManyIsExact }
     ensures no_blame { OnHonest H.protection K.aead R.stream (windows_of C.steps C.window_of) ends events.now result NoBlame }
     ensures closed_has_a_reason { OnHonest H.protection K.aead R.stream (windows_of C.steps C.window_of) ends events.now result
         ClosedHasAReason }
@@ -739,6 +779,12 @@ pub fn run<H: HeaderKey + Drop, K: PacketKey + Drop, R: Rng + Drop, C: Controlle
     headline::isolated_by_answers();
     headline::isolated_by_lists();
     headline::numbers_rise();
+    headline::ids_are_issued();
+    headline::unknown_only_where_retired();
+    headline::told_ids_are_known();
+    headline::newest_opens_at_end();
+    headline::no_id_is_exact();
+    headline::too_many_is_exact();
     headline::no_blame();
     headline::closed_has_a_reason();
     headline::too_many_pieces();

@@ -39,7 +39,7 @@ least_of leaving asks e = if e.transport.pad_to_mtu && asks then max (least_left
 
 -- how many bytes stand beside the payload of the next datagram: header, number and tag
 abbrev pub beside : End → ℕ
-beside e = 1 + length e.ids.active.id + (truncated (number_of e) (cut_against e.numbers)).width + 16
+beside e = 1 + length e.ids.peer.id + (truncated (number_of e) (cut_against e.numbers)).width + 16
 
 -- how many bytes 0 stand behind frames of so many bytes, where the datagram has so many at least
 abbrev pub zeros_of : End → ℕ → ℕ → ℕ

@@ -4,7 +4,7 @@ ghost use Rattle.quic_parameters.specs.Parameters.{AreInRange};
 ghost use Rattle.quic_parameters.specs.ParametersRead.{parameters_at};
 ghost use Rattle.quic_config.specs.Transport.{Settings, transport_of, first_mtu};
 ghost use Rattle.quic_machine.specs.declared.answers.State.TheVariants as states;
-ghost use Rattle.quic_machine.specs.End.{MadeFrom, refusal_of, with_end, with_closing, closed_by, with_numbers, with_loss_timer, with_ping, side_of, first_streams, are_sizes_wrong, peer_delay, probe_timeout, HasFailed};
+ghost use Rattle.quic_machine.specs.End.{MadeFrom, words_drawn, refusal_of, with_end, with_closing, closed_by, with_numbers, with_loss_timer, with_ping, side_of, first_streams, are_sizes_wrong, peer_delay, probe_timeout, HasFailed};
 ghost use Rattle.quic_spaces.specs.Filter.{first_filter};
 ghost use Rattle.quic_spaces.specs.Marks.{is_congested};
 ghost use Rattle.quic_connection_core.specs.Drawn.{words_of, after_words};
@@ -24,6 +24,7 @@ ghost use Rattle.quic_time.specs.Timers.{no_timers};
 
 mod acked;
 mod closing;
+mod id_frames;
 mod ids;
 mod leaving;
 mod losses;
@@ -244,12 +245,15 @@ impl<H: HeaderKey + Drop, K: PacketKey + Drop, R: Rng + Drop, C: Controller> Con
     /// section 8): `is_validated` tells it, and nothing is held back for want of it yet. `random`
     /// is the end's random source: a word of it says which packet number is left out first, and
     /// each time that one is left out, another word says which is next (RFC 9000, section 21.4).
+    /// Each own id but the first takes three words, for itself and its token.
+    ///
+    /// The end issues ids at once, up to as many as the peer takes, the first one among them, and 5
+    /// at most (sections 5.1.1 and 18.2): the peer is told of them by its first datagrams.
     ///
     /// The factory of the configuration makes the congestion controller, for the size of datagrams
     /// that the path begins with.
     ///
-    /// The errors are tested in the order in which [`ConfigError`] lists them. Memory never lacks:
-    /// none is taken.
+    /// The errors are tested in the order in which [`ConfigError`] lists them.
     pub fn new<F: ControllerFactory<Controller = C>>(
         alloc: Global,
         side: Side,
@@ -262,13 +266,13 @@ impl<H: HeaderKey + Drop, K: PacketKey + Drop, R: Rng + Drop, C: Controller> Con
         random: R,
         validated: bool,
     ) -> Result<Connection<H, K, R, C>, ConfigError>
-        ensures made { IfOk result (λ c. MadeFrom side config.now.settings (windows_at C.initial_of C.window_of c.control) peer_parameters.now own_id peer_id now validated (words_of R.stream random 0) c.end) }
+        ensures made { IfOk result (λ c. MadeFrom side config.now.settings (windows_at C.initial_of C.window_of c.control) peer_parameters.now own_id peer_id now validated (words_of R.stream random) c.end) }
         ensures control { IfOk result (λ c. c.control ≡ F.built config.now.factory now (first_mtu (transport_of config.now.settings))) }
         ensures roomy { IfOk result (λ c. IsRoomy C.size_of C.window_of c.control (first_mtu c.end.transport)) }
         ensures keys { IfOk result (λ c. c.keys ≡ keys) }
-        ensures random { IfOk result (λ c. R.stream c.random ≡ after_words 1 (R.stream random)) }
+        ensures random { IfOk result (λ c. R.stream c.random ≡ after_words (words_drawn c.end) (R.stream random)) }
         ensures heard { IfOk result (λ c. c.heard ≡ nothing_heard) }
-        ensures refusal { IfErr result (λ e. Some e ≡ refusal_of config.now.settings (C.window_of (F.built config.now.factory now (first_mtu (transport_of config.now.settings)))) (parameters_at peer_parameters.now) own_id peer_id) }
+        ensures refusal { IfErr result (λ e. e ≢ ConfigError.Memory → Some e ≡ refusal_of config.now.settings (C.window_of (F.built config.now.factory now (first_mtu (transport_of config.now.settings)))) (parameters_at peer_parameters.now) own_id peer_id) }
         ensures lawful { OnOk result (refusal_of config.now.settings (C.window_of (F.built config.now.factory now (first_mtu (transport_of config.now.settings)))) (parameters_at peer_parameters.now) own_id peer_id ≡ None) }
     {
         let Ok(theirs) = TransportParameters::read(side, peer_parameters) else {
@@ -293,9 +297,21 @@ impl<H: HeaderKey + Drop, K: PacketKey + Drop, R: Rng + Drop, C: Controller> Con
         path.validated = validated;
         let mut random = random;
         let filter = first_filter(&mut random);
+        let mut streams = first_streams(alloc, side, &transport, &theirs);
+        let Ok(ids) = Ids::new(
+            alloc,
+            now,
+            own_id,
+            peer_id,
+            theirs.active_connection_id_limit,
+            &mut random,
+            &mut streams.pending,
+        ) else {
+            return Err(ConfigError::Memory);
+        };
         Ok(Connection {
             closing: Closing::new(now),
-            ids: Ids::new(own_id, peer_id),
+            ids,
             space: PacketSpace::new(alloc, now),
             filter,
             timers: TimerTable::default(),
@@ -304,7 +320,7 @@ impl<H: HeaderKey + Drop, K: PacketKey + Drop, R: Rng + Drop, C: Controller> Con
             app_limited: false,
             transport,
             peer_params: theirs,
-            streams: first_streams(alloc, side, &transport, &theirs),
+            streams,
             datagrams: DatagramState::new(alloc),
             messages_to_tell: 0,
             authentication_failures: 0,

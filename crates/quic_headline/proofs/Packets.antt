@@ -4,6 +4,7 @@ pub mod Growth
 pub mod Rising
 pub mod Window
 pub mod Intakes
+pub mod ByKey
 pub mod Delivered
 pub mod Stays
 pub mod Knowing

@@ -15,8 +15,7 @@ use Rattle.quic_machine.specs.declared.run.Call.TheVariants as calls
 use Rattle.quic_machine.specs.declared.run.Answer.{Answer}
 use Rattle.quic_machine.specs.declared.run.Answer.TheVariants as answers
 use Rattle.quic_machine.specs.Policy.{Policy}
-use Rattle.quic_machine.specs.Ids.{known}
-use Rattle.quic_machine.specs.Machine.{policy_at, end_at}
+use Rattle.quic_machine.specs.Machine.{policy_at}
 use Rattle.quic_headline.specs.Runs.{Run, Told, Packet, Intake, nothing_came, and_told, folded, until, given_of, AreServed}
 use Rattle.quic_headline.specs.Observer.{news, took}
 use Rattle.quic_headline.specs.Headline.{IsAt}
@@ -59,9 +58,9 @@ pub record Mail : Type 0 where
   pub unread : ℕ
   pub told : Bool
 
--- nothing came to an end that is known by these ids
-abbrev pub no_mail : List (List ℕ) → Mail
-no_mail ids = record { intake = nothing_came ids; unread = 0; told = false }
+-- nothing came
+abbrev pub no_mail : Mail
+no_mail = record { intake = nothing_came; unread = 0; told = false }
 
 -- one call more, where this has come behind it
 abbrev pub mail_behind : Told → Mail → Intake → Mail
@@ -76,7 +75,7 @@ mail_told p given t m = mail_behind t m (and_told p given t m.intake)
 
 -- so it is at an end behind the first so many answers
 abbrev pub mail : Run → Side → ℕ → Mail
-mail r side i = folded (mail_told (policy_at side r.keys) (given_of r (other_side side))) (until r side i) (no_mail (known (end_at side r.start).ids))
+mail r side i = folded (mail_told (policy_at side r.keys) (given_of r (other_side side))) (until r side i) no_mail
 
 -- where nothing is told next while messages wait, it was told that they came since the first of
 -- them did, whatever the state of the end
@@ -97,9 +96,9 @@ pub record Openings : Type 0 where
   pub intake : Intake
   pub heard : List Packet
 
--- nothing came to an end that is known by these ids
-abbrev pub no_openings : List (List ℕ) → Openings
-no_openings ids = record { intake = nothing_came ids; heard = [] }
+-- nothing came
+abbrev pub no_openings : Openings
+no_openings = record { intake = nothing_came; heard = [] }
 
 -- one call more
 abbrev pub openings_told : Policy → List (List ℕ) → Dir → Told → Openings → Openings
@@ -108,7 +107,7 @@ openings_told p given dir t o = record { intake = and_told p given t o.intake; h
 -- the packets that an end had taken when it was told last, by the first so many answers, that the
 -- peer opened streams of a kind
 abbrev pub heard_of : Run → Side → Dir → ℕ → List Packet
-heard_of r side dir i = (folded (openings_told (policy_at side r.keys) (given_of r (other_side side)) dir) (until r side i) (no_openings (known (end_at side r.start).ids))).heard
+heard_of r side dir i = (folded (openings_told (policy_at side r.keys) (given_of r (other_side side)) dir) (until r side i) no_openings).heard
 
 -- where nothing is told next, each stream that a frame opened was opened when it was told last that
 -- the peer opened streams of its kind, whatever was accepted, and whatever the state of the end
@@ -142,9 +141,9 @@ pub record Reading : Type 0 where
   pub told : List Told
   pub waits : Bool
 
--- nothing came to an end that is known by these ids
-abbrev pub no_reading : List (List ℕ) → Reading
-no_reading ids = record { intake = nothing_came ids; told = []; waits = false }
+-- nothing came
+abbrev pub no_reading : Reading
+no_reading = record { intake = nothing_came; told = []; waits = false }
 
 -- one call more at the end of this side, where this has come behind it
 abbrev pub reading_behind : Side → ℕ → Told → Reading → Intake → Reading
@@ -159,7 +158,7 @@ reading_told side p given id t r = reading_behind side id t r (and_told p given 
 
 -- so it is behind the first so many answers
 abbrev pub reading : Run → Side → ℕ → ℕ → Reading
-reading r side id i = folded (reading_told side (policy_at side r.keys) (given_of r (other_side side)) id) (until r side i) (no_reading (known (end_at side r.start).ids))
+reading r side id i = folded (reading_told side (policy_at side r.keys) (given_of r (other_side side)) id) (until r side i) no_reading
 
 -- where nothing is told next, it was told that a stream may be read since the last STREAM frame
 -- came on it, of those that it is told of, whatever the state of the end

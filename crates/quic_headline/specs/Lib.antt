@@ -13,6 +13,7 @@ pub mod Rest
 pub mod AcksDue
 pub mod Resets
 pub mod Ids
+pub mod ConnectionIds
 pub mod Reasons
 pub mod Views
 pub mod Isolated

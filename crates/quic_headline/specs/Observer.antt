@@ -14,17 +14,17 @@ use Rattle.quic_machine.specs.declared.answers.State.TheVariants as states
 use Rattle.quic_machine.specs.declared.run.Call.{Call}
 use Rattle.quic_machine.specs.declared.run.Call.TheVariants as calls
 use Rattle.quic_machine.specs.Policy.{Policy}
-use Rattle.quic_machine.specs.Ids.{known}
 use Rattle.quic_machine.specs.Opens.{own_id_length}
 use Rattle.quic_machine.specs.End.{End}
 use Rattle.quic_machine.specs.Machine.{policy_at, end_at, gave}
-use Rattle.quic_headline.specs.Runs.{Run, Told, Packet, Intake, In, nothing_came, frames_of, names, acknowledged, and_told, folded, until, given_of}
+use Rattle.quic_headline.specs.Runs.{Run, Told, Packet, Intake, In, nothing_came, destination, frames_of, names, acknowledged, and_told, folded, until, given_of}
 
 -- ---- what was sent
 
--- A datagram as it was sent: its number, what that was cut against (RFC 9000, A.2), its frames, when it went, in nanoseconds, and how many bytes it has.
--- There is one destination id so far: once it changes, it has its place here.
+-- A datagram as it was sent: the id to which it went, its number, what that was cut against (RFC 9000, A.2), its frames, when it went, in nanoseconds, and how
+-- many bytes it has.
 pub record Sent : Type 0 where
+  pub id : List ℕ
   pub number : ℕ
   pub reference : ℕ
   pub frames : List FrameValue
@@ -261,9 +261,9 @@ pub record Watch : Type 0 where
   pub own : List Sent
   pub flight : Flight
 
--- nothing happened to an end that is known by these ids, gives these datagrams in all, was made at this moment, and takes a round trip to last so long
-abbrev pub first_watch : List (List ℕ) → List (List ℕ) → ℕ → ℕ → Watch
-first_watch ids gives moment initial_rtt = record { intake = nothing_came ids; clock = moment; left = gives; own = []; flight = no_flight initial_rtt }
+-- nothing happened to an end that gives these datagrams in all, was made at this moment, and takes a round trip to last so long
+abbrev pub first_watch : List (List ℕ) → ℕ → ℕ → Watch
+first_watch gives moment initial_rtt = record { intake = nothing_came; clock = moment; left = gives; own = []; flight = no_flight initial_rtt }
 
 -- the packets that came between two intakes
 abbrev pub news : Intake → Intake → List Packet
@@ -290,10 +290,10 @@ abbrev pub frames_opened : Option Opening → List FrameValue
 frames_opened None = []
 frames_opened (Some o) = frames_of (items o.payload)
 
--- what a datagram of so many bytes that opens so was sent as, cut against this reference, at a moment; one that doesn't open is none
-abbrev pub sent_as : Option Opening → ℕ → ℕ → ℕ → List Sent
-sent_as None reference moment size = []
-sent_as (Some o) reference moment size = record { number = o.number; reference = reference; frames = frames_of (items o.payload); moment = moment; size = size } ∷ []
+-- what a datagram that opens so was sent as, cut against this reference, at a moment; one that doesn't open is none
+abbrev pub sent_as : Option Opening → ℕ → ℕ → List ℕ → List Sent
+sent_as None reference moment d = []
+sent_as (Some o) reference moment d = record { id = destination d; number = o.number; reference = reference; frames = frames_of (items o.payload); moment = moment; size = length d } ∷ []
 
 -- what is in flight once these are sent
 abbrev pub and_all_sent : List Sent → Flight → Flight
@@ -304,7 +304,7 @@ and_all_sent (s ∷ ss) f = and_all_sent ss (and_sent s f)
 abbrev pub watch_sent : Policy → List (List ℕ) → Watch → Watch
 watch_sent taker [] w = w
 watch_sent taker (d ∷ ds) w =
-    let sent = sent_as (opened_packet taker.header taker.packet (own_id_length + 1) (acknowledged w.intake.took) d) (acknowledged w.intake.took) w.clock (length d) in
+    let sent = sent_as (opened_packet taker.header taker.packet (own_id_length + 1) (acknowledged w.intake.took) d) (acknowledged w.intake.took) w.clock d in
     record w { left = ds; own = w.own ++ sent; flight = and_all_sent sent w.flight }
 
 -- how the lists of a run are read for one end: the keys of its peer, its own, all datagrams of its peer, and by what losses are judged
@@ -347,7 +347,7 @@ lens_of r side = record { taker = policy_at (other_side side) r.keys; own = poli
 
 -- nothing happened yet to an end that gives these datagrams in all
 abbrev pub watch_from : End → List (List ℕ) → Watch
-watch_from e gives = first_watch (known e.ids) gives e.closing.clock e.transport.initial_rtt
+watch_from e gives = first_watch gives e.closing.clock e.transport.initial_rtt
 
 -- what the observer of an end knows by the first so many answers
 abbrev pub watch : Run → Side → ℕ → Watch

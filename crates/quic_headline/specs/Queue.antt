@@ -78,7 +78,7 @@ queue_room r side = (end_at side r.start).transport.datagram_send_buffer_size
 -- how long a message of an end may be where its datagrams have at most the size that a view shows,
 -- if its peer takes any: by that size, the longest frame that the peer takes, and the peer's id
 abbrev pub longest_in : Run → Side → View → Option ℕ
-longest_in r side v = let e : End = end_at side r.start in max_size e.peer_params.max_datagram_frame_size (mtu_in v side) (length e.ids.active.id)
+longest_in r side v = let e : End = end_at side r.start in max_size e.peer_params.max_datagram_frame_size (mtu_in v side) (length e.ids.peer.id)
 
 -- the messages that wait at an end behind the first so many answers, the oldest first
 abbrev pub waiting_messages : Run → Side → ℕ → List (List ℕ)

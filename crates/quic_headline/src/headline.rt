@@ -26,6 +26,7 @@ ghost use Rattle.quic_headline.specs.Waited.{EachWaited};
 ghost use Rattle.quic_headline.specs.Events.{MessagesAreTold, OpeningsAreTold, ReadablesAreTold};
 ghost use Rattle.quic_headline.specs.Resets.{ResetsAreTold};
 ghost use Rattle.quic_headline.specs.Ids.{IdsAreNew, AcceptedWereOpened};
+ghost use Rattle.quic_headline.specs.ConnectionIds.{IdsAreIssued, UnknownOnlyWhereRetired, ToldIdsAreKnown, NewestOpensAtEnd, NoIdIsExact, TooManyIsExact};
 ghost use Rattle.quic_headline.specs.Reasons.{ClosedHasAReason};
 ghost use Rattle.quic_headline.specs.Views.{ViewsTell};
 ghost use Rattle.quic_headline.specs.Sizes.{SizeIsOfHistory, SizesMove, DatagramsAreSized};
@@ -155,8 +156,8 @@ pub fn ack_timers_follow()
     ensures starts { (w : World) → AreStarted w → AckTimersFollow w }
 {}
 
-/// An injection is answered `Opens` exactly where its bytes open by the run's lists: with the keys
-/// of its end, under an id that the end began with, and where one above the greatest number that it
+/// An injection is answered `Opens` exactly where its bytes open: with the keys of its end, under
+/// an id that the end has there, and where by the run's lists one above the greatest number that it
 /// took is expected (RFC 9000, section 12.2). So it is at an end in any state.
 pub fn opens_exactly()
     ensures { (r : Run) (end : World) → IsHonest r → IsRun r end → OpensExactly r }
@@ -164,8 +165,8 @@ pub fn opens_exactly()
 
 /// Each datagram that was given opens at the other end as it was sent, under its number and to its
 /// frames, where that end took none with a number above it: by the run's lists, with its keys,
-/// under an id that it began with, and where one above the greatest number that it took is
-/// expected. So the bytes that go of a number tell it (RFC 9000, sections 12.3 and 17.1, and A.3).
+/// whichever id it was sent to, and where one above the greatest number that it took is expected.
+/// So the bytes that go of a number tell it (RFC 9000, sections 12.3 and 17.1, and A.3).
 pub fn newest_opens()
     ensures { (r : Run) (end : World) → IsHonest r → IsRun r end → NewestOpens r }
 {}
@@ -181,8 +182,43 @@ pub fn names_were_taken()
     ensures { (r : Run) (end : World) → IsHonest r → IsRun r end → NamesWereTaken r }
 {}
 
-/// Each datagram given is the datagram of a number, the peer's id and stated frames, and its number
-/// is one or two above the one before (RFC 9000, section 12.3).
+/// Each datagram given was sent to an id that the other end issued, the first one or one that a
+/// NEW_CONNECTION_ID frame gave, and whose number its giver hadn't retired by then (RFC 9000,
+/// sections 5.1.1 and 5.1.2).
+pub fn ids_are_issued()
+    ensures { (r : Run) (end : World) → IsHonest r → IsRun r end → IdsAreIssued r }
+{}
+
+/// A delivery at an open end is answered `Dropped(UnknownId)` only where each number under which
+/// the end told its peer of that id was retired by the peer (RFC 9000, sections 5.1.2 and 5.2).
+pub fn unknown_only_where_retired()
+    ensures { (r : Run) (end : World) → IsHonest r → IsRun r end → UnknownOnlyWhereRetired r }
+{}
+
+/// Wherever a run leads, an open end knows the ids of which it told its peer until the peer retires
+/// them.
+pub fn told_ids_are_known()
+    ensures { (r : Run) (end : World) → IsHonest r → IsRun r end → ToldIdsAreKnown r }
+{}
+
+/// Each datagram given opens as it was sent at the other end, where that is open, took none with a
+/// greater number, and knows its id still.
+pub fn newest_opens_at_end()
+    ensures { (r : Run) (end : World) → IsHonest r → IsRun r end → NewestOpensAtEnd r }
+{}
+
+/// An open end answers `NoId` exactly where its peer told it of no id behind that in use.
+pub fn no_id_is_exact()
+    ensures { (r : Run) (end : World) → IsHonest r → IsRun r end → NoIdIsExact r }
+{}
+
+/// It answers `TooManyPending` exactly where there is one, and more than 50 retirements would wait.
+pub fn too_many_is_exact()
+    ensures { (r : Run) (end : World) → IsHonest r → IsRun r end → TooManyIsExact r }
+{}
+
+/// Each datagram given is the datagram of a number, the id that stands in it and stated frames, and
+/// its number is one or two above the one before (RFC 9000, section 12.3).
 pub fn numbers_rise()
     ensures { (r : Run) (end : World) → IsHonest r → IsRun r end → NumbersRise r }
 {}

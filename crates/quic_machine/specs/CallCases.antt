@@ -1,6 +1,6 @@
 -- What a call leaves, as cases over the parts of an end that it may change.
 use Rattle.std.proofs.Common.{◌≡◌, ℕ, Bool, true, false, List, [], Option, Some, None, refl}
-use Rattle.std.specs.Prelude.{slice_get}
+use Rattle.std.specs.Prelude.{slice_get, ◌||◌}
 use Rattle.quic_streams_state.specs.State.{Streams}
 use Rattle.quic_machine.specs.Timeouts.{Expiry}
 use Rattle.quic_machine.specs.Arrival.{Arrival, delivered_by}
@@ -17,6 +17,7 @@ use Rattle.quic_machine.specs.Poll.{polled}
 use Rattle.quic_machine.specs.Calls.{message_told, end_after_event}
 use Rattle.quic_machine.specs.StreamCalls.{is_on_streams}
 use Rattle.quic_machine.specs.MessageCalls.{is_on_messages, IsMessageAnswer, end_on_messages}
+use Rattle.quic_machine.specs.IdFrames.{IsNextIdAnswer, end_on_next_id}
 use Rattle.quic_machine.specs.Machine.{IsAnswer, AnswersOnStreams, end_on_streams, after_delivered, after_call, end_left}
 use Rattle.quic_machine.specs.InjectionCases.{by_injection}
 use Rattle.quic_machine.specs.LeaveCases.{at_expiry, by_expiry, at_event, by_event}
@@ -32,6 +33,15 @@ is_delivery call = false
 abbrev pub is_poll : Call → Bool
 is_poll (calls.Poll now) = true
 is_poll call = false
+
+-- whether a call may draw words of a random source: a poll where a packet number is left out, and a delivery for which ids are issued
+abbrev pub may_draw : Call → Bool
+may_draw call = is_poll call || is_delivery call
+
+-- whether a call asks for the next id of the peer
+abbrev pub uses_next_id : Call → Bool
+uses_next_id calls.UseNextId = true
+uses_next_id call = false
 
 -- whether a call says that a moment has come
 abbrev pub is_timeout : Call → Bool
@@ -55,6 +65,8 @@ pub record CallsTo (p : Policy) (e : End) (theirs : List (List ℕ)) (call : Cal
   pub on_messages : is_on_messages call ≡ true → (IsAnswer p e theirs call a → IsMessageAnswer e call a) → P (end_on_messages e call a)
   -- PING is asked for
   pub pings : P (with_ping e true)
+  -- the next id of the peer is used, or it isn't
+  pub changes_id : uses_next_id call ≡ true → (IsAnswer p e theirs call a → IsNextIdAnswer e a) → P (end_on_next_id e a)
   -- a moment at which timers expire, a poll, a delivery, and what is told
   pub times : (now : ℕ) (expiry : Expiry) → is_timeout call ≡ true → P (at_expiry e now expiry)
   pub polls : (now : ℕ) → is_poll call ≡ true → P (polled p e now).end
@@ -67,6 +79,7 @@ pub data Case : Type 0 where
   on_streams : Streams → Case
   on_messages : Messaging → Case
   pings : Case
+  changes_id : Answer → Case
   times : ℕ → Expiry → Case
   polls : ℕ → Case
   hears : Arrival → List ℕ → Case
@@ -78,6 +91,7 @@ after p e same = e
 after p e (on_streams t) = with_streams e t
 after p e (on_messages m) = with_messages e m
 after p e pings = with_ping e true
+after p e (changes_id a) = end_on_next_id e a
 after p e (times now expiry) = at_expiry e now expiry
 after p e (polls now) = (polled p e now).end
 after p e (hears arrival d) = (received p e arrival d).end
@@ -107,6 +121,7 @@ module _ (p : Policy) (e : End) (theirs : List (List ℕ)) (P : End → Type 0) 
   by_call (calls.Send message makes_room) a c = c.on_messages refl (λ is. is)
   by_call calls.Recv a c = c.on_messages refl (λ is. is)
   by_call calls.Ping a c = c.pings
+  by_call calls.UseNextId a c = c.changes_id refl (λ is. is)
   by_call (calls.Poll now) a c = c.polls now refl
   by_call (calls.Timeout now) a c = by_expiry e now P c.same (λ expiry. c.times now expiry refl)
   by_call (calls.Deliver delivery) a c = delivered_case (slice_get theirs delivery.index) delivery c.same (λ d. c.hears (delivered_by delivery) d refl)
@@ -123,6 +138,7 @@ module _ (p : Policy) (e : End) (theirs : List (List ℕ)) (P : End → Type 0) 
     on_streams = λ is answer. c (on_streams _) tt;
     on_messages = λ is answer. c (on_messages _) tt;
     pings = c pings tt;
+    changes_id = λ is answer. c (changes_id a) tt;
     times = λ now expiry is. c (times now expiry) is;
     polls = λ now is. c (polls now) is;
     hears = λ arrival d is. c (hears arrival d) is;

@@ -16,7 +16,7 @@ use Rattle.quic_time.specs.Rtt as rtt
 use Rattle.quic_time.specs.Timers.{Timers, no_timers}
 use Rattle.quic_machine.specs.declared.answers.LostReason.{LostReason}
 use Rattle.quic_machine.specs.Closing.{Closing, closed_for}
-use Rattle.quic_machine.specs.Ids.{Ids, first_ids}
+use Rattle.quic_machine.specs.Ids.{Ids, first_ids, most_ids, drawn_ids, later_numbers, words_behind, words_of_id}
 use Rattle.quic_spaces.specs.Numbers.{Numbers, no_numbers, number_given}
 use Rattle.quic_spaces.specs.Filter.{Filter, first_filter, allocated, after_allocated}
 use Rattle.quic_machine.specs.Tracking.{Tracking, nothing_tracked, loss_moment}
@@ -25,8 +25,9 @@ use Rattle.quic_streams_state.specs.declared.state.StreamsState.{StreamsState}
 use Rattle.quic_streams_state.specs.State.{Streams, streams_of, new_streams, after_set_params}
 use Rattle.quic_congestion.specs.Search.{Discovery}
 use Rattle.quic_spaces.specs.Marks.{Counts}
-use Rattle.quic_machine.specs.Parts.{Path, Windows, first_path, Marks, no_marks, Messaging, no_messaging, with_queues, Waiting, nothing_waits}
+use Rattle.quic_machine.specs.Parts.{Path, Windows, first_path, Marks, no_marks, Messaging, no_messaging, with_queues, Waiting, ids_wait}
 use Rattle.quic_messages.specs.Messages.{Messages}
+use Rattle.quic_retransmits.specs.Retransmits.{Retransmits}
 use Rattle.quic_machine.specs.Policy.{Policy, keys_policy}
 
 -- one end of a connection
@@ -70,22 +71,32 @@ with_end w e = record w { end = e }
 abbrev pub hearing : {H K R C : Type 0} → ConnectionValue H K R C → Heard → ConnectionValue H K R C
 hearing w h = record w { heard = h }
 
+-- the same in all else, with this random source
+abbrev pub drawing : {H K R C : Type 0} → R → ConnectionValue H K R C → ConnectionValue H K R C
+drawing random w = record w { random = random }
+
+-- how many words of its random source an end has drawn: those that say which packet numbers are left out, and three for each own id but the first, and those that
+-- are still to be drawn
+abbrev pub words_drawn : End → ℕ
+words_drawn e = e.filter.drawn + words_of_id * (e.ids.own.issued - 1 - length e.ids.undrawn)
+
 -- what the keys of an end do: it protects with the local ones, and opens with the remote ones; and which words its random source answers from here on, by how many
 -- it answered before
 abbrev pub policy_of : {H K R C : Type 0} → (H → Protection) → (K → Aead) → (R → ℕ → ℕ) → ConnectionValue H K R C → Policy
-policy_of protection aead words w = keys_policy protection aead w.keys (λ n. words w.random (n - w.end.filter.drawn))
+policy_of protection aead words w = keys_policy protection aead w.keys (λ n. words w.random (n - words_drawn w.end))
 
 -- no stream is opened: the peer's parameters are the limits on what is sent, the own settings those on what comes
 abbrev pub first_streams : Side → Settings → ParameterValues → StreamsState
 first_streams side settings theirs = after_set_params (new_streams side settings.max_uni settings.max_bidi settings.send_window settings.receive_window settings.stream_receive_window) theirs
 
--- an end as it is made at a moment, whose random source answers this word first, and whose controller shows these windows
-abbrev pub new_end : Side → Settings → Windows → ParameterValues → List ℕ → List ℕ → ℕ → Bool → ℕ → End
-new_end side settings windows theirs own_id peer_id now validated word = record {
+-- an end as it is made at a moment, whose random source answers these words, and whose controller shows these windows: the first word says which packet number is left
+-- out first, and the next ones are the ids that it issues at once, of which the peer has to be told
+abbrev pub new_end : Side → Settings → Windows → ParameterValues → List ℕ → List ℕ → ℕ → Bool → (ℕ → ℕ) → End
+new_end side settings windows theirs own_id peer_id now validated words = record {
   closing = record { clock = now; state = states.Open; reason = None; told = false };
-  ids = first_ids own_id peer_id;
+  ids = first_ids own_id peer_id (most_ids theirs.active_connection_id_limit) now (words_behind 1 words);
   numbers = no_numbers;
-  filter = first_filter word;
+  filter = first_filter (words 0);
   acknowledging = none_pending;
   marks = no_marks;
   timers = no_timers;
@@ -95,7 +106,7 @@ new_end side settings windows theirs own_id peer_id now validated word = record 
   peer_params = theirs;
   streams = first_streams side settings theirs;
   messages = no_messaging;
-  waiting = nothing_waits;
+  waiting = ids_wait (drawn_ids (words_behind 1 words) (later_numbers (most_ids theirs.active_connection_id_limit)));
 }
 
 -- the client or the server
@@ -192,6 +203,14 @@ with_queued e queues = with_messages e (with_queues e.messages queues)
 abbrev pub with_waiting : End → Waiting → End
 with_waiting e w = record e { waiting = w }
 
+-- the end with other connection ids
+abbrev pub with_ids : End → Ids → End
+with_ids e ids = record e { ids = ids }
+
+-- the end where other control frames wait
+abbrev pub with_frames : End → Retransmits → End
+with_frames e frames = with_waiting e (record e.waiting { frames = frames })
+
 -- the end with PING waiting or not
 abbrev pub with_ping : End → Bool → End
 with_ping e waits = with_waiting e (record e.waiting { ping = waits })
@@ -227,10 +246,10 @@ refusal_of settings window (Ok theirs) own_id peer_id =
     else (if is_window_small settings window then Some config_errors.Window else None))
 
 -- an end is made of what was read of the peer's parameters
-abbrev pub IsMade : {E : Type 0} → Side → Settings → Windows → Result ParameterValues E → List ℕ → List ℕ → ℕ → Bool → ℕ → End → Type 0
-IsMade side settings windows (Ok theirs) own_id peer_id now validated word e = e ≡ new_end side settings windows theirs own_id peer_id now validated word
-IsMade side settings windows (Err error) own_id peer_id now validated word e = ⊥
+abbrev pub IsMade : {E : Type 0} → Side → Settings → Windows → Result ParameterValues E → List ℕ → List ℕ → ℕ → Bool → (ℕ → ℕ) → End → Type 0
+IsMade side settings windows (Ok theirs) own_id peer_id now validated words e = e ≡ new_end side settings windows theirs own_id peer_id now validated words
+IsMade side settings windows (Err error) own_id peer_id now validated words e = ⊥
 
 -- an end is made of the peer's parameters as bytes
-abbrev pub MadeFrom : Side → Settings → Windows → List ℕ → List ℕ → List ℕ → ℕ → Bool → ℕ → End → Type 0
-MadeFrom side settings windows bytes own_id peer_id now validated word e = IsMade side settings windows (parameters_at bytes) own_id peer_id now validated word e
+abbrev pub MadeFrom : Side → Settings → Windows → List ℕ → List ℕ → List ℕ → ℕ → Bool → (ℕ → ℕ) → End → Type 0
+MadeFrom side settings windows bytes own_id peer_id now validated words e = IsMade side settings windows (parameters_at bytes) own_id peer_id now validated words e

@@ -1,7 +1,8 @@
 -- What a datagram that comes leaves, as cases: of the packets that an ACK frame names or that are lost, of frames, and of the packet that has them.
 use Rattle.std.proofs.Common.{◌≡◌, ℕ, Bool, true, false, not, ◌||◌, ◌==◌, List, [], ◌∷◌, map, length, Option, Some, None, Result, Ok, Err, refl, sym, ◌∙◌}
-use Rattle.std.specs.Prelude.{if◌then◌else◌}
-use Rattle.quic_wire.specs.Value.{FrameValue, AckValue, ack, stream, reset_stream, stop_sending, max_data, max_stream_data, max_streams, new_token, handshake_done, datagram}
+use Rattle.std.specs.Prelude.{nat_lt, if◌then◌else◌}
+use Rattle.std.specs.declared.ops.Range.{Range}
+use Rattle.quic_wire.specs.Value.{FrameValue, AckValue, ack, stream, reset_stream, stop_sending, max_data, max_stream_data, max_streams, new_token, handshake_done, datagram, new_connection_id, retire_connection_id}
 use Rattle.quic_wire_core.specs.declared.shared.EcnCodepoint.{EcnCodepoint}
 use Rattle.quic_wire.specs.Items.{items}
 use Rattle.quic_wire.specs.declared.frame.InvalidFrame.{InvalidFrame}
@@ -20,7 +21,14 @@ use Rattle.quic_machine.specs.declared.answers.DropReason.TheVariants as drops
 use Rattle.quic_machine.specs.declared.answers.LostReason.{LostReason}
 use Rattle.quic_machine.specs.Policy.{Policy}
 use Rattle.quic_machine.specs.Closing.{ticked}
-use Rattle.quic_machine.specs.Ids.{known}
+use Rattle.quic_wire_core.specs.TransportError.{ErrorValue}
+use Rattle.quic_ids.specs.CidState.{retirement_answer}
+use Rattle.quic_ids.specs.CidQueue.{insert_answer}
+use Rattle.quic_ids.specs.declared.cid_queue.InsertError.{InsertError}
+use Rattle.quic_ids.specs.declared.cid_queue.InsertError.TheVariants as inserts
+use Rattle.quic_retransmits.specs.Retransmits.{Retransmits, can_retire, after_retire, after_late}
+use Rattle.quic_machine.specs.Ids.{Ids, known, destination, frame_of, taken_up, retires_for, retired, may_issue}
+use Rattle.quic_machine.specs.IdFrames.{issued, issued_if, drawn}
 use Rattle.quic_spaces.specs.Numbers.{number_opened, number_named}
 use Rattle.quic_spaces.specs.Marks.{Counts}
 use Rattle.quic_spaces.specs.declared.space.EcnError.{EcnError}
@@ -28,7 +36,7 @@ use Rattle.quic_messages.specs.declared.errors.ReceivedError.{ReceivedError}
 use Rattle.quic_messages.specs.Messages.{received_answer}
 use Rattle.quic_machine.specs.Parts.{Messaging}
 use Rattle.quic_machine.specs.Tracking.{TrackedPacket, Carried, acked_by, Verdict, lost_by, after_detection}
-use Rattle.quic_machine.specs.End.{End, with_closing, closed_by, with_numbers, with_streams, with_messages, with_tracking, with_told, with_marking, with_discovery, with_queued}
+use Rattle.quic_machine.specs.End.{End, with_closing, closed_by, with_numbers, with_ids, with_frames, with_streams, with_messages, with_tracking, with_told, with_marking, with_discovery, with_queued}
 use Rattle.quic_machine.specs.Opens.{own_id_length}
 use Rattle.quic_messages.specs.Messages.{without_longer}
 use Rattle.quic_congestion.specs.Search.{Discovery}
@@ -37,7 +45,7 @@ use Rattle.quic_machine.specs.Sizes.{is_resized, with_acked, search_acked, after
 use Rattle.quic_machine.specs.Steps.{Step, after}
 use Rattle.quic_machine.specs.Steps as steps
 use Rattle.quic_machine.specs.Acked.{without_known, reset_acked, resets_acked, stream_acked, streams_acked, packet_acked, packets_acked, stream_lost, streams_lost, again, carried_lost, packets_lost, lost_as, verdict, losses_detected, measured, sampled, without_acked, counts_judged, counts_answer, counts_seen, marks_seen, losses_taken, after_named, after_acked}
-use Rattle.quic_machine.specs.Receive.{Fault, violation, reason_of, Progress, goes_on, is_above, names_ungiven, message_taken, message_judged, take_message, take_frame, take_item, unless_fault, take_items, is_empty, take_payload, asks_in, after_taken, dropped, ends_as, by_state, opened_to, opened_as, opening, headed, received_in, received}
+use Rattle.quic_machine.specs.Receive.{Fault, violation, reason_of, Progress, goes_on, is_above, names_ungiven, message_taken, message_judged, take_message, retired_for, id_judged, retirement_judged, take_frame, take_item, unless_fault, take_items, is_empty, take_payload, asks_in, after_taken, dropped, ends_as, by_state, opened_to, opened_as, opening, headed, received_in, read_by, is_read, drawn_if, received}
 
 -- ---- packets that are acknowledged, and those that are lost
 
@@ -169,6 +177,12 @@ OnStreams (max_stream_data f) = Unit {0}
 OnStreams (max_streams f) = Unit {0}
 OnStreams f = ⊥
 
+-- a frame about connection ids
+abbrev pub OnIds : FrameValue → Type 0
+OnIds (new_connection_id f) = Unit {0}
+OnIds (retire_connection_id n) = Unit {0}
+OnIds f = ⊥
+
 -- the frames that change an end, by kind
 pub record TakesFrame (P : End → Type 0) : Type 0 where
   pub ack : (rises : Bool) (a : AckValue) (e : End) → P e → P (after_acked rises a (named a e))
@@ -176,6 +190,8 @@ pub record TakesFrame (P : End → Type 0) : Type 0 where
   pub on_streams : (f : FrameValue) (e : End) → OnStreams f → P e → P (take_frame f e).end
   -- a message: others wait, and it is told of or isn't
   pub message : (m : Messaging) (e : End) → P e → P (with_messages e m)
+  -- a frame about connection ids: they are left as its words say
+  pub on_ids : (f : FrameValue) (e : End) → OnIds f → P e → P (take_frame f e).end
 
 -- a message leaves the end as it was, or with other messages
 pub message_leaves : (P : End → Type 0) (m : List ℕ) (e : End) → P e → ((left : Messaging) → P (with_messages e left)) → P (take_message m e).end
@@ -201,6 +217,8 @@ frame_keeps P c (max_streams f) e i = c.on_streams (max_streams f) e tt i
 frame_keeps P c (datagram m) e i = message_leaves P m e i (λ left. c.message left e i)
 frame_keeps P c (new_token t) e i = i
 frame_keeps P c handshake_done e i = i
+frame_keeps P c (new_connection_id f) e i = c.on_ids (new_connection_id f) e tt i
+frame_keeps P c (retire_connection_id n) e i = c.on_ids (retire_connection_id n) e tt i
 frame_keeps P c f e i = i
 
 -- a frame on streams leaves other streams, and another end in nothing else
@@ -212,6 +230,46 @@ frame_leaves P (max_data limit) e on all = all _
 frame_leaves P (max_stream_data f) e on all = all _
 frame_leaves P (max_streams f) e on all = all _
 frame_leaves P f e on all = absurd on
+
+-- an end with other connection ids, where other control frames wait
+abbrev pub at_ids : End → Ids → Retransmits → End
+at_ids e ids frames = with_frames (with_ids e ids) frames
+
+-- a frame about connection ids leaves other ids and control frames that wait, and fewer messages where they are too long for another id in use; nothing else changes
+pub ids_leave : (P : End → Type 0) (f : FrameValue) (e : End) → OnIds f → ((ids : Ids) (frames : Retransmits) → P (at_ids e ids frames))
+    → ((ids : Ids) (frames : Retransmits) (most : ℕ) → P (with_queued (at_ids e ids frames) (without_longer most e.messages.queues))) → P (take_frame f e).end
+ids_leave P (new_connection_id f) e on same shorter = judged (retires_for (insert_answer e.ids.peer (frame_of f)))
+  where
+    lasts : (ids : Ids) (frames : Retransmits) (o : Option ℕ) → P (without_longer_if o (at_ids e ids frames))
+    lasts ids frames None = same ids frames
+    lasts ids frames (Some most) = shorter ids frames most
+
+    fits : (ids : Ids) (frames : Retransmits) (b : Bool) → P (shortened b (at_ids e ids frames))
+    fits ids frames true = lasts ids frames (most_message (at_ids e ids frames))
+    fits ids frames false = same ids frames
+
+    grown : (ids : Ids) → Bool
+    grown ids = nat_lt (length (destination e.ids)) (length (destination ids))
+
+    retires : (b : Bool) (r : Range ℕ) → P (retired_for b r f e).end
+    retires true r = let ids = taken_up (frame_of f) e.ids in fits ids (after_retire e.waiting.frames r.start r.end) (grown ids)
+    retires false r = same (taken_up (frame_of f) e.ids) e.waiting.frames
+
+    judged : (r : Result (Option (Range ℕ)) InsertError) → P (id_judged r f e).end
+    judged (Ok None) = let ids = taken_up (frame_of f) e.ids in fits ids e.waiting.frames (grown ids)
+    judged (Ok (Some r)) = retires (can_retire e.waiting.frames r.start r.end) r
+    judged (Err inserts.Retired) = same e.ids (after_late e.waiting.frames f.sequence)
+    judged (Err inserts.ExceedsLimit) = same e.ids e.waiting.frames
+ids_leave P (retire_connection_id n) e on same shorter = judged (retirement_answer e.ids.own n e.ids.limit)
+  where
+    issues : (b : Bool) → P (issued_if b (with_ids e (retired n e.ids)))
+    issues true = same (issued (with_ids e (retired n e.ids))).ids (issued (with_ids e (retired n e.ids))).waiting.frames
+    issues false = same (retired n e.ids) e.waiting.frames
+
+    judged : (r : Result Bool ErrorValue) → P (retirement_judged r n e).end
+    judged (Ok more) = issues (may_issue e.ids n)
+    judged (Err error) = same e.ids e.waiting.frames
+ids_leave P f e on same shorter = absurd on
 
 module _ (P : End → Type 0) (step : (f : FrameValue) (e : End) → P e → P (take_frame f e).end) where
   -- an item of a payload
@@ -268,6 +326,8 @@ pub record Receives (P : End → Type 0) : Type 0 where
   -- all was taken, or a frame was at fault
   pub takes : (n : ℕ) (asks : Bool) (mark : Option EcnCodepoint) (e : End) → P e → P (after_taken n asks mark e)
   pub closes : (reason : LostReason) (e : End) → P e → P (closed_by reason e)
+  -- ids that were issued are drawn
+  pub draws : (words : ℕ → ℕ) (e : End) → P e → P (drawn words e)
 
 module _ (P : End → Type 0) (c : Receives P) where
   -- a payload
@@ -315,6 +375,11 @@ module _ (P : End → Type 0) (c : Receives P) where
   received_keeps states.Open p e arrival d i = headed_keeps (decoded (fixed_length_id own_id_length) (known e.ids) d) p e arrival d i
   received_keeps states.Closing p e arrival d i = headed_keeps (decoded (fixed_length_id own_id_length) (known e.ids) d) p e arrival d i
 
+  -- ids are drawn behind a packet whose frames were taken
+  drawn_keeps : (b : Bool) (p : Policy) (e : End) → P e → P (drawn_if b p e)
+  drawn_keeps true p e i = c.draws p.words e i
+  drawn_keeps false p e i = i
+
   -- what each step keeps holds after a datagram
   pub by_received : (p : Policy) (e : End) (arrival : Arrival) (d : List ℕ) → P e → P (received p e arrival d).end
-  by_received p e arrival d i = received_keeps e.closing.state p e arrival d i
+  by_received p e arrival d i = let o = read_by p e arrival d in drawn_keeps (is_read o.answer) p o.end (received_keeps e.closing.state p e arrival d i)

@@ -17,24 +17,24 @@ use Rattle.quic_recovery_core.specs.Duplicates.{is_duplicate}
 use Rattle.quic_machine.specs.Policy.{Policy}
 use Rattle.quic_machine.specs.End.{End, with_numbers}
 use Rattle.quic_machine.specs.Opens.{own_id_length, in_phase, opens_behind, would_open}
-use Rattle.quic_machine.specs.Receive.{dropped, by_state, opened_as, opening, headed, received_in}
+use Rattle.quic_machine.specs.Receive.{dropped, by_state, opened_as, opening, headed, received_in, with_ids_drawn}
 use Rattle.quic_machine.specs.Machine.{injected_if, after_injected_if, gave}
 
 -- a packet that doesn't open in key phase 0 is dropped
-packet_leaves : (o : Option Opening) (arrival : Arrival) (e : End) → is_some (in_phase o) ≡ false → (opened_as o arrival e).end ≡ e
-packet_leaves None arrival e none = refl
-packet_leaves (Some o) arrival e none = go (key_phase o.first) none
+packet_leaves : (p : Policy) (o : Option Opening) (arrival : Arrival) (e : End) → is_some (in_phase o) ≡ false → (with_ids_drawn p (opened_as o arrival e)).end ≡ e
+packet_leaves p None arrival e none = refl
+packet_leaves p (Some o) arrival e none = go (key_phase o.first) none
   where
     go : (b : Bool) → is_some (if b then None else Some o) ≡ false
-        → (if b then dropped drops.KeyPhase e else (if is_duplicate e.numbers.opened o.number then dropped drops.Duplicate e else by_state e.closing.state o arrival (with_numbers e (number_opened e.numbers o.number)))).end ≡ e
+        → (with_ids_drawn p (if b then dropped drops.KeyPhase e else (if is_duplicate e.numbers.opened o.number then dropped drops.Duplicate e else by_state e.closing.state o arrival (with_numbers e (number_opened e.numbers o.number))))).end ≡ e
     go true none = refl
     go false none = cc
 
-headed_leaves : (r : Result (List ℕ) HeaderError) (p : Policy) (e : End) (arrival : Arrival) (d : List ℕ) → is_some (opens_behind r p (expected e.numbers) d) ≡ false → (headed r p e arrival d).end ≡ e
+headed_leaves : (r : Result (List ℕ) HeaderError) (p : Policy) (e : End) (arrival : Arrival) (d : List ℕ) → is_some (opens_behind r p (expected e.numbers) d) ≡ false → (with_ids_drawn p (headed r p e arrival d)).end ≡ e
 headed_leaves (Err error) p e arrival d none = refl
-headed_leaves (Ok id) p e arrival d none = packet_leaves (opening p e d) arrival e none
+headed_leaves (Ok id) p e arrival d none = packet_leaves p (opening p e d) arrival e none
 
-received_leaves : (state : State) (p : Policy) (e : End) (arrival : Arrival) (d : List ℕ) → would_open p e d ≡ false → (received_in state p e arrival d).end ≡ e
+received_leaves : (state : State) (p : Policy) (e : End) (arrival : Arrival) (d : List ℕ) → would_open p e d ≡ false → (with_ids_drawn p (received_in state p e arrival d)).end ≡ e
 received_leaves states.Failed p e arrival d none = refl
 received_leaves states.Drained p e arrival d none = refl
 received_leaves states.Open p e arrival d none = headed_leaves (decoded (fixed_length_id own_id_length) (known e.ids) d) p e arrival d none

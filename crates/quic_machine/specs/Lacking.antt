@@ -37,6 +37,7 @@ use Rattle.quic_machine.specs.End.{End, with_closing}
 use Rattle.quic_machine.specs.Acked.{verdict}
 use Rattle.quic_machine.specs.Calls.{is_open}
 use Rattle.quic_machine.specs.MessageCalls.{MessageCallLacks}
+use Rattle.quic_machine.specs.IdFrames.{NextIdLacks}
 use Rattle.quic_machine.specs.Receive.{received}
 use Rattle.quic_machine.specs.Poll.{polled}
 
@@ -101,9 +102,10 @@ LosesOrHasFailed e now =
     ((e.closing.state ≡ states.Open) × (has_come e.timers.loss_detection (ticked e.closing now).clock ≡ true) × IsSome e.tracking.loss_time × (lost_by (verdict (with_closing e (ticked e.closing now))) e.tracking.packets ≢ []))
     ⊎ (e.closing.state ≡ states.Failed)
 
--- a call that says that memory lacks is one that takes some: a call on streams such as above, or one that queues a message; a datagram is composed, packets are lost, or frames are taken
+-- a call that says that memory lacks is one that takes some: a call on streams such as above, or one that queues a message or retirements; a datagram is composed, packets are lost, or frames are taken
 abbrev pub LacksWhere : Policy → End → List (List ℕ) → Call → Answer → Type 0
 LacksWhere p e theirs (calls.Send message makes_room) a = MessageCallLacks e (calls.Send message makes_room) a
+LacksWhere p e theirs calls.UseNextId a = NextIdLacks e a
 LacksWhere p e theirs (calls.Poll now) (answers.Poll (Err x)) = PollTakes p e now
 LacksWhere p e theirs (calls.Timeout now) (answers.Timeout (Err x)) = LosesOrHasFailed e now
 LacksWhere p e theirs (calls.Deliver delivery) (answers.Deliver receives.Failed) = DeliveryTakes p e delivery (slice_get theirs delivery.index)

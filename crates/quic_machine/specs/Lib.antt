@@ -18,6 +18,7 @@ pub mod Calls
 pub mod Sizes
 pub mod StreamCalls
 pub mod MessageCalls
+pub mod IdFrames
 pub mod Lacking
 pub mod Machine
 pub mod Start

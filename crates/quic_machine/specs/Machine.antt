@@ -29,6 +29,7 @@ use Rattle.quic_machine.specs.Timeouts.{timed_out, told_timed_out}
 use Rattle.quic_machine.specs.Calls.{is_open, end_tells, end_after_event, end_after_ping}
 use Rattle.quic_machine.specs.StreamCalls.{IsStreamAnswer, after_on_streams}
 use Rattle.quic_machine.specs.MessageCalls.{IsMessageAnswer, end_on_messages}
+use Rattle.quic_machine.specs.IdFrames.{IsNextIdAnswer, end_on_next_id}
 use Rattle.quic_machine.specs.Receive.{received, told_received}
 use Rattle.quic_machine.specs.Poll.{polled, told_polled}
 use Rattle.quic_machine.specs.Lacking.{LacksWhere}
@@ -58,6 +59,7 @@ abbrev pub IsAnswer : Policy → End → List (List ℕ) → Call → Answer →
 IsAnswer p e theirs (calls.Send message makes_room) a = IsMessageAnswer e (calls.Send message makes_room) a
 IsAnswer p e theirs calls.Recv a = IsMessageAnswer e calls.Recv a
 IsAnswer p e theirs calls.Ping a = a ≡ answers.Ping
+IsAnswer p e theirs calls.UseNextId a = IsNextIdAnswer e a
 IsAnswer p e theirs (calls.Poll now) a = (a ≡ answers.Poll (polled p e now).answer) ⊎ (a ≡ answers.Poll (Err (record {})))
 IsAnswer p e theirs (calls.Timeout now) a = (a ≡ answers.Timeout (timed_out e now).answer) ⊎ (a ≡ answers.Timeout (Err (record {})))
 IsAnswer p e theirs (calls.Deliver delivery) a = IsDelivered p e delivery (slice_get theirs delivery.index) a
@@ -82,6 +84,7 @@ abbrev pub after_call : Policy → End → List (List ℕ) → Call → Answer �
 after_call p e theirs (calls.Send message makes_room) a = end_on_messages e (calls.Send message makes_room) a
 after_call p e theirs calls.Recv a = end_on_messages e calls.Recv a
 after_call p e theirs calls.Ping a = end_after_ping e
+after_call p e theirs calls.UseNextId a = end_on_next_id e a
 after_call p e theirs (calls.Poll now) a = (polled p e now).end
 after_call p e theirs (calls.Timeout now) a = (timed_out e now).end
 after_call p e theirs (calls.Deliver delivery) a = after_delivered p e delivery (slice_get theirs delivery.index)

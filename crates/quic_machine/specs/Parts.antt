@@ -1,5 +1,6 @@
 -- Parts of an end: each has its place, so that a new field moves no other.
-use Rattle.std.specs.Prelude.{ℕ, Bool, true, false, Option, None}
+use Rattle.std.specs.Prelude.{ℕ, Bool, true, false, List, Option, None}
+use Rattle.quic_wire_core.specs.declared.shared.IssuedCid.{IssuedCid}
 use Rattle.quic_time.specs.Rtt.{Rtt, assumed_rtt}
 use Rattle.quic_config.specs.Transport.{TransportSettings, first_mtu}
 use Rattle.quic_congestion.specs.Pacer.{Pacing, new_pacing}
@@ -77,6 +78,10 @@ with_queues m queues = record m { queues = queues }
 pub record Waiting : Type 0 where
   pub ping : Bool
   pub frames : retransmits.Retransmits
+
+-- ids that were issued wait to be told (section 19.15), and nothing else waits
+abbrev pub ids_wait : List IssuedCid → Waiting
+ids_wait cids = record { ping = false; frames = record retransmits.nothing_waits { new_cids = cids } }
 
 -- nothing waits
 abbrev pub nothing_waits : Waiting

@@ -30,8 +30,9 @@ use Rattle.quic_machine.specs.Closing.{ticked}
 use Rattle.quic_spaces.specs.Numbers.{can_number, cut_against}
 use Rattle.quic_spaces.specs.Records.{first_record}
 use Rattle.quic_machine.specs.Policy.{Policy}
+use Rattle.quic_machine.specs.Ids.{destination}
 use Rattle.quic_machine.specs.Parts.{current_mtu}
-use Rattle.quic_machine.specs.End.{End, with_closing, closed_by, number_of, with_number_given, with_acknowledging, with_ack_timer_at, with_tracking, with_loss_timer, with_streams, with_queued, with_waiting, with_ping}
+use Rattle.quic_machine.specs.End.{End, words_drawn, with_closing, closed_by, number_of, with_number_given, with_acknowledging, with_ack_timer_at, with_tracking, with_loss_timer, with_streams, with_queued, with_waiting, with_ping}
 use Rattle.quic_machine.specs.Control.{is_window_full, Gated, gated_if, paid, with_pacing_timer, with_app_limited, told_sent}
 use Rattle.quic_machine.specs.Sizes.{may_search, search_names, search_asked}
 
@@ -65,7 +66,7 @@ gives_datagram d e = record { answer = Ok (Some (record { size = length d; ecn =
 
 -- how many bytes are left for frames: the datagram's less header, number and tag
 abbrev pub frame_room : End → ℕ
-frame_room e = current_mtu e.path - (1 + length e.ids.active.id + (truncated (number_of e) (cut_against e.numbers)).width + 16)
+frame_room e = current_mtu e.path - (1 + length (destination e.ids) + (truncated (number_of e) (cut_against e.numbers)).width + 16)
 
 -- whether a datagram with these frames asks for an acknowledgement (RFC 9000, section 13.2)
 abbrev pub asking : List FrameValue → Bool
@@ -208,7 +209,7 @@ number_width d = (truncated (number_of d.end) (cut_against d.end.numbers)).width
 
 -- how many bytes stand beside the payload: header, number and tag
 abbrev pub overhead : Draft → ℕ
-overhead d = 1 + length d.end.ids.active.id + number_width d + 16
+overhead d = 1 + length (destination d.end.ids) + number_width d + 16
 
 -- how many bytes the datagram has at least: those that ask have the size of their path, where that is set
 abbrev pub least_size : Draft → ℕ
@@ -225,7 +226,7 @@ payload_of d = d.bytes ++ replicate (zeros_behind d) 0
 
 -- the datagram with these frames
 abbrev pub datagram_of : Policy → Draft → List ℕ
-datagram_of p d = sent p.header p.packet (number_of d.end) (cut_against d.end.numbers) d.end.ids.active.id (payload_of d)
+datagram_of p d = sent p.header p.packet (number_of d.end) (cut_against d.end.numbers) (destination d.end.ids) (payload_of d)
 
 -- how many bytes the datagram has: header, number, payload and tag
 abbrev pub datagram_size : Draft → ℕ
@@ -252,7 +253,7 @@ paid_if false e size = e
 
 -- the end after it went
 abbrev pub after_given : Policy → Draft → End
-after_given p d = with_loss_timer (with_app_limited (paid_if (asking d.frames) (with_number_given (p.words d.end.filter.drawn) (tracked d)) (datagram_size d)) false)
+after_given p d = with_loss_timer (with_app_limited (paid_if (asking d.frames) (with_number_given (p.words (words_drawn d.end)) (tracked d)) (datagram_size d)) false)
 
 -- ---- what waits
 
@@ -279,7 +280,7 @@ probed e = probe_if (nat_lt 0 e.tracking.probes) e
 
 -- how many bytes are left for frames at least, whichever number a datagram has: one takes four bytes at most
 abbrev pub least_room : End → ℕ
-least_room e = current_mtu e.path - (length e.ids.active.id + 21)
+least_room e = current_mtu e.path - (length (destination e.ids) + 21)
 
 -- whether a message waits that a datagram takes
 abbrev pub message_waits : End → Bool

@@ -21,7 +21,7 @@ use Rattle.quic_streams_state.specs.Waiting.{is_empty}
 use Rattle.quic_spaces.specs.Records.{first_record}
 use Rattle.quic_machine.specs.Tracking.{TrackedPacket, Tracking}
 use Rattle.quic_machine.specs.Parts.{Waiting}
-use Rattle.quic_machine.specs.End.{End, with_closing, closed_by, with_number_given, with_loss_timer, with_ping, with_discovery}
+use Rattle.quic_machine.specs.End.{End, words_drawn, with_closing, closed_by, with_number_given, with_loss_timer, with_ping, with_discovery}
 use Rattle.quic_machine.specs.Control.{is_window_full, paced_until, pacer_asked, Gated, lets, holds, by_pacer, by_window, gated_if, with_pacing_timer, with_app_limited}
 use Rattle.quic_machine.specs.Sizes.{may_search, search_names, search_asked}
 use Rattle.quic_machine.specs.Poll.{Polled, Draft, gives_nothing, gives_datagram, asking, datagram_of, datagram_size, tracked, paid_if, after_given, record_moved, probe_filled, probe_if, probed, waits, is_gated, gated, Leaving, whole, alone, probe, nothing, Ready, probe_named, searched_if, free_if, held_if, leaves_if, leaves, ready, goes, is_held, zeros_behind, draft_left, draft_as, draft_of, rests, sends, polled_if, polled_in, polled}
@@ -57,7 +57,7 @@ pub record Paid : Type 0 where
 
 -- the end after a draft went
 abbrev pub after_draft : Policy → Draft → Paid → End
-after_draft p d c = record (with_number_given (p.words d.end.filter.drawn) d.end) { tracking = c.tracking; timers = c.timers; path = record d.end.path { pacing = c.pacing; app_limited = false } }
+after_draft p d c = record (with_number_given (p.words (words_drawn d.end)) d.end) { tracking = c.tracking; timers = c.timers; path = record d.end.path { pacing = c.pacing; app_limited = false } }
 
 -- an end that is ready to give at a moment: the timer of its pacer is stopped, what a probe carries waits, and window and pacer were asked
 abbrev pub ready_at : End → ℕ → Ready
@@ -283,7 +283,7 @@ pub given_leaves : (p : Policy) (d : Draft) → after_given p d ≡ after_draft 
 given_leaves p d = go (asking d.frames)
   where
     x : End
-    x = with_number_given (p.words d.end.filter.drawn) (tracked d)
+    x = with_number_given (p.words (words_drawn d.end)) (tracked d)
 
     go : (b : Bool) → (let y = with_loss_timer (with_app_limited (paid_if b x (datagram_size d)) false) in y ≡ after_draft p d (paid_by y))
     go true = refl

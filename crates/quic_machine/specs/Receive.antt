@@ -5,7 +5,7 @@ use Rattle.quic_wire_core.specs.TransportError.{ErrorValue}
 use Rattle.quic_wire_core.specs.declared.shared.EcnCodepoint.{EcnCodepoint}
 use Rattle.quic_wire_core.specs.declared.stream_id.Side.{Side}
 use Rattle.quic_wire_core.specs.declared.stream_id.Side.TheVariants.{Client, Server}
-use Rattle.quic_wire.specs.Value.{FrameValue, AckValue, ack, stream, reset_stream, stop_sending, max_data, max_stream_data, max_streams, new_token, handshake_done, datagram, asks}
+use Rattle.quic_wire.specs.Value.{FrameValue, AckValue, ack, stream, reset_stream, stop_sending, max_data, max_stream_data, max_streams, new_token, handshake_done, datagram, new_connection_id, retire_connection_id, NewConnectionIdValue, asks}
 use Rattle.quic_wire.specs.Items.{items}
 use Rattle.quic_packet.specs.Header.{key_phase, reserved_bits}
 use Rattle.quic_packet.specs.Destination.{decoded, fixed_length_id}
@@ -24,8 +24,16 @@ use Rattle.quic_machine.specs.declared.answers.DropReason.{DropReason}
 use Rattle.quic_machine.specs.declared.answers.DropReason.TheVariants as drops
 use Rattle.quic_machine.specs.declared.answers.Received.{Received}
 use Rattle.quic_machine.specs.declared.answers.Received.TheVariants.{Taken, Dropped, Closed}
+use Rattle.quic_machine.specs.declared.answers.Received.TheVariants as receives
 use Rattle.quic_machine.specs.Closing.{ticked}
-use Rattle.quic_machine.specs.Ids.{known}
+use Rattle.std.specs.declared.ops.Range.{Range}
+use Rattle.quic_ids.specs.CidState.{retirement_answer}
+use Rattle.quic_ids.specs.CidQueue.{insert_answer}
+use Rattle.quic_ids.specs.declared.cid_queue.InsertError.{InsertError}
+use Rattle.quic_ids.specs.declared.cid_queue.InsertError.TheVariants as inserts
+use Rattle.quic_retransmits.specs.Retransmits.{can_retire, after_late}
+use Rattle.quic_machine.specs.Ids.{known, frame_of, retires_for}
+use Rattle.quic_machine.specs.IdFrames.{fitted, retiring, with_taken_up, after_retired, drawn}
 use Rattle.quic_spaces.specs.Numbers.{expected, number_opened, number_taken, number_named}
 use Rattle.quic_spaces.specs.Filter.{names_skipped}
 use Rattle.quic_congestion.specs.Congestion.{Told}
@@ -43,7 +51,7 @@ use Rattle.quic_messages.specs.declared.errors.ReceivedError.{ReceivedError}
 use Rattle.quic_messages.specs.Messages.{received_answer, after_received}
 use Rattle.quic_time.specs.Clocks.{saturated}
 use Rattle.quic_machine.specs.Policy.{Policy}
-use Rattle.quic_machine.specs.End.{End, side_of, with_closing, closed_by, with_numbers, with_streams, with_messages, with_ack_timer, with_loss_timer}
+use Rattle.quic_machine.specs.End.{End, side_of, with_closing, closed_by, with_numbers, with_frames, with_streams, with_messages, with_ack_timer, with_loss_timer}
 use Rattle.quic_machine.specs.Opens.{own_id_length}
 use Rattle.quic_machine.specs.Tracking.{dir_named}
 use Rattle.quic_machine.specs.Acked.{after_acked, told_acked}
@@ -152,6 +160,36 @@ message_judged (Err error) m e = record { end = e; fault = Some violation }
 abbrev pub take_message : List ℕ → End → Progress
 take_message m e = message_judged (received_answer e.transport.datagram_receive_buffer_size m e.messages.queues) m e
 
+-- CONNECTION_ID_LIMIT_ERROR (RFC 9000, section 20.1)
+abbrev pub too_many_ids : Fault
+too_many_ids = broke (plain_error 9)
+
+-- an id of the peer is taken up that asks for these numbers to be retired, which may wait to be told or are too many (RFC 9000, section 5.1.2)
+abbrev pub retired_for : Bool → Range ℕ → NewConnectionIdValue → End → Progress
+retired_for true r f e = goes_on (fitted e (retiring r (with_taken_up f e)))
+retired_for false r f e = record { end = with_taken_up f e; fault = Some too_many_ids }
+
+-- an id of the peer is taken up; one that comes late is retired once more, and none closes for that; or the peer gives more than it may (RFC 9000, sections 5.1.1
+-- and 19.15)
+abbrev pub id_judged : Result (Option (Range ℕ)) InsertError → NewConnectionIdValue → End → Progress
+id_judged (Ok None) f e = goes_on (fitted e (with_taken_up f e))
+id_judged (Ok (Some r)) f e = retired_for (can_retire e.waiting.frames r.start r.end) r f e
+id_judged (Err inserts.Retired) f e = goes_on (with_frames e (after_late e.waiting.frames f.sequence))
+id_judged (Err inserts.ExceedsLimit) f e = record { end = e; fault = Some too_many_ids }
+
+-- what a NEW_CONNECTION_ID frame makes of the end
+abbrev pub take_new_id : NewConnectionIdValue → End → Progress
+take_new_id f e = id_judged (retires_for (insert_answer e.ids.peer (frame_of f))) f e
+
+-- the peer retires an own id, or one that was never issued (RFC 9000, section 19.16)
+abbrev pub retirement_judged : Result Bool ErrorValue → ℕ → End → Progress
+retirement_judged (Ok more) n e = goes_on (after_retired n e)
+retirement_judged (Err error) n e = record { end = e; fault = Some (broke error) }
+
+-- what a RETIRE_CONNECTION_ID frame makes of the end
+abbrev pub take_retirement : ℕ → End → Progress
+take_retirement n e = retirement_judged (retirement_answer e.ids.own n e.ids.limit) n e
+
 -- what a frame makes of the end; those of other kinds are read, held to their rule of ids and
 -- counts, and do nothing yet
 abbrev pub take_frame : FrameValue → End → Progress
@@ -165,6 +203,8 @@ take_frame (max_streams f) e = on_state (max_streams_breach f.count) (after_max_
 take_frame (datagram m) e = take_message m e
 take_frame (new_token t) e = record { end = e; fault = fault_at (side_of e) }
 take_frame handshake_done e = record { end = e; fault = fault_at (side_of e) }
+take_frame (new_connection_id f) e = take_new_id f e
+take_frame (retire_connection_id n) e = take_retirement n e
 take_frame f e = record { end = e; fault = fault_of (broken e.streams (id_rule f)) }
 
 -- what the next item of a payload comes to
@@ -314,9 +354,29 @@ received_in states.Drained p e arrival d = dropped drops.Drained e
 received_in states.Open p e arrival d = headed (decoded (fixed_length_id own_id_length) (known e.ids) d) p e arrival d
 received_in states.Closing p e arrival d = headed (decoded (fixed_length_id own_id_length) (known e.ids) d) p e arrival d
 
+-- whether the frames of a datagram were taken, all of them or those before the first at fault
+abbrev pub is_read : Received → Bool
+is_read Taken = true
+is_read (Closed error) = true
+is_read (Dropped reason) = false
+is_read receives.Failed = false
+
+-- the ids are drawn that were issued for it, where they were
+abbrev pub drawn_if : Bool → Policy → End → End
+drawn_if true p e = drawn p.words e
+drawn_if false p e = e
+
+-- what a datagram comes to, once they are
+abbrev pub with_ids_drawn : Policy → Outcome → Outcome
+with_ids_drawn p o = record { answer = o.answer; end = drawn_if (is_read o.answer) p o.end }
+
+-- what an end makes of a datagram that comes, before they are
+abbrev pub read_by : Policy → End → Arrival → List ℕ → Outcome
+read_by p e arrival d = received_in e.closing.state p e arrival d
+
 -- what an end makes of a datagram that comes
 abbrev pub received : Policy → End → Arrival → List ℕ → Outcome
-received p e arrival d = received_in e.closing.state p e arrival d
+received p e arrival d = with_ids_drawn p (read_by p e arrival d)
 
 -- ---- what the controller is told (RFC 9002, section 7)
 

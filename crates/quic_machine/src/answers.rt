@@ -179,6 +179,20 @@ pub struct Transmit {
     pub ecn: Option<EcnCodepoint>,
 }
 
+/// Why an end doesn't change to another id of its peer; tested in this order.
+#[derive(Clone, Copy, Debug, PartialEq, Eq, Error)]
+pub enum NextIdError {
+    /// No later id of the peer is known.
+    #[error("no other id of the peer is known")]
+    NoId,
+    /// More than 50 retirements would wait to be told.
+    #[error("too many retired ids wait")]
+    TooManyPending,
+    /// Memory lacked.
+    #[error("out of memory")]
+    Memory,
+}
+
 /// Why no end was made; tested in this order.
 #[derive(Clone, Copy, Debug, PartialEq, Eq, Error)]
 pub enum ConfigError {

@@ -6,7 +6,9 @@ mod answers;
 pub mod laws;
 mod run;
 
-pub use answers::{ConfigError, DropReason, Event, Failed, LostReason, Received, State, Transmit};
+pub use answers::{
+    ConfigError, DropReason, Event, Failed, LostReason, NextIdError, Received, State, Transmit,
+};
 pub use quic_config::{IdleTimeout, TransportConfig};
 pub use quic_time::{Instant, Timer};
 pub use run::{

@@ -1,7 +1,7 @@
 //! What comes to two ends, and what is answered and seen then.
 ghost use Rattle.std.specs.Prelude.{◌≡◌};
 
-use crate::answers::{Event, Failed, LostReason, Received, State, Transmit};
+use crate::answers::{Event, Failed, LostReason, NextIdError, Received, State, Transmit};
 use bytes::Bytes;
 use quic_assembler::Chunk;
 use quic_messages::SendDatagramError;
@@ -51,6 +51,8 @@ pub enum Call {
     Recv,
     /// Asks for a PING (`Connection::ping`).
     Ping,
+    /// Changes to the next id that the peer gave (`Connection::use_next_id`).
+    UseNextId,
     /// Asks for a datagram at this moment (`Connection::poll_transmit`).
     Poll(Instant),
     /// Lets timers expire that are set up to this moment (`Connection::handle_timeout`).
@@ -165,6 +167,8 @@ pub enum Answer {
     Recv(Option<Bytes>),
     /// PING waits to go.
     Ping,
+    /// The next id is in use, or why it isn't.
+    UseNextId(Result<(), NextIdError>),
     /// The datagram that was given, or `None` where nothing waits to go; or that the end failed.
     Poll(Result<Option<Transmit>, Failed>),
     /// The timers were handled; or the end failed.

@@ -3,10 +3,10 @@ use Rattle.std.specs.Prelude.{ℕ, ◌≡◌, ◌≢◌, true, false, List, [], 
 use Rattle.quic_parameters.specs.ParametersRead.{parameters_at}
 use Rattle.quic_congestion.specs.NewReno.{Reno, default_reno, reno_made, reno_steps, window_after}
 use Rattle.quic_machine.specs.Policy.{Policy}
-use Rattle.quic_machine.specs.End.{ConnectionValue, hearing, policy_of, MadeFrom, HasFailed, refusal_of}
+use Rattle.quic_machine.specs.End.{ConnectionValue, hearing, drawing, policy_of, MadeFrom, HasFailed, refusal_of}
 use Rattle.quic_machine.specs.Heard.{nothing_heard, heard_datagram}
 use Rattle.quic_machine.specs.Arrival.{Arrival, arriving}
-use Rattle.quic_machine.specs.CallCases.{is_poll}
+use Rattle.quic_machine.specs.CallCases.{may_draw}
 use Rattle.quic_machine.specs.Machine.{IsAnswer, IsLeft, IsTold, IsHeard, reads_window, fails, gives}
 use Rattle.quic_machine.specs.Receive.{received, told_received}
 use Rattle.quic_machine.specs.declared.answers.ConfigError.{ConfigError}
@@ -57,7 +57,7 @@ pub record IsNew (options : Options) (new : NewEnd) (held : Held) : Type 0 where
 pub record Receives (arrival : Arrival) (bytes : List ℕ) (old : Held) (text : List ℕ) (new : Held) : Type 0 where
   pub answer : Received
   pub is_answer : answer ≢ receives_as.Failed → answer ≡ (received (policy_at old) old.end arrival bytes).answer
-  pub left : answer ≢ receives_as.Failed → new ≡ telling reno_steps (hearing old (heard_datagram bytes answer old.heard)) (told_received (policy_at old) old.end arrival.now bytes) (received (policy_at old) old.end arrival bytes).end
+  pub left : answer ≢ receives_as.Failed → new ≡ drawing new.random (telling reno_steps (hearing old (heard_datagram bytes answer old.heard)) (told_received (policy_at old) old.end arrival.now bytes) (received (policy_at old) old.end arrival bytes).end)
   pub failed : answer ≡ receives_as.Failed → HasFailed old new
   pub line : text ≡ line_text (codes "receive") (received_text answer)
 
@@ -70,8 +70,8 @@ pub record IsCall (asked : Asked) (old : Held) (text : List ℕ) (new : Held) : 
   pub left : IsLeft (fails answer) (policy_at old) (window_after old.control) old.end [] call answer new.end
   pub control : IsTold (fails answer) (policy_at old) (window_after old.control) old.end [] call (window_after new.control)
   pub heard : IsHeard (fails answer) [] call answer old.heard new.heard
-  pub keys : is_poll call ≡ false → KeepsKeys old new
-  pub polled : is_poll call ≡ true → GoesOn stream_from old new
+  pub keys : may_draw call ≡ false → KeepsKeys old new
+  pub draws : may_draw call ≡ true → GoesOn stream_from old new
   pub line : text ≡ line_text (call_text call) (told_text (gives (policy_at old) (reads_window (window_after old.control) call old.end) call answer) answer)
 
 -- ---- a line

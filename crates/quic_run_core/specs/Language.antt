@@ -38,6 +38,7 @@ pub data Asked : Type 0 where
   sends : List ℕ → Asked
   reads_message : Asked
   pings : Asked
+  uses_next_id : Asked
   polls : ℕ → Asked
   times_out : ℕ → Asked
   delivers : ℕ → Option EcnCodepoint → ℕ → Asked
@@ -187,6 +188,7 @@ call_said name args =
     else (if is_word name (codes "send") then one sends bytes_named args
     else (if is_word name (codes "recv") then ends args (Some reads_message)
     else (if is_word name (codes "ping") then ends args (Some pings)
+    else (if is_word name (codes "use_next_id") then ends args (Some uses_next_id)
     else (if is_word name (codes "poll") then one polls number_named args
     else (if is_word name (codes "timeout") then one times_out number_named args
     else (if is_word name (codes "deliver") then three delivers number_named mark_named number_named args
@@ -194,7 +196,7 @@ call_said name args =
     else (if is_word name (codes "event") then ends args (Some asks_event)
     else (if is_word name (codes "timer") then one asks_timer timer_named args
     else (if is_word name (codes "next") then ends args (Some asks_next)
-    else None))))))))))))))))))
+    else None)))))))))))))))))))
 
 -- what the words behind an end's ask for
 abbrev pub command_said : Side → List ℕ → List (List ℕ) → Option Command
@@ -257,6 +259,7 @@ asked_of (calls.ReceivedReset id) = others
 asked_of (calls.Send message makes_room) = asked_send message makes_room
 asked_of calls.Recv = reads_message
 asked_of calls.Ping = pings
+asked_of calls.UseNextId = uses_next_id
 asked_of (calls.Poll now) = polls now
 asked_of (calls.Timeout now) = times_out now
 asked_of (calls.Deliver delivery) = delivers delivery.now delivery.ecn delivery.index

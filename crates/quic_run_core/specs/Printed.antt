@@ -28,6 +28,8 @@ use Rattle.quic_machine.specs.declared.answers.Received.{Received}
 use Rattle.quic_machine.specs.declared.answers.Received.TheVariants as receives
 use Rattle.quic_machine.specs.declared.answers.Transmit.{Transmit}
 use Rattle.quic_machine.specs.declared.answers.Failed.{Failed}
+use Rattle.quic_machine.specs.declared.answers.NextIdError.{NextIdError}
+use Rattle.quic_machine.specs.declared.answers.NextIdError.TheVariants as next_ids
 use Rattle.quic_machine.specs.declared.answers.LostReason.{LostReason}
 use Rattle.quic_machine.specs.declared.answers.LostReason.TheVariants as losses
 use Rattle.quic_streams_parts.specs.declared.answers.StreamEvent.TheVariants as happenings
@@ -157,6 +159,13 @@ received_text (receives.Dropped reason) = codes "dropped " ++ reason_text reason
 received_text (receives.Closed error) = coded_text (codes "closed") error.code
 received_text receives.Failed = codes "failed"
 
+-- whether the next id is used, or why it isn't
+abbrev pub next_id_text : Result (Unit {0}) NextIdError → List ℕ
+next_id_text (Ok done) = codes "ok"
+next_id_text (Err next_ids.NoId) = codes "noid"
+next_id_text (Err next_ids.TooManyPending) = codes "toomany"
+next_id_text (Err next_ids.Memory) = codes "memory"
+
 -- whether timers were let expire, or the end has failed
 abbrev pub timeout_text : Result (Unit {0}) Failed → List ℕ
 timeout_text (Ok done) = codes "ok"
@@ -215,6 +224,7 @@ answer_text given (answers.Read (Err error)) = unreadable_text error
 answer_text given (answers.Send sent) = send_text sent
 answer_text given (answers.Recv message) = message_text message
 answer_text given answers.Ping = codes "ok"
+answer_text given (answers.UseNextId changed) = next_id_text changed
 answer_text given (answers.Poll (Ok (Some transmit))) = transmit_text (given - 1) transmit
 answer_text given (answers.Poll (Ok None)) = codes "none"
 answer_text given (answers.Poll (Err failed)) = codes "failed"
@@ -249,6 +259,7 @@ call_text (calls.ReceivedReset id) = codes "received_reset"
 call_text (calls.Send message makes_room) = codes "send"
 call_text calls.Recv = codes "recv"
 call_text calls.Ping = codes "ping"
+call_text calls.UseNextId = codes "use_next_id"
 call_text (calls.Poll now) = codes "poll"
 call_text (calls.Timeout now) = codes "timeout"
 call_text (calls.Deliver delivery) = codes "deliver"

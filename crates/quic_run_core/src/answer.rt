@@ -1,12 +1,12 @@
 //! What is printed of an answer.
 ghost use Rattle.std.specs.Prelude.{◌≡◌, ◌++◌, OnOk, string_bytes};
-ghost use Rattle.quic_run_core.specs.Printed.{bytes_text, coded_text, id_text, moment_text, mark_text, write_text, chunks_text, finish_text, update_text, reset_text, dir_text, stream_event_text, unreadable_text, next_text, send_text, message_text, transmit_text, reason_text, received_text, timeout_text, loss_text, event_text, rest_text, answer_text, call_text};
+ghost use Rattle.quic_run_core.specs.Printed.{bytes_text, coded_text, id_text, moment_text, mark_text, write_text, chunks_text, finish_text, update_text, reset_text, dir_text, stream_event_text, unreadable_text, next_text, send_text, message_text, transmit_text, reason_text, received_text, timeout_text, loss_text, next_id_text, event_text, rest_text, answer_text, call_text};
 
 use bytes::Bytes;
 use quic_connection::{
     Answer, Call, Chunk, ClosedStream, DropReason, Event, Failed, FinishError, Instant, LostReason,
-    ReadError, ReadableError, Received, SendDatagramError, StreamEvent, Transmit, UpdateError,
-    WriteError, Written,
+    NextIdError, ReadError, ReadableError, Received, SendDatagramError, StreamEvent, Transmit,
+    UpdateError, WriteError, Written,
 };
 use quic_wire_core::{Dir, EcnCodepoint, StreamId, VarInt};
 use std::alloc::{AllocError, Global};
@@ -253,6 +253,18 @@ fn loss_name(reason: &LostReason) -> &'static str
     }
 }
 
+/// How it is printed whether the next id is used.
+fn next_id_name(changed: &Result<(), NextIdError>) -> &'static str
+    ensures { result.now ≡ next_id_text changed.now }
+{
+    match changed {
+        Ok(()) => "ok",
+        Err(NextIdError::NoId) => "noid",
+        Err(NextIdError::TooManyPending) => "toomany",
+        Err(NextIdError::Memory) => "memory",
+    }
+}
+
 /// How a kind of stream is printed.
 fn dir_name(dir: Dir) -> &'static str
     ensures { result.now ≡ dir_text dir }
@@ -342,6 +354,7 @@ pub fn put_answer(
         Answer::Send(sent) => out.push_str(send_name(sent)),
         Answer::Recv(message) => put_message(alloc, out, message),
         Answer::Ping => out.push_str("ok"),
+        Answer::UseNextId(changed) => out.push_str(next_id_name(changed)),
         Answer::Poll(Ok(Some(transmit))) => put_transmit(out, transmit, given.saturating_sub(1)),
         Answer::Poll(Ok(None)) => out.push_str("none"),
         Answer::Poll(Err(_)) => out.push_str("failed"),
@@ -373,6 +386,7 @@ pub fn call_name(call: &Call) -> &'static str
         Call::Send(_, _) => "send",
         Call::Recv => "recv",
         Call::Ping => "ping",
+        Call::UseNextId => "use_next_id",
         Call::Poll(_) => "poll",
         Call::Timeout(_) => "timeout",
         Call::Deliver(_) => "deliver",

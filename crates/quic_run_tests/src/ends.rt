@@ -191,7 +191,7 @@ pub(crate) fn is_served(index: usize, answer: &Answer) -> bool {
     match (index, answer) {
         (0, Answer::Open(Some(id))) => *id == stream(),
         (1, Answer::Write(Ok(5))) | (2, Answer::Finish(Ok(()))) => true,
-        (3, Answer::Poll(Ok(Some(transmit)))) => transmit.size == 34,
+        (3, Answer::Poll(Ok(Some(transmit)))) => transmit.size == 146,
         (4, Answer::Deliver(Received::Taken)) => true,
         (5, Answer::Accept(Some(id))) => *id == stream(),
         (6, read) => is_hello(read),

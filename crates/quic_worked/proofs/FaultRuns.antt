@@ -19,7 +19,6 @@ use Rattle.quic_machine.specs.declared.run.Call.TheVariants as calls
 use Rattle.quic_machine.specs.declared.run.Answer.{Answer}
 use Rattle.quic_machine.specs.declared.run.Answer.TheVariants as answers
 use Rattle.quic_machine.specs.declared.run.ReadCall.{ReadCall}
-use Rattle.quic_machine.specs.Ids.{known}
 use Rattle.quic_machine.specs.End.{IsMade}
 use Rattle.quic_machine.specs.Start.{AreStarted}
 use Rattle.quic_machine.specs.Machine.{IsStep, Follows, view_of}
@@ -265,10 +264,10 @@ is_drop a = 0
 
 -- what the client's datagrams come to at the server
 abbrev CameTo : List (List ℕ) → List Told → Type 0
-CameTo given told = PacketCame worked_policies.server (known started.server.ids) given told
+CameTo given told = PacketCame worked_policies.server given told
 
 -- a packet that is dropped was neither taken nor crowded
-not_dropped : (given : List (List ℕ)) (told : List Told) (c : CameTo given told) → is_drop c.call.answer ≡ 1 → IsTakenOrCrowded worked_policies.server (known started.server.ids) given told c → ⊥
+not_dropped : (given : List (List ℕ)) (told : List Told) (c : CameTo given told) → is_drop c.call.answer ≡ 1 → IsTakenOrCrowded worked_policies.server given told c → ⊥
 not_dropped given told c drop (inl taken) = let clash : ◌≡◌ {A = ℕ} 1 0 = sym drop ∙ ap is_drop taken in omega (arith, clash)
 not_dropped given told c drop (inr crowded) = let clash : ◌≡◌ {A = ℕ} 1 0 = sym drop ∙ ap is_drop crowded.0 in omega (arith, clash)
 

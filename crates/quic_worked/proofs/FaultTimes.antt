@@ -19,7 +19,7 @@ use Rattle.quic_headline.specs.Observer.{Sent, took, sents_until}
 use Rattle.quic_headline.specs.Moments.{LossMoments, LossTimerQuiet, AllNamed}
 use Rattle.quic_headline.specs.Polls.{GaveNothing, bytes_flying, IsFull, IsHeldBack}
 use Rattle.quic_headline.specs.Headline.{IsHonest, IsRun, NumbersRise, opened_there, NoneAbove, OpensAs, NewestOpens}
-use Rattle.quic_worked.specs.Worked.{worked_policies, started, once_opened, once_written, once_ended, once_sent, once_taken, hello_frame, hello_payload, hello_datagram, hello_opening, asks_datagram, sending_events, sending_answers, open_view, sent_view, view_with, worked_run}
+use Rattle.quic_worked.specs.Worked.{worked_policies, started, once_opened, once_written, once_ended, once_sent, once_taken, hello_frame, hello_payload, hello_datagram, hello_opening, asks_datagram, sending_events, sending_answers, open_view, sent_view, view_with, worked_run, server_id}
 use Rattle.quic_worked.specs.Acknowledged.{client_acked, client_datagram, from_server, ack_payload}
 use Rattle.quic_worked.specs.Broken.{IsNoRun, asks_event, tells_finished}
 use Rattle.quic_worked.specs.Machines.{NeverGives}
@@ -180,7 +180,7 @@ stays_is_honest = acknowledged_is_honest sent_view
 
 -- the one datagram that the client gave, and the packet that it took
 abbrev hello_sent : Sent
-hello_sent = record { number = 0; reference = 0; frames = stream hello_frame ∷ []; moment = 0; size = 34 }
+hello_sent = record { id = server_id; number = 0; reference = 0; frames = stream hello_frame ∷ []; moment = 0; size = 34 }
 
 abbrev ack_packet : Packet
 ack_packet = record { number = 0; frames = ack ack_of_hello ∷ [] }
@@ -223,7 +223,7 @@ hello_is_told read = refl
 
 -- what the observer reads of the client's datagrams: the second alone
 abbrev ping_sent : Sent
-ping_sent = record { number = 1; reference = 0; frames = frames_of (items ping_payload); moment = 0; size = 29 }
+ping_sent = record { id = server_id; number = 1; reference = 0; frames = frames_of (items ping_payload); moment = 0; size = 29 }
 
 never_opens : opened_there cut_short Client 6 (client_datagram 300 250 hello_payload) ≡ None
 never_opens = refl

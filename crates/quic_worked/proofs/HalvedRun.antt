@@ -24,7 +24,7 @@ use Rattle.quic_headline.specs.Observer as observer
 use Rattle.quic_headline.specs.Headline.{IsHonest, IsRun}
 use Rattle.quic_headline.specs.Telling.{Tellings, Judging, judging, first_behind, told_if, MayProbe, lost_at, but_for_probe, bytes_asking, acked_flight, TellsLosses, TellsAck, TellsNamed, TellsSettled, TellsPackets, TellsCall, TellsCalls, ControllersAreTold}
 use Rattle.quic_headline.proofs.Places.Theorems.{controllers_are_told}
-use Rattle.quic_worked.specs.Worked.{worked_policies, asks_datagram, gives_bytes, told_in}
+use Rattle.quic_worked.specs.Worked.{worked_policies, asks_datagram, gives_bytes, told_in, server_id}
 use Rattle.quic_worked.specs.Acknowledged.{client_acked, third_ack}
 use Rattle.quic_worked.specs.Reordered.{delivers_at}
 use Rattle.quic_worked.specs.Losses.{asks_ping}
@@ -250,7 +250,7 @@ clock_is = refl
 
 -- a datagram of PING alone, with two zeros
 abbrev pinged : ℕ → observer.Sent
-pinged n = record { number = n; reference = 0; frames = ping ∷ padding ∷ padding ∷ []; moment = 0; size = 29 }
+pinged n = record { id = server_id; number = n; reference = 0; frames = ping ∷ padding ∷ padding ∷ []; moment = 0; size = 29 }
 
 abbrev others : List observer.Sent
 others = filter (λ (s : observer.Sent). not (names third_ack s.number)) seen.flight.flying

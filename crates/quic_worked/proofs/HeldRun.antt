@@ -172,7 +172,7 @@ abbrev first_frame : StreamValue
 first_frame = record { id = 0; offset = 0; fin = false; bytes = replicate 1172 0x61 }
 
 abbrev first_sent : SentAs
-first_sent = record { number = 0; reference = 0; frames = stream first_frame ∷ []; moment = 0; size = 1200 }
+first_sent = record { id = server_id; number = 0; reference = 0; frames = stream first_frame ∷ []; moment = 0; size = 1200 }
 
 it_flies : flying held_run Client 4 ≡ first_sent ∷ []
 unfolding once_held
@@ -225,7 +225,7 @@ full_asks r i now gave none full other h = elim (h Client i now gave none) [ inl
 
 -- the datagram as it was sent
 abbrev next_sent : SentAs
-next_sent = record { number = 1; reference = 0; frames = stream (record { id = 0; offset = 1172; fin = false; bytes = replicate 1170 0x61 }) ∷ []; moment = 0; size = 1200 }
+next_sent = record { id = server_id; number = 1; reference = 0; frames = stream (record { id = 0; offset = 1172; fin = false; bytes = replicate 1170 0x61 }) ∷ []; moment = 0; size = 1200 }
 
 next_went : sents_until overfull_run Client 4 ≡ sents_until overfull_run Client 3 ++ next_sent ∷ []
 unfolding once_held
@@ -352,6 +352,7 @@ three_fly = refl
 -- the third probe as it was sent
 abbrev third_sent : SentAs
 third_sent = record {
+  id = server_id;
   number = 3;
   reference = 0;
   frames = ping ∷ stream (record { id = 0; offset = 3510; fin = false; bytes = replicate 490 0x61 }) ∷ [];

@@ -49,3 +49,4 @@ mod ToldRuns
 mod BoundedRun
 pub mod AllowedRun
 pub mod RepeatedRuns
+mod DestinedRuns

@@ -9,7 +9,7 @@ use Rattle.quic_machine.specs.Machine.{World, IsStep, view_of}
 use Rattle.quic_headline.specs.Observer.{Sent, sents_until}
 use Rattle.quic_headline.specs.Headline.{IsRun}
 use Rattle.quic_headline.specs.Polls.{GaveNothing, GaveAsking, IsByteToGo, IsPaced, PacingBehind, pacer_names, pacing_at}
-use Rattle.quic_worked.specs.Worked.{worked_policies, hello, opens_stream, writes_hello, gives_bytes, open_view, view_with, once_written, once_sent, once_taken}
+use Rattle.quic_worked.specs.Worked.{worked_policies, hello, opens_stream, writes_hello, gives_bytes, open_view, view_with, once_written, once_sent, once_taken, server_id}
 use Rattle.quic_worked.specs.Timed.{asks_at}
 use Rattle.quic_worked.specs.Held.{gives_nothing}
 use Rattle.quic_worked.specs.Paced.{full_again, paced_start, once_paced, paced_view, paced_run, needlessly_paced}
@@ -97,6 +97,7 @@ is_paced = record { moment = full_again; shown = refl; later = lit< tt }
 -- the datagram as it was sent
 abbrev word_sent : Sent
 word_sent = record {
+  id = server_id;
   number = 0;
   reference = 0;
   frames = stream (record { id = 0; offset = 0; fin = false; bytes = hello }) ∷ [];

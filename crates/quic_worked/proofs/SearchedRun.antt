@@ -189,6 +189,7 @@ none_queued = refl
 -- the acknowledgement as it was sent
 abbrev ack_sent : Sent
 ack_sent = record {
+  id = client_id;
   number = 0;
   reference = 0;
   frames = ack (record { largest = 0; delay = 3125; ranges = (0, 0) ∷ []; ecn = None }) ∷ [];

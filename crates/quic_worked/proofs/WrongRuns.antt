@@ -192,7 +192,7 @@ no_skipped = never_reads skipping_nexts skipped_no
 
 pub long_wrongly : OpensExactly long_opens → ⊥
 long_wrongly h =
-    let never : false ≡ true = (h Server 0 _ answers.Opens refl (record { event = refl; answer = refl })).0 refl in
+    let never : false ≡ true = (h Server 0 long_opens.start _ answers.Opens refl refl (record { event = refl; answer = refl })).0 refl in
     cc
 
 pub never_long : IsNoRun long_opens

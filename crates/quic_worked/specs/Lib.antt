@@ -31,3 +31,4 @@ pub mod Told
 pub mod Bounded
 pub mod Allowed
 pub mod Repeated
+pub mod Destined

@@ -10,6 +10,7 @@ pub mod broken;
 pub mod chunked;
 pub mod closed;
 pub mod credit;
+pub mod destined;
 pub mod exchange;
 pub mod faults;
 pub mod halved;

@@ -11,7 +11,7 @@ ghost use Rattle.quic_recovery_core.specs.PendingAcks.{can_send, is_filled};
 ghost use Rattle.quic_time.specs.Timers.{no_timers};
 ghost use Rattle.quic_retransmits.specs.Kept.{made};
 ghost use Rattle.quic_streams_state.specs.State.{streams_of};
-ghost use Rattle.quic_machine.specs.End.{with_end, with_number_given, number_of, policy_of, HasFailed};
+ghost use Rattle.quic_machine.specs.End.{words_drawn, with_end, with_number_given, number_of, policy_of, HasFailed};
 ghost use Rattle.quic_spaces.specs.Acknowledging.{most_ack_bytes};
 ghost use Rattle.quic_spaces.specs.Numbers.{can_number, cut_against};
 ghost use Rattle.quic_machine.specs.Tracking.{carried_in, retransmits_in};
@@ -81,7 +81,7 @@ impl<H: HeaderKey + Drop, K: PacketKey + Drop, R: Rng + Drop, C: Controller> Con
         ensures control { OnOk result (self.new.control ≡ after_calls C.steps self.old.control (told_draft (draft_as (leaving_of leaving) self.old.end))) }
         ensures keys { self.new.keys ≡ self.old.keys }
         ensures heard { OnOk result (self.new.heard ≡ self.old.heard) }
-        ensures random { OnOk result (R.stream self.new.random ≡ after_words (self.new.end.filter.drawn - self.old.end.filter.drawn) (R.stream self.old.random)) }
+        ensures random { OnOk result (R.stream self.new.random ≡ after_words (words_drawn self.new.end - words_drawn self.old.end) (R.stream self.old.random)) }
         ensures failed { OnErr result (HasFailed self.old self.new) }
         ensures stopped { OnErr result (self.new.end.timers ≡ no_timers) }
         ensures nothing { OnErr result (out.new.items ≡ out.old.items) }
@@ -108,7 +108,7 @@ impl<H: HeaderKey + Drop, K: PacketKey + Drop, R: Rng + Drop, C: Controller> Con
         ensures control { OnOk result (self.new.control ≡ after_calls C.steps self.old.control (told_draft (draft_left (leaving_of leaving) self.old.end))) }
         ensures keys { self.new.keys ≡ self.old.keys }
         ensures heard { OnOk result (self.new.heard ≡ self.old.heard) }
-        ensures random { OnOk result (R.stream self.new.random ≡ after_words (self.new.end.filter.drawn - self.old.end.filter.drawn) (R.stream self.old.random)) }
+        ensures random { OnOk result (R.stream self.new.random ≡ after_words (words_drawn self.new.end - words_drawn self.old.end) (R.stream self.old.random)) }
         ensures failed { OnErr result (HasFailed self.old self.new) }
         ensures stopped { OnErr result (self.new.end.timers ≡ no_timers) }
         ensures nothing { OnErr result (out.new.items ≡ out.old.items) }
@@ -134,13 +134,13 @@ impl<H: HeaderKey + Drop, K: PacketKey + Drop, R: Rng + Drop, C: Controller> Con
         requires due { leaving_of leaving ≡ alone → can_send self.old.end.acknowledging ≡ true }
         requires looked { IsLooked leaving self.old.end }
         requires room { vec_len out.old + most_of (leaving_of leaving) self.old.end ≤ vec_capacity out.old }
-        ensures items { OnOk result (out.new.items ≡ out.old.items ++ (header_bytes self.old.end.ids.active.id (truncated (number_of self.old.end) (cut_against self.old.end.numbers)) ++ payload_of (draft_left (leaving_of leaving) self.old.end))) }
-        ensures four { OnOk result (vec_len out.old + 1 + length self.old.end.ids.active.id + 4 ≤ vec_len out.new) }
+        ensures items { OnOk result (out.new.items ≡ out.old.items ++ (header_bytes self.old.end.ids.peer.id (truncated (number_of self.old.end) (cut_against self.old.end.numbers)) ++ payload_of (draft_left (leaving_of leaving) self.old.end))) }
+        ensures four { OnOk result (vec_len out.old + 1 + length self.old.end.ids.peer.id + 4 ≤ vec_len out.new) }
         ensures within { OnOk result (vec_len out.new + 16 ≤ vec_len out.old + most_of (leaving_of leaving) self.old.end) }
         ensures capacity { vec_capacity out.old ≤ vec_capacity out.new }
         ensures end { OnOk result (self.new.end ≡ paid_if (asking (draft_left (leaving_of leaving) self.old.end).frames) (with_number_given (words_of R.stream self.old.random 0) (tracked (draft_left (leaving_of leaving) self.old.end))) (datagram_size (draft_left (leaving_of leaving) self.old.end))) }
         ensures control { OnOk result (self.new.control ≡ after_calls C.steps self.old.control (told_draft (draft_left (leaving_of leaving) self.old.end))) }
-        ensures random { OnOk result (R.stream self.new.random ≡ after_words (self.new.end.filter.drawn - self.old.end.filter.drawn) (R.stream self.old.random)) }
+        ensures random { OnOk result (R.stream self.new.random ≡ after_words (words_drawn self.new.end - words_drawn self.old.end) (R.stream self.old.random)) }
         ensures ids { OnOk result (self.new.end.ids ≡ self.old.end.ids) }
         ensures keys { self.new.keys ≡ self.old.keys }
         ensures heard { OnOk result (self.new.heard ≡ self.old.heard) }
@@ -164,8 +164,8 @@ impl<H: HeaderKey + Drop, K: PacketKey + Drop, R: Rng + Drop, C: Controller> Con
         requires due { leaving_of leaving ≡ alone → can_send self.old.end.acknowledging ≡ true }
         requires looked { IsLooked leaving self.old.end }
         requires room { vec_len out.old + most_of (leaving_of leaving) self.old.end ≤ vec_capacity out.old }
-        ensures items { OnOk result (out.new.items ≡ out.old.items ++ (header_bytes self.old.end.ids.active.id (truncated (number_of self.old.end) (cut_against self.old.end.numbers)) ++ payload_of (draft_left (leaving_of leaving) self.old.end))) }
-        ensures four { OnOk result (vec_len out.old + 1 + length self.old.end.ids.active.id + 4 ≤ vec_len out.new) }
+        ensures items { OnOk result (out.new.items ≡ out.old.items ++ (header_bytes self.old.end.ids.peer.id (truncated (number_of self.old.end) (cut_against self.old.end.numbers)) ++ payload_of (draft_left (leaving_of leaving) self.old.end))) }
+        ensures four { OnOk result (vec_len out.old + 1 + length self.old.end.ids.peer.id + 4 ≤ vec_len out.new) }
         ensures within { OnOk result (vec_len out.new + 16 ≤ vec_len out.old + most_of (leaving_of leaving) self.old.end) }
         ensures capacity { vec_capacity out.old ≤ vec_capacity out.new }
         ensures end { OnOk result (self.new ≡ with_end self.old (draft_left (leaving_of leaving) self.old.end).end) }
@@ -446,7 +446,7 @@ impl<H: HeaderKey + Drop, K: PacketKey + Drop, R: Rng + Drop, C: Controller> Con
         requires number { can_number self.now.end.numbers ≡ true }
         ensures room { result ≡ frame_room self.now.end }
         ensures some { 1159 ≤ result }
-        ensures whole { 1 + length self.now.end.ids.active.id + (truncated (number_of self.now.end) (cut_against self.now.end.numbers)).width + result + 16 ≡ current_mtu self.now.end.path }
+        ensures whole { 1 + length self.now.end.ids.peer.id + (truncated (number_of self.now.end) (cut_against self.now.end.numbers)).width + result + 16 ≡ current_mtu self.now.end.path }
         ensures few { result < 2 ^ 16 }
     {
         let header = 1 + self.ids.destination().len() + self.packet_number().len();
@@ -458,11 +458,11 @@ impl<H: HeaderKey + Drop, K: PacketKey + Drop, R: Rng + Drop, C: Controller> Con
     fn put_header(&self, out: &mut Vec<u8>) -> usize
         requires number { can_number self.now.end.numbers ≡ true }
         requires room { vec_len out.old + 25 ≤ vec_capacity out.old }
-        ensures items { out.new.items ≡ out.old.items ++ header_bytes self.now.end.ids.active.id (truncated (number_of self.now.end) (cut_against self.now.end.numbers)) }
+        ensures items { out.new.items ≡ out.old.items ++ header_bytes self.now.end.ids.peer.id (truncated (number_of self.now.end) (cut_against self.now.end.numbers)) }
         ensures width { result ≡ (truncated (number_of self.now.end) (cut_against self.now.end.numbers)).width }
         ensures four { result ≤ 4 }
-        ensures short { 1 + length self.now.end.ids.active.id + result ≤ 25 }
-        ensures len { vec_len out.new ≡ vec_len out.old + (1 + length self.now.end.ids.active.id + result) }
+        ensures short { 1 + length self.now.end.ids.peer.id + result ≤ 25 }
+        ensures len { vec_len out.new ≡ vec_len out.old + (1 + length self.now.end.ids.peer.id + result) }
         ensures capacity { vec_capacity out.old ≤ vec_capacity out.new }
     {
         let header = ShortHeader {
@@ -475,10 +475,10 @@ impl<H: HeaderKey + Drop, K: PacketKey + Drop, R: Rng + Drop, C: Controller> Con
 
     /// Seals the packet of this number that stands behind the first bytes.
     fn seal(&self, start: usize, number: u64, out: &mut Vec<u8>)
-        requires start { start + 1 + length self.now.end.ids.active.id + 4 ≤ vec_len out.old }
+        requires start { start + 1 + length self.now.end.ids.peer.id + 4 ≤ vec_len out.old }
         requires room { vec_len out.old + 16 ≤ vec_capacity out.old }
         requires number { number < 2 ^ 62 }
-        ensures items { out.new.items ≡ take start out.old.items ++ protected (H.protection self.now.keys.header.local) (K.aead self.now.keys.packet.local) (length self.now.end.ids.active.id + 1) number (drop start out.old.items) }
+        ensures items { out.new.items ≡ take start out.old.items ++ protected (H.protection self.now.keys.header.local) (K.aead self.now.keys.packet.local) (length self.now.end.ids.peer.id + 1) number (drop start out.old.items) }
         ensures len { vec_len out.new ≡ vec_len out.old + 16 }
     {
         let number_at = self.ids.destination().len() + 1;

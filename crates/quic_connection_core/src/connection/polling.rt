@@ -1,7 +1,7 @@
 //! What goes at a poll, if something does.
 ghost use Rattle.std.specs.Prelude.{◌≡◌, ◌≢◌, ◌+◌, ◌-◌, ◌<◌, ◌≤◌, ◌++◌, IfOk, IfSome, OnOk, OnErr, Ok, None, true, false, max};
 ghost use Rattle.quic_time.specs.Timers.{no_timers};
-ghost use Rattle.quic_machine.specs.End.{with_end, hearing, policy_of, HasFailed};
+ghost use Rattle.quic_machine.specs.End.{words_drawn, with_end, hearing, policy_of, HasFailed};
 ghost use Rattle.quic_machine.specs.Heard.{heard_sent, heard_given};
 ghost use Rattle.quic_machine.specs.Poll.{IsSilent, polled, told_polled, is_gated, gated, asks_to_go, waits, leaves, leaves_if, mark_of, probed};
 ghost use Rattle.quic_machine.specs.PollCases.{ready_at};
@@ -73,7 +73,7 @@ impl<H: HeaderKey + Drop, K: PacketKey + Drop, R: Rng + Drop, C: Controller> Con
         ensures control { OnOk result (self.new.control ≡ after_calls C.steps self.old.control (told_polled (reading C.window_of self.old) now)) }
         ensures keys { self.new.keys ≡ self.old.keys }
         ensures heard { IfOk result (λ given. self.new.heard ≡ heard_given given self.old.heard) }
-        ensures random { OnOk result (R.stream self.new.random ≡ after_words (self.new.end.filter.drawn - self.old.end.filter.drawn) (R.stream self.old.random)) }
+        ensures random { OnOk result (R.stream self.new.random ≡ after_words (words_drawn self.new.end - words_drawn self.old.end) (R.stream self.old.random)) }
         ensures datagram { OnOk result (out.new.items ≡ out.old.items ++ given_bytes (polled (policy_of H.protection K.aead (words_of R.stream) self.old) (reading C.window_of self.old) now).datagram) }
         ensures failed { OnErr result (HasFailed self.old self.new) }
         ensures stopped { self.old.end.closing.state ≢ State.Failed → OnErr result (self.new.end.timers ≡ no_timers) }
@@ -101,7 +101,7 @@ impl<H: HeaderKey + Drop, K: PacketKey + Drop, R: Rng + Drop, C: Controller> Con
         ensures control { OnOk result (self.new.control ≡ after_calls C.steps self.old.control (told_polled self.old.end now)) }
         ensures keys { self.new.keys ≡ self.old.keys }
         ensures heard { IfOk result (λ given. self.new.heard ≡ heard_given given self.old.heard) }
-        ensures random { OnOk result (R.stream self.new.random ≡ after_words (self.new.end.filter.drawn - self.old.end.filter.drawn) (R.stream self.old.random)) }
+        ensures random { OnOk result (R.stream self.new.random ≡ after_words (words_drawn self.new.end - words_drawn self.old.end) (R.stream self.old.random)) }
         ensures datagram { OnOk result (out.new.items ≡ out.old.items ++ given_bytes (polled (policy_of H.protection K.aead (words_of R.stream) self.old) self.old.end now).datagram) }
         ensures failed { OnErr result (HasFailed self.old self.new) }
         ensures stopped { OnErr result (self.new.end.timers ≡ no_timers) }

@@ -1,16 +1,16 @@
 //! Taking a datagram (RFC 9000, sections 5.2, 12 and 13.1).
-ghost use Rattle.std.specs.Prelude.{◌≡◌, ◌≢◌, ◌+◌, ◌≤◌, ◌<◌, ◌^◌, length, slice_range, true, false, Some, None, Ok, IfSome, IfNone, IfOk, IfErr, OnOk, MatchResult};
+ghost use Rattle.std.specs.Prelude.{◌≡◌, ◌≢◌, ◌+◌, ◌-◌, ◌≤◌, ◌<◌, ◌^◌, length, slice_range, true, false, Some, None, Ok, IfSome, IfNone, IfOk, IfErr, OnOk, MatchResult};
 ghost use Rattle.quic_wire.specs.Items.{items};
 ghost use Rattle.quic_packet.specs.Destination.{decoded, fixed_length_id};
 ghost use Rattle.quic_machine.specs.Ids.{known};
 ghost use Rattle.quic_time.specs.Timers.{no_timers};
 ghost use Rattle.quic_wire.specs.FrameView.{frame_view, item_view};
-ghost use Rattle.quic_machine.specs.End.{with_end, hearing, policy_of, closed_by, HasFailed};
+ghost use Rattle.quic_machine.specs.End.{with_end, hearing, drawing, words_drawn, policy_of, closed_by, HasFailed};
 ghost use Rattle.quic_machine.specs.Heard.{heard_datagram, heard_answer, heard_failure};
 ghost use Rattle.quic_machine.specs.Opens.{own_id_length, would_open};
 ghost use Rattle.quic_machine.specs.Arrival.{arriving};
-ghost use Rattle.quic_machine.specs.Receive.{is_above, names_ungiven, received, opened_to, processed, fault_of_breach, plain_error, take_ack, take_frame, take_item, take_items, take_payload, told_received, told_opened, told_processed, told_payload, told_items, told_item, told_ack, item_asks, asks_in, opening, error_of, reason_of, drop_of, violation};
-ghost use Rattle.quic_connection_core.specs.Drawn.{words_of};
+ghost use Rattle.quic_machine.specs.Receive.{is_above, names_ungiven, received, read_by, is_read, opened_to, processed, fault_of_breach, plain_error, take_ack, take_frame, take_item, take_items, take_payload, told_received, told_opened, told_processed, told_payload, told_items, told_item, told_ack, item_asks, asks_in, opening, error_of, reason_of, drop_of, violation};
+ghost use Rattle.quic_connection_core.specs.Drawn.{words_of, after_words};
 ghost use Rattle.quic_connection_core.specs.Telling.{telling, KeepsRest};
 ghost use Rattle.quic_connection_core.specs.Faults.{fault_view, TellsAs, TakesAs, TakesAllAs, TakesPacketAs, HasForm, ItemHasForm};
 ghost use Rattle.quic_machine.specs.Lacking.{TakesFrames};
@@ -97,6 +97,16 @@ fn drop_reason(error: HeaderError) -> DropReason
     }
 }
 
+/// Whether the frames of a datagram were taken, all of them or those before the first at fault.
+fn is_read(received: &Received) -> bool
+    ensures { result ≡ is_read received.now }
+{
+    match received {
+        Received::Taken | Received::Closed(_) => true,
+        Received::Dropped(_) | Received::Failed => false,
+    }
+}
+
 impl<H: HeaderKey + Drop, K: PacketKey + Drop, R: Rng + Drop, C: Controller> Connection<
     H,
     K,
@@ -112,8 +122,9 @@ impl<H: HeaderKey + Drop, K: PacketKey + Drop, R: Rng + Drop, C: Controller> Con
     /// that a closing end opened counts as seen. Where it breaks a rule, the end closes; the frames
     /// before keep their effect, and its number isn't taken. Where memory lacks, the end fails for
     /// good. Its number is to be acknowledged once all its frames were taken, at once where it came
-    /// with the mark CE, and its mark counts (sections 13.2.1 and 13.4.1). The datagram's bytes may
-    /// be changed; to what isn't said.
+    /// with the mark CE, and its mark counts (sections 13.2.1 and 13.4.1). Each connection id that
+    /// is issued for it draws three words of the random source behind its frames (section 5.1.1).
+    /// The datagram's bytes may be changed; to what isn't said.
     pub fn receive(
         &mut self,
         now: Instant,
@@ -121,9 +132,10 @@ impl<H: HeaderKey + Drop, K: PacketKey + Drop, R: Rng + Drop, C: Controller> Con
         datagram: &mut [u8],
     ) -> Received
         ensures answer { result ≢ Received.Failed → result ≡ (received (policy_of H.protection K.aead (words_of R.stream) self.old) self.old.end (arriving now ecn) datagram.old).answer }
-        ensures end { result ≢ Received.Failed → self.new ≡ telling C.steps (hearing self.old (heard_datagram datagram.old result self.old.heard))
+        ensures end { result ≢ Received.Failed → self.new ≡ drawing self.new.random (telling C.steps (hearing self.old (heard_datagram datagram.old result self.old.heard))
             (told_received (policy_of H.protection K.aead (words_of R.stream) self.old) self.old.end now datagram.old)
-            (received (policy_of H.protection K.aead (words_of R.stream) self.old) self.old.end (arriving now ecn) datagram.old).end }
+            (received (policy_of H.protection K.aead (words_of R.stream) self.old) self.old.end (arriving now ecn) datagram.old).end) }
+        ensures random { result ≢ Received.Failed → R.stream self.new.random ≡ after_words (words_drawn self.new.end - words_drawn self.old.end) (R.stream self.old.random) }
         ensures failed { result ≡ Received.Failed → HasFailed self.old self.new }
         ensures before { result ≡ Received.Failed → self.old.end.closing.state ≢ State.Failed }
         ensures stopped { result ≡ Received.Failed → self.new.end.timers ≡ no_timers }
@@ -132,7 +144,11 @@ impl<H: HeaderKey + Drop, K: PacketKey + Drop, R: Rng + Drop, C: Controller> Con
         let len = datagram.len();
         self.stats.udp_rx.on_datagram(len);
         self.path.on_datagram_received(len as u64);
-        self.take_datagram(now, ecn, datagram)
+        let received = self.take_datagram(now, ecn, datagram);
+        if is_read(&received) {
+            self.draw_ids();
+        }
+        received
     }
 
     /// Takes a datagram that came at this moment with this mark, opening it in place.
@@ -142,14 +158,14 @@ impl<H: HeaderKey + Drop, K: PacketKey + Drop, R: Rng + Drop, C: Controller> Con
         ecn: Option<EcnCodepoint>,
         datagram: &mut [u8],
     ) -> Received
-        ensures answer { result ≢ Received.Failed → result ≡ (received (policy_of H.protection K.aead (words_of R.stream) self.old) self.old.end (arriving now ecn) datagram.old).answer }
+        ensures answer { result ≢ Received.Failed → result ≡ (read_by (policy_of H.protection K.aead (words_of R.stream) self.old) self.old.end (arriving now ecn) datagram.old).answer }
         ensures end { result ≢ Received.Failed → self.new ≡ telling C.steps (hearing self.old (heard_answer result self.old.heard))
             (told_received (policy_of H.protection K.aead (words_of R.stream) self.old) self.old.end now datagram.old)
-            (received (policy_of H.protection K.aead (words_of R.stream) self.old) self.old.end (arriving now ecn) datagram.old).end }
+            (read_by (policy_of H.protection K.aead (words_of R.stream) self.old) self.old.end (arriving now ecn) datagram.old).end }
         ensures failed { result ≡ Received.Failed → HasFailed self.old self.new }
         ensures before { result ≡ Received.Failed → self.old.end.closing.state ≢ State.Failed }
         ensures stopped { result ≡ Received.Failed → self.new.end.timers ≡ no_timers }
-        ensures lacking { result ≡ Received.Failed → TakesFrames (received (policy_of H.protection K.aead (words_of R.stream) self.old) self.old.end (arriving now ecn) datagram.old).answer }
+        ensures lacking { result ≡ Received.Failed → TakesFrames (read_by (policy_of H.protection K.aead (words_of R.stream) self.old) self.old.end (arriving now ecn) datagram.old).answer }
     {
         match self.state() {
             State::Failed => return Received::Dropped(DropReason::Failed),
@@ -331,7 +347,8 @@ impl<H: HeaderKey + Drop, K: PacketKey + Drop, R: Rng + Drop, C: Controller> Con
         }
     }
 
-    /// Takes a frame. Those that speak of neither packets, streams nor messages do nothing yet.
+    /// Takes a frame. Those that speak of neither packets, streams, messages nor ids do nothing
+    /// yet.
     fn take_frame(&mut self, frame: &Frame<'_>) -> Result<(), Trouble>
         requires { HasForm (frame_view frame.now) }
         ensures takes { TakesAs result (take_frame (frame_view frame.now) self.old.end) self.new.end }
@@ -341,6 +358,8 @@ impl<H: HeaderKey + Drop, K: PacketKey + Drop, R: Rng + Drop, C: Controller> Con
         match frame {
             Frame::Ack(frame) => self.take_ack(frame),
             Frame::Datagram { data } => self.take_message(data),
+            Frame::NewConnectionId(frame) => self.take_new_id(*frame),
+            Frame::RetireConnectionId { sequence } => self.take_retirement(*sequence),
             _ => take_other(&mut self.streams, frame),
         }
     }

@@ -1,7 +1,7 @@
 //! What a datagram carried, and what becomes of the endpoint once it goes.
 ghost use Rattle.std.specs.Prelude.{◌≡◌, ◌-◌, ◌<◌, ◌^◌, IfSome, OnOk, OnErr, Some, None, true, false, []};
 ghost use Rattle.quic_retransmits.specs.Kept.{made};
-ghost use Rattle.quic_machine.specs.End.{with_tracking, with_number_given, number_of};
+ghost use Rattle.quic_machine.specs.End.{words_drawn, with_tracking, with_number_given, number_of};
 ghost use Rattle.quic_spaces.specs.Numbers.{can_number};
 ghost use Rattle.quic_machine.specs.Tracking.{after_sent};
 ghost use Rattle.quic_machine.specs.Poll.{paid_if};
@@ -124,7 +124,7 @@ impl<H: HeaderKey + Drop, K: PacketKey + Drop, R: Rng + Drop, C: Controller> Con
         ensures control { OnOk result (self.new.control ≡ after_calls C.steps self.old.control (told_sent sent.asks self.old.end size (number_of self.old.end))) }
         ensures keys { self.new.keys ≡ self.old.keys }
         ensures heard { OnOk result (self.new.heard ≡ self.old.heard) }
-        ensures random { OnOk result (R.stream self.new.random ≡ after_words (self.new.end.filter.drawn - self.old.end.filter.drawn) (R.stream self.old.random)) }
+        ensures random { OnOk result (R.stream self.new.random ≡ after_words (words_drawn self.new.end - words_drawn self.old.end) (R.stream self.old.random)) }
         ensures err { OnErr result (self.new ≡ self.old) }
     {
         let number = self.number();
@@ -157,7 +157,7 @@ impl<H: HeaderKey + Drop, K: PacketKey + Drop, R: Rng + Drop, C: Controller> Con
         ensures control { self.new.control ≡ self.old.control }
         ensures keys { self.new.keys ≡ self.old.keys }
         ensures heard { self.new.heard ≡ self.old.heard }
-        ensures random { OnOk result (R.stream self.new.random ≡ after_words (self.new.end.filter.drawn - self.old.end.filter.drawn) (R.stream self.old.random)) }
+        ensures random { OnOk result (R.stream self.new.random ≡ after_words (words_drawn self.new.end - words_drawn self.old.end) (R.stream self.old.random)) }
         ensures err { OnErr result (self.new ≡ self.old) }
     {
         let number = self.number();

@@ -1,6 +1,6 @@
 -- Where an ACK frame is due at an open end, and it owes an acknowledgement, a poll that leaves it
 -- open gives one.
-use Rattle.std.proofs.Common.{◌≡◌, ℕ, suc, Bool, true, false, ◌||◌, List, [], ◌∷◌, ◌++◌, None, refl, sym, ap, ◌∙◌, subst, ◌⊎◌, inl, inr}
+use Rattle.std.proofs.Common.{◌≡◌, ℕ, suc, Bool, true, false, ◌||◌, [], ◌∷◌, ◌++◌, None, refl, sym, ap, ◌∙◌, subst, ◌⊎◌, inl, inr}
 use Rattle.std.specs.Prelude.{nat_lt}
 use Rattle.std.specs.List.{list_any}
 use Rattle.std.proofs.lemmas.Bool.{or_left, and_from, and_parts, both_ways}
@@ -24,18 +24,18 @@ use Rattle.quic_machine.specs.PollCases.{ready_at, frames_at, by_leaves, search_
 use Rattle.quic_machine.specs.DraftLaws.{Writing, by_asking}
 use Rattle.quic_machine.specs.Puts as puts
 use Rattle.quic_machine.specs.Machine.{World, gave, end_at, control_at, policy_at}
-use Rattle.quic_headline.specs.Runs.{Run, Intake, In, folded, until, given_of}
-use Rattle.quic_headline.specs.Observer.{Watch, first_watch, lens_of, watch, took, sents_until}
+use Rattle.quic_headline.specs.Runs.{Run, Intake, In, folded}
+use Rattle.quic_headline.specs.Observer.{Watch, first_watch, watch, took, sents_until}
 use Rattle.quic_headline.specs.Headline.{IsHonest, IsRun}
 use Rattle.quic_headline.specs.Moments.{is_ack, acknowledges}
 use Rattle.quic_headline.specs.Polls.{IsMade}
 use Rattle.quic_headline.specs.Rest.{unanswered_told, none_unanswered}
-use Rattle.quic_headline.specs.AcksDue.{haste_told, no_haste, AcksAreDue}
+use Rattle.quic_headline.specs.AcksDue.{AcksAreDue}
 use Rattle.quic_headline.proofs.Packets.Watching.{watched_intake}
 use Rattle.quic_headline.proofs.Packets.Probes.{ready_acks}
 use Rattle.quic_headline.proofs.Places.Parties.{sent_by, sent_if, sents_by, Party, came_to, lens}
 use Rattle.quic_headline.proofs.Places.Groups.{Way, Nothing, And, Group, both, over}
-use Rattle.quic_headline.proofs.Places.Placed.{party_at, Placed, placed, known_first}
+use Rattle.quic_headline.proofs.Places.Placed.{party_at, Placed, placed}
 use Rattle.quic_headline.proofs.Places.Steps.{poll_answer}
 use Rattle.quic_headline.proofs.Timers.Watched.{Observed, went_is, open_behind}
 use Rattle.quic_headline.proofs.Timers.Still.{was_open}
@@ -205,11 +205,10 @@ acks_are_due r end honest run side i now a v q served at there opened due owed =
 
     -- an ACK frame is due, and there is something to acknowledge
     pressed : IsPressed e.acknowledging
-    pressed = h.gives.1.due opened_before
-        (subst (λ (ids : List (List ℕ)). (folded (haste_told (lens_of r side)) (until r side i) (no_haste (first_watch ids (given_of r side) (end_at side r.start).closing.clock (end_at side r.start).transport.initial_rtt))).due ≡ true) (known_first r honest side) due)
+    pressed = h.gives.1.due opened_before due
 
-    since : In q (folded (unanswered_told (lens x y)) x.told (none_unanswered (first_watch (x.id ∷ []) x.final x.began x.initial_rtt))).packets
-    since = subst (λ (ids : List (List ℕ)). In q (folded (unanswered_told (lens_of r side)) (until r side i) (none_unanswered (first_watch ids (given_of r side) (end_at side r.start).closing.clock (end_at side r.start).transport.initial_rtt))).packets) (known_first r honest side) owed.since
+    since : In q (folded (unanswered_told (lens x y)) x.told (none_unanswered (first_watch x.final x.began x.initial_rtt))).packets
+    since = owed.since
 
     owes : Owes x.sents (came_to x y).took x.end q.number
     owes = h.gives.0.0.1.owes opened_before q since
@@ -219,7 +218,7 @@ acks_are_due r end honest run side i now a v q served at there opened due owed =
     sents_are = ap (λ (v : Watch). v.own) h.seen ∙ h.gives.0.0.0.1.own
 
     took_is : took r side i ≡ (came_to x y).took
-    took_is = ap (λ (v : Watch). v.intake.took) h.seen ∙ ap (λ (j : Intake). j.took) (watched_intake (lens x y) x.told (first_watch (x.id ∷ []) x.final x.began x.initial_rtt))
+    took_is = ap (λ (v : Watch). v.intake.took) h.seen ∙ ap (λ (j : Intake). j.took) (watched_intake (lens x y) x.told (first_watch x.final x.began x.initial_rtt))
 
     can : can_send e.acknowledging ≡ true
     can = and_from e.acknowledging.due (is_filled e.acknowledging.runs) pressed.0 (owed_filled r side i q owed e x.sents (came_to x y).took sents_are took_is owes)

@@ -286,7 +286,7 @@ module _ (x y : Party) (call : Call) (a : Answer) (c : Calls Observed x y call a
 
   -- the observer within it
   pub debt_watched : before.watch ≡ watch_of x y
-  debt_watched = owed_watch (lens x y) x.told (first_debt (first_watch (x.id ∷ []) x.final x.began x.initial_rtt))
+  debt_watched = owed_watch (lens x y) x.told (first_debt (first_watch x.final x.began x.initial_rtt))
 
   abbrev after : Watch
   after = watch_behind x y call a c before.watch debt_watched
@@ -294,7 +294,7 @@ module _ (x y : Party) (call : Call) (a : Answer) (c : Calls Observed x y call a
   -- what isn't answered behind the call
   arrivals_told : (debt_of (called x y.given call a) y).arrivals ≡ (if acknowledges (sents_by x.end call a) then [] else arrivals_of (news (came_to x y) (came_to (called x y.given call a) y)) after.clock ++ before.arrivals)
   arrivals_told =
-      ap (λ (d : Debt). d.arrivals) (folded_more (debt_told (lens x y)) x.told (told_of call a x.end.closing.state) (first_debt (first_watch (x.id ∷ []) x.final x.began x.initial_rtt)))
+      ap (λ (d : Debt). d.arrivals) (folded_more (debt_told (lens x y)) x.told (told_of call a x.end.closing.state) (first_debt (first_watch x.final x.began x.initial_rtt)))
       ∙ ap (λ (ss : List Sent). if acknowledges ss then [] else arrivals_of (news before.watch.intake after.intake) after.clock ++ before.arrivals) (went_behind x y call a c before.watch debt_watched)
       ∙ ap (λ (i : Intake). if acknowledges (sents_by x.end call a) then [] else arrivals_of (news i after.intake) after.clock ++ before.arrivals) (came_before x y call a c before.watch debt_watched)
       ∙ ap (λ (j : Intake). if acknowledges (sents_by x.end call a) then [] else arrivals_of (news (came_to x y) j) after.clock ++ before.arrivals) (came_behind x y call a c before.watch debt_watched)

@@ -45,8 +45,8 @@ use Rattle.quic_machine.specs.FrameCases as frame_cases
 use Rattle.quic_machine.specs.FrameCases.{begun, frames_keep}
 use Rattle.quic_machine.specs.Steps as steps
 use Rattle.quic_machine.specs.CallCases.{asks_event}
-use Rattle.quic_machine.specs.Machine.{World, after_call, policy_at}
-use Rattle.quic_headline.specs.Runs.{Run, Told, Packet, Intake, In, OpensStream, and_told, folded, until, given_of, finished}
+use Rattle.quic_machine.specs.Machine.{World, after_call}
+use Rattle.quic_headline.specs.Runs.{Run, Told, Packet, Intake, In, OpensStream, and_told, folded, finished}
 use Rattle.quic_headline.specs.Observer.{Sent, news}
 use Rattle.quic_headline.specs.Headline.{IsHonest, IsRun}
 use Rattle.quic_headline.specs.Unread.{stopped}
@@ -59,7 +59,7 @@ use Rattle.quic_headline.proofs.Packets.Watching.{none_new, one_new}
 use Rattle.quic_headline.proofs.Places.Parties.{told_of, Party, called, came_to}
 use Rattle.quic_headline.proofs.Places.Groups.{Way, Nothing, And, Calls, Group, both}
 use Rattle.quic_headline.proofs.Places.Coming.{came_more, came_same, by_coming}
-use Rattle.quic_headline.proofs.Places.Placed.{party_at, Placed, placed, answered, known_first}
+use Rattle.quic_headline.proofs.Places.Placed.{party_at, Placed, placed, answered}
 use Rattle.quic_headline.proofs.Halves.Opened.{IsOpened, IsOf, opened_stays, side_stays}
 use Rattle.quic_headline.proofs.Halves.Bringing.{Brought}
 use Rattle.quic_headline.proofs.Halves.QuietSteps.{frame_quiet}
@@ -322,7 +322,7 @@ frames_open frames e is = frames_keep StaysOpen (frame_cases.frame_keeps StaysOp
 
 -- whether x is to be told that it may read a stream
 abbrev pub reading_of : ℕ → Party → Party → Reading
-reading_of id x y = folded (reading_told x.side x.policy y.final id) x.told (no_reading (x.id ∷ []))
+reading_of id x y = folded (reading_told x.side x.policy y.final id) x.told no_reading
 
 same_intake : (side : Side) (p : _) (given : List (List ℕ)) (id : ℕ) (told : List Told) (r : Reading) → (folded (reading_told side p given id) told r).intake ≡ folded (and_told p given) told r.intake
 same_intake side p given id [] r = refl
@@ -458,9 +458,9 @@ module _ (B : Way) (b : IsReadying B) (id : ℕ) (x y : Party) (call : Call) (a 
   waits_more : (reading_of id next y).waits ≡ (if tells_readable id call a then false else (reading_of id x y).waits || (brings id (news came (came_to next y)) && is_reading x.side id came.took (came_to next y).took (x.told ++ t ∷ [])))
   waits_more =
       let r : Reading = reading_of id x y in
-      ap (λ (r : Reading). r.waits) (folded_more (reading_told x.side x.policy y.final id) x.told t (no_reading (x.id ∷ []))
-      ∙ ap (λ (i : Intake). reading_told x.side x.policy y.final id t (record { intake = i; told = r.told; waits = r.waits })) (same_intake x.side x.policy y.final id x.told (no_reading (x.id ∷ [])))
-      ∙ ap (λ (ts : List Told). reading_told x.side x.policy y.final id t (record { intake = came; told = ts; waits = r.waits })) (same_told x.side x.policy y.final id x.told (no_reading (x.id ∷ [])))
+      ap (λ (r : Reading). r.waits) (folded_more (reading_told x.side x.policy y.final id) x.told t no_reading
+      ∙ ap (λ (i : Intake). reading_told x.side x.policy y.final id t (record { intake = i; told = r.told; waits = r.waits })) (same_intake x.side x.policy y.final id x.told no_reading)
+      ∙ ap (λ (ts : List Told). reading_told x.side x.policy y.final id t (record { intake = came; told = ts; waits = r.waits })) (same_told x.side x.policy y.final id x.told no_reading)
       ∙ ap (λ (j : Intake). reading_behind x.side id t (record { intake = came; told = x.told; waits = r.waits }) j) (sym (came_more x y call a)))
 
   -- behind a call that tells it, it isn't; and behind one that doesn't
@@ -523,7 +523,7 @@ readables_are_told r end honest run side i id served event = told_so (reading r 
     y = party_at r i p.world (other_side side) p.theirs
 
     same : reading r side id i ≡ reading_of id x y
-    same = ap (λ (ids : List (List ℕ)). folded (reading_told side (policy_at side r.keys) (given_of r (other_side side)) id) (until r side i) (no_reading ids)) (known_first r honest side)
+    same = refl
 
     told_so : (b : Bool) → (reading r side id i).waits ≡ b → (reading r side id i).waits ≡ false
     told_so false is = is

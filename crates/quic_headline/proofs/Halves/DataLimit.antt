@@ -176,7 +176,7 @@ limit_step x y call a c i = record {
     apart = λ apart. call_keeps (λ done s. HasSmallLimit s) small_words x.policy ended_all x.end y.given call a apart c.answer (λ n t among m inside fin. refl) i.small;
     none = λ delivery is. i.small;
     comes = λ delivery is s among. (
-        let spelled = step_of (IsSent y.policy x.id) y.sents y.given s c.takes.gives.each among in
+        let spelled = step_of (IsSent y.policy) y.sents y.given s c.takes.gives.each among in
         small_arrivals x.end delivery.now s.number s.frames (came_to x y) (payload_small s.frames spelled.1.payload spelled.1.spells) i.small);
   });
 }

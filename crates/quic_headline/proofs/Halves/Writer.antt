@@ -171,7 +171,7 @@ module _ (x y : Party) (p : PacketsHold x y) (back : PacketsHold y x) (say : Say
       took = (came_to y x).took
 
       small : (f : FrameValue) → In f s.frames → IsSmallLimit f
-      small f i = let given = (step_of (IsSent y.policy x.id) y.sents y.given s back.gives.each among).1 in payload_small s.frames given.payload given.spells f i
+      small f i = let given = (step_of (IsSent y.policy) y.sents y.given s back.gives.each among).1 in payload_small s.frames given.payload given.spells f i
 
       takes : TakesOn took x.sents s.frames (λ (e : End). Writes (wrote x.told) (streams_at e))
       takes = record {

@@ -1,4 +1,4 @@
--- What an end knows of what came, whatever the keys and whoever sent it: the numbers that opened, the number that it expects, and its ids are those that the lists say.
+-- What an end knows of what came, whatever the keys and whoever sent it: the numbers that opened, and the number that it expects, are those that the lists say.
 use Rattle.std.proofs.Common.{◌≡◌, ℕ, zero, suc, ◌+◌, Bool, true, false, ◌||◌, List, [], ◌∷◌, ◌++◌, Option, Some, None, Result, Ok, Err, inl, inr, refl, sym, ap, ◌∙◌, subst, arith}
 use Rattle.std.specs.Prelude.{if◌then◌else◌, slice_get, max, not, ◌==◌}
 use Rattle.quic_wire_core.specs.declared.shared.EcnCodepoint.{EcnCodepoint}
@@ -25,11 +25,11 @@ use Rattle.quic_machine.specs.declared.run.Delivery.{Delivery}
 use Rattle.quic_machine.specs.declared.run.Answer.{Answer}
 use Rattle.quic_machine.specs.declared.run.Answer.TheVariants as answers
 use Rattle.quic_machine.specs.Policy.{Policy}
-use Rattle.quic_machine.specs.Ids.{Ids, known}
+use Rattle.quic_machine.specs.Ids.{known}
 use Rattle.quic_machine.specs.Closing.{ticked}
 use Rattle.quic_machine.specs.End.{End, with_closing, with_numbers}
 use Rattle.quic_machine.specs.Control.{Control}
-use Rattle.quic_machine.specs.Opens.{own_id_length, in_phase, opens_behind, opens}
+use Rattle.quic_machine.specs.Opens.{own_id_length, in_phase, opens_behind}
 use Rattle.quic_machine.specs.Receive.{Fault, Progress, Outcome, error_of, violation, is_empty, asks_in, take_frame, take_items, take_payload, dropped, ends_as, by_state, opened_to, opened_as, opening, drop_of, headed, received_in, received}
 use Rattle.quic_machine.specs.Poll.{Polled, Draft, polled, draft_as, lazied_as, Leaving, whole, alone, probe, nothing}
 use Rattle.quic_machine.specs.DraftLaws.{Writing, by_leave, MayLeave}
@@ -41,25 +41,25 @@ use Rattle.quic_machine.specs.PollCases.{ready_at, ready_leaves, by_poll_to, dra
 use Rattle.quic_machine.specs.CallCases.{Plain, is_delivery, by_plain_call, by_left}
 use Rattle.quic_machine.specs.CallCases as cases
 use Rattle.quic_machine.specs.Machine.{IsAnswer, IsDelivered, after_delivered, after_call, end_left, reads_window, fails}
-use Rattle.quic_headline.specs.Runs.{Intake, is_again, is_refused, packet_of, handed, expected_behind, and_opened, and_handed}
+use Rattle.quic_headline.specs.Runs.{Intake, is_again, is_refused, packet_of, handed, expected_behind, came_open, and_opened, and_handed}
 use Rattle.quic_headline.specs.Isolated.{drops_whole, is_new}
 use Rattle.quic_headline.proofs.Packets.Intakes.{nothing_handed}
 use Rattle.quic_headline.proofs.Packets.Probes.{by_going}
 use Rattle.quic_headline.proofs.Packets.Window.{is_duplicate-is}
+use Rattle.quic_headline.proofs.Packets.ByKey.{came_open_is}
 
 -- an open end recalls what came; it is open, or it is drained or has failed
-pub record Recalls (state : State) (ids : Ids) (opened : Seen) (taken : Option ℕ) (i : Intake) : Type 0 where
+pub record Recalls (state : State) (opened : Seen) (taken : Option ℕ) (i : Intake) : Type 0 where
   pub never_closing : state ≡ states.Closing → ⊥
-  pub known : state ≡ states.Open → known ids ≡ i.ids
   pub seen : state ≡ states.Open → opened ≡ seen_after i.opened
   pub expected : state ≡ states.Open → after_greatest taken ≡ expected_behind i.took
 
 abbrev pub Keeps : End → Intake → Type 0
-Keeps e i = Recalls e.closing.state e.ids e.numbers.opened e.numbers.taken i
+Keeps e i = Recalls e.closing.state e.numbers.opened e.numbers.taken i
 
 -- an end that isn't open has nothing to recall
-drained_keeps : (ids : Ids) (opened : Seen) (taken : Option ℕ) (i : Intake) → Recalls states.Drained ids opened taken i
-drained_keeps ids opened taken i = record { never_closing = λ is. cc; known = λ is. absurd cc; seen = λ is. absurd cc; expected = λ is. absurd cc }
+drained_keeps : (opened : Seen) (taken : Option ℕ) (i : Intake) → Recalls states.Drained opened taken i
+drained_keeps opened taken i = record { never_closing = λ is. cc; seen = λ is. absurd cc; expected = λ is. absurd cc }
 
 -- ---- calls that are no delivery
 
@@ -94,7 +94,7 @@ module _ (i : Intake) where
     silent = k;
     failed = k;
     nothing = λ is none. ready_still e now k;
-    used_up = let x : End = (ready_at e now).end in drained_keeps x.ids x.numbers.opened x.numbers.taken i;
+    used_up = let x : End = (ready_at e now).end in drained_keeps x.numbers.opened x.numbers.taken i;
     gives = λ is may some. by_going Still p (draft_at e now) (λ pacing. draft_still (ready_at e now).leaving (ready_at e now).end (may_leave_at e now) (ready_still e now k));
   })
 
@@ -113,16 +113,15 @@ module _ (i : Intake) where
 
 -- ---- a packet that is new
 
--- frames leave ids, numbers and state of an end that noted a number, but for the greatest number that was named
-record IsBegun (e : End) (n : ℕ) (ids : Ids) (opened : Seen) (taken : Option ℕ) (state : State) : Type 0 where
-  ids_same : ids ≡ e.ids
+-- frames leave numbers and state of an end that noted a number, but for the greatest number that was named
+record IsBegun (e : End) (n : ℕ) (opened : Seen) (taken : Option ℕ) (state : State) : Type 0 where
   noted : opened ≡ after_insert e.numbers.opened n
   taken_same : taken ≡ e.numbers.taken
   state_same : state ≡ e.closing.state
 
 module _ (e : End) (n : ℕ) where
   abbrev Begun : End → Type 0
-  Begun x = IsBegun e n x.ids x.numbers.opened x.numbers.taken x.closing.state
+  Begun x = IsBegun e n x.numbers.opened x.numbers.taken x.closing.state
 
   begun_settles : Settling Begun
   begun_settles (steps.known m) x b = b
@@ -135,7 +134,7 @@ module _ (e : End) (n : ℕ) where
   payload_begun now first is = go (not (reserved_bits first == 0) || is_empty is)
     where
       start : Begun (begun e now n)
-      start = record { ids_same = refl; noted = refl; taken_same = refl; state_same = refl }
+      start = record { noted = refl; taken_same = refl; state_same = refl }
 
       go : (b : Bool) → Begun (if b then record { end = begun e now n; fault = Some violation } else take_items is (begun e now n)).end
       go true = start
@@ -144,7 +143,6 @@ module _ (e : End) (n : ℕ) where
 -- what came once a packet was taken, or was refused
 abbrev with_new : Opening → Answer → Intake → Intake
 with_new o a i = record {
-  ids = i.ids;
   opened = o.number ∷ i.opened;
   took = if is_refused a then i.took else packet_of o ∷ i.took;
   part = if is_refused a then Some (packet_of o) else i.part;
@@ -160,11 +158,10 @@ ends_keeps : (fault : Option Fault) (asking : Bool) (mark : Option EcnCodepoint)
     → Keeps (ends_as fault asking o.number mark x).end (with_new o (answers.Deliver (ends_as fault asking o.number mark x).answer) i)
 ends_keeps None asking mark e x o i is_open k b = record {
   never_closing = λ closing. k.never_closing (sym b.state_same ∙ closing);
-  known = λ still. ap (λ (ids : Ids). known ids) b.ids_same ∙ k.known is_open;
   seen = λ still. b.noted ∙ ap (λ (s : Seen). after_insert s o.number) (k.seen is_open);
   expected = λ still. expected_after x.numbers.taken o.number (expected_behind i.took) (ap (λ (t : Option ℕ). after_greatest t) b.taken_same ∙ k.expected is_open);
 }
-ends_keeps (Some fault) asking mark e x o i is_open k b = drained_keeps x.ids x.numbers.opened x.numbers.taken (with_new o (answers.Deliver (receives.Closed (error_of fault))) i)
+ends_keeps (Some fault) asking mark e x o i is_open k b = drained_keeps x.numbers.opened x.numbers.taken (with_new o (answers.Deliver (receives.Closed (error_of fault))) i)
 
 -- a packet that is new to an open end
 state_keeps : (state : State) (o : Opening) (arrival : Arrival) (e : End) (i : Intake) → e.closing.state ≡ state → state ≡ states.Open → Keeps e i
@@ -208,10 +205,6 @@ headed_keeps : (r : Result (List ℕ) HeaderError) (p : Policy) (e : End) (arriv
 headed_keeps (Err error) p e arrival d i is_open k = k
 headed_keeps (Ok id) p e arrival d i is_open k = packet_keeps (opening p e d) arrival e i is_open k
 
--- what a datagram opens to at an open end is what it opens to by the lists
-pub opens_by_lists : (p : Policy) (e : End) (d : List ℕ) (i : Intake) → e.closing.state ≡ states.Open → Keeps e i → opens p (known e.ids) (expected e.numbers) d ≡ opens p i.ids (expected_behind i.took) d
-opens_by_lists p e d i is_open k = ap (λ (ids : List (List ℕ)). opens p ids (expected e.numbers) d) (k.known is_open) ∙ ap (λ (n : ℕ). opens p i.ids n d) (k.expected is_open)
-
 -- a datagram of whatever bytes
 pub received_keeps : (p : Policy) (e : End) (arrival : Arrival) (d : List ℕ) (i : Intake) → Keeps e i → Keeps (received p e arrival d).end (and_handed e.closing.state (Some d) p (answers.Deliver (received p e arrival d).answer) i)
 received_keeps p e arrival d i k = go e.closing.state refl
@@ -224,7 +217,7 @@ received_keeps p e arrival d i k = go e.closing.state refl
     go states.Drained here = k
     go states.Closing here = absurd (k.never_closing here)
     go states.Open here =
-        subst (λ (o : Option Opening). Keeps (headed head p e arrival d).end (and_opened o (answers.Deliver (headed head p e arrival d).answer) i)) (opens_by_lists p e d i here k)
+        subst (λ (o : Option Opening). Keeps (headed head p e arrival d).end (and_opened o (answers.Deliver (headed head p e arrival d).answer) i)) (sym (came_open_is p e arrival d i.took (k.expected here)))
         (headed_keeps head p e arrival d i here k)
 
 -- what stands in a list stands in a longer one
@@ -290,11 +283,12 @@ headed_drops (Err error) p e arrival d numbers seen old = (drop_of error, refl, 
 headed_drops (Ok id) p e arrival d numbers seen old = packet_drops (opening p e d) arrival e numbers seen old
 
 -- a datagram that by the lists is nothing new is dropped, whatever the state of its end
-pub old_is_dropped : (p : Policy) (e : End) (arrival : Arrival) (d : List ℕ) (i : Intake) → Keeps e i → is_new (opens p i.ids (expected_behind i.took) d) i.opened ≡ false → IsDropped (received p e arrival d)
-old_is_dropped p e arrival d i k old = go e.closing.state refl
+pub old_is_dropped : (p : Policy) (e : End) (arrival : Arrival) (d : List ℕ) (i : Intake) → Keeps e i → is_new (came_open p i.took (answers.Deliver (received p e arrival d).answer) d) i.opened ≡ false → IsDropped (received p e arrival d)
+old_is_dropped p e arrival d i k = go e.closing.state refl
   where
-    go : (state : State) → e.closing.state ≡ state → IsDropped (received_in state p e arrival d)
-    go states.Failed here = (drops.Failed, refl, refl)
-    go states.Drained here = (drops.Drained, refl, refl)
-    go states.Closing here = absurd (k.never_closing here)
-    go states.Open here = headed_drops (decoded (fixed_length_id own_id_length) (known e.ids) d) p e arrival d i.opened (k.seen here) (ap (λ (o : Option Opening). is_new o i.opened) (opens_by_lists p e d i here k) ∙ old)
+    go : (state : State) → e.closing.state ≡ state → is_new (came_open p i.took (answers.Deliver (received_in state p e arrival d).answer) d) i.opened ≡ false → IsDropped (received_in state p e arrival d)
+    go states.Failed here old = (drops.Failed, refl, refl)
+    go states.Drained here old = (drops.Drained, refl, refl)
+    go states.Closing here old = absurd (k.never_closing here)
+    go states.Open here old =
+        headed_drops (decoded (fixed_length_id own_id_length) (known e.ids) d) p e arrival d i.opened (k.seen here) (ap (λ (o : Option Opening). is_new o i.opened) (sym (came_open_is p e arrival d i.took (k.expected here))) ∙ old)

@@ -1,5 +1,5 @@
 -- The numbers that an end has to acknowledge stay few maximal runs of packet numbers, whatever comes and whatever call is made.
-use Rattle.std.proofs.Common.{◌≡◌, ℕ, ◌^◌, ◌<◌, Bool, true, false, Option, Some, None, List, ◌∷◌, length, map, Ok, refl, sym, subst, inl, inr, arith}
+use Rattle.std.proofs.Common.{◌≡◌, ℕ, ◌^◌, ◌<◌, Bool, true, false, Option, Some, None, List, ◌∷◌, map, Ok, refl, sym, subst, inl, inr, arith}
 use Rattle.quic_wire_core.specs.declared.shared.EcnCodepoint.{EcnCodepoint}
 use Rattle.quic_wire_core.specs.declared.shared.EcnCodepoint.TheVariants.{Ect0, Ect1, Ce}
 use Rattle.quic_spaces.specs.Marks.{Counts, none_marked, after_mark, is_congested}
@@ -8,25 +8,21 @@ use Rattle.quic_wire.specs.Value.{FrameValue}
 use Rattle.quic_recovery_core.specs.Duplicates.{Seen}
 use Rattle.quic_recovery_core.specs.PendingAcks.{Pending, none_pending, after_insert, with_wait, asking_counted, after_packet, starts_wait}
 use Rattle.quic_recovery_core.proofs.AckRunSteps.{at_most_kept, kept_numbers}
-use Rattle.quic_machine.specs.Arrival.{Arrival}
 use Rattle.quic_machine.specs.declared.run.Call.{Call}
 use Rattle.quic_machine.specs.declared.run.Answer.{Answer}
-use Rattle.quic_machine.specs.Policy.{Policy, CanOpen}
+use Rattle.quic_machine.specs.Policy.{Policy}
 use Rattle.quic_machine.specs.Closing.{ticked}
-use Rattle.quic_machine.specs.Ids.{known}
 use Rattle.quic_machine.specs.End.{End, with_closing}
-use Rattle.quic_machine.specs.Opens.{own_id_length}
-use Rattle.quic_machine.specs.Receive.{asks_in, received}
+use Rattle.quic_machine.specs.Receive.{asks_in}
 use Rattle.quic_spaces.specs.Acknowledging.{with_due}
 use Rattle.quic_machine.specs.Poll.{Draft, Polled, polled, draft_as, Leaving, whole, alone, probe, nothing, lazied_as}
 use Rattle.quic_machine.specs.Machine.{after_call}
 use Rattle.quic_headline.specs.Runs.{Packet, Intake}
-use Rattle.quic_machine.specs.Start.{IsLawful}
 use Rattle.quic_machine.specs.DraftLaws.{Writing, by_leave, MayLeave}
 use Rattle.quic_machine.specs.Puts as puts
-use Rattle.quic_headline.proofs.Packets.Invariant.{IsGiven, KnowsIn, AreTaken, CountsFit, Acks}
+use Rattle.quic_headline.proofs.Packets.Invariant.{AreTaken, CountsFit, Acks}
 use Rattle.quic_machine.specs.FrameCases.{begun}
-use Rattle.quic_headline.proofs.Packets.Delivered.{Arrivals, arrived, by_arrival}
+use Rattle.quic_headline.proofs.Packets.Delivered.{Arrivals, arrived}
 use Rattle.quic_headline.proofs.Packets.Stays.{Keeps, keeps_frames, settles_losses}
 use Rattle.quic_headline.proofs.Packets.Probes.{may_leave}
 use Rattle.quic_machine.specs.LeaveCases.{by_expired}
@@ -85,13 +81,6 @@ acks_arrivals e now n frames i small acks = record {
 
     after : Acks left.acknowledging left.marks.came
     after = (keeps_frames frames (begun e now n)).acks acks
-
--- a datagram of an honest end is delivered
-pub acks_delivered : (p q : Policy) (id : List ℕ) (n reference : ℕ) (frames : List FrameValue) (d : List ℕ) → IsGiven p id n reference frames d → (e : End) (arrival : Arrival) (i : Intake)
-    → CanOpen p q → IsLawful p → length id ≡ own_id_length → known e.ids ≡ i.ids → KnowsIn e.closing.state e.numbers i
-    → Acks e.acknowledging e.marks.came → Acks (received q e arrival d).end.acknowledging (received q e arrival d).end.marks.came
-acks_delivered p q id n reference frames d g e arrival i mates lawful long ids k acks =
-    by_arrival p q id n reference frames d g e arrival i (λ o j. Acks o.end.acknowledging o.end.marks.came) mates lawful long ids k (acks_arrivals e arrival.now n frames i g.small acks)
 
 -- in each case of a delivery the numbers to acknowledge are those of packets that were taken
 pub taken_arrivals : (e : End) (now n : ℕ) (frames : List FrameValue) (i : Intake) → Acks e.acknowledging e.marks.came → AreTaken e.acknowledging.runs i.took → Arrivals e now n frames i (λ o j. AreTaken o.end.acknowledging.runs j.took)

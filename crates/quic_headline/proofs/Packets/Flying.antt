@@ -17,6 +17,7 @@ use Rattle.quic_congestion.specs.Search.{Discovery}
 use Rattle.quic_machine.specs.Policy.{Policy, CanOpen}
 use Rattle.quic_machine.specs.Closing.{Closing, ticked}
 use Rattle.quic_machine.specs.Opens.{own_id_length}
+use Rattle.quic_machine.specs.Start.{IsLawful}
 use Rattle.quic_spaces.specs.Numbers.{Numbers, cut_against, greatest_of}
 use Rattle.quic_spaces.specs.Marks.{Counts}
 use Rattle.quic_machine.specs.Parts.{Path, Messaging}
@@ -29,7 +30,7 @@ use Rattle.quic_machine.specs.Poll.{Draft, asking, datagram_size, packet_of, aft
 use Rattle.quic_machine.specs.Timeouts.{loss_judged, loss_expired}
 use Rattle.quic_machine.specs.FrameCases.{OnStreams, named, ack_taken, passed, streams_acked_keep, resets_acked_keep, packets_lost_keep, frame_leaves, frames_taken, by_marks}
 use Rattle.quic_machine.specs.PollCases.{ready_at, frames_padded, Composes, composes}
-use Rattle.quic_headline.specs.Runs.{In, names}
+use Rattle.quic_headline.specs.Runs.{In, names, destination}
 use Rattle.quic_headline.specs.Observer.{Sent, Terms, terms_of, asks_of, Flight, latest, late_by, is_lost, after_losses, is_greatest, of_number, measures, rtt_behind, settled_by, after_ack, after_frames, is_behind_asked, unasked, without_oldest, kept_flying, and_sent, waited, probe_due, due_or, loss_due, most_probes, expired_for, sent_as}
 use Rattle.quic_headline.specs.Telling.{acked_flight}
 use Rattle.quic_headline.proofs.Packets.Searches.{by_losses}
@@ -38,7 +39,7 @@ use Rattle.quic_headline.proofs.Packets.Carried.{carried_padded}
 use Rattle.quic_headline.proofs.Packets.Named.{in_filter, IsNoAck, by_frame}
 use Rattle.quic_headline.proofs.Packets.Probes.{by_ready, after_going, by_going}
 use Rattle.quic_headline.proofs.Packets.Given.{draft_number}
-use Rattle.quic_headline.proofs.Packets.Delivered.{shown_if, expands, opened_given, frames_of_payload}
+use Rattle.quic_headline.proofs.Packets.Delivered.{shown_if, expands, destination_given, opened_given, frames_of_payload}
 use Rattle.quic_headline.proofs.Packets.Numbered.{Lies, lies_remove, one_key, added_last, is_at_same}
 use Rattle.quic_headline.proofs.Packets.Waited.{IsWaited, AreWaited, waited_filter, waited_length, waited_asks, waited_put, waited_push, waited_oldest, IsFound, waited_found, waited_staying, waited_lost, waited_late}
 use Rattle.quic_headline.proofs.Timers.LossTimers.{OpenStands}
@@ -434,12 +435,13 @@ expands_there : (n reference : ℕ) → n - reference < 2 ^ 31 → reference ≤
 expands_there n reference near behind = eq-eqb (expanded (truncated n reference) reference) n (newest_opens n reference reference near (omega arith) (omega arith))
 
 -- the datagram of a number opens to what it was sent as, by the keys of its taker alone
-pub sent_read : (p q : Policy) (id : List ℕ) (n reference : ℕ) (frames : List FrameValue) (d : List ℕ) → IsGiven p id n reference frames d → CanOpen p q → length id ≡ own_id_length → reference ≤ n → (moment size : ℕ)
-    → sent_as (opened_packet q.header q.packet (own_id_length + 1) reference d) reference moment size ≡ record { number = n; reference = reference; frames = frames; moment = moment; size = size } ∷ []
-sent_read p q id n reference frames d g mates eight behind moment size =
-    ap (λ (o : Option Opening). sent_as o reference moment size) (opened_given p q id n reference frames d g mates eight reference)
-    ∙ ap (λ (b : Bool). sent_as (shown_if b n reference g.payload) reference moment size) (expands_there n reference g.near behind)
-    ∙ ap (λ (fs : List FrameValue). record { number = n; reference = reference; frames = fs; moment = moment; size = size } ∷ []) (frames_of_payload frames g.payload g.spells)
+pub sent_read : (p q : Policy) (id : List ℕ) (n reference : ℕ) (frames : List FrameValue) (d : List ℕ) → IsGiven p id n reference frames d → CanOpen p q → IsLawful p → reference ≤ n → (moment : ℕ)
+    → sent_as (opened_packet q.header q.packet (own_id_length + 1) reference d) reference moment d ≡ record { id = id; number = n; reference = reference; frames = frames; moment = moment; size = length d } ∷ []
+sent_read p q id n reference frames d g mates lawful behind moment =
+    ap (λ (o : Option Opening). sent_as o reference moment d) (opened_given p q id n reference frames d g mates reference)
+    ∙ ap (λ (b : Bool). sent_as (shown_if b n reference g.payload) reference moment d) (expands_there n reference g.near behind)
+    ∙ ap (λ (fs : List FrameValue). record { id = destination d; number = n; reference = reference; frames = fs; moment = moment; size = length d } ∷ []) (frames_of_payload frames g.payload g.spells)
+    ∙ ap (λ (to : List ℕ). record { id = to; number = n; reference = reference; frames = frames; moment = moment; size = length d } ∷ []) (destination_given p id n reference frames d g lawful)
 
 -- PADDING doesn't ask for an acknowledgement
 pub asking_padded : (fs : List FrameValue) (count : ℕ) → asking (fs ++ replicate count padding) ≡ asking fs

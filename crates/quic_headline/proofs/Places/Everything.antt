@@ -9,6 +9,7 @@ use Rattle.quic_headline.specs.Duties.{DutiesStand}
 use Rattle.quic_headline.specs.Grown.{GrownLimitsWait}
 use Rattle.quic_headline.specs.Messages.{MessagesAtMostOnce}
 use Rattle.quic_headline.specs.Headline.{IsHonest, IsRun, OrderedPrefix, Slices, Once, EndAfterAll, BlockedOnlyWithoutBytes, AcceptsAll, FinishedMeansArrived, AcknowledgedWereTaken, NamesWereTaken, OpensExactly, NewestOpens, NumbersRise}
+use Rattle.quic_headline.specs.ConnectionIds.{SentToFirstId, NoUnknownId, FirstIdStays}
 use Rattle.quic_headline.specs.Moments.{LossMoments, LossTimerQuiet, AckMoments}
 use Rattle.quic_headline.specs.Resets.{ResetsAreTold}
 use Rattle.quic_headline.specs.Ids.{IdsAreNew, AcceptedWereOpened}
@@ -211,6 +212,15 @@ module _ (Ready : Way) (ready : IsReadying Ready) where
 
     pub newest_opens : NewestOpens r
     newest_opens = together.all_newest Streams (streams_spell Rest goes) (streams_group Rest goes rest) r end honest run
+
+    pub sent_to_first_id : SentToFirstId r
+    sent_to_first_id = together.all_sent Streams (streams_spell Rest goes) (streams_group Rest goes rest) r end honest run
+
+    pub no_unknown_id : NoUnknownId r
+    no_unknown_id = together.none_unknown Streams (streams_spell Rest goes) (streams_group Rest goes rest) r end honest run
+
+    pub first_id_stays : FirstIdStays r
+    first_id_stays = together.all_stay Streams (streams_spell Rest goes) (streams_group Rest goes rest) r end honest run
 
     pub numbers_rise : NumbersRise r
     numbers_rise = together.all_rise Streams (streams_spell Rest goes) (streams_group Rest goes rest) r end honest run

@@ -14,7 +14,7 @@ use Rattle.quic_machine.specs.declared.run.Call.TheVariants as calls
 use Rattle.quic_machine.specs.declared.answers.State.{State}
 use Rattle.quic_machine.specs.declared.run.Answer.{Answer}
 use Rattle.quic_machine.specs.declared.run.View.{View}
-use Rattle.quic_machine.specs.Ids.{known, own_id}
+use Rattle.quic_machine.specs.Ids.{own_id}
 use Rattle.quic_machine.specs.Opens.{own_id_length}
 use Rattle.quic_machine.specs.Policy.{Policy}
 use Rattle.quic_machine.specs.Parts.{Windows}
@@ -23,8 +23,8 @@ use Rattle.quic_machine.specs.Control.{Control}
 use Rattle.quic_machine.specs.Heard.{Heard}
 use Rattle.quic_machine.specs.Start.{AreStarted}
 use Rattle.quic_machine.specs.Machine.{World, Policies, IsAnswer, IsLeft, IsStep, after_call, reads_window, end_left, end_at, end_met, control_at, given_by, gives, policy_at, fails, Follows, view_of}
-use Rattle.quic_headline.specs.Runs.{Run, Told, In, given_of, told_by, ids_of, folded, until, state_at, LeadsTo, AreServed}
-use Rattle.quic_headline.specs.Observer.{Sent, terms_of, first_watch, watch_told, lens_of, watch}
+use Rattle.quic_headline.specs.Runs.{Run, Told, In, given_of, told_by, ids_of, until, state_at, LeadsTo, AreServed}
+use Rattle.quic_headline.specs.Observer.{Sent, terms_of, watch}
 use Rattle.quic_headline.specs.Headline.{IsHonest, IsRun, IsAt, used, CodeIsSmall}
 use Rattle.quic_headline.specs.Amounts.{making_at}
 use Rattle.quic_headline.proofs.Places.Parties.{sents_by, told_of, Party, called, watch_of, AreJoined, turned, Beginning, begun_as, AreMade}
@@ -47,12 +47,6 @@ start_is w s Server = made_is Server s.server_making.settings s.server_making.wi
 -- the id that an end is known by first
 abbrev pub first_id : Run → Side → List ℕ
 first_id r side = own_id (end_at side r.start).ids.living
-
--- it is known by it alone
-pub known_first : (r : Run) → IsHonest r → (side : Side) → known (end_at side r.start).ids ≡ first_id r side ∷ []
-known_first r honest side =
-    let made = start_is r.start honest.start side in
-    ap (λ (e : End). known e.ids) made ∙ sym (ap (λ (e : End). own_id e.ids.living ∷ []) made)
 
 -- ---- the ends of a run at a place
 
@@ -135,11 +129,7 @@ placed_less C G r end side i less at = record {
 
 -- the observer of an end is that of the run
 pub watch_is : (r : Run) (honest : IsHonest r) (w : World) (i : ℕ) (side : Side) (sents theirs : List Sent) → watch r side i ≡ watch_of (party_at r i w side sents) (party_at r i w (other_side side) theirs)
-watch_is r honest w i side sents theirs = by_side side
-  where
-    by_side : (side : Side) → watch r side i ≡ watch_of (party_at r i w side sents) (party_at r i w (other_side side) theirs)
-    by_side side =
-        ap (λ (ids : List (List ℕ)). folded (watch_told (lens_of r side)) (until r side i) (first_watch ids (given_of r side) (end_at side r.start).closing.clock (end_at side r.start).transport.initial_rtt)) (known_first r honest side)
+watch_is r honest w i side sents theirs = refl
 
 -- what was told at one of the ends
 abbrev told_there : Side → List Told → List Told → List Told

@@ -1,7 +1,7 @@
 -- What an observer counts as acknowledged in flight, an open end knows so of its streams; and each stream is told to be finished once, where all of it is. It holds at each
 -- place of an honest run.
 use Rattle.std.proofs.Common.{◌≡◌, ℕ, ◌+◌, ◌<◌, ◌≤◌, Bool, true, false, List, [], ◌∷◌, ◌++◌, append-nil, Option, Some, None, refl, sym, ap, ◌∙◌, subst, inl, inr, arith}
-use Rattle.std.specs.Prelude.{if◌then◌else◌, max, length, option_map}
+use Rattle.std.specs.Prelude.{if◌then◌else◌, max, option_map}
 use Rattle.quic_wire.specs.Value.{FrameValue, StreamValue, stream}
 use Rattle.quic_send_buffer.specs.declared.stream_meta.StreamMeta.{StreamMeta}
 use Rattle.quic_streams_parts.specs.declared.answers.StreamEvent.{StreamEvent}
@@ -168,7 +168,7 @@ sent_acked (s ∷ ss) f = sent_acked ss (and_sent s f)
 
 datagram_acked : (taker : Policy) (ds : List (List ℕ)) (w : Watch) → (watch_sent taker ds w).flight.acked ≡ w.flight.acked
 datagram_acked taker [] w = refl
-datagram_acked taker (d ∷ ds) w = sent_acked (sent_as (opened_packet taker.header taker.packet (own_id_length + 1) (acknowledged w.intake.took) d) (acknowledged w.intake.took) w.clock (length d)) w.flight
+datagram_acked taker (d ∷ ds) w = sent_acked (sent_as (opened_packet taker.header taker.packet (own_id_length + 1) (acknowledged w.intake.took) d) (acknowledged w.intake.took) w.clock d) w.flight
 
 given_acked : (b : Bool) (l : Lens) (w : Watch) → (watch_given b l w).flight.acked ≡ w.flight.acked
 given_acked false l w = refl
@@ -192,13 +192,13 @@ module _ (x y : Party) where
   seen = watch_of x y
 
   seen_intake : seen.intake ≡ came_to x y
-  seen_intake = watched_intake (lens x y) x.told (first_watch (x.id ∷ []) x.final x.began x.initial_rtt)
+  seen_intake = watched_intake (lens x y) x.told (first_watch x.final x.began x.initial_rtt)
 
   -- behind a call
   pub acks_behind : (call : Call) (a : Answer) → acks (called x y.given call a) y ≡ acked_with x.terms x.end.closing.state call seen (came_to (called x y.given call a) y)
   acks_behind call a =
       let t : Told = told_of call a x.end.closing.state in
-      ap (λ (w : Watch). w.flight.acked) (folded_more (watch_told (lens x y)) x.told t (first_watch (x.id ∷ []) x.final x.began x.initial_rtt))
+      ap (λ (w : Watch). w.flight.acked) (folded_more (watch_told (lens x y)) x.told t (first_watch x.final x.began x.initial_rtt))
       ∙ given_acked (gave a) (lens x y) (timed_with (lens x y) t seen)
       ∙ moment_acked (is_timely t.state call) x.terms (came_with (lens x y) t seen)
       ∙ ap (λ (i : Intake). acked_with x.terms x.end.closing.state call seen i) (ap (λ (i : Intake). and_told x.policy y.final t i) seen_intake ∙ sym (came_more x y call a))
@@ -380,7 +380,7 @@ module _ (B : Way) (b : SettlesOver B) (x y : Party) (call : Call) (a : Answer) 
   done_then q = b.spoken.done x y call a c q
 
   small : (d : Sent) → In d y.sents → (f : FrameValue) → In f d.frames → IsSmallLimit f
-  small d among = let spelled = step_of (IsSent y.policy x.id) y.sents y.given d takes.gives.each among in payload_small d.frames spelled.1.payload spelled.1.spells
+  small d among = let spelled = step_of (IsSent y.policy) y.sents y.given d takes.gives.each among in payload_small d.frames spelled.1.payload spelled.1.spells
 
   -- each case of a delivery, whether the packet is taken or refused
   always_arrives : (now : ℕ) (d : Sent) → In d y.sents → Arrivals x.end now d.number d.frames (came_to x y) (λ (o : Outcome) (i : Intake). Always (told_so x) (wrote x.told) o.end)

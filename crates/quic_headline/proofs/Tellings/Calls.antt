@@ -311,7 +311,7 @@ module _ (x y : Party) (joined : AreJoined x y) (meets : Meets y x) (sight : Sig
 
         heard : BringsBy a (told_received x.policy x.end delivery.now d) after
         heard = subst (λ (b : Answer). BringsBy b (told_received x.policy x.end delivery.now d) after) (sym is)
-            (by_hearing x.policy x.end (delivered_by delivery) seen.intake d BringsBy (meets.known ∙ ap (λ (i : Intake). i.ids) (sym seen_intake)) knows opened (hearings opened))
+            (by_hearing x.policy x.end (delivered_by delivery) seen.intake d BringsBy knows opened (hearings opened))
 
     pub delivery_told : (a : Answer) → IsAnswer x.policy x.end y.given (calls.Deliver delivery) a → fails a ≡ false
         → TellsCall (lens x y) c first seen (told_of (calls.Deliver delivery) a x.end.closing.state) (told_delivered x.policy x.end delivery.now (slice_get y.given delivery.index))

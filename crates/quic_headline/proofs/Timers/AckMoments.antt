@@ -21,7 +21,7 @@ use Rattle.quic_machine.specs.Receive.{asks_in, after_taken, Outcome}
 use Rattle.quic_spaces.specs.Acknowledging.{with_due}
 use Rattle.quic_machine.specs.Poll.{Polled, Draft, polled, draft_as, Leaving}
 use Rattle.quic_machine.specs.Timeouts.{Expiry, loss_judged, acks_expired, loss_expired, pacing_expired}
-use Rattle.quic_machine.specs.Machine.{World, IsAnswer, after_call, fails, gave, end_at}
+use Rattle.quic_machine.specs.Machine.{World, IsAnswer, after_call, fails, gave}
 use Rattle.quic_machine.specs.CallCases.{Plain, is_delivery, by_plain_call}
 use Rattle.quic_machine.specs.CallCases as cases
 use Rattle.quic_machine.specs.LeaveCases.{at_expiry}
@@ -30,8 +30,8 @@ use Rattle.quic_machine.specs.Steps as steps
 use Rattle.quic_machine.specs.PollCases.{ready_at, ready_leaves, draft_at, frames_at, by_poll_to, may_leave_at}
 use Rattle.quic_machine.specs.DraftLaws.{Writing, by_leave, MayLeave}
 use Rattle.quic_machine.specs.Puts as puts
-use Rattle.quic_headline.specs.Runs.{Run, Told, Packet, Intake, In, given_of, until, folded, AreServed}
-use Rattle.quic_headline.specs.Observer.{Watch, first_watch, news, Lens, watch_told, lens_of}
+use Rattle.quic_headline.specs.Runs.{Run, Told, Packet, Intake, In, folded, AreServed}
+use Rattle.quic_headline.specs.Observer.{Watch, first_watch, news, Lens, watch_told}
 use Rattle.quic_headline.specs.Headline.{IsHonest}
 use Rattle.quic_headline.specs.Moments.{is_ack, acknowledges, went, arrivals_of, Debt, arrivals_behind, debt_told, first_debt, IsDueFor, AckMoments}
 use Rattle.quic_headline.specs.Waited.{one_asks}
@@ -45,7 +45,7 @@ use Rattle.quic_headline.proofs.Places.Steps.{poll_answer}
 use Rattle.quic_headline.proofs.Places.Parties.{sent_by, sent_if, sents_by, told_of, Party, called, came_to, lens, watch_of}
 use Rattle.quic_headline.proofs.Places.Groups.{And, Calls, Group}
 use Rattle.quic_headline.proofs.Places.Coming.{by_coming}
-use Rattle.quic_headline.proofs.Places.Placed.{Placed, party_at, known_first}
+use Rattle.quic_headline.proofs.Places.Placed.{Placed, party_at}
 use Rattle.quic_headline.proofs.Timers.Still.{was_open}
 use Rattle.quic_headline.proofs.Timers.Watched.{Observed, watched_behind, timers_behind, open_behind, went_behind, came_before, came_behind}
 use Rattle.quic_headline.proofs.Packets.Probes.{by_going}
@@ -260,13 +260,13 @@ comes_due d after moment none due some =
 
 -- ---- the group
 
--- nothing came to an end that is known by an id, gives these datagrams in all, and was made at a moment
-abbrev debt_first : List ℕ → List (List ℕ) → ℕ → ℕ → Debt
-debt_first own final start initial_rtt = first_debt (first_watch (own ∷ []) final start initial_rtt)
+-- nothing came to an end that gives these datagrams in all, and was made at a moment
+abbrev debt_first : List (List ℕ) → ℕ → ℕ → Debt
+debt_first final start initial_rtt = first_debt (first_watch final start initial_rtt)
 
 -- what the observer of x knows
 abbrev pub debt_of : Party → Party → Debt
-debt_of x y = folded (debt_told (lens x y)) x.told (debt_first x.id x.final x.began x.initial_rtt)
+debt_of x y = folded (debt_told (lens x y)) x.told (debt_first x.final x.began x.initial_rtt)
 
 -- the watch within the debt is the observer's
 pub owed_watch : (l : Lens) (told : List Told) (d : Debt) → (folded (debt_told l) told d).watch ≡ folded (watch_told l) told d.watch
@@ -288,7 +288,7 @@ debt_step x y call a c i = record { owes = owes }
     t = told_of call a x.end.closing.state
 
     same : d.watch ≡ watch_of x y
-    same = owed_watch (lens x y) x.told (debt_first x.id x.final x.began x.initial_rtt)
+    same = owed_watch (lens x y) x.told (debt_first x.final x.began x.initial_rtt)
 
     after : Watch
     after = watch_told (lens x y) t d.watch
@@ -324,7 +324,7 @@ debt_step x y call a c i = record { owes = owes }
 
     owes : (called x y.given call a).end.closing.state ≡ states.Open → Owes (debt_of (called x y.given call a) y) (called x y.given call a).end
     owes still =
-        subst (λ (b : Debt). Owes b (called x y.given call a).end) (sym (folded_more (debt_told (lens x y)) x.told t (debt_first x.id x.final x.began x.initial_rtt)))
+        subst (λ (b : Debt). Owes b (called x y.given call a).end) (sym (folded_more (debt_told (lens x y)) x.told t (debt_first x.final x.began x.initial_rtt)))
         (by_acks (acknowledges (sents_by x.end call a)) refl still)
 
 -- over the packets and what observers know of them
@@ -346,5 +346,4 @@ ack_moments r end honest all side i moment v served there opened timer =
     let now_open : x.end.closing.state ≡ states.Open = open_behind r at.world i v side at.leads there opened in
     let set : Some x.end.timers.max_ack_delay ≡ Some (Some moment) = sym (ap (λ (ts : List (Option ℕ)). slice_get ts 8) (timers_behind r at.world i v side at.leads there)) ∙ timer in
     let is : x.end.timers.max_ack_delay ≡ Some moment = cc in
-    subst (λ (ids : List (List ℕ)). IsDueFor (folded (debt_told (lens_of r side)) (until r side (suc i)) (first_debt (first_watch ids (given_of r side) (end_at side r.start).closing.clock (end_at side r.start).transport.initial_rtt))).arrivals moment) (sym (known_first r honest side))
-    (at.gives.1.owes now_open moment is)
+    at.gives.1.owes now_open moment is

@@ -17,12 +17,12 @@ use Rattle.quic_machine.specs.Poll.{asking, zeros_behind, whole, alone, probe, n
 use Rattle.quic_machine.specs.DraftLaws.{HasRoom}
 use Rattle.quic_machine.specs.PollCases.{ready_at, ready_leaves, draft_at, frames_at, may_leave_at}
 use Rattle.quic_machine.specs.Machine.{World, policy_at, end_at, control_at}
-use Rattle.quic_headline.specs.Runs.{Run, In, folded, until, given_of}
-use Rattle.quic_headline.specs.Observer.{Sent, HoldsOffset, HoldsEnd, asks_of, Watch, first_watch, lens_of}
+use Rattle.quic_headline.specs.Runs.{Run, In}
+use Rattle.quic_headline.specs.Observer.{Sent, HoldsOffset, HoldsEnd, asks_of, Watch}
 use Rattle.quic_headline.specs.Headline.{IsHonest, IsRun}
 use Rattle.quic_headline.specs.Moments.{is_ack, acknowledges}
 use Rattle.quic_headline.specs.Polls.{GaveOne}
-use Rattle.quic_headline.specs.Waited.{one_asks, count_silent, may_come, stands, Wants, wants_told, no_wants, wants, calls_for_ack, FrameWaited, HasWaited, as_size_probe, as_loss_probe, as_ack, as_frames, EachWaited}
+use Rattle.quic_headline.specs.Waited.{one_asks, count_silent, may_come, stands, Wants, wants, calls_for_ack, FrameWaited, HasWaited, as_size_probe, as_loss_probe, as_ack, as_frames, EachWaited}
 use Rattle.quic_headline.specs.InFlight.{is_max_streams}
 use Rattle.quic_headline.proofs.Packets.Flying.{asking_padded}
 use Rattle.quic_headline.proofs.Packets.Searches.{ready_size}
@@ -30,7 +30,7 @@ use Rattle.quic_headline.proofs.Packets.Probes.{ready_acks, ready_state}
 use Rattle.quic_headline.proofs.Places.Told.{in_append}
 use Rattle.quic_headline.proofs.Places.Parties.{sent_by, Party}
 use Rattle.quic_headline.proofs.Places.Groups.{Way, Nothing, And, Group, both, over}
-use Rattle.quic_headline.proofs.Places.Placed.{party_at, known_first}
+use Rattle.quic_headline.proofs.Places.Placed.{party_at}
 use Rattle.quic_headline.proofs.Places.Together.{Spells}
 use Rattle.quic_headline.proofs.Places.Everything as everything
 use Rattle.quic_headline.proofs.Places.Theorems.{ready}
@@ -140,7 +140,7 @@ module _ (r : Run) (end : World) (honest : IsHonest r) (run : IsRun r end) (side
 
   -- what is wanted of the run is what is wanted of its end
   wants_is : wants r side i ≡ wants_of x y
-  wants_is = ap (λ (ids : List (List ℕ)). folded (wants_told (lens_of r side)) (until r side i) (no_wants (first_watch ids (given_of r side) (end_at side r.start).closing.clock (end_at side r.start).transport.initial_rtt))) (known_first r honest side)
+  wants_is = refl
 
   wanted : IsWanted (wants r side i) e
   wanted = subst (λ (v : Wants). IsWanted v e) (sym wants_is) (h.gives.1.wanted gives.opened)

@@ -183,7 +183,7 @@ module _ (p : Policy) (e : End) (now : ℕ) (k : Flag) where
 
 -- what the observer of x knows to be wanted
 abbrev pub wants_of : Party → Party → Wants
-wants_of x y = folded (wants_told (lens x y)) x.told (no_wants (first_watch (x.id ∷ []) x.final x.began x.initial_rtt))
+wants_of x y = folded (wants_told (lens x y)) x.told (no_wants (first_watch x.final x.began x.initial_rtt))
 
 -- the watch within it is the observer's
 same_watch : (l : Lens) (told : List Told) (w : Wants) → (folded (wants_told l) told w).watch ≡ folded (watch_told l) told w.watch
@@ -191,7 +191,7 @@ same_watch l [] w = refl
 same_watch l (t ∷ told) w = same_watch l told (wants_told l t w)
 
 pub wants_watch : (x y : Party) → (wants_of x y).watch ≡ watch_of x y
-wants_watch x y = same_watch (lens x y) x.told (no_wants (first_watch (x.id ∷ []) x.final x.began x.initial_rtt))
+wants_watch x y = same_watch (lens x y) x.told (no_wants (first_watch x.final x.began x.initial_rtt))
 
 -- what an open end wants, by what is known to be wanted
 pub record IsWanted (w : Wants) (e : End) : Type 0 where
@@ -231,7 +231,7 @@ module _ (x y : Party) (call : Call) (a : Answer) (c : Calls Observed x y call a
   -- what is wanted behind the call
   wants_next : wants_of next y ≡ wants_behind t sents came after w
   wants_next =
-      folded_more (wants_told (lens x y)) x.told t (no_wants (first_watch (x.id ∷ []) x.final x.began x.initial_rtt))
+      folded_more (wants_told (lens x y)) x.told t (no_wants (first_watch x.final x.began x.initial_rtt))
       ∙ ap (λ (ss : List Sent). wants_behind t ss (news w.watch.intake after.intake) after w) (went_behind x y call a c w.watch watched)
       ∙ ap (λ (j : Intake). wants_behind t sents (news j after.intake) after w) (came_before x y call a c w.watch watched)
       ∙ ap (λ (j : Intake). wants_behind t sents (news (came_to x y) j) after w) (came_behind x y call a c w.watch watched)
