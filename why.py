@@ -78,7 +78,8 @@ def one_of(*names):
 
 OPTIONS = {
     "receive_window": varint, "stream_window": varint, "send_window": natural, "bidi": varint,
-    "uni": varint, "messages": natural, "search": switch, "word": natural, "pcg": natural,
+    "uni": varint, "messages": natural, "search": switch, "validated": switch, "word": natural,
+    "pcg": natural,
 }  # fmt: skip
 DIR = one_of("bi", "uni")
 MARK = one_of(*MARKS)

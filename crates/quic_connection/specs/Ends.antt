@@ -11,7 +11,7 @@ use Rattle.quic_machine.specs.declared.run.View.{View}
 use Rattle.quic_machine.specs.declared.answers.ConfigError.{ConfigError}
 use Rattle.quic_machine.specs.declared.answers.State.TheVariants as states
 use Rattle.quic_machine.specs.Policy.{Policy}
-use Rattle.quic_machine.specs.End.{End, ConnectionValue, policy_of, refusal_of}
+use Rattle.quic_machine.specs.End.{End, ConnectionValue, policy_of, refusal_of, words_drawn}
 use Rattle.quic_machine.specs.Control.{Control}
 use Rattle.quic_connection_core.specs.Configured.{Configured}
 use Rattle.quic_connection_core.specs.Drawn.{words_of, after_words}
@@ -67,8 +67,8 @@ kept (Err failed) bytes = []
 pub record GoesOn {H K R C : Type 0} (stream : R → Stream) (old new : ConnectionValue H K R C) : Type 0 where
   pub keys : new.keys ≡ old.keys
   pub served : new.end.closing.state ≢ states.Failed → old.end.closing.state ≢ states.Failed
-  pub drawn : new.end.closing.state ≢ states.Failed → old.end.filter.drawn ≤ new.end.filter.drawn
-  pub random : new.end.closing.state ≢ states.Failed → stream new.random ≡ after_words (new.end.filter.drawn - old.end.filter.drawn) (stream old.random)
+  pub drawn : new.end.closing.state ≢ states.Failed → words_drawn old.end ≤ words_drawn new.end
+  pub random : new.end.closing.state ≢ states.Failed → stream new.random ≡ after_words (words_drawn new.end - words_drawn old.end) (stream old.random)
 
 -- so do both ends
 pub record GoOn {H K R C : Type 0} (stream : R → Stream) (old new : Ends H K R C) : Type 0 where
@@ -78,7 +78,7 @@ pub record GoOn {H K R C : Type 0} (stream : R → Stream) (old new : Ends H K R
 -- A policy does at an end what another one does: its keys do, and unless the end has failed, it answers the same of all words that aren't drawn yet.
 pub record Serves (k p : Policy) (e : End) : Type 0 where
   pub keys : k ≡ record p { words = k.words }
-  pub words : e.closing.state ≢ states.Failed → (n : ℕ) → e.filter.drawn ≤ n → k.words n ≡ p.words n
+  pub words : e.closing.state ≢ states.Failed → (n : ℕ) → words_drawn e ≤ n → k.words n ≡ p.words n
 
 -- policies do at two ends what their keys and random sources do from here on
 pub record AreOf {H K R C : Type 0} (k : Policies) (protection : H → Protection) (aead : K → Aead) (stream : R → Stream) (ends : Ends H K R C) : Type 0 where

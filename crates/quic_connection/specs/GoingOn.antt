@@ -4,7 +4,7 @@ use Rattle.std.specs.Prelude.{replicate}
 use Rattle.rand_core.specs.Stream.{Stream, u64_call, after}
 use Rattle.quic_packet.specs.Keys.{Protection, Aead}
 use Rattle.quic_machine.specs.Policy.{Policy, keys_policy}
-use Rattle.quic_machine.specs.End.{ConnectionValue, policy_of}
+use Rattle.quic_machine.specs.End.{ConnectionValue, policy_of, words_drawn}
 use Rattle.quic_machine.specs.Machine.{Policies}
 use Rattle.quic_connection_core.specs.Drawn.{words_of, after_words}
 use Rattle.quic_connection.specs.declared.running.Ends.{Ends}
@@ -28,7 +28,7 @@ goes_same stream w = record {
   keys = refl;
   served = λ o. o;
   drawn = λ o. (omega arith);
-  random = λ o. ap (λ (k : ℕ). after_words k (stream w.random)) (let none : 0 ≡ w.end.filter.drawn - w.end.filter.drawn = omega arith in none);
+  random = λ o. ap (λ (k : ℕ). after_words k (stream w.random)) (let none : 0 ≡ words_drawn w.end - words_drawn w.end = omega arith in none);
 }
 
 -- and further
@@ -40,10 +40,10 @@ goes_then stream a b c first next = record {
   random = λ o.
       let one = first.drawn (next.served o) in
       let two = next.drawn o in
-      let sum : c.end.filter.drawn - b.end.filter.drawn + (b.end.filter.drawn - a.end.filter.drawn) ≡ c.end.filter.drawn - a.end.filter.drawn = omega arith in
+      let sum : words_drawn c.end - words_drawn b.end + (words_drawn b.end - words_drawn a.end) ≡ words_drawn c.end - words_drawn a.end = omega arith in
       next.random o
-      ∙ ap (λ (s : Stream). after_words (c.end.filter.drawn - b.end.filter.drawn) s) (first.random (next.served o))
-      ∙ after_both (b.end.filter.drawn - a.end.filter.drawn) (c.end.filter.drawn - b.end.filter.drawn) (stream a.random)
+      ∙ ap (λ (s : Stream). after_words (words_drawn c.end - words_drawn b.end) s) (first.random (next.served o))
+      ∙ after_both (words_drawn b.end - words_drawn a.end) (words_drawn c.end - words_drawn b.end) (stream a.random)
       ∙ ap (λ (k : ℕ). after_words k (stream a.random)) sum;
 }
 
@@ -62,12 +62,12 @@ module _ {H K R C : Type 0} (protection : H → Protection) (aead : K → Aead) 
     keys = s.keys ∙ ap (λ ks. keys_policy protection aead ks k.words) (sym g.keys);
     words = λ o n high.
         let more = g.drawn o in
-        let low : old.end.filter.drawn ≤ n = omega arith in
-        let sum : n - new.end.filter.drawn + (new.end.filter.drawn - old.end.filter.drawn) ≡ n - old.end.filter.drawn = omega arith in
+        let low : words_drawn old.end ≤ n = omega arith in
+        let sum : n - words_drawn new.end + (words_drawn new.end - words_drawn old.end) ≡ n - words_drawn old.end = omega arith in
         s.words (g.served o) n low
         ∙ ap (λ (m : ℕ). words_of stream old.random m) (sym sum)
-        ∙ sym (words_behind (new.end.filter.drawn - old.end.filter.drawn) (n - new.end.filter.drawn) (stream old.random))
-        ∙ ap (λ (s : Stream). s.u64_after (replicate (n - new.end.filter.drawn) u64_call)) (sym (g.random o));
+        ∙ sym (words_behind (words_drawn new.end - words_drawn old.end) (n - words_drawn new.end) (stream old.random))
+        ∙ ap (λ (s : Stream). s.u64_after (replicate (n - words_drawn new.end) u64_call)) (sym (g.random o));
   }
 
   -- the ends' own policies

@@ -4,7 +4,7 @@ ghost use Rattle.quic_parameters.specs.ParametersWritten.{written_parameters};
 ghost use Rattle.quic_parameters.specs.ParametersRead.{parameters_at};
 ghost use Rattle.quic_config.specs.Transport.{parameters_of, first_mtu, IsInRange};
 ghost use Rattle.quic_machine.specs.Policy.{KeysCanOpen};
-ghost use Rattle.quic_machine.specs.End.{MadeFrom, refusal_of};
+ghost use Rattle.quic_machine.specs.End.{MadeFrom, refusal_of, words_drawn};
 ghost use Rattle.quic_machine.specs.Heard.{nothing_heard};
 ghost use Rattle.quic_machine.specs.Start.{AreStarted, AreControlled, AreKeys};
 ghost use Rattle.quic_machine.specs.declared.answers.ConfigError.TheVariants as config_errors;
@@ -34,7 +34,8 @@ pub struct Making<F, H, K, R> {
     /// Its keys: what the `local` ones seal, the other end's `remote` ones open, and the other way
     /// round.
     pub keys: Keys<H, K>,
-    /// Its random source, of which a word is drawn at once.
+    /// Its random source, of which a word is drawn at once, and one more where the peer's address
+    /// isn't validated.
     pub random: R,
     /// Whether the peer's address is validated already.
     pub validated: bool,
@@ -71,11 +72,11 @@ fn end_for<
 ) -> Result<Connection<H, K, R, C>, ConfigError>
     ensures made { IfOk result (λ c.
         MadeFrom side own.config.settings (windows_at C.initial_of C.window_of c.control)
-        peer_parameters.entry.now own.id peer_id now own.validated (words_of R.stream own.random 0) c.end) }
+        peer_parameters.entry.now own.id peer_id now own.validated (words_of R.stream own.random) c.end) }
     ensures control { IfOk result (λ c. c.control ≡ controller_for F.built own.config now) }
     ensures roomy { IfOk result (λ c. IsRoomy C.size_of C.window_of c.control (first_mtu c.end.transport)) }
     ensures keys { IfOk result (λ c. c.keys ≡ own.keys) }
-    ensures random { IfOk result (λ c. R.stream c.random ≡ after_words 1 (R.stream own.random)) }
+    ensures random { IfOk result (λ c. R.stream c.random ≡ after_words (words_drawn c.end) (R.stream own.random)) }
     ensures heard { IfOk result (λ c. c.heard ≡ nothing_heard) }
     ensures refusal { IfErr result (λ e.
         Some e ≡ refusal_of own.config.settings (C.window_of (controller_for F.built own.config now)) (parameters_at peer_parameters.entry.now) own.id peer_id) }
@@ -124,12 +125,12 @@ impl<H: HeaderKey + Drop, K: PacketKey + Drop, R: Rng + Drop, C: Controller> End
             MadeFrom Side.Client client.config.settings
             (windows_at C.initial_of C.window_of ends.client.control)
             (written_parameters (parameters_of server.config.settings) in_order) client.id server.id now
-            client.validated (words_of R.stream client.random 0) ends.client.end) }
+            client.validated (words_of R.stream client.random) ends.client.end) }
         ensures server { IfOk result (λ ends.
             MadeFrom Side.Server server.config.settings
             (windows_at C.initial_of C.window_of ends.server.control)
             (written_parameters (parameters_of client.config.settings) in_order) server.id client.id now
-            server.validated (words_of R.stream server.random 0) ends.server.end) }
+            server.validated (words_of R.stream server.random) ends.server.end) }
         ensures client_control { IfOk result (λ ends.
             ends.client.control ≡ controller_for F.built client.config now) }
         ensures server_control { IfOk result (λ ends.
@@ -137,9 +138,9 @@ impl<H: HeaderKey + Drop, K: PacketKey + Drop, R: Rng + Drop, C: Controller> End
         ensures client_keys { IfOk result (λ ends. ends.client.keys ≡ client.keys) }
         ensures server_keys { IfOk result (λ ends. ends.server.keys ≡ server.keys) }
         ensures client_random { IfOk result (λ ends.
-            R.stream ends.client.random ≡ after_words 1 (R.stream client.random)) }
+            R.stream ends.client.random ≡ after_words (words_drawn ends.client.end) (R.stream client.random)) }
         ensures server_random { IfOk result (λ ends.
-            R.stream ends.server.random ≡ after_words 1 (R.stream server.random)) }
+            R.stream ends.server.random ≡ after_words (words_drawn ends.server.end) (R.stream server.random)) }
         ensures client_heard { IfOk result (λ ends. ends.client.heard ≡ nothing_heard) }
         ensures server_heard { IfOk result (λ ends. ends.server.heard ≡ nothing_heard) }
         ensures refusal { IfErr result (λ e.

@@ -174,23 +174,23 @@ pub fn call_at<H: HeaderKey + Drop, K: PacketKey + Drop, R: Rng + Drop, C: Contr
 ) -> Result<Answer, AllocError>
     ensures answer { IfOk result (λ a.
         IsAnswer (policy_of H.protection K.aead (words_of R.stream) end.old)
-        (reads_window (windows_of C.steps C.window_of end.old.control) call.now end.old.end) [] call.now a) }
+        (reads_window (windows_of C.steps C.window_of end.old.control) end.old.heard call.now end.old.end) [] call.now a) }
     ensures lacking { IfOk result (λ a.
         LacksWhere (policy_of H.protection K.aead (words_of R.stream) end.old)
-        (reads_window (windows_of C.steps C.window_of end.old.control) call.now end.old.end) [] call.now a) }
+        (reads_window (windows_of C.steps C.window_of end.old.control) end.old.heard call.now end.old.end) [] call.now a) }
     ensures end { IfOk result (λ a.
         IsLeft (fails a) (policy_of H.protection K.aead (words_of R.stream) end.old)
-        (windows_of C.steps C.window_of end.old.control) end.old.end [] call.now a end.new.end) }
+        (windows_of C.steps C.window_of end.old.control) end.old.heard end.old.end [] call.now a end.new.end) }
     ensures control { IfOk result (λ a.
         IsTold (fails a) (policy_of H.protection K.aead (words_of R.stream) end.old)
-        (windows_of C.steps C.window_of end.old.control) end.old.end [] call.now
+        (windows_of C.steps C.window_of end.old.control) end.old.heard end.old.end [] call.now
         (windows_of C.steps C.window_of end.new.control)) }
     ensures heard { IfOk result (λ a.
         IsHeard (fails a) [] call.now a end.old.heard end.new.heard) }
     ensures appended { IfOk result (λ a.
         given.new.items
         ≡ given.old.items ++ gives (policy_of H.protection K.aead (words_of R.stream) end.old)
-        (reads_window (windows_of C.steps C.window_of end.old.control) call.now end.old.end) call.now a) }
+        (reads_window (windows_of C.steps C.window_of end.old.control) end.old.heard call.now end.old.end) call.now a) }
     ensures keys { is_poll call.now ≡ false → KeepsKeys end.old end.new }
     ensures polled { is_poll call.now ≡ true → GoesOn R.stream end.old end.new }
     ensures err { OnErr result (end.new ≡ end.old) }
@@ -210,23 +210,23 @@ fn at_end<H: HeaderKey + Drop, K: PacketKey + Drop, R: Rng + Drop, C: Controller
 ) -> Result<Answer, AllocError>
     ensures answer { IfOk result (λ a.
         IsAnswer (policy_of H.protection K.aead (words_of R.stream) end.old)
-        (reads_window (windows_of C.steps C.window_of end.old.control) call.now end.old.end) theirs.now call.now a) }
+        (reads_window (windows_of C.steps C.window_of end.old.control) end.old.heard call.now end.old.end) theirs.now call.now a) }
     ensures lacking { IfOk result (λ a.
         LacksWhere (policy_of H.protection K.aead (words_of R.stream) end.old)
-        (reads_window (windows_of C.steps C.window_of end.old.control) call.now end.old.end) theirs.now call.now a) }
+        (reads_window (windows_of C.steps C.window_of end.old.control) end.old.heard call.now end.old.end) theirs.now call.now a) }
     ensures end { IfOk result (λ a.
         IsLeft (fails a) (policy_of H.protection K.aead (words_of R.stream) end.old)
-        (windows_of C.steps C.window_of end.old.control) end.old.end theirs.now call.now a end.new.end) }
+        (windows_of C.steps C.window_of end.old.control) end.old.heard end.old.end theirs.now call.now a end.new.end) }
     ensures control { IfOk result (λ a.
         IsTold (fails a) (policy_of H.protection K.aead (words_of R.stream) end.old)
-        (windows_of C.steps C.window_of end.old.control) end.old.end theirs.now call.now
+        (windows_of C.steps C.window_of end.old.control) end.old.heard end.old.end theirs.now call.now
         (windows_of C.steps C.window_of end.new.control)) }
     ensures heard { IfOk result (λ a.
         IsHeard (fails a) theirs.now call.now a end.old.heard end.new.heard) }
     ensures given { IfOk result (λ a.
         mine.new.items
         ≡ mine.old.items ++ gives (policy_of H.protection K.aead (words_of R.stream) end.old)
-        (reads_window (windows_of C.steps C.window_of end.old.control) call.now end.old.end) call.now a) }
+        (reads_window (windows_of C.steps C.window_of end.old.control) end.old.heard call.now end.old.end) call.now a) }
     ensures keys { is_poll call.now ≡ false → KeepsKeys end.old end.new }
     ensures polled { is_poll call.now ≡ true → GoesOn R.stream end.old end.new }
     ensures err { OnErr result (end.new ≡ end.old) }
@@ -276,22 +276,22 @@ fn send_at<H: HeaderKey + Drop, K: PacketKey + Drop, R: Rng + Drop, C: Controlle
 ) -> Result<Answer, AllocError>
     ensures answer { IfOk result (λ a.
         IsAnswer (policy_of H.protection K.aead (words_of R.stream) end.old)
-        (reads_window (windows_of C.steps C.window_of end.old.control) (Call.Send message.now makes_room) end.old.end) [] (Call.Send message.now makes_room) a) }
+        (reads_window (windows_of C.steps C.window_of end.old.control) end.old.heard (Call.Send message.now makes_room) end.old.end) [] (Call.Send message.now makes_room) a) }
     ensures lacking { IfOk result (λ a.
         LacksWhere (policy_of H.protection K.aead (words_of R.stream) end.old)
-        (reads_window (windows_of C.steps C.window_of end.old.control) (Call.Send message.now makes_room) end.old.end) [] (Call.Send message.now makes_room) a) }
+        (reads_window (windows_of C.steps C.window_of end.old.control) end.old.heard (Call.Send message.now makes_room) end.old.end) [] (Call.Send message.now makes_room) a) }
     ensures end { IfOk result (λ a.
         IsLeft (fails a) (policy_of H.protection K.aead (words_of R.stream) end.old)
-        (windows_of C.steps C.window_of end.old.control) end.old.end [] (Call.Send message.now makes_room) a end.new.end) }
+        (windows_of C.steps C.window_of end.old.control) end.old.heard end.old.end [] (Call.Send message.now makes_room) a end.new.end) }
     ensures control { IfOk result (λ a.
         IsTold (fails a) (policy_of H.protection K.aead (words_of R.stream) end.old)
-        (windows_of C.steps C.window_of end.old.control) end.old.end [] (Call.Send message.now makes_room)
+        (windows_of C.steps C.window_of end.old.control) end.old.heard end.old.end [] (Call.Send message.now makes_room)
         (windows_of C.steps C.window_of end.new.control)) }
     ensures heard { IfOk result (λ a.
         IsHeard (fails a) [] (Call.Send message.now makes_room) a end.old.heard end.new.heard) }
     ensures given { IfOk result (λ a.
         gives (policy_of H.protection K.aead (words_of R.stream) end.old)
-        (reads_window (windows_of C.steps C.window_of end.old.control) (Call.Send message.now makes_room) end.old.end) (Call.Send message.now makes_room) a ≡ []) }
+        (reads_window (windows_of C.steps C.window_of end.old.control) end.old.heard (Call.Send message.now makes_room) end.old.end) (Call.Send message.now makes_room) a ≡ []) }
     ensures keys { KeepsKeys end.old end.new }
     ensures err { OnErr result (end.new ≡ end.old) }
 {
@@ -305,19 +305,19 @@ fn recv_at<H: HeaderKey + Drop, K: PacketKey + Drop, R: Rng + Drop, C: Controlle
     end: &mut Connection<H, K, R, C>,
 ) -> Answer
     ensures answer { IsAnswer (policy_of H.protection K.aead (words_of R.stream) end.old)
-        (reads_window (windows_of C.steps C.window_of end.old.control) Call.Recv end.old.end) [] Call.Recv
+        (reads_window (windows_of C.steps C.window_of end.old.control) end.old.heard Call.Recv end.old.end) [] Call.Recv
         result }
     ensures lacking { LacksWhere (policy_of H.protection K.aead (words_of R.stream) end.old)
-        (reads_window (windows_of C.steps C.window_of end.old.control) Call.Recv end.old.end) [] Call.Recv
+        (reads_window (windows_of C.steps C.window_of end.old.control) end.old.heard Call.Recv end.old.end) [] Call.Recv
         result }
     ensures end { IsLeft (fails result) (policy_of H.protection K.aead (words_of R.stream) end.old)
-        (windows_of C.steps C.window_of end.old.control) end.old.end [] Call.Recv result end.new.end }
+        (windows_of C.steps C.window_of end.old.control) end.old.heard end.old.end [] Call.Recv result end.new.end }
     ensures control { IsTold (fails result) (policy_of H.protection K.aead (words_of R.stream) end.old)
-        (windows_of C.steps C.window_of end.old.control) end.old.end [] Call.Recv
+        (windows_of C.steps C.window_of end.old.control) end.old.heard end.old.end [] Call.Recv
         (windows_of C.steps C.window_of end.new.control) }
     ensures heard { IsHeard (fails result) [] Call.Recv result end.old.heard end.new.heard }
     ensures given { gives (policy_of H.protection K.aead (words_of R.stream) end.old)
-        (reads_window (windows_of C.steps C.window_of end.old.control) Call.Recv end.old.end) Call.Recv result
+        (reads_window (windows_of C.steps C.window_of end.old.control) end.old.heard Call.Recv end.old.end) Call.Recv result
         ≡ [] }
     ensures keys { KeepsKeys end.old end.new }
 {
@@ -330,19 +330,19 @@ fn ping_at<H: HeaderKey + Drop, K: PacketKey + Drop, R: Rng + Drop, C: Controlle
     end: &mut Connection<H, K, R, C>,
 ) -> Answer
     ensures answer { IsAnswer (policy_of H.protection K.aead (words_of R.stream) end.old)
-        (reads_window (windows_of C.steps C.window_of end.old.control) Call.Ping end.old.end) [] Call.Ping
+        (reads_window (windows_of C.steps C.window_of end.old.control) end.old.heard Call.Ping end.old.end) [] Call.Ping
         result }
     ensures lacking { LacksWhere (policy_of H.protection K.aead (words_of R.stream) end.old)
-        (reads_window (windows_of C.steps C.window_of end.old.control) Call.Ping end.old.end) [] Call.Ping
+        (reads_window (windows_of C.steps C.window_of end.old.control) end.old.heard Call.Ping end.old.end) [] Call.Ping
         result }
     ensures end { IsLeft (fails result) (policy_of H.protection K.aead (words_of R.stream) end.old)
-        (windows_of C.steps C.window_of end.old.control) end.old.end [] Call.Ping result end.new.end }
+        (windows_of C.steps C.window_of end.old.control) end.old.heard end.old.end [] Call.Ping result end.new.end }
     ensures control { IsTold (fails result) (policy_of H.protection K.aead (words_of R.stream) end.old)
-        (windows_of C.steps C.window_of end.old.control) end.old.end [] Call.Ping
+        (windows_of C.steps C.window_of end.old.control) end.old.heard end.old.end [] Call.Ping
         (windows_of C.steps C.window_of end.new.control) }
     ensures heard { IsHeard (fails result) [] Call.Ping result end.old.heard end.new.heard }
     ensures given { gives (policy_of H.protection K.aead (words_of R.stream) end.old)
-        (reads_window (windows_of C.steps C.window_of end.old.control) Call.Ping end.old.end) Call.Ping result
+        (reads_window (windows_of C.steps C.window_of end.old.control) end.old.heard Call.Ping end.old.end) Call.Ping result
         ≡ [] }
     ensures keys { KeepsKeys end.old end.new }
 {
@@ -359,23 +359,23 @@ fn poll_at<H: HeaderKey + Drop, K: PacketKey + Drop, R: Rng + Drop, C: Controlle
 ) -> Result<Answer, AllocError>
     ensures answer { IfOk result (λ a.
         IsAnswer (policy_of H.protection K.aead (words_of R.stream) end.old)
-        (reads_window (windows_of C.steps C.window_of end.old.control) (Call.Poll now) end.old.end) [] (Call.Poll now) a) }
+        (reads_window (windows_of C.steps C.window_of end.old.control) end.old.heard (Call.Poll now) end.old.end) [] (Call.Poll now) a) }
     ensures lacking { IfOk result (λ a.
         LacksWhere (policy_of H.protection K.aead (words_of R.stream) end.old)
-        (reads_window (windows_of C.steps C.window_of end.old.control) (Call.Poll now) end.old.end) [] (Call.Poll now) a) }
+        (reads_window (windows_of C.steps C.window_of end.old.control) end.old.heard (Call.Poll now) end.old.end) [] (Call.Poll now) a) }
     ensures end { IfOk result (λ a.
         IsLeft (fails a) (policy_of H.protection K.aead (words_of R.stream) end.old)
-        (windows_of C.steps C.window_of end.old.control) end.old.end [] (Call.Poll now) a end.new.end) }
+        (windows_of C.steps C.window_of end.old.control) end.old.heard end.old.end [] (Call.Poll now) a end.new.end) }
     ensures control { IfOk result (λ a.
         IsTold (fails a) (policy_of H.protection K.aead (words_of R.stream) end.old)
-        (windows_of C.steps C.window_of end.old.control) end.old.end [] (Call.Poll now)
+        (windows_of C.steps C.window_of end.old.control) end.old.heard end.old.end [] (Call.Poll now)
         (windows_of C.steps C.window_of end.new.control)) }
     ensures heard { IfOk result (λ a.
         IsHeard (fails a) [] (Call.Poll now) a end.old.heard end.new.heard) }
     ensures given { IfOk result (λ a.
         mine.new.items
         ≡ mine.old.items ++ gives (policy_of H.protection K.aead (words_of R.stream) end.old)
-        (reads_window (windows_of C.steps C.window_of end.old.control) (Call.Poll now) end.old.end) (Call.Poll now) a) }
+        (reads_window (windows_of C.steps C.window_of end.old.control) end.old.heard (Call.Poll now) end.old.end) (Call.Poll now) a) }
     ensures goes_on { GoesOn R.stream end.old end.new }
     ensures err { OnErr result (end.new ≡ end.old) }
     ensures err_given { OnErr result (mine.new.items ≡ mine.old.items) }
@@ -404,17 +404,17 @@ fn timeout_at<H: HeaderKey + Drop, K: PacketKey + Drop, R: Rng + Drop, C: Contro
     now: Instant,
 ) -> Answer
     ensures answer { IsAnswer (policy_of H.protection K.aead (words_of R.stream) end.old)
-        (reads_window (windows_of C.steps C.window_of end.old.control) (Call.Timeout now) end.old.end) [] (Call.Timeout now) result }
+        (reads_window (windows_of C.steps C.window_of end.old.control) end.old.heard (Call.Timeout now) end.old.end) [] (Call.Timeout now) result }
     ensures lacking { LacksWhere (policy_of H.protection K.aead (words_of R.stream) end.old)
-        (reads_window (windows_of C.steps C.window_of end.old.control) (Call.Timeout now) end.old.end) [] (Call.Timeout now) result }
+        (reads_window (windows_of C.steps C.window_of end.old.control) end.old.heard (Call.Timeout now) end.old.end) [] (Call.Timeout now) result }
     ensures end { IsLeft (fails result) (policy_of H.protection K.aead (words_of R.stream) end.old)
-        (windows_of C.steps C.window_of end.old.control) end.old.end [] (Call.Timeout now) result end.new.end }
+        (windows_of C.steps C.window_of end.old.control) end.old.heard end.old.end [] (Call.Timeout now) result end.new.end }
     ensures control { IsTold (fails result) (policy_of H.protection K.aead (words_of R.stream) end.old)
-        (windows_of C.steps C.window_of end.old.control) end.old.end [] (Call.Timeout now)
+        (windows_of C.steps C.window_of end.old.control) end.old.heard end.old.end [] (Call.Timeout now)
         (windows_of C.steps C.window_of end.new.control) }
     ensures heard { IsHeard (fails result) [] (Call.Timeout now) result end.old.heard end.new.heard }
     ensures given { gives (policy_of H.protection K.aead (words_of R.stream) end.old)
-        (reads_window (windows_of C.steps C.window_of end.old.control) (Call.Timeout now) end.old.end) (Call.Timeout now) result
+        (reads_window (windows_of C.steps C.window_of end.old.control) end.old.heard (Call.Timeout now) end.old.end) (Call.Timeout now) result
         ≡ [] }
     ensures keys { KeepsKeys end.old end.new }
 {
@@ -430,16 +430,16 @@ fn deliver_at<H: HeaderKey + Drop, K: PacketKey + Drop, R: Rng + Drop, C: Contro
 ) -> Result<Answer, AllocError>
     ensures answer { IfOk result (λ a.
         IsAnswer (policy_of H.protection K.aead (words_of R.stream) end.old)
-        (reads_window (windows_of C.steps C.window_of end.old.control) (Call.Deliver delivery.entry.now) end.old.end) theirs.now (Call.Deliver delivery.entry.now) a) }
+        (reads_window (windows_of C.steps C.window_of end.old.control) end.old.heard (Call.Deliver delivery.entry.now) end.old.end) theirs.now (Call.Deliver delivery.entry.now) a) }
     ensures lacking { IfOk result (λ a.
         LacksWhere (policy_of H.protection K.aead (words_of R.stream) end.old)
-        (reads_window (windows_of C.steps C.window_of end.old.control) (Call.Deliver delivery.entry.now) end.old.end) theirs.now (Call.Deliver delivery.entry.now) a) }
+        (reads_window (windows_of C.steps C.window_of end.old.control) end.old.heard (Call.Deliver delivery.entry.now) end.old.end) theirs.now (Call.Deliver delivery.entry.now) a) }
     ensures end { IfOk result (λ a.
         IsLeft (fails a) (policy_of H.protection K.aead (words_of R.stream) end.old)
-        (windows_of C.steps C.window_of end.old.control) end.old.end theirs.now (Call.Deliver delivery.entry.now) a end.new.end) }
+        (windows_of C.steps C.window_of end.old.control) end.old.heard end.old.end theirs.now (Call.Deliver delivery.entry.now) a end.new.end) }
     ensures control { IfOk result (λ a.
         IsTold (fails a) (policy_of H.protection K.aead (words_of R.stream) end.old)
-        (windows_of C.steps C.window_of end.old.control) end.old.end theirs.now (Call.Deliver delivery.entry.now)
+        (windows_of C.steps C.window_of end.old.control) end.old.heard end.old.end theirs.now (Call.Deliver delivery.entry.now)
         (windows_of C.steps C.window_of end.new.control)) }
     ensures heard { IfOk result (λ a.
         IsHeard (fails a) theirs.now (Call.Deliver delivery.entry.now) a end.old.heard end.new.heard) }
@@ -464,13 +464,13 @@ fn inject_at<H: HeaderKey + Drop, K: PacketKey + Drop, R: Rng + Drop, C: Control
 ) -> Result<Answer, AllocError>
     ensures answer { IfOk result (λ a.
         IsAnswer (policy_of H.protection K.aead (words_of R.stream) end.old)
-        (reads_window (windows_of C.steps C.window_of end.old.control) (Call.Inject injection.entry.now) end.old.end) [] (Call.Inject injection.entry.now) a) }
+        (reads_window (windows_of C.steps C.window_of end.old.control) end.old.heard (Call.Inject injection.entry.now) end.old.end) [] (Call.Inject injection.entry.now) a) }
     ensures end { IfOk result (λ a.
         IsLeft (fails a) (policy_of H.protection K.aead (words_of R.stream) end.old)
-        (windows_of C.steps C.window_of end.old.control) end.old.end [] (Call.Inject injection.entry.now) a end.new.end) }
+        (windows_of C.steps C.window_of end.old.control) end.old.heard end.old.end [] (Call.Inject injection.entry.now) a end.new.end) }
     ensures control { IfOk result (λ a.
         IsTold (fails a) (policy_of H.protection K.aead (words_of R.stream) end.old)
-        (windows_of C.steps C.window_of end.old.control) end.old.end [] (Call.Inject injection.entry.now)
+        (windows_of C.steps C.window_of end.old.control) end.old.heard end.old.end [] (Call.Inject injection.entry.now)
         (windows_of C.steps C.window_of end.new.control)) }
     ensures heard { IfOk result (λ a.
         IsHeard (fails a) [] (Call.Inject injection.entry.now) a end.old.heard end.new.heard) }

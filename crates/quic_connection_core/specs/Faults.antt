@@ -1,6 +1,6 @@
 -- What was wrong with a packet, where memory may lack.
 use Rattle.std.specs.Prelude.{◌≡◌, ◌<◌, ◌^◌, ℕ, Bool, List, [], ◌∷◌, Option, Some, None, IfSome, Result, Ok, Err}
-use Rattle.quic_wire.specs.Value.{FrameValue, ack, datagram, max_stream_data}
+use Rattle.quic_wire.specs.Value.{FrameValue, ack, datagram, path_challenge, path_response, max_stream_data}
 use Rattle.quic_wire.specs.declared.frame.InvalidFrame.{InvalidFrame}
 use Rattle.quic_streams_parts.specs.declared.answers.ReceivedError.{ReceivedError}
 use Rattle.quic_streams_parts.specs.declared.answers.ReceivedError.TheVariants as errors
@@ -54,10 +54,12 @@ holding s e = with_streams e (streams_of s.state s.pending)
 abbrev pub TakesOn : Result (Unit {0}) Trouble → FrameValue → EndStreams → EndStreams → Type 0
 TakesOn result f old new = (e : End) → TakesAs result (take_frame f (holding old e)) (holding new e)
 
--- a frame that is neither ACK nor DATAGRAM
+-- a frame that is neither ACK nor DATAGRAM, nor one of path validation
 abbrev pub IsOther : FrameValue → Type 0
 IsOther (ack a) = ⊥
 IsOther (datagram m) = ⊥
+IsOther (path_challenge token) = ⊥
+IsOther (path_response token) = ⊥
 IsOther f = Unit {0}
 
 -- the limit on a stream that a frame tells, if it tells one, has a form as a variable-length integer (RFC 9000, section 16)

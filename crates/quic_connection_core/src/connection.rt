@@ -4,7 +4,7 @@ ghost use Rattle.quic_parameters.specs.Parameters.{AreInRange};
 ghost use Rattle.quic_parameters.specs.ParametersRead.{parameters_at};
 ghost use Rattle.quic_config.specs.Transport.{Settings, transport_of, first_mtu};
 ghost use Rattle.quic_machine.specs.declared.answers.State.TheVariants as states;
-ghost use Rattle.quic_machine.specs.End.{MadeFrom, refusal_of, with_end, with_closing, closed_by, with_numbers, with_loss_timer, with_ping, side_of, first_streams, are_sizes_wrong, peer_delay, probe_timeout, HasFailed};
+ghost use Rattle.quic_machine.specs.End.{MadeFrom, refusal_of, with_end, with_closing, closed_by, with_numbers, with_loss_timer, with_ping, side_of, first_streams, are_sizes_wrong, peer_delay, probe_timeout, HasFailed, words_drawn};
 ghost use Rattle.quic_spaces.specs.Filter.{first_filter};
 ghost use Rattle.quic_spaces.specs.Marks.{is_congested};
 ghost use Rattle.quic_connection_core.specs.Drawn.{words_of, after_words};
@@ -37,6 +37,7 @@ mod statistics;
 mod stream_frames;
 mod telling;
 mod timeouts;
+mod validation;
 
 use crate::config::Config;
 use crate::connection::closing::Closing;
@@ -47,7 +48,7 @@ use quic_machine::{ConfigError, Instant, LostReason, State, TransportConfig};
 use quic_messages::DatagramState;
 use quic_packet::crypto::{HeaderKey, Keys, PacketKey};
 use quic_parameters::TransportParameters;
-use quic_paths::PathData;
+use quic_paths::{PathData, PathResponses};
 use quic_retransmits::Retransmits;
 use quic_spaces::{PacketNumberFilter, PacketSpace, ack_due};
 use quic_stats::ConnectionStats;
@@ -158,8 +159,15 @@ pub struct Connection<H, K, R, C: Controller> {
     timers: TimerTable,
     // The path to the peer, with its controller, its pacer and what is in flight.
     path: PathData<C>,
+    // The answer to the peer's challenge that waits.
+    path_responses: PathResponses,
+    // How many challenges were made, each by a word of the random source.
+    challenges: u64,
     // What the controller showed at the last poll.
     window: u64,
+    // Whether the last poll found that one more datagram would come to more than three times what
+    // came, to a peer whose address isn't validated.
+    blocked: bool,
     // Whether the last poll gave nothing though neither window nor pacer held anything back.
     app_limited: bool,
     transport: TransportConfig,
@@ -207,12 +215,19 @@ impl<H, K, R, C: Controller> Model for Connection<H, K, R, C> {
           validated = c.path.validated;
           generation = c.path.generation;
           discovery = c.path.discovery;
+          blocked = c.blocked;
           rtt = c.path.rtt;
           first_after_rtt = c.path.first_after_rtt;
           window = c.window;
           pacing = c.path.pacing;
           app_limited = c.app_limited;
           marking = c.path.marks;
+        };
+        validation = record {
+          challenge = c.path.challenge;
+          challenge_waits = c.path.challenge_waits;
+          response = c.path_responses;
+          drawn = c.challenges;
         };
         transport = c.transport;
         peer_params = c.peer_params;
@@ -241,9 +256,11 @@ impl<H: HeaderKey + Drop, K: PacketKey + Drop, R: Rng + Drop, C: Controller> Con
     /// peer's `Config::write_parameters` wrote them. Both ids were exchanged before. What
     /// `keys.header.local` and `keys.packet.local` seal, the peer's `remote` ones open, and the
     /// other way round. `validated` says whether the peer's address is validated already (RFC 9000,
-    /// section 8): `is_validated` tells it, and nothing is held back for want of it yet. `random`
-    /// is the end's random source: a word of it says which packet number is left out first, and
-    /// each time that one is left out, another word says which is next (RFC 9000, section 21.4).
+    /// section 8): where it isn't, the end sends no more than three times the bytes that come, and
+    /// a PATH_CHALLENGE waits, until the peer has answered one; [`Timer::PathValidation`] is set to
+    /// three probe timeouts later. `random` is the end's random source: a word of it says which
+    /// packet number is left out first, and each time that one is left out, another word says which
+    /// is next (RFC 9000, section 21.4); each PATH_CHALLENGE is a word of its own.
     ///
     /// The factory of the configuration makes the congestion controller, for the size of datagrams
     /// that the path begins with.
@@ -262,11 +279,11 @@ impl<H: HeaderKey + Drop, K: PacketKey + Drop, R: Rng + Drop, C: Controller> Con
         random: R,
         validated: bool,
     ) -> Result<Connection<H, K, R, C>, ConfigError>
-        ensures made { IfOk result (λ c. MadeFrom side config.now.settings (windows_at C.initial_of C.window_of c.control) peer_parameters.now own_id peer_id now validated (words_of R.stream random 0) c.end) }
+        ensures made { IfOk result (λ c. MadeFrom side config.now.settings (windows_at C.initial_of C.window_of c.control) peer_parameters.now own_id peer_id now validated (words_of R.stream random) c.end) }
         ensures control { IfOk result (λ c. c.control ≡ F.built config.now.factory now (first_mtu (transport_of config.now.settings))) }
         ensures roomy { IfOk result (λ c. IsRoomy C.size_of C.window_of c.control (first_mtu c.end.transport)) }
         ensures keys { IfOk result (λ c. c.keys ≡ keys) }
-        ensures random { IfOk result (λ c. R.stream c.random ≡ after_words 1 (R.stream random)) }
+        ensures random { IfOk result (λ c. R.stream c.random ≡ after_words (words_drawn c.end) (R.stream random)) }
         ensures heard { IfOk result (λ c. c.heard ≡ nothing_heard) }
         ensures refusal { IfErr result (λ e. Some e ≡ refusal_of config.now.settings (C.window_of (F.built config.now.factory now (first_mtu (transport_of config.now.settings)))) (parameters_at peer_parameters.now) own_id peer_id) }
         ensures lawful { OnOk result (refusal_of config.now.settings (C.window_of (F.built config.now.factory now (first_mtu (transport_of config.now.settings)))) (parameters_at peer_parameters.now) own_id peer_id ≡ None) }
@@ -293,14 +310,17 @@ impl<H: HeaderKey + Drop, K: PacketKey + Drop, R: Rng + Drop, C: Controller> Con
         path.validated = validated;
         let mut random = random;
         let filter = first_filter(&mut random);
-        Ok(Connection {
+        let connection = Connection {
             closing: Closing::new(now),
             ids: Ids::new(own_id, peer_id),
             space: PacketSpace::new(alloc, now),
             filter,
             timers: TimerTable::default(),
             path,
+            path_responses: PathResponses::new(),
+            challenges: 0,
             window,
+            blocked: false,
             app_limited: false,
             transport,
             peer_params: theirs,
@@ -312,7 +332,8 @@ impl<H: HeaderKey + Drop, K: PacketKey + Drop, R: Rng + Drop, C: Controller> Con
             keys,
             random,
             alloc,
-        })
+        };
+        Ok(connection.validating())
     }
 
     /// Whether the end is no longer open: it is closing, drained or failed.
@@ -337,7 +358,8 @@ impl<H: HeaderKey + Drop, K: PacketKey + Drop, R: Rng + Drop, C: Controller> Con
         self.closing.state() == State::Failed
     }
 
-    /// Whether the peer's address is validated (RFC 9000, section 8).
+    /// Whether the peer's address is validated (RFC 9000, section 8): it was as the end was made,
+    /// or the peer answered a PATH_CHALLENGE. It stays so.
     pub fn is_validated(&self) -> bool
         ensures { result ≡ self.now.end.path.validated }
     {
@@ -502,10 +524,10 @@ impl<H: HeaderKey + Drop, K: PacketKey + Drop, R: Rng + Drop, C: Controller> Con
     fn asks_to_go(&self) -> bool
         ensures { result ≡ asks_to_go self.now.end }
     {
-        self.space.ping_pending || self.frames_wait()
+        self.path_frames_wait() || self.space.ping_pending || self.frames_wait()
     }
 
-    /// The same beside PING.
+    /// The same beside PATH_CHALLENGE, PATH_RESPONSE and PING.
     fn frames_wait(&self) -> bool
         ensures { result ≡ (not (is_empty self.now.end.waiting.frames self.now.end.streams) || (message_waits self.now.end || can_send_stream_data self.now.end.streams)) }
     {

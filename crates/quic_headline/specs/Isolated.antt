@@ -54,9 +54,13 @@ SameButCounts end left = left ≡ record end { client_heard = left.client_heard;
 abbrev pub IsRunWithout : (ℕ → Bool) → Run → World → Type 0
 IsRunWithout gone r end = (left : World) × SameButCounts end left × IsRun (erased gone r) left
 
--- so it is less any choice of its idle events
+-- the peers' addresses are validated at both ends (RFC 9000, section 8): else what comes says how much may go, also where it is dropped
+abbrev pub AreValidated : World → Type 0
+AreValidated w = (w.client.path.validated ≡ true) × (w.server.path.validated ≡ true)
+
+-- so it is less any choice of its idle events, where the addresses are validated from the start
 abbrev pub Isolated : Run → World → Type 0
-Isolated r end = (gone : ℕ → Bool) → OnlyIdle r gone → IsRunWithout gone r end
+Isolated r end = AreValidated r.start → (gone : ℕ → Bool) → OnlyIdle r gone → IsRunWithout gone r end
 
 -- ---- the choice by answers
 
@@ -97,7 +101,7 @@ answered_idle r = places_of (λ i event a. is_answered_idle event.call a) r
 
 -- less these it is a run again
 abbrev pub IsolatedByAnswers : Run → World → Type 0
-IsolatedByAnswers r end = IsRunWithout (answered_idle r) r end
+IsolatedByAnswers r end = AreValidated r.start → IsRunWithout (answered_idle r) r end
 
 -- ---- the choice by the lists
 
@@ -138,4 +142,4 @@ pub record GoesOnWithout (gone : ℕ → Bool) (r : Run) (i : ℕ) : Type 0 wher
 
 -- less these it is a run again, up to each place before which memory served
 abbrev pub IsolatedByLists : Run → Type 0
-IsolatedByLists r = (i : ℕ) → AreServed r i → GoesOnWithout (listed_idle r) r i
+IsolatedByLists r = AreValidated r.start → (i : ℕ) → AreServed r i → GoesOnWithout (listed_idle r) r i

@@ -25,3 +25,5 @@ pub mod Queue
 pub mod Events
 pub mod Telling
 pub mod Waited
+pub mod Threefold
+pub mod PeerLimits

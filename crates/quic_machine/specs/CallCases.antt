@@ -12,6 +12,8 @@ use Rattle.quic_machine.specs.Parts.{Messaging}
 use Rattle.quic_machine.specs.Policy.{Policy}
 use Rattle.quic_machine.specs.End.{End, with_ping, with_streams, with_messages, with_window}
 use Rattle.quic_machine.specs.Control.{Control}
+use Rattle.quic_machine.specs.Heard.{Heard}
+use Rattle.quic_machine.specs.Validation.{is_blocked, with_blocked}
 use Rattle.quic_machine.specs.Receive.{received}
 use Rattle.quic_machine.specs.Poll.{polled}
 use Rattle.quic_machine.specs.Calls.{message_told, end_after_event}
@@ -56,7 +58,7 @@ pub record CallsTo (p : Policy) (e : End) (theirs : List (List ℕ)) (call : Cal
   -- PING is asked for
   pub pings : P (with_ping e true)
   -- a moment at which timers expire, a poll, a delivery, and what is told
-  pub times : (now : ℕ) (expiry : Expiry) → is_timeout call ≡ true → P (at_expiry e now expiry)
+  pub times : (now : ℕ) (expiry : Expiry) → is_timeout call ≡ true → P (at_expiry p.words e now expiry)
   pub polls : (now : ℕ) → is_poll call ≡ true → P (polled p e now).end
   pub hears : (arrival : Arrival) (d : List ℕ) → is_delivery call ≡ true → P (received p e arrival d).end
   pub tells : asks_event call ≡ true → P (end_after_event e)
@@ -78,7 +80,7 @@ after p e same = e
 after p e (on_streams t) = with_streams e t
 after p e (on_messages m) = with_messages e m
 after p e pings = with_ping e true
-after p e (times now expiry) = at_expiry e now expiry
+after p e (times now expiry) = at_expiry p.words e now expiry
 after p e (polls now) = (polled p e now).end
 after p e (hears arrival d) = (received p e arrival d).end
 after p e (tells told) = at_event e told
@@ -108,7 +110,7 @@ module _ (p : Policy) (e : End) (theirs : List (List ℕ)) (P : End → Type 0) 
   by_call calls.Recv a c = c.on_messages refl (λ is. is)
   by_call calls.Ping a c = c.pings
   by_call (calls.Poll now) a c = c.polls now refl
-  by_call (calls.Timeout now) a c = by_expiry e now P c.same (λ expiry. c.times now expiry refl)
+  by_call (calls.Timeout now) a c = by_expiry p e now P c.same (λ expiry. c.times now expiry refl)
   by_call (calls.Deliver delivery) a c = delivered_case (slice_get theirs delivery.index) delivery c.same (λ d. c.hears (delivered_by delivery) d refl)
   by_call (calls.Inject injection) a c = by_injection p e injection P c.same
   by_call calls.Event a c = c.tells refl
@@ -129,7 +131,7 @@ module _ (p : Policy) (e : End) (theirs : List (List ℕ)) (P : End → Type 0) 
     tells = λ asks. by_event e P (c (on_messages (message_told e).messages) tt) (λ told. c (tells told) tt);
   })
 
-  -- what holds of an end, whichever window a poll reads, and then in each case, holds of the end that a call leaves
-  pub by_left : P e → ((window : ℕ) → P e → P (with_window e window)) → (control : Control) (call : Call) (a : Answer) → ((x : End) → P x → P (after_call p x theirs call a)) → P (end_left p control e theirs call a)
-  by_left here reads control (calls.Poll now) a step = step (with_window e (control [])) (reads (control []) here)
-  by_left here reads control call a step = step e here
+  -- what holds of an end, whichever window a poll reads and whether or not it finds that nothing may go, and then in each case, holds of the end that a call leaves
+  pub by_left : P e → ((window : ℕ) (blocked : Bool) → P e → P (with_blocked (with_window e window) blocked)) → (control : Control) (heard : Heard) (call : Call) (a : Answer) → ((x : End) → P x → P (after_call p x theirs call a)) → P (end_left p control heard e theirs call a)
+  by_left here reads control heard (calls.Poll now) a step = step (with_blocked (with_window e (control [])) (is_blocked e heard)) (reads (control []) (is_blocked e heard) here)
+  by_left here reads control heard call a step = step e here

@@ -1,7 +1,8 @@
 -- What holds of a draft, whichever frames go; and that a datagram has a frame.
-use Rattle.std.proofs.Common.{◌≡◌, ℕ, ◌+◌, ◌-◌, ◌<◌, ◌≤◌, ◌^◌, List, [], ◌∷◌, ◌++◌, Bool, true, false, ◌&&◌, ◌||◌, length, Some, refl, sym, ap, ◌∙◌, subst, arith, nat_lt, inl, inr}
+use Rattle.std.proofs.Common.{◌≡◌, ℕ, ◌+◌, ◌-◌, ◌<◌, ◌≤◌, ◌^◌, List, [], ◌∷◌, ◌++◌, Bool, true, false, ◌&&◌, ◌||◌, length, Option, Some, None, max, refl, sym, ap, ◌∙◌, subst, arith, nat_lt, inl, inr}
 use Rattle.std.specs.Prelude.{if◌then◌else◌, map, ◌*◌}
 use Rattle.std.specs.List.{fold}
+use Rattle.std.specs.Option.{is_some}
 use Rattle.std.proofs.lemmas.Bool.{and_parts}
 use Rattle.std.proofs.lemmas.List.{length-append, append_assoc, append-nil}
 use Rattle.quic_wire.specs.Value.{FrameValue, StreamValue, stream, datagram, ack}
@@ -21,8 +22,10 @@ use Rattle.quic_streams_laws.specs.ControlWalk.{GoesOn, by_control, by_stream_fr
 use Rattle.quic_recovery_core.specs.PendingAcks.{lazy_threshold, can_send, is_filled}
 use Rattle.quic_spaces.specs.Numbers.{cut_against}
 use Rattle.quic_machine.specs.End.{End, number_of}
+use Rattle.quic_paths.specs.Responses.{Response}
 use Rattle.quic_machine.specs.Parts.{current_mtu}
-use Rattle.quic_machine.specs.Poll.{Draft, frame_room, fits, left, ping_if, behind_control, with_control_frames, with_message, with_messages_of, with_message_frames, behind_stream, no_stream_frames, with_stream_frames, Kind, order, put, with_asking, no_frames, ack_of, with_ack, ack_fits, ack_if, composed_if, composed, lazied, lazied_as, Leaving, whole, alone, probe, nothing, least_left, with_ping_frame, draft_left, draft_as}
+use Rattle.quic_machine.specs.Validation.{challenge_to_send, path_waits, path_frames_size}
+use Rattle.quic_machine.specs.Poll.{Draft, frame_room, fits, left, challenge_if, response_if, with_response_frame, with_path_frames, least_by, ping_if, behind_control, with_control_frames, with_message, with_messages_of, with_message_frames, behind_stream, no_stream_frames, with_stream_frames, Kind, order, put, with_asking, no_frames, ack_of, with_ack, ack_fits, ack_if, composed_if, composed, lazied, lazied_as, Leaving, whole, alone, probe, nothing, least_left, with_ping_frame, draft_left, draft_as}
 use Rattle.quic_machine.specs.Poll as poll
 use Rattle.quic_machine.specs.Puts.{Put, after, May, stream_room, without_entry, with_entry, with_half_frame}
 use Rattle.quic_machine.specs.Puts as puts
@@ -155,8 +158,20 @@ module _ (P : Draft → Type 0) (goes : SendsMessage P) where
   by_messages d p = messages_keep d.end.messages.queues.outgoing d refl p
 
 module _ (P : Draft → Type 0) (w : Writing P) where
+  -- frames of path validation, each where it waits
+  challenge_keeps : (o : Option ℕ) (d : Draft) → challenge_to_send d.end.validation ≡ o → P d → P (challenge_if o d)
+  challenge_keeps None d is p = p
+  challenge_keeps (Some word) d is p = w (puts.challenge word) d is p
+
+  response_keeps : (o : Option Response) (d : Draft) → d.end.validation.response ≡ o → P d → P (response_if o d)
+  response_keeps None d is p = p
+  response_keeps (Some r) d is p = w (puts.response r) d is p
+
   -- one kind
   kind_keeps : (kind : Kind) (d : Draft) → P d → P (put d kind)
+  kind_keeps poll.paths d p =
+      let asked : Draft = challenge_if (challenge_to_send d.end.validation) d in
+      response_keeps asked.end.validation.response asked refl (challenge_keeps (challenge_to_send d.end.validation) d refl p)
   kind_keeps poll.pings d p = go d.end.waiting.ping
     where
       go : (b : Bool) → P (ping_if b d)
@@ -222,32 +237,57 @@ by_leave P w leaving e may p = by_left P w leaving (lazied_as leaving e) (due le
 
 -- ---- its least size
 
--- what asks leaves it
-asking_least : (d : Draft) → (with_asking d).least ≡ d.least
-asking_least d = by_streams Keeps (λ x id h room found first some is counts same. same) (with_message_frames (with_control_frames (with_ping_frame d)))
-    (by_messages Keeps (λ x m ms is fit same. same) (with_control_frames (with_ping_frame d))
-    (by_entries Keeps (λ x kind same. same) (λ x kind f is same. same) (with_ping_frame d) (pinged d.end.waiting.ping)))
+-- frames of path validation set it
+path_least : (d : Draft) → d.least ≡ 0 → (with_path_frames d).least ≡ least_by whole (path_waits d.end)
+path_least d none = go (challenge_to_send d.end.validation)
   where
-    Keeps : Draft → Type 0
-    Keeps x = x.least ≡ d.least
+    Answer : Option Response
+    Answer = d.end.validation.response
 
-    pinged : (b : Bool) → (ping_if b d).least ≡ d.least
+    answered : (r : Option Response) (x : Draft) → (response_if r x).least ≡ (if is_some r then max x.least path_frames_size else x.least)
+    answered None x = refl
+    answered (Some r) x = refl
+
+    both : (b : Bool) → (if b then max (max 0 path_frames_size) path_frames_size else max 0 path_frames_size) ≡ path_frames_size
+    both true = refl
+    both false = refl
+
+    go : (o : Option ℕ) → (with_response_frame (challenge_if o d)).least ≡ least_by whole (is_some o || is_some Answer)
+    go None = answered Answer d ∙ ap (λ (n : ℕ). if is_some Answer then max n path_frames_size else n) none
+    go (Some word) =
+        answered Answer (challenge_if (Some word) d)
+        ∙ ap (λ (n : ℕ). if is_some Answer then max (max n path_frames_size) path_frames_size else max n path_frames_size) none
+        ∙ both (is_some Answer)
+
+-- what else asks leaves it
+asking_least : (d : Draft) → (with_asking d).least ≡ (with_path_frames d).least
+asking_least d = by_streams Keeps (λ x id h room found first some is counts same. same) (with_message_frames (with_control_frames (with_ping_frame begun)))
+    (by_messages Keeps (λ x m ms is fit same. same) (with_control_frames (with_ping_frame begun))
+    (by_entries Keeps (λ x kind same. same) (λ x kind f is same. same) (with_ping_frame begun) (pinged begun.end.waiting.ping)))
+  where
+    begun : Draft
+    begun = with_path_frames d
+
+    Keeps : Draft → Type 0
+    Keeps x = x.least ≡ begun.least
+
+    pinged : (b : Bool) → (ping_if b begun).least ≡ begun.least
     pinged true = refl
     pinged false = refl
 
-composed_least : (e : End) → (composed e).least ≡ 0
+composed_least : (e : End) → (composed e).least ≡ least_by whole (path_waits e)
 composed_least e = go (can_send e.acknowledging)
   where
-    late : (b : Bool) (d : Draft) → d.least ≡ 0 → (ack_if b d).least ≡ 0
-    late true d is = is
-    late false d is = is
+    late : (b : Bool) (d : Draft) (n : ℕ) → d.least ≡ n → (ack_if b d).least ≡ n
+    late true d n is = is
+    late false d n is = is
 
-    go : (b : Bool) → (composed_if b e).least ≡ 0
-    go true = asking_least (with_ack (no_frames e))
-    go false = late (ack_fits (with_asking (no_frames e))) (with_asking (no_frames e)) (asking_least (no_frames e))
+    go : (b : Bool) → (composed_if b e).least ≡ least_by whole (path_waits e)
+    go true = asking_least (with_ack (no_frames e)) ∙ path_least (with_ack (no_frames e)) refl
+    go false = late (ack_fits (with_asking (no_frames e))) (with_asking (no_frames e)) (least_by whole (path_waits e)) (asking_least (no_frames e) ∙ path_least (no_frames e) refl)
 
--- only a probe of a size has one by itself
-pub left_least : (leaving : Leaving) (e : End) → (draft_left leaving e).least ≡ least_left leaving
+-- a probe of a size has one by itself, and what has frames of path validation
+pub left_least : (leaving : Leaving) (e : End) → (draft_left leaving e).least ≡ least_left leaving e
 left_least whole e = composed_least e
 left_least alone e = refl
 left_least (probe size) e = refl

@@ -1,6 +1,6 @@
 -- One end of a connection (RFC 9000, section 5): a record of parts, one for each concern, and beside it the keys, the random source, the congestion
 -- controller, and what was counted.
-use Rattle.std.specs.Prelude.{◌≡◌, ℕ, ◌+◌, ◌-◌, ◌*◌, Bool, ◌==◌, ◌||◌, not, nat_lt, if◌then◌else◌, List, length, false, Option, Some, None, Result, Ok, Err}
+use Rattle.std.specs.Prelude.{◌≡◌, ℕ, ◌+◌, ◌-◌, ◌*◌, Bool, ◌==◌, ◌||◌, not, nat_lt, if◌then◌else◌, List, length, true, false, Option, Some, None, Result, Ok, Err}
 use Rattle.quic_wire_core.specs.declared.stream_id.Side.{Side}
 use Rattle.quic_packet.specs.Keys.{Protection, Aead}
 use Rattle.quic_packet.specs.declared.crypto.Keys.{Keys}
@@ -25,7 +25,7 @@ use Rattle.quic_streams_state.specs.declared.state.StreamsState.{StreamsState}
 use Rattle.quic_streams_state.specs.State.{Streams, streams_of, new_streams, after_set_params}
 use Rattle.quic_congestion.specs.Search.{Discovery}
 use Rattle.quic_spaces.specs.Marks.{Counts}
-use Rattle.quic_machine.specs.Parts.{Path, Windows, first_path, Marks, no_marks, Messaging, no_messaging, with_queues, Waiting, nothing_waits}
+use Rattle.quic_machine.specs.Parts.{Path, Validation, no_validation, Windows, first_path, Marks, no_marks, Messaging, no_messaging, with_queues, Waiting, nothing_waits}
 use Rattle.quic_messages.specs.Messages.{Messages}
 use Rattle.quic_machine.specs.Policy.{Policy, keys_policy}
 
@@ -43,8 +43,9 @@ pub record End : Type 0 where
   -- when timers expire, and the datagrams that are tracked (RFC 9002, sections 2 and 6)
   pub timers : Timers
   pub tracking : Tracking
-  -- the path to the peer (section 8)
+  -- the path to the peer, and by what its address is validated (section 8)
   pub path : Path
+  pub validation : Validation
   -- how it sends, by its settings, and what the peer told of itself as the connection began (section 7.4)
   pub transport : TransportSettings
   pub peer_params : ParameterValues
@@ -70,18 +71,22 @@ with_end w e = record w { end = e }
 abbrev pub hearing : {H K R C : Type 0} → ConnectionValue H K R C → Heard → ConnectionValue H K R C
 hearing w h = record w { heard = h }
 
+-- how many words of its random source an end has drawn: for the numbers that are left out (section 21.4), and for its challenges (section 8.2)
+abbrev pub words_drawn : End → ℕ
+words_drawn e = e.filter.drawn + e.validation.drawn
+
 -- what the keys of an end do: it protects with the local ones, and opens with the remote ones; and which words its random source answers from here on, by how many
 -- it answered before
 abbrev pub policy_of : {H K R C : Type 0} → (H → Protection) → (K → Aead) → (R → ℕ → ℕ) → ConnectionValue H K R C → Policy
-policy_of protection aead words w = keys_policy protection aead w.keys (λ n. words w.random (n - w.end.filter.drawn))
+policy_of protection aead words w = keys_policy protection aead w.keys (λ n. words w.random (n - words_drawn w.end))
 
 -- no stream is opened: the peer's parameters are the limits on what is sent, the own settings those on what comes
 abbrev pub first_streams : Side → Settings → ParameterValues → StreamsState
 first_streams side settings theirs = after_set_params (new_streams side settings.max_uni settings.max_bidi settings.send_window settings.receive_window settings.stream_receive_window) theirs
 
--- an end as it is made at a moment, whose random source answers this word first, and whose controller shows these windows
-abbrev pub new_end : Side → Settings → Windows → ParameterValues → List ℕ → List ℕ → ℕ → Bool → ℕ → End
-new_end side settings windows theirs own_id peer_id now validated word = record {
+-- an end as it is made at a moment, whose random source answers this word first, and whose controller shows these windows; it has asked its peer for nothing
+abbrev pub silent_end : Side → Settings → Windows → ParameterValues → List ℕ → List ℕ → ℕ → Bool → ℕ → End
+silent_end side settings windows theirs own_id peer_id now validated word = record {
   closing = record { clock = now; state = states.Open; reason = None; told = false };
   ids = first_ids own_id peer_id;
   numbers = no_numbers;
@@ -91,6 +96,7 @@ new_end side settings windows theirs own_id peer_id now validated word = record 
   timers = no_timers;
   tracking = nothing_tracked now;
   path = first_path validated (transport_of settings) theirs.max_udp_payload_size windows now;
+  validation = no_validation;
   transport = transport_of settings;
   peer_params = theirs;
   streams = first_streams side settings theirs;
@@ -113,6 +119,14 @@ closed_by reason e = record e { closing = closed_for reason e.closing; timers = 
 -- the end with another search for the size of datagrams
 abbrev pub with_discovery : End → Discovery → End
 with_discovery e d = record e { path = record e.path { discovery = d } }
+
+-- the end that is validated by other means
+abbrev pub with_validation : End → Validation → End
+with_validation e v = record e { validation = v }
+
+-- the timers with that of path validation set or stopped
+abbrev pub with_path_timer : Timers → Option ℕ → Timers
+with_path_timer t moment = record t { path_validation = moment }
 
 -- the end with other packet numbers
 abbrev pub with_numbers : End → Numbers → End
@@ -172,6 +186,19 @@ probe_timeout e = saturated (rtt.probe_timeout e.path.rtt + peer_delay e)
 abbrev pub with_loss_timer : End → End
 with_loss_timer e = record e { timers = record e.timers { loss_detection = loss_moment (probe_timeout e) e.tracking } }
 
+-- ---- path validation (section 8.2)
+
+-- until when an answer to a challenge is waited for that is made now: for three probe timeouts (section 8.2.4)
+abbrev pub validation_moment : End → ℕ
+validation_moment e = saturated (e.closing.clock + saturated (probe_timeout e * 3))
+
+-- the peer is asked to answer this word, which waits to be sent; an earlier one counts no more
+abbrev pub challenged : ℕ → End → End
+challenged word e = record e {
+  validation = record e.validation { challenge = Some word; challenge_waits = true; drawn = e.validation.drawn + 1 };
+  timers = with_path_timer e.timers (Some (validation_moment e));
+}
+
 -- its streams, and what waits to be sent beside their bytes
 abbrev pub streams_at : End → Streams
 streams_at e = streams_of e.streams e.waiting.frames
@@ -226,11 +253,20 @@ refusal_of settings window (Ok theirs) own_id peer_id =
     else (if are_sizes_wrong settings theirs then Some config_errors.Size
     else (if is_window_small settings window then Some config_errors.Window else None))
 
+-- an end whose peer's address isn't validated asks it to answer the next word of its random source, which answers these words
+abbrev pub challenged_unless : Bool → (ℕ → ℕ) → End → End
+challenged_unless true words e = e
+challenged_unless false words e = challenged (words (words_drawn e)) e
+
+-- an end as it is made at a moment, whose random source answers these words, and whose controller shows these windows
+abbrev pub new_end : Side → Settings → Windows → ParameterValues → List ℕ → List ℕ → ℕ → Bool → (ℕ → ℕ) → End
+new_end side settings windows theirs own_id peer_id now validated words = challenged_unless validated words (silent_end side settings windows theirs own_id peer_id now validated (words 0))
+
 -- an end is made of what was read of the peer's parameters
-abbrev pub IsMade : {E : Type 0} → Side → Settings → Windows → Result ParameterValues E → List ℕ → List ℕ → ℕ → Bool → ℕ → End → Type 0
-IsMade side settings windows (Ok theirs) own_id peer_id now validated word e = e ≡ new_end side settings windows theirs own_id peer_id now validated word
-IsMade side settings windows (Err error) own_id peer_id now validated word e = ⊥
+abbrev pub IsMade : {E : Type 0} → Side → Settings → Windows → Result ParameterValues E → List ℕ → List ℕ → ℕ → Bool → (ℕ → ℕ) → End → Type 0
+IsMade side settings windows (Ok theirs) own_id peer_id now validated words e = e ≡ new_end side settings windows theirs own_id peer_id now validated words
+IsMade side settings windows (Err error) own_id peer_id now validated words e = ⊥
 
 -- an end is made of the peer's parameters as bytes
-abbrev pub MadeFrom : Side → Settings → Windows → List ℕ → List ℕ → List ℕ → ℕ → Bool → ℕ → End → Type 0
-MadeFrom side settings windows bytes own_id peer_id now validated word e = IsMade side settings windows (parameters_at bytes) own_id peer_id now validated word e
+abbrev pub MadeFrom : Side → Settings → Windows → List ℕ → List ℕ → List ℕ → ℕ → Bool → (ℕ → ℕ) → End → Type 0
+MadeFrom side settings windows bytes own_id peer_id now validated words e = IsMade side settings windows (parameters_at bytes) own_id peer_id now validated words e

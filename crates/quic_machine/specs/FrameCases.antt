@@ -1,7 +1,7 @@
 -- What a datagram that comes leaves, as cases: of the packets that an ACK frame names or that are lost, of frames, and of the packet that has them.
 use Rattle.std.proofs.Common.{◌≡◌, ℕ, Bool, true, false, not, ◌||◌, ◌==◌, List, [], ◌∷◌, map, length, Option, Some, None, Result, Ok, Err, refl, sym, ◌∙◌}
 use Rattle.std.specs.Prelude.{if◌then◌else◌}
-use Rattle.quic_wire.specs.Value.{FrameValue, AckValue, ack, stream, reset_stream, stop_sending, max_data, max_stream_data, max_streams, new_token, handshake_done, datagram}
+use Rattle.quic_wire.specs.Value.{FrameValue, AckValue, ack, stream, reset_stream, stop_sending, max_data, max_stream_data, max_streams, new_token, handshake_done, datagram, path_challenge, path_response}
 use Rattle.quic_wire_core.specs.declared.shared.EcnCodepoint.{EcnCodepoint}
 use Rattle.quic_wire.specs.Items.{items}
 use Rattle.quic_wire.specs.declared.frame.InvalidFrame.{InvalidFrame}
@@ -37,6 +37,8 @@ use Rattle.quic_machine.specs.Sizes.{is_resized, with_acked, search_acked, after
 use Rattle.quic_machine.specs.Steps.{Step, after}
 use Rattle.quic_machine.specs.Steps as steps
 use Rattle.quic_machine.specs.Acked.{without_known, reset_acked, resets_acked, stream_acked, streams_acked, packet_acked, packets_acked, stream_lost, streams_lost, again, carried_lost, packets_lost, lost_as, verdict, losses_detected, measured, sampled, without_acked, counts_judged, counts_answer, counts_seen, marks_seen, losses_taken, after_named, after_acked}
+use Rattle.quic_paths.specs.Paths.{is_asked}
+use Rattle.quic_machine.specs.Validation.{path_asked, path_validated, word_of, validated_if}
 use Rattle.quic_machine.specs.Receive.{Fault, violation, reason_of, Progress, goes_on, is_above, names_ungiven, message_taken, message_judged, take_message, take_frame, take_item, unless_fault, take_items, is_empty, take_payload, asks_in, after_taken, dropped, ends_as, by_state, opened_to, opened_as, opening, headed, received_in, received}
 
 -- ---- packets that are acknowledged, and those that are lost
@@ -176,6 +178,9 @@ pub record TakesFrame (P : End → Type 0) : Type 0 where
   pub on_streams : (f : FrameValue) (e : End) → OnStreams f → P e → P (take_frame f e).end
   -- a message: others wait, and it is told of or isn't
   pub message : (m : Messaging) (e : End) → P e → P (with_messages e m)
+  -- the peer asks for an answer, or gave the one that was asked of it
+  pub asked : (token : List ℕ) (e : End) → P e → P (path_asked token e)
+  pub answered : (e : End) → P e → P (path_validated e)
 
 -- a message leaves the end as it was, or with other messages
 pub message_leaves : (P : End → Type 0) (m : List ℕ) (e : End) → P e → ((left : Messaging) → P (with_messages e left)) → P (take_message m e).end
@@ -199,6 +204,12 @@ frame_keeps P c (max_data limit) e i = c.on_streams (max_data limit) e tt i
 frame_keeps P c (max_stream_data f) e i = c.on_streams (max_stream_data f) e tt i
 frame_keeps P c (max_streams f) e i = c.on_streams (max_streams f) e tt i
 frame_keeps P c (datagram m) e i = message_leaves P m e i (λ left. c.message left e i)
+frame_keeps P c (path_challenge token) e i = c.asked token e i
+frame_keeps P c (path_response token) e i = go (is_asked e.validation.challenge (word_of token))
+  where
+    go : (b : Bool) → P (validated_if b e)
+    go true = c.answered e i
+    go false = i
 frame_keeps P c (new_token t) e i = i
 frame_keeps P c handshake_done e i = i
 frame_keeps P c f e i = i

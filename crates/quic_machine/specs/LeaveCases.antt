@@ -1,6 +1,6 @@
 -- What a timeout and an event leave, each in one form.
-use Rattle.std.proofs.Common.{◌≡◌, ℕ, Bool, true, false, Option, Some, None, refl, ap}
-use Rattle.std.specs.Prelude.{if◌then◌else◌}
+use Rattle.std.proofs.Common.{◌≡◌, ℕ, Bool, true, false, Option, Some, None, refl, sym, ap, ◌∙◌, subst}
+use Rattle.std.specs.Prelude.{if◌then◌else◌, nat_lt}
 use Rattle.quic_recovery_core.specs.PendingAcks.{Pending}
 use Rattle.quic_time.specs.Timers.{Timers}
 use Rattle.quic_machine.specs.declared.answers.State.{State}
@@ -10,6 +10,9 @@ use Rattle.quic_streams_parts.specs.declared.answers.StreamEvent.{StreamEvent}
 use Rattle.quic_machine.specs.Closing.{ticked, loss_to_tell, after_told}
 use Rattle.quic_machine.specs.Sizes.{after_lost}
 use Rattle.quic_machine.specs.Tracking.{Tracking, lost_by, after_detection}
+use Rattle.quic_machine.specs.Parts.{Validation}
+use Rattle.quic_machine.specs.Policy.{Policy}
+use Rattle.quic_machine.specs.Validation.{most_challenges, challenged_anew, path_expired}
 use Rattle.quic_machine.specs.End.{End, with_closing, with_loss_timer, with_tracking}
 use Rattle.quic_machine.specs.Acked.{packets_lost, losses_detected, verdict}
 use Rattle.quic_machine.specs.FrameCases.{packets_lost_keep, by_searched}
@@ -18,17 +21,21 @@ use Rattle.quic_machine.specs.Calls.{streams_told, closing_told, tells_message, 
 
 -- ---- a timeout
 
--- an end that took a moment over, with other packets to acknowledge, other tracked packets and other timers
-abbrev pub at_timeout : End → ℕ → Pending → Tracking → Timers → End
-at_timeout e now acks tracking timers = record e { closing = ticked e.closing now; acknowledging = acks; tracking = tracking; timers = timers }
+-- an end that took a moment over, with other packets to acknowledge, other tracked packets and other timers, and validated by other means
+abbrev pub at_timeout : End → ℕ → Pending → Tracking → Timers → Validation → End
+at_timeout e now acks tracking timers v = record e { closing = ticked e.closing now; acknowledging = acks; tracking = tracking; timers = timers; validation = v }
 
--- an end that took a moment over and detected losses, with other packets to acknowledge and other timers
-abbrev pub at_losses : End → ℕ → Pending → Timers → End
-at_losses e now acks timers = record (losses_detected (with_closing e (ticked e.closing now))) { acknowledging = acks; timers = timers }
+-- an end that detected losses as it took a moment over
+abbrev pub lost_at : End → ℕ → End
+lost_at e now = losses_detected (with_closing e (ticked e.closing now))
 
--- an end that took a moment over, at which these timers expired
-abbrev pub at_expiry : End → ℕ → Expiry → End
-at_expiry e now expiry = after_expiry expiry (with_closing e (ticked e.closing now))
+-- the same with other packets to acknowledge and other timers, and validated by other means
+abbrev pub at_losses : End → ℕ → Pending → Timers → Validation → End
+at_losses e now acks timers v = record (lost_at e now) { acknowledging = acks; timers = timers; validation = v }
+
+-- an end that took a moment over, at which these timers expired, and whose random source answers these words
+abbrev pub at_expiry : (ℕ → ℕ) → End → ℕ → Expiry → End
+at_expiry words e now expiry = after_expiry words expiry (with_closing e (ticked e.closing now))
 
 -- losses change none of the packets to acknowledge
 losses_leave : (e : End) → (losses_detected e).acknowledging ≡ e.acknowledging
@@ -39,11 +46,11 @@ losses_leave e =
     by_searched (after_lost left.closing.clock lost left.path.discovery) (with_tracking left (after_detection (verdict e) e.tracking)) (λ (x : End). x.acknowledging ≡ e.acknowledging) same (λ most. same)
 
 -- whatever timers expire, the numbers to acknowledge are as they were; and so are the tracked packets, unless some were lost
-pub by_expired : (e : End) (now : ℕ) (P : End → Type 0)
-    → ((acks : Pending) (tracking : Tracking) (timers : Timers) → acks.runs ≡ e.acknowledging.runs → tracking.packets ≡ e.tracking.packets → P (at_timeout e now acks tracking timers))
-    → ((acks : Pending) (timers : Timers) → acks.runs ≡ e.acknowledging.runs → P (at_losses e now acks timers))
-    → (expiry : Expiry) → P (at_expiry e now expiry)
-by_expired e now P changes loses expiry = go expiry.acks expiry.loss expiry.pacing e.tracking.loss_time refl
+pub by_expired : (words : ℕ → ℕ) (e : End) (now : ℕ) (P : End → Type 0)
+    → ((acks : Pending) (tracking : Tracking) (timers : Timers) (v : Validation) → acks.runs ≡ e.acknowledging.runs → tracking.packets ≡ e.tracking.packets → P (at_timeout e now acks tracking timers v))
+    → ((acks : Pending) (timers : Timers) (v : Validation) → acks.runs ≡ e.acknowledging.runs → P (at_losses e now acks timers v))
+    → (expiry : Expiry) → P (at_expiry words e now expiry)
+by_expired words e now P changes loses expiry = go expiry.loss
   where
     begun : End
     begun = with_closing e (ticked e.closing now)
@@ -54,40 +61,75 @@ by_expired e now P changes loses expiry = go expiry.acks expiry.loss expiry.paci
     runs : lost.acknowledging.runs ≡ e.acknowledging.runs
     runs = ap (λ (a : Pending). a.runs) (losses_leave begun)
 
-    -- the end behind its timers
-    after : Bool → End → End
-    after pacing x = with_loss_timer (pacing_expired pacing x)
+    -- the end behind its other timers
+    after : Bool → Bool → Bool → End → End
+    after acks path pacing x = with_loss_timer (pacing_expired pacing (acks_expired acks (path_expired words path x)))
 
-    judged : (acks pacing : Bool) (o : Option ℕ) → P (after pacing (acks_expired acks (loss_judged o begun)))
-    judged true true None = let f = after true (acks_expired true (loss_judged None begun)) in changes f.acknowledging f.tracking f.timers refl refl
-    judged true false None = let f = after false (acks_expired true (loss_judged None begun)) in changes f.acknowledging f.tracking f.timers refl refl
-    judged false true None = let f = after true (loss_judged None begun) in changes e.acknowledging f.tracking f.timers refl refl
-    judged false false None = let f = after false (loss_judged None begun) in changes e.acknowledging f.tracking f.timers refl refl
-    judged true true (Some moment) = let f = after true (acks_expired true lost) in loses f.acknowledging f.timers runs
-    judged true false (Some moment) = let f = after false (acks_expired true lost) in loses f.acknowledging f.timers runs
-    judged false true (Some moment) = let f = after true lost in loses f.acknowledging f.timers runs
-    judged false false (Some moment) = let f = after false lost in loses f.acknowledging f.timers runs
+    -- an end with what another has of these
+    as_of : End → End → End
+    as_of f x = record x { acknowledging = f.acknowledging; timers = f.timers; validation = f.validation }
 
-    go : (acks loss pacing : Bool) (o : Option ℕ) → e.tracking.loss_time ≡ o → P (after pacing (acks_expired acks (loss_expired loss begun)))
-    go acks true pacing o is = judged acks pacing e.tracking.loss_time
-    go true false true o is = let f = after true (acks_expired true begun) in changes f.acknowledging e.tracking f.timers refl refl
-    go true false false o is = let f = after false (acks_expired true begun) in changes f.acknowledging e.tracking f.timers refl refl
-    go false false true o is = let f = after true begun in changes e.acknowledging e.tracking f.timers refl refl
-    go false false false o is = let f = after false begun in changes e.acknowledging e.tracking f.timers refl refl
+    -- the timer of path validation changes no other part
+    path_leaves : (b : Bool) (x : End) → path_expired words b x ≡ record x { timers = (path_expired words b x).timers; validation = (path_expired words b x).validation }
+    path_leaves true x = anew (nat_lt x.validation.drawn most_challenges)
+      where
+        anew : (more : Bool) → challenged_anew words more x ≡ record x { timers = (challenged_anew words more x).timers; validation = (challenged_anew words more x).validation }
+        anew true = refl
+        anew false = refl
+    path_leaves false x = refl
+
+    -- nor do those of acknowledgements and of the pacer, but what is to be acknowledged
+    others_leave : (acks pacing : Bool) (x : End) → (let y = with_loss_timer (pacing_expired pacing (acks_expired acks x)) in (y ≡ record x { acknowledging = y.acknowledging; timers = y.timers }) × (y.acknowledging.runs ≡ x.acknowledging.runs))
+    others_leave true true x = (refl, refl)
+    others_leave true false x = (refl, refl)
+    others_leave false true x = (refl, refl)
+    others_leave false false x = (refl, refl)
+
+    leaves : (acks path pacing : Bool) (x : End) → (after acks path pacing x ≡ as_of (after acks path pacing x) x) × ((after acks path pacing x).acknowledging.runs ≡ x.acknowledging.runs)
+    leaves acks path pacing x = go x (path_expired words path x) (path_leaves path x) (others_leave acks pacing (path_expired words path x))
+      where
+        go : (x y : End) → y ≡ record x { timers = y.timers; validation = y.validation }
+            → (let z = with_loss_timer (pacing_expired pacing (acks_expired acks y)) in (z ≡ record y { acknowledging = z.acknowledging; timers = z.timers }) × (z.acknowledging.runs ≡ y.acknowledging.runs))
+            → (let z = with_loss_timer (pacing_expired pacing (acks_expired acks y)) in (z ≡ as_of z x) × (z.acknowledging.runs ≡ x.acknowledging.runs))
+        go x y is left =
+            let z : End = with_loss_timer (pacing_expired pacing (acks_expired acks y)) in
+            let over : z ≡ record x { acknowledging = z.acknowledging; timers = z.timers; validation = y.validation } = left.0 ∙ ap (λ (f : End). record f { acknowledging = z.acknowledging; timers = z.timers }) is in
+            let same : z.validation ≡ y.validation = ap (λ (f : End). f.validation) left.0 in
+            (over ∙ ap (λ (v : Validation). record x { acknowledging = z.acknowledging; timers = z.timers; validation = v }) (sym same), left.1 ∙ ap (λ (f : End). f.acknowledging.runs) is)
+
+    behind : End → End
+    behind x = after expiry.acks expiry.path expiry.pacing x
+
+    taken : (x : End) → P (as_of (behind x) x) → P (behind x)
+    taken x i = subst P (sym (leaves expiry.acks expiry.path expiry.pacing x).0) i
+
+    same_runs : (x : End) → (behind x).acknowledging.runs ≡ x.acknowledging.runs
+    same_runs x = (leaves expiry.acks expiry.path expiry.pacing x).1
+
+    judged : (o : Option ℕ) → P (behind (loss_judged o begun))
+    judged None =
+        let x : End = loss_judged None begun in
+        taken x (changes (behind x).acknowledging x.tracking (behind x).timers (behind x).validation (same_runs x) refl)
+    judged (Some moment) = taken lost (loses (behind lost).acknowledging (behind lost).timers (behind lost).validation (same_runs lost ∙ runs))
+
+    go : (loss : Bool) → P (behind (loss_expired loss begun))
+    go true = judged e.tracking.loss_time
+    go false = taken begun (changes (behind begun).acknowledging e.tracking (behind begun).timers (behind begun).validation (same_runs begun) refl)
 
 -- an end that isn't open has no timer
-pub by_expiry : (e : End) (now : ℕ) (P : End → Type 0) → P e → ((expiry : Expiry) → P (at_expiry e now expiry)) → P (timed_out e now).end
-by_expiry e now P same expires = go e.closing.state
+pub by_expiry : (p : Policy) (e : End) (now : ℕ) (P : End → Type 0) → P e → ((expiry : Expiry) → P (at_expiry p.words e now expiry)) → P (timed_out p e now).end
+by_expiry p e now P same expires = go e.closing.state
   where
-    go : (state : State) → P (timed_out_in state e now).end
+    go : (state : State) → P (timed_out_in state p.words e now).end
     go states.Open = expires (expiry_at (ticked e.closing now).clock e.timers)
     go states.Closing = same
     go states.Drained = same
     go states.Failed = same
 
 -- what holds of the end as it was, and of it after whatever timers change or packets are lost, holds after a timeout
-pub by_timeout : (e : End) (now : ℕ) (P : End → Type 0) → P e → ((acks : Pending) (tracking : Tracking) (timers : Timers) → P (at_timeout e now acks tracking timers)) → ((acks : Pending) (timers : Timers) → P (at_losses e now acks timers)) → P (timed_out e now).end
-by_timeout e now P same changes loses = by_expiry e now P same (by_expired e now P (λ acks tracking timers runs packets. changes acks tracking timers) (λ acks timers runs. loses acks timers))
+pub by_timeout : (p : Policy) (e : End) (now : ℕ) (P : End → Type 0) → P e → ((acks : Pending) (tracking : Tracking) (timers : Timers) (v : Validation) → P (at_timeout e now acks tracking timers v))
+    → ((acks : Pending) (timers : Timers) (v : Validation) → P (at_losses e now acks timers v)) → P (timed_out p e now).end
+by_timeout p e now P same changes loses = by_expiry p e now P same (by_expired p.words e now P (λ acks tracking timers v runs packets. changes acks tracking timers v) (λ acks timers v runs. loses acks timers v))
 
 -- ---- an event
 

@@ -7,6 +7,7 @@ pub mod PathLaws
 pub mod Tracking
 pub mod Heard
 pub mod End
+pub mod Validation
 pub mod Opens
 pub mod Acked
 pub mod Steps

@@ -23,6 +23,7 @@ use Rattle.quic_machine.specs.Policy.{Policy}
 use Rattle.quic_machine.specs.End.{End, streams_at, with_streams, with_window}
 use Rattle.quic_machine.specs.Control.{Control, after_told}
 use Rattle.quic_machine.specs.Heard.{Heard, heard_datagram, heard_given}
+use Rattle.quic_machine.specs.Validation.{is_blocked, with_blocked}
 use Rattle.quic_time.specs.Timers.{no_timers, timer_at, each_timer, next_timer}
 use Rattle.quic_machine.specs.Opens.{would_open}
 use Rattle.quic_machine.specs.Timeouts.{timed_out, told_timed_out}
@@ -59,7 +60,7 @@ IsAnswer p e theirs (calls.Send message makes_room) a = IsMessageAnswer e (calls
 IsAnswer p e theirs calls.Recv a = IsMessageAnswer e calls.Recv a
 IsAnswer p e theirs calls.Ping a = a ≡ answers.Ping
 IsAnswer p e theirs (calls.Poll now) a = (a ≡ answers.Poll (polled p e now).answer) ⊎ (a ≡ answers.Poll (Err (record {})))
-IsAnswer p e theirs (calls.Timeout now) a = (a ≡ answers.Timeout (timed_out e now).answer) ⊎ (a ≡ answers.Timeout (Err (record {})))
+IsAnswer p e theirs (calls.Timeout now) a = (a ≡ answers.Timeout (timed_out p e now).answer) ⊎ (a ≡ answers.Timeout (Err (record {})))
 IsAnswer p e theirs (calls.Deliver delivery) a = IsDelivered p e delivery (slice_get theirs delivery.index) a
 IsAnswer p e theirs (calls.Inject injection) a = a ≡ injected_if (would_open p e injection.bytes) p e injection
 IsAnswer p e theirs calls.Event a = a ≡ answers.Event (end_tells e)
@@ -83,7 +84,7 @@ after_call p e theirs (calls.Send message makes_room) a = end_on_messages e (cal
 after_call p e theirs calls.Recv a = end_on_messages e calls.Recv a
 after_call p e theirs calls.Ping a = end_after_ping e
 after_call p e theirs (calls.Poll now) a = (polled p e now).end
-after_call p e theirs (calls.Timeout now) a = (timed_out e now).end
+after_call p e theirs (calls.Timeout now) a = (timed_out p e now).end
 after_call p e theirs (calls.Deliver delivery) a = after_delivered p e delivery (slice_get theirs delivery.index)
 after_call p e theirs (calls.Inject injection) a = after_injected_if (would_open p e injection.bytes) p e injection
 after_call p e theirs calls.Event a = end_after_event e
@@ -119,24 +120,24 @@ fails a = false
 abbrev pub HasStopped : End → End → Type 0
 HasStopped e next = (next.closing.state ≡ states.Failed) × (next.closing.reason ≡ None) × (e.closing.state ≡ states.Failed → next ≡ e) × (e.closing.state ≢ states.Failed → next.timers ≡ no_timers)
 
--- an end to which a call comes: a poll reads which window its controller shows
-abbrev pub reads_window : Control → Call → End → End
-reads_window control (calls.Poll now) e = with_window e (control [])
-reads_window control call e = e
+-- an end to which a call comes: a poll reads which window its controller shows, and whether three times what came went to an address that isn't validated
+abbrev pub reads_window : Control → Heard → Call → End → End
+reads_window control heard (calls.Poll now) e = with_blocked (with_window e (control [])) (is_blocked e heard)
+reads_window control heard call e = e
 
 -- the end that a call leaves
-abbrev pub end_left : Policy → Control → End → List (List ℕ) → Call → Answer → End
-end_left p control e theirs call a = after_call p (reads_window control call e) theirs call a
+abbrev pub end_left : Policy → Control → Heard → End → List (List ℕ) → Call → Answer → End
+end_left p control heard e theirs call a = after_call p (reads_window control heard call e) theirs call a
 
 -- what a call may leave: of an end that fails it is said only that it has stopped
-abbrev pub IsLeft : Bool → Policy → Control → End → List (List ℕ) → Call → Answer → End → Type 0
-IsLeft true p control e theirs call a next = HasStopped e next
-IsLeft false p control e theirs call a next = next ≡ end_left p control e theirs call a
+abbrev pub IsLeft : Bool → Policy → Control → Heard → End → List (List ℕ) → Call → Answer → End → Type 0
+IsLeft true p control heard e theirs call a next = HasStopped e next
+IsLeft false p control heard e theirs call a next = next ≡ end_left p control heard e theirs call a
 
 -- the controller that a call leaves: of an end that fails nothing is said
-abbrev pub IsTold : Bool → Policy → Control → End → List (List ℕ) → Call → Control → Type 0
-IsTold true p control e theirs call next = Unit {0}
-IsTold false p control e theirs call next = next ≡ after_told control (tells p (reads_window control call e) theirs call)
+abbrev pub IsTold : Bool → Policy → Control → Heard → End → List (List ℕ) → Call → Control → Type 0
+IsTold true p control heard e theirs call next = Unit {0}
+IsTold false p control heard e theirs call next = next ≡ after_told control (tells p (reads_window control heard call e) theirs call)
 
 -- what an end has counted behind a delivery: as much as before, where there is no such datagram
 abbrev pub heard_delivery : Option (List ℕ) → Received → Heard → Heard
@@ -205,13 +206,13 @@ changed Server w e ds control heard = record w { server = e; from_server = w.fro
 
 -- the end to which an event comes
 abbrev pub end_met : World → RunEvent → End
-end_met w event = reads_window (control_at event.side w) event.call (end_at event.side w)
+end_met w event = reads_window (control_at event.side w) (heard_at event.side w) event.call (end_at event.side w)
 
 -- an event may be answered so, lacking memory only where its call takes some, and leave the world so
 pub record IsStep (k : Policies) (w : World) (event : RunEvent) (a : Answer) (next : World) : Type 0 where
   pub answer : IsAnswer (policy_at event.side k) (end_met w event) (given_by (other_side event.side) w) event.call a
-  pub end : IsLeft (fails a) (policy_at event.side k) (control_at event.side w) (end_at event.side w) (given_by (other_side event.side) w) event.call a (end_at event.side next)
-  pub control : IsTold (fails a) (policy_at event.side k) (control_at event.side w) (end_at event.side w) (given_by (other_side event.side) w) event.call (control_at event.side next)
+  pub end : IsLeft (fails a) (policy_at event.side k) (control_at event.side w) (heard_at event.side w) (end_at event.side w) (given_by (other_side event.side) w) event.call a (end_at event.side next)
+  pub control : IsTold (fails a) (policy_at event.side k) (control_at event.side w) (heard_at event.side w) (end_at event.side w) (given_by (other_side event.side) w) event.call (control_at event.side next)
   pub heard : IsHeard (fails a) (given_by (other_side event.side) w) event.call a (heard_at event.side w) (heard_at event.side next)
   pub others : next ≡ changed event.side w (end_at event.side next) (gives (policy_at event.side k) (end_met w event) event.call a) (control_at event.side next) (heard_at event.side next)
   pub lacking : LacksWhere (policy_at event.side k) (end_met w event) (given_by (other_side event.side) w) event.call a

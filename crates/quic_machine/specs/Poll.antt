@@ -31,7 +31,9 @@ use Rattle.quic_spaces.specs.Numbers.{can_number, cut_against}
 use Rattle.quic_spaces.specs.Records.{first_record}
 use Rattle.quic_machine.specs.Policy.{Policy}
 use Rattle.quic_machine.specs.Parts.{current_mtu}
-use Rattle.quic_machine.specs.End.{End, with_closing, closed_by, number_of, with_number_given, with_acknowledging, with_ack_timer_at, with_tracking, with_loss_timer, with_streams, with_queued, with_waiting, with_ping}
+use Rattle.quic_machine.specs.End.{End, words_drawn, with_closing, closed_by, number_of, with_number_given, with_acknowledging, with_ack_timer_at, with_tracking, with_loss_timer, with_streams, with_queued, with_waiting, with_ping}
+use Rattle.quic_paths.specs.Responses.{Response}
+use Rattle.quic_machine.specs.Validation.{challenge_to_send, path_waits, challenge_sent, response_sent, path_frames_size, challenge_frame, response_frame}
 use Rattle.quic_machine.specs.Control.{is_window_full, Gated, gated_if, paid, with_pacing_timer, with_app_limited, told_sent}
 use Rattle.quic_machine.specs.Sizes.{may_search, search_names, search_asked}
 
@@ -95,6 +97,28 @@ with_frame d f bytes e = record d { frames = d.frames ++ f ∷ []; bytes = d.byt
 -- whether a frame fits behind those of a draft
 abbrev pub fits : Draft → FrameValue → Bool
 fits d f = nat_le (length d.bytes + frame_size f) (frame_room d.end)
+
+-- a frame of path validation goes behind the others, and leaves this end: the datagram has 1200 bytes at least
+abbrev pub with_path_frame : Draft → FrameValue → End → Draft
+with_path_frame d f e = with_least (with_frame d f (spelling f) e) (max d.least path_frames_size)
+
+-- PATH_CHALLENGE goes if it waits
+abbrev pub challenge_if : Option ℕ → Draft → Draft
+challenge_if None d = d
+challenge_if (Some word) d = with_path_frame d (challenge_frame word) (challenge_sent d.end)
+
+-- PATH_RESPONSE goes if it waits
+abbrev pub response_if : Option Response → Draft → Draft
+response_if None d = d
+response_if (Some r) d = with_path_frame d (response_frame r) (response_sent d.end)
+
+-- where it waits
+abbrev pub with_response_frame : Draft → Draft
+with_response_frame d = response_if d.end.validation.response d
+
+-- PATH_CHALLENGE and PATH_RESPONSE go, each where it waits (section 8.2)
+abbrev pub with_path_frames : Draft → Draft
+with_path_frames d = with_response_frame (challenge_if (challenge_to_send d.end.validation) d)
 
 -- PING goes if it waits
 abbrev pub ping_if : Bool → Draft → Draft
@@ -163,8 +187,9 @@ abbrev pub ack_if : Bool → Draft → Draft
 ack_if true d = with_ack d
 ack_if false d = d
 
--- what asks for an acknowledgement: PING, what has to be told of streams, messages, and the bytes of streams
+-- what asks for an acknowledgement: frames of path validation, PING, what has to be told of streams, messages, and the bytes of streams
 pub data Kind : Type 0 where
+  paths : Kind
   pings : Kind
   controls : Kind
   messages : Kind
@@ -172,10 +197,11 @@ pub data Kind : Type 0 where
 
 -- the kinds, in the order in which they go
 abbrev pub order : List Kind
-order = pings ∷ controls ∷ messages ∷ streams ∷ []
+order = paths ∷ pings ∷ controls ∷ messages ∷ streams ∷ []
 
 -- what waits of a kind goes behind the frames of a draft, where it fits
 abbrev pub put : Draft → Kind → Draft
+put d paths = with_path_frames d
 put d pings = with_ping_frame d
 put d controls = with_control_frames d
 put d messages = with_message_frames d
@@ -252,7 +278,7 @@ paid_if false e size = e
 
 -- the end after it went
 abbrev pub after_given : Policy → Draft → End
-after_given p d = with_loss_timer (with_app_limited (paid_if (asking d.frames) (with_number_given (p.words d.end.filter.drawn) (tracked d)) (datagram_size d)) false)
+after_given p d = with_loss_timer (with_app_limited (paid_if (asking d.frames) (with_number_given (p.words (words_drawn d.end)) (tracked d)) (datagram_size d)) false)
 
 -- ---- what waits
 
@@ -285,9 +311,9 @@ least_room e = current_mtu e.path - (length e.ids.active.id + 21)
 abbrev pub message_waits : End → Bool
 message_waits e = is_some (fitting (least_room e) e.messages.queues.outgoing)
 
--- whether something waits beside acknowledgements: PING, what has to be told of streams, a message, or the bytes of streams
+-- whether something waits beside acknowledgements: a frame of path validation, PING, what has to be told of streams, a message, or the bytes of streams
 abbrev pub asks_to_go : End → Bool
-asks_to_go e = e.waiting.ping || (not (is_empty e.waiting.frames e.streams) || (message_waits e || can_send_stream_data e.streams))
+asks_to_go e = path_waits e || (e.waiting.ping || (not (is_empty e.waiting.frames e.streams) || (message_waits e || can_send_stream_data e.streams)))
 
 -- whether anything waits to be sent
 abbrev pub waits : End → Bool
@@ -346,9 +372,19 @@ leaves_if false e = free_if (waits e) e
 abbrev pub leaves : Gated → Ready
 leaves g = leaves_if g.held g.end
 
--- an end is ready to give: the timer of its pacer is stopped, what a probe carries waits, window and pacer were asked, and where nothing waits the search for a size
+-- nothing goes, whatever waits, where three times what came went to an address that isn't validated (RFC 9000, section 8.1): that isn't held back by window or pacer
+abbrev pub leaves_unless : Bool → End → Ready
+leaves_unless true e = record { leaving = nothing false; end = e }
+leaves_unless false e = leaves (gated e)
+
+-- so it is where the end has read that
+abbrev pub leaves_at : End → Ready
+leaves_at e = leaves_unless e.path.blocked e
+
+-- an end is ready to give: the timer of its pacer is stopped, what a probe carries waits, the limit on an address that isn't validated, window and pacer were asked, and
+-- where nothing waits the search for a size
 abbrev pub ready : End → Ready
-ready e = leaves (gated (probed (with_pacing_timer e None)))
+ready e = leaves_at (probed (with_pacing_timer e None))
 
 -- whether a datagram goes
 abbrev pub goes_as : Leaving → Bool
@@ -368,11 +404,12 @@ is_held alone = false
 is_held (probe size) = false
 is_held (nothing held) = held
 
--- An end has nothing to send but what window or pacer hold back, the pacer until its timer expires; and no probe waits.
+-- An end has nothing to send but what window or pacer hold back, the pacer until its timer expires, and no probe waits; or three times what came went to an address that
+-- isn't validated.
 pub record IsSilent (e : End) : Type 0 where
-  pub no_ack : can_send e.acknowledging ≡ false
-  pub no_probe : e.tracking.probes ≡ 0
-  pub held : asks_to_go e ≡ true → (is_window_full e ≡ true) ⊎ IsSome e.timers.pacing
+  pub no_ack : e.path.blocked ≡ false → can_send e.acknowledging ≡ false
+  pub no_probe : e.path.blocked ≡ false → e.tracking.probes ≡ 0
+  pub held : e.path.blocked ≡ false → asks_to_go e ≡ true → (is_window_full e ≡ true) ⊎ IsSome e.timers.pacing
 
 -- before a packet is composed, an acknowledgement is due where many packets came that don't ask for one (RFC 9000, section 13.2.1)
 abbrev pub lazied : End → End
@@ -404,12 +441,16 @@ draft_as leaving e = draft_left leaving (lazied_as leaving e)
 abbrev pub draft_of : Ready → Draft
 draft_of g = draft_as g.leaving g.end
 
--- how many bytes its datagram has at least by itself
-abbrev pub least_left : Leaving → ℕ
-least_left whole = 0
-least_left alone = 0
-least_left (probe size) = size
-least_left (nothing held) = 0
+-- how many bytes its datagram has at least by itself, where it has a frame of path validation or none
+abbrev pub least_by : Leaving → Bool → ℕ
+least_by whole pads = if pads then path_frames_size else 0
+least_by alone pads = 0
+least_by (probe size) pads = size
+least_by (nothing held) pads = 0
+
+-- so it is of an end: what waits of them goes with the rest
+abbrev pub least_left : Leaving → End → ℕ
+least_left leaving e = least_by leaving (path_waits e)
 
 -- how many bytes the datagram of what goes has at most: the size of the path, or that of a probe
 abbrev pub most_of : Leaving → End → ℕ

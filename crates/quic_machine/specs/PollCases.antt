@@ -21,10 +21,10 @@ use Rattle.quic_streams_state.specs.Waiting.{is_empty}
 use Rattle.quic_spaces.specs.Records.{first_record}
 use Rattle.quic_machine.specs.Tracking.{TrackedPacket, Tracking}
 use Rattle.quic_machine.specs.Parts.{Waiting}
-use Rattle.quic_machine.specs.End.{End, with_closing, closed_by, with_number_given, with_loss_timer, with_ping, with_discovery}
+use Rattle.quic_machine.specs.End.{End, words_drawn, with_closing, closed_by, with_number_given, with_loss_timer, with_ping, with_discovery}
 use Rattle.quic_machine.specs.Control.{is_window_full, paced_until, pacer_asked, Gated, lets, holds, by_pacer, by_window, gated_if, with_pacing_timer, with_app_limited}
 use Rattle.quic_machine.specs.Sizes.{may_search, search_names, search_asked}
-use Rattle.quic_machine.specs.Poll.{Polled, Draft, gives_nothing, gives_datagram, asking, datagram_of, datagram_size, tracked, paid_if, after_given, record_moved, probe_filled, probe_if, probed, waits, is_gated, gated, Leaving, whole, alone, probe, nothing, Ready, probe_named, searched_if, free_if, held_if, leaves_if, leaves, ready, goes, is_held, zeros_behind, draft_left, draft_as, draft_of, rests, sends, polled_if, polled_in, polled}
+use Rattle.quic_machine.specs.Poll.{Polled, Draft, gives_nothing, gives_datagram, asking, datagram_of, datagram_size, tracked, paid_if, after_given, record_moved, probe_filled, probe_if, probed, waits, is_gated, gated, Leaving, whole, alone, probe, nothing, Ready, probe_named, searched_if, free_if, held_if, leaves_if, leaves, ready, goes, is_held, zeros_behind, draft_left, draft_as, draft_of, rests, sends, polled_if, polled_in, polled, leaves_unless, leaves_at}
 use Rattle.quic_machine.specs.Machine.{gives, gave}
 use Rattle.quic_machine.specs.DraftLaws.{Writing, MayLeave, lazy_due, by_left, by_leave}
 use Rattle.quic_machine.specs.Puts as puts
@@ -57,7 +57,7 @@ pub record Paid : Type 0 where
 
 -- the end after a draft went
 abbrev pub after_draft : Policy → Draft → Paid → End
-after_draft p d c = record (with_number_given (p.words d.end.filter.drawn) d.end) { tracking = c.tracking; timers = c.timers; path = record d.end.path { pacing = c.pacing; app_limited = false } }
+after_draft p d c = record (with_number_given (p.words (words_drawn d.end)) d.end) { tracking = c.tracking; timers = c.timers; path = record d.end.path { pacing = c.pacing; app_limited = false } }
 
 -- an end that is ready to give at a moment: the timer of its pacer is stopped, what a probe carries waits, and window and pacer were asked
 abbrev pub ready_at : End → ℕ → Ready
@@ -168,6 +168,14 @@ by_leaves g P c = go g.held refl
     go true held = held_case held (can_send g.end.acknowledging) refl
     go false free = waits_case free (waits g.end) refl
 
+-- what holds where nothing goes to an address that isn't validated, and in each case where that isn't so, holds of what goes
+pub by_ready : (e : End) (P : Ready → Type 0) → (e.path.blocked ≡ true → P (record { leaving = nothing false; end = e })) → (e.path.blocked ≡ false → Leaves (gated e) P) → P (leaves_at e)
+by_ready e P blocked free = go e.path.blocked refl
+  where
+    go : (b : Bool) → e.path.blocked ≡ b → P (leaves_unless b e)
+    go true is = blocked is
+    go false is = by_leaves (gated e) P (free is)
+
 -- what goes changes the search for a size, and nothing else
 pub search_leaves : (g : Gated) → (leaves g).end ≡ with_discovery g.end (leaves g).end.path.discovery
 search_leaves g = by_leaves g (λ (r : Ready). r.end ≡ with_discovery g.end r.end.path.discovery)
@@ -175,7 +183,7 @@ search_leaves g = by_leaves g (λ (r : Ready). r.end ≡ with_discovery g.end r.
 
 -- where an ACK goes alone, it is due
 pub may_leave_at : (e : End) (now : ℕ) → MayLeave (ready_at e now).leaving (ready_at e now).end
-may_leave_at e now = by_leaves (gated (probed (with_pacing_timer (with_closing e (ticked e.closing now)) None))) (λ (r : Ready). MayLeave r.leaving r.end) (record {
+may_leave_at e now = by_ready (probed (with_pacing_timer (with_closing e (ticked e.closing now)) None)) (λ (r : Ready). MayLeave r.leaving r.end) (λ blocked is. cc) (λ unblocked. record {
   acks = λ held due is. lazy_due (gated (probed (with_pacing_timer (with_closing e (ticked e.closing now)) None))).end due;
   held = λ held none is. cc;
   all = λ free some is. cc;
@@ -186,7 +194,7 @@ may_leave_at e now = by_leaves (gated (probed (with_pacing_timer (with_closing e
 
 -- all goes where something waits
 pub whole_waits : (e : End) (now : ℕ) → (ready_at e now).leaving ≡ whole → waits (ready_at e now).end ≡ true
-whole_waits e now = by_leaves (gated (probed (with_pacing_timer (with_closing e (ticked e.closing now)) None))) (λ (r : Ready). r.leaving ≡ whole → waits r.end ≡ true) (record {
+whole_waits e now = by_ready (probed (with_pacing_timer (with_closing e (ticked e.closing now)) None)) (λ (r : Ready). r.leaving ≡ whole → waits r.end ≡ true) (λ blocked is. cc) (λ unblocked. record {
   acks = λ held due is. cc;
   held = λ held none is. cc;
   all = λ free some is. some;
@@ -205,10 +213,15 @@ poll_left e now x = at_poll e now (changed_by x)
 
 -- an end is made ready: its moment, a probe, its pacer, its timer and the search for a size change, and nothing else
 pub ready_leaves : (e : End) (now : ℕ) → (ready_at e now).end ≡ poll_left e now (ready_at e now).end
-ready_leaves e now =
-    let x = with_pacing_timer (with_closing e (ticked e.closing now)) None in
-    both (leaves (gated (probed x))).end (gated (probed x)).end (search_leaves (gated (probed x))) (gates (gated (probed x)).end (probed x) (gate_leaves (probed x)) (probe_leaves x))
+ready_leaves e now = go (probed begun).path.blocked
   where
+    begun : End
+    begun = with_pacing_timer (with_closing e (ticked e.closing now)) None
+
+    go : (b : Bool) → (leaves_unless b (probed begun)).end ≡ poll_left e now (leaves_unless b (probed begun)).end
+    go true = gates (probed begun) (probed begun) refl (probe_leaves begun)
+    go false = both (leaves (gated (probed begun))).end (gated (probed begun)).end (search_leaves (gated (probed begun))) (gates (gated (probed begun)).end (probed begun) (gate_leaves (probed begun)) (probe_leaves begun))
+
     gates : (g y : End) → g ≡ record y { timers = record y.timers { pacing = g.timers.pacing }; path = record y.path { pacing = g.path.pacing } }
         → y ≡ record (with_pacing_timer (with_closing e (ticked e.closing now)) None) { tracking = y.tracking; waiting = y.waiting } → g ≡ poll_left e now g
     gates g y gate carried =
@@ -283,7 +296,7 @@ pub given_leaves : (p : Policy) (d : Draft) → after_given p d ≡ after_draft 
 given_leaves p d = go (asking d.frames)
   where
     x : End
-    x = with_number_given (p.words d.end.filter.drawn) (tracked d)
+    x = with_number_given (p.words (words_drawn d.end)) (tracked d)
 
     go : (b : Bool) → (let y = with_loss_timer (with_app_limited (paid_if b x (datagram_size d)) false) in y ≡ after_draft p d (paid_by y))
     go true = refl
@@ -339,7 +352,7 @@ poll_count p e now =
 
 -- ---- what a poll leaves as it was
 
--- ids and numbers are as they were, and so are clock and state, what is tracked, the timers of losses and of the pacer, the path, and what is said of the peer
+-- ids and numbers are as they were, and so are clock and state, what is tracked, the timers of losses and of the pacer, the path, and what is said of the peer; no word is drawn
 pub record Composes (e f : End) : Type 0 where
   pub ids : f.ids ≡ e.ids
   pub numbers : f.numbers ≡ e.numbers
@@ -349,17 +362,18 @@ pub record Composes (e f : End) : Type 0 where
   pub loss : f.timers.loss_detection ≡ e.timers.loss_detection
   pub pacing : f.timers.pacing ≡ e.timers.pacing
   pub path : f.path ≡ e.path
+  pub drawn : f.validation.drawn ≡ e.validation.drawn
   pub transport : f.transport ≡ e.transport
   pub peer : f.peer_params ≡ e.peer_params
 
 writing : (e : End) → Writing (λ (d : Draft). Composes e d.end)
-writing e puts.ping d may c = record { ids = c.ids; numbers = c.numbers; filter = c.filter; closing = c.closing; tracking = c.tracking; loss = c.loss; pacing = c.pacing; path = c.path; transport = c.transport; peer = c.peer }
-writing e p d may c = record { ids = c.ids; numbers = c.numbers; filter = c.filter; closing = c.closing; tracking = c.tracking; loss = c.loss; pacing = c.pacing; path = c.path; transport = c.transport; peer = c.peer }
+writing e puts.ping d may c = record { ids = c.ids; numbers = c.numbers; filter = c.filter; closing = c.closing; tracking = c.tracking; loss = c.loss; pacing = c.pacing; path = c.path; drawn = c.drawn; transport = c.transport; peer = c.peer }
+writing e p d may c = record { ids = c.ids; numbers = c.numbers; filter = c.filter; closing = c.closing; tracking = c.tracking; loss = c.loss; pacing = c.pacing; path = c.path; drawn = c.drawn; transport = c.transport; peer = c.peer }
 
 pub composes_left : (leaving : Leaving) (e : End) → (leaving ≡ alone → can_send e.acknowledging ≡ true) → Composes e (draft_left leaving e).end
 composes_left leaving e due = by_left (λ (d : Draft). Composes e d.end) (writing e) leaving e due
-    (record { ids = refl; numbers = refl; filter = refl; closing = refl; tracking = refl; loss = refl; pacing = refl; path = refl; transport = refl; peer = refl })
+    (record { ids = refl; numbers = refl; filter = refl; closing = refl; tracking = refl; loss = refl; pacing = refl; path = refl; drawn = refl; transport = refl; peer = refl })
 
 pub composes : (leaving : Leaving) (e : End) → MayLeave leaving e → Composes e (draft_as leaving e).end
 composes leaving e due = by_leave (λ (d : Draft). Composes e d.end) (writing e) leaving e due
-    (record { ids = refl; numbers = refl; filter = refl; closing = refl; tracking = refl; loss = refl; pacing = refl; path = refl; transport = refl; peer = refl })
+    (record { ids = refl; numbers = refl; filter = refl; closing = refl; tracking = refl; loss = refl; pacing = refl; path = refl; drawn = refl; transport = refl; peer = refl })

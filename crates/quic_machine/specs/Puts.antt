@@ -13,8 +13,10 @@ use Rattle.quic_streams_state.specs.Control.{without_first, frame_told}
 use Rattle.quic_streams_state.specs.Frames as of_streams
 use Rattle.quic_streams_laws.specs.KindLaws.{GoesFirst}
 use Rattle.quic_recovery_core.specs.PendingAcks.{is_filled}
+use Rattle.quic_paths.specs.Responses.{Response}
 use Rattle.quic_machine.specs.End.{with_streams, with_ping}
-use Rattle.quic_machine.specs.Poll.{Draft, fits, with_frame, with_least, left, with_message, no_stream_frames, ack_of, with_ack}
+use Rattle.quic_machine.specs.Validation.{challenge_to_send, challenge_sent, response_sent, challenge_frame, response_frame}
+use Rattle.quic_machine.specs.Poll.{Draft, fits, with_frame, with_path_frame, with_least, left, with_message, no_stream_frames, ack_of, with_ack}
 
 -- ---- one frame of each kind
 
@@ -43,6 +45,9 @@ MayAck d = (d.bytes ≡ []) ⊎ (fits d (values.ack (ack_of d.end)) ≡ true)
 
 pub data Put : Type 0 where
   ack : Put
+  -- frames of path validation go
+  challenge : ℕ → Put
+  response : Response → Put
   ping : Put
   -- PING goes alone, as a probe of a size
   probes : ℕ → Put
@@ -57,6 +62,8 @@ pub data Put : Type 0 where
 -- the draft with it
 abbrev pub after : Put → Draft → Draft
 after ack d = with_ack d
+after (challenge word) d = with_path_frame d (challenge_frame word) (challenge_sent d.end)
+after (response r) d = with_path_frame d (response_frame r) (response_sent d.end)
 after ping d = with_frame d values.ping (spelling values.ping) (with_ping d.end false)
 after (probes size) d = with_frame (with_least d size) values.ping (spelling values.ping) d.end
 after (drops kind) d = without_entry d kind
@@ -64,10 +71,12 @@ after (control kind f) d = with_entry d kind f
 after (message m ms) d = with_message d m ms
 after (stream id h room) d = with_half_frame d id h room
 
--- where it may be put into a draft: an ACK that has numbers; a frame of control that says what is due; a message that fits; and a frame of the stream that stands first in the queue, which
+-- where it may be put into a draft: an ACK that has numbers; a frame of path validation that waits; a frame of control that says what is due; a message that fits; and a frame of the stream that stands first in the queue, which
 -- brings something, where enough bytes are left
 abbrev pub May : Put → Draft → Type 0
 May ack d = (is_filled d.end.acknowledging.runs ≡ true) × MayAck d
+May (challenge word) d = challenge_to_send d.end.validation ≡ Some word
+May (response r) d = d.end.validation.response ≡ Some r
 May ping d = Unit {0}
 May (probes size) d = Unit {0}
 May (drops kind) d = Unit {0}

@@ -5,7 +5,7 @@ use Rattle.quic_wire_core.specs.TransportError.{ErrorValue}
 use Rattle.quic_wire_core.specs.declared.shared.EcnCodepoint.{EcnCodepoint}
 use Rattle.quic_wire_core.specs.declared.stream_id.Side.{Side}
 use Rattle.quic_wire_core.specs.declared.stream_id.Side.TheVariants.{Client, Server}
-use Rattle.quic_wire.specs.Value.{FrameValue, AckValue, ack, stream, reset_stream, stop_sending, max_data, max_stream_data, max_streams, new_token, handshake_done, datagram, asks}
+use Rattle.quic_wire.specs.Value.{FrameValue, AckValue, ack, stream, reset_stream, stop_sending, max_data, max_stream_data, max_streams, new_token, handshake_done, datagram, asks, path_challenge, path_response}
 use Rattle.quic_wire.specs.Items.{items}
 use Rattle.quic_packet.specs.Header.{key_phase, reserved_bits}
 use Rattle.quic_packet.specs.Destination.{decoded, fixed_length_id}
@@ -13,6 +13,7 @@ use Rattle.quic_packet.specs.Datagram.{Opening, opened_packet}
 use Rattle.quic_wire.specs.declared.frame.InvalidFrame.{InvalidFrame}
 use Rattle.quic_packet.specs.declared.packet.HeaderError.{HeaderError}
 use Rattle.quic_packet.specs.declared.packet.HeaderError.TheVariants as headers
+use Rattle.quic_machine.specs.Validation.{path_asked, path_answered}
 use Rattle.quic_machine.specs.Arrival.{Arrival}
 use Rattle.quic_machine.specs.declared.answers.State.{State}
 use Rattle.quic_machine.specs.declared.answers.State.TheVariants as states
@@ -163,6 +164,8 @@ take_frame (max_data limit) e = on_state None (after_max_data e.streams limit) e
 take_frame (max_stream_data f) e = on_state (sending_refusal e.streams f.id) (after_max_stream_data e.streams f.id f.limit) e
 take_frame (max_streams f) e = on_state (max_streams_breach f.count) (after_max_streams (dir_named f.one_way) f.count e.streams) e
 take_frame (datagram m) e = take_message m e
+take_frame (path_challenge token) e = goes_on (path_asked token e)
+take_frame (path_response token) e = goes_on (path_answered token e)
 take_frame (new_token t) e = record { end = e; fault = fault_at (side_of e) }
 take_frame handshake_done e = record { end = e; fault = fault_at (side_of e) }
 take_frame f e = record { end = e; fault = fault_of (broken e.streams (id_rule f)) }

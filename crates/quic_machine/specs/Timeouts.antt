@@ -1,4 +1,4 @@
--- What an end makes of a moment at which timers expire (RFC 9000, section 13.2.1; RFC 9002, section 6.2).
+-- What an end makes of a moment at which timers expire (RFC 9000, sections 8.2.4 and 13.2.1; RFC 9002, section 6.2).
 use Rattle.std.specs.Prelude.{ℕ, Bool, true, false, List, [], Option, Some, None, Result, Ok, Err}
 use Rattle.quic_congestion.specs.Congestion.{Told}
 use Rattle.quic_recovery_core.specs.PendingAcks.{after_timeout}
@@ -10,6 +10,8 @@ use Rattle.quic_machine.specs.Closing.{ticked}
 use Rattle.quic_machine.specs.Tracking.{after_loss_timeout}
 use Rattle.quic_machine.specs.End.{End, with_closing, with_acknowledging, with_ack_timer_at, with_tracking, with_loss_timer}
 use Rattle.quic_machine.specs.Control.{with_pacing_timer}
+use Rattle.quic_machine.specs.Policy.{Policy}
+use Rattle.quic_machine.specs.Validation.{path_expired}
 use Rattle.quic_machine.specs.Acked.{losses_detected, told_detected}
 
 -- the answer, and the end that is left
@@ -41,30 +43,31 @@ pacing_expired false e = e
 pub record Expiry : Type 0 where
   pub acks : Bool
   pub loss : Bool
+  pub path : Bool
   pub pacing : Bool
 
 -- those that expire up to a moment
 abbrev pub expiry_at : ℕ → Timers → Expiry
-expiry_at now t = record { acks = has_come t.max_ack_delay now; loss = has_come t.loss_detection now; pacing = has_come t.pacing now }
+expiry_at now t = record { acks = has_come t.max_ack_delay now; loss = has_come t.loss_detection now; path = has_come t.path_validation now; pacing = has_come t.pacing now }
 
--- what they leave; the loss timer is set anew
-abbrev pub after_expiry : Expiry → End → End
-after_expiry x e = with_loss_timer (pacing_expired x.pacing (acks_expired x.acks (loss_expired x.loss e)))
+-- what they leave, where the random source answers these words; the loss timer is set anew
+abbrev pub after_expiry : (ℕ → ℕ) → Expiry → End → End
+after_expiry words x e = with_loss_timer (pacing_expired x.pacing (acks_expired x.acks (path_expired words x.path (loss_expired x.loss e))))
 
 -- the timers of an open end that expired up to its moment
-abbrev pub expired : End → End
-expired e = after_expiry (expiry_at e.closing.clock e.timers) e
+abbrev pub expired : (ℕ → ℕ) → End → End
+expired words e = after_expiry words (expiry_at e.closing.clock e.timers) e
 
 -- an end that isn't open has no timer
-abbrev pub timed_out_in : State → End → ℕ → TimedOut
-timed_out_in states.Open e now = record { answer = Ok tt; end = expired (with_closing e (ticked e.closing now)) }
-timed_out_in states.Closing e now = record { answer = Ok tt; end = e }
-timed_out_in states.Drained e now = record { answer = Ok tt; end = e }
-timed_out_in states.Failed e now = record { answer = Err (record {}); end = e }
+abbrev pub timed_out_in : State → (ℕ → ℕ) → End → ℕ → TimedOut
+timed_out_in states.Open words e now = record { answer = Ok tt; end = expired words (with_closing e (ticked e.closing now)) }
+timed_out_in states.Closing words e now = record { answer = Ok tt; end = e }
+timed_out_in states.Drained words e now = record { answer = Ok tt; end = e }
+timed_out_in states.Failed words e now = record { answer = Err (record {}); end = e }
 
 -- what an end makes of a moment
-abbrev pub timed_out : End → ℕ → TimedOut
-timed_out e now = timed_out_in e.closing.state e now
+abbrev pub timed_out : Policy → End → ℕ → TimedOut
+timed_out p e now = timed_out_in e.closing.state p.words e now
 
 -- ---- what the controller is told (RFC 9002, section 7)
 

@@ -3,7 +3,7 @@ use Rattle.std.specs.Prelude.{ℕ, ◌≡◌, ◌≢◌, true, false, List, [], 
 use Rattle.quic_parameters.specs.ParametersRead.{parameters_at}
 use Rattle.quic_congestion.specs.NewReno.{Reno, default_reno, reno_made, reno_steps, window_after}
 use Rattle.quic_machine.specs.Policy.{Policy}
-use Rattle.quic_machine.specs.End.{ConnectionValue, hearing, policy_of, MadeFrom, HasFailed, refusal_of}
+use Rattle.quic_machine.specs.End.{ConnectionValue, hearing, policy_of, MadeFrom, HasFailed, refusal_of, words_drawn}
 use Rattle.quic_machine.specs.Heard.{nothing_heard, heard_datagram}
 use Rattle.quic_machine.specs.Arrival.{Arrival, arriving}
 use Rattle.quic_machine.specs.CallCases.{is_poll}
@@ -47,10 +47,10 @@ refusal options new = refusal_of (settings_of options) default_reno.initial (par
 
 -- An end is made of its options and of these, with NewReno as its congestion controller. Its peer's address counts as validated.
 pub record IsNew (options : Options) (new : NewEnd) (held : Held) : Type 0 where
-  pub end : MadeFrom new.side (settings_of options) first_windows new.parameters new.id new.peer_id new.now true (words_from options.source 0) held.end
+  pub end : MadeFrom new.side (settings_of options) first_windows new.parameters new.id new.peer_id new.now options.validated (words_from options.source) held.end
   pub control : held.control ≡ reno_made default_reno new.now 1200
   pub keys : held.keys ≡ keys_of new.side
-  pub random : stream_from held.random ≡ after_words 1 (source_stream options.source)
+  pub random : stream_from held.random ≡ after_words (words_drawn held.end) (source_stream options.source)
   pub heard : held.heard ≡ nothing_heard
 
 -- Bytes came to an end, at a moment and with a mark or with none: this is printed of what came of them, and the end is left so.
@@ -66,13 +66,13 @@ pub record IsCall (asked : Asked) (old : Held) (text : List ℕ) (new : Held) : 
   pub call : Call
   pub of_call : asked_of call ≡ asked
   pub answer : Answer
-  pub is_answer : IsAnswer (policy_at old) (reads_window (window_after old.control) call old.end) [] call answer
-  pub left : IsLeft (fails answer) (policy_at old) (window_after old.control) old.end [] call answer new.end
-  pub control : IsTold (fails answer) (policy_at old) (window_after old.control) old.end [] call (window_after new.control)
+  pub is_answer : IsAnswer (policy_at old) (reads_window (window_after old.control) old.heard call old.end) [] call answer
+  pub left : IsLeft (fails answer) (policy_at old) (window_after old.control) old.heard old.end [] call answer new.end
+  pub control : IsTold (fails answer) (policy_at old) (window_after old.control) old.heard old.end [] call (window_after new.control)
   pub heard : IsHeard (fails answer) [] call answer old.heard new.heard
   pub keys : is_poll call ≡ false → KeepsKeys old new
   pub polled : is_poll call ≡ true → GoesOn stream_from old new
-  pub line : text ≡ line_text (call_text call) (told_text (gives (policy_at old) (reads_window (window_after old.control) call old.end) call answer) answer)
+  pub line : text ≡ line_text (call_text call) (told_text (gives (policy_at old) (reads_window (window_after old.control) old.heard call old.end) call answer) answer)
 
 -- ---- a line
 

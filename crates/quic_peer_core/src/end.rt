@@ -20,7 +20,7 @@ use std::alloc::{AllocError, Global};
 /// An end with stand-in keys.
 pub(crate) type End = Connection<PlainHeaderKey, PlainKey, Words, NewReno>;
 
-/// An end with these options. Its peer's address counts as validated.
+/// An end with these options.
 pub(crate) fn make_end(alloc: Global, options: &Options, new: &NewEnd) -> Result<End, ConfigError>
     ensures made { IfOk result (λ made. IsNew options.now new.entry.now made) }
     ensures lawful { OnOk result (refusal options.now new.entry.now ≡ None) }
@@ -36,7 +36,7 @@ pub(crate) fn make_end(alloc: Global, options: &Options, new: &NewEnd) -> Result
         keys_for(new.side),
         new.now,
         Words::of(options.source),
-        true,
+        options.validated,
     )
 }
 

@@ -17,7 +17,7 @@ use Rattle.quic_run_core.specs.declared.script.Line.TheVariants as lines
 use Rattle.quic_run_core.specs.declared.script.LineError.{LineError}
 use Rattle.quic_run_core.specs.declared.script.LineError.TheVariants.{BadCommand, OutOfMemory}
 use Rattle.quic_run_core.specs.declared.script.Setting.{Setting}
-use Rattle.quic_run_core.specs.declared.script.Setting.TheVariants.{ReceiveWindow, StreamWindow, SendWindow, Bidi, Uni, Messages, Search, Word, Pcg}
+use Rattle.quic_run_core.specs.declared.script.Setting.TheVariants.{ReceiveWindow, StreamWindow, SendWindow, Bidi, Uni, Messages, Search, Validated, Word, Pcg}
 use Rattle.quic_run_core.specs.Named.{side_named, dir_named, mark_named, timer_named, bytes_named}
 
 -- ---- what may be asked for
@@ -158,9 +158,10 @@ setting_said name args =
     else (if is_word name (codes "uni") then one Uni varint_named args
     else (if is_word name (codes "messages") then one Messages number_named args
     else (if is_word name (codes "search") then one Search switch_named args
+    else (if is_word name (codes "validated") then one Validated switch_named args
     else (if is_word name (codes "word") then one Word number_named args
     else (if is_word name (codes "pcg") then one Pcg number_named args
-    else None))))))))
+    else None)))))))))
 
 -- the same, where there is a name
 abbrev pub settings_said : List (List ℕ) → Option Setting

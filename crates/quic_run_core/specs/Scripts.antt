@@ -20,7 +20,7 @@ use Rattle.quic_machine.specs.declared.run.Answer.{Answer}
 use Rattle.quic_connection.specs.Settled.{AreAtRest, Settles}
 use Rattle.quic_run_core.specs.declared.options.Options.{Options}
 use Rattle.quic_run_core.specs.declared.script.Setting.{Setting}
-use Rattle.quic_run_core.specs.declared.script.Setting.TheVariants.{ReceiveWindow, StreamWindow, SendWindow, Bidi, Uni, Messages, Search, Word, Pcg}
+use Rattle.quic_run_core.specs.declared.script.Setting.TheVariants.{ReceiveWindow, StreamWindow, SendWindow, Bidi, Uni, Messages, Search, Validated, Word, Pcg}
 use Rattle.quic_run_core.specs.declared.words.Source.TheVariants as sources
 use Rattle.quic_run_core.specs.Words.{words_from}
 use Rattle.quic_run_core.specs.Policies.{plain_policies}
@@ -32,7 +32,7 @@ use Rattle.quic_run_core.specs.Language.{Command, Asked, nothing, sets, asks, sh
 
 -- the options of an end for which none is set: no greater size is looked for
 abbrev pub first_options : Options
-first_options = record { transport = record default_transport { mtu_discovery_config = None }; source = sources.Word 63 }
+first_options = record { transport = record default_transport { mtu_discovery_config = None }; source = sources.Word 63; validated = true }
 
 -- the settings of an end with these options; none sets a size of datagrams
 abbrev pub settings_of : Options → Settings
@@ -49,15 +49,16 @@ search_if false = None
 
 -- the options with one of them set
 abbrev pub with_setting : Setting → Options → Options
-with_setting (ReceiveWindow value) o = record { transport = record o.transport { receive_window = value }; source = o.source }
-with_setting (StreamWindow value) o = record { transport = record o.transport { stream_receive_window = value }; source = o.source }
-with_setting (SendWindow value) o = record { transport = record o.transport { send_window = value }; source = o.source }
-with_setting (Bidi count) o = record { transport = record o.transport { max_bidi = min count (2 ^ 60) }; source = o.source }
-with_setting (Uni count) o = record { transport = record o.transport { max_uni = min count (2 ^ 60) }; source = o.source }
-with_setting (Messages bytes) o = record { transport = record o.transport { datagram_receive_buffer_size = kept_size bytes }; source = o.source }
-with_setting (Search on) o = record { transport = record o.transport { mtu_discovery_config = search_if on }; source = o.source }
-with_setting (Word word) o = record { transport = o.transport; source = sources.Word word }
-with_setting (Pcg seed) o = record { transport = o.transport; source = sources.Pcg seed }
+with_setting (ReceiveWindow value) o = record o { transport = record o.transport { receive_window = value } }
+with_setting (StreamWindow value) o = record o { transport = record o.transport { stream_receive_window = value } }
+with_setting (SendWindow value) o = record o { transport = record o.transport { send_window = value } }
+with_setting (Bidi count) o = record o { transport = record o.transport { max_bidi = min count (2 ^ 60) } }
+with_setting (Uni count) o = record o { transport = record o.transport { max_uni = min count (2 ^ 60) } }
+with_setting (Messages bytes) o = record o { transport = record o.transport { datagram_receive_buffer_size = kept_size bytes } }
+with_setting (Search on) o = record o { transport = record o.transport { mtu_discovery_config = search_if on } }
+with_setting (Validated validated) o = record o { validated = validated }
+with_setting (Word word) o = record o { source = sources.Word word }
+with_setting (Pcg seed) o = record o { source = sources.Pcg seed }
 
 -- ---- the ends
 
@@ -76,7 +77,7 @@ first_windows = record { initial = default_reno.initial; present = default_reno.
 
 -- an end as it is made at moment 0: the other end's options are its limits
 abbrev pub first_end : Side → Options → Options → End
-first_end side own peer = new_end side (settings_of own) first_windows (parameters_of (settings_of peer)) (first_id side) (first_id (other_side side)) 0 true (words_from own.source 0)
+first_end side own peer = new_end side (settings_of own) first_windows (parameters_of (settings_of peer)) (first_id side) (first_id (other_side side)) 0 own.validated (words_from own.source)
 
 -- both ends as they are made, of the client's options and the server's
 abbrev pub first_world : Options → Options → World
@@ -95,7 +96,7 @@ first_world client server = record {
 abbrev pub making : Side → Options → Making
 making side own =
     let settings = settings_of own in
-    record { settings = settings; windows = first_windows; parameters = written_parameters (parameters_of settings) in_order; id = first_id side; moment = 0; validated = true; word = words_from own.source 0 }
+    record { settings = settings; windows = first_windows; parameters = written_parameters (parameters_of settings) in_order; id = first_id side; moment = 0; validated = own.validated; words = words_from own.source }
 
 -- What is printed of an event in a world, and the world behind it: the machine answers so, and leaves it so.
 pub record IsTold (k : Policies) (w : World) (event : RunEvent) (text : List ℕ) (next : World) : Type 0 where

@@ -30,6 +30,8 @@ pub struct Options {
     pub transport: TransportConfig,
     /// Where its random words come from.
     pub source: Source,
+    /// Whether the peer's address is validated from the start.
+    pub validated: bool,
 }
 
 impl Options {
@@ -42,6 +44,7 @@ impl Options {
         Options {
             transport,
             source: SOURCE,
+            validated: true,
         }
     }
 
@@ -88,6 +91,7 @@ impl Options {
                 };
                 self.transport.mtu_discovery_config(search);
             }
+            Setting::Validated(validated) => self.validated = validated,
             Setting::Word(word) => self.source = Source::Word(word),
             Setting::Pcg(seed) => self.source = Source::Pcg(seed),
         }

@@ -49,6 +49,8 @@ pub enum Setting {
     Messages(usize),
     /// Whether a greater size of datagrams is looked for.
     Search(bool),
+    /// Whether the peer's address is validated from the start.
+    Validated(bool),
     /// The random word that the end is given each time.
     Word(u64),
     /// The seed of the generator whose words the end is given.
@@ -340,6 +342,7 @@ fn setting_of(name: &str, words: &mut LineWords) -> Result<Setting, LineError>
         "uni" => Ok(Setting::Uni(words.varint()?)),
         "messages" => Ok(Setting::Messages(words.index()?)),
         "search" => Ok(Setting::Search(words.switch()?)),
+        "validated" => Ok(Setting::Validated(words.switch()?)),
         "word" => Ok(Setting::Word(words.number()?)),
         "pcg" => Ok(Setting::Pcg(words.number()?)),
         _ => Err(LineError::BadCommand),

@@ -1,4 +1,5 @@
 //! The two ends of a script.
+ghost use Rattle.quic_machine.specs.End.{words_drawn};
 ghost use Rattle.std.specs.Prelude.{◌≡◌, ◌++◌, IfOk, IfErr, OnOk, string_bytes};
 ghost use Rattle.quic_wire_core.specs.declared.stream_id.Side.TheVariants.{Client, Server};
 ghost use Rattle.quic_wire_core.specs.StreamId.{other_side};
@@ -63,7 +64,7 @@ fn make_end(alloc: Global, side: Side, own: &Options, peer: &Options) -> Result<
     ensures control { IfOk result (λ made. made.control ≡ first_controller) }
     ensures heard { IfOk result (λ made. made.heard ≡ nothing_heard) }
     ensures keys { IfOk result (λ made. made.keys ≡ keys_of side) }
-    ensures words { IfOk result (λ made. ⟦<Words as Rng>⟧.stream made.random ≡ after_words 1 (source_stream own.now.source)) }
+    ensures words { IfOk result (λ made. ⟦<Words as Rng>⟧.stream made.random ≡ after_words (words_drawn made.end) (source_stream own.now.source)) }
     ensures making { OnOk result (IsMaking (making (other_side side) peer.now)) }
     ensures memory { IfErr result (λ e. e ≡ LineError.OutOfMemory) }
 {
@@ -80,7 +81,7 @@ fn make_end(alloc: Global, side: Side, own: &Options, peer: &Options) -> Result<
         keys_for(side),
         Instant::from_nanos(0),
         Words::of(own.source),
-        true,
+        own.validated,
     )?;
     Ok(end)
 }

@@ -34,6 +34,7 @@ fn id_of(side: Side) -> ConnectionId {
 fn making(
     side: Side,
     transport: TransportConfig,
+    validated: bool,
 ) -> Making<NewRenoConfig, PlainHeaderKey, PlainKey, Words>
     ensures { result.keys ≡ keys_of side }
 {
@@ -44,20 +45,24 @@ fn making(
         id: id_of(side),
         keys: keys_for(side),
         random: Words::word(63),
-        validated: true,
+        validated,
     }
 }
 
 /// Two ends that are made for one another at the moment 0: they and their keys meet what the
-/// promises on runs ask.
-fn ends_with(alloc: Global, transport: TransportConfig) -> Result<BothEnds, ConfigError>
+/// promises on runs ask. The address of the server's peer is validated or isn't.
+fn ends_with(
+    alloc: Global,
+    transport: TransportConfig,
+    validated: bool,
+) -> Result<BothEnds, ConfigError>
     ensures started { IfOk result (λ ends. AreStarted (first_world window_after ends)) }
     ensures keys { IfOk result (λ ends. AreKeys (policies_of (λ _. plain_protection) (λ k. plain_aead k.mark) stream_from ends)) }
 {
     keys_meet_the_premises();
     let now = Instant::from_nanos(0);
-    let client = making(Side::Client, transport);
-    let server = making(Side::Server, transport);
+    let client = making(Side::Client, transport, true);
+    let server = making(Side::Server, transport, validated);
     Ends::new(alloc, now, client, server)
 }
 
@@ -66,7 +71,7 @@ pub(crate) fn new_ends(alloc: Global) -> Result<BothEnds, ConfigError>
     ensures started { IfOk result (λ ends. AreStarted (first_world window_after ends)) }
     ensures keys { IfOk result (λ ends. AreKeys (policies_of (λ _. plain_protection) (λ k. plain_aead k.mark) stream_from ends)) }
 {
-    ends_with(alloc, TransportConfig::default())
+    ends_with(alloc, TransportConfig::default(), true)
 }
 
 /// Small limits: 48 bytes on all streams, 16 on each, 40 that aren't acknowledged, two streams of
@@ -96,11 +101,16 @@ impl Pair {
     }
 }
 
-/// Two ends where this is set, which gave nothing yet.
-fn new_pair(alloc: Global, transport: TransportConfig) -> Result<Pair, ConfigError> {
+/// Two ends where this is set, which gave nothing yet; the address of the server's peer is
+/// validated or isn't.
+fn new_pair(
+    alloc: Global,
+    transport: TransportConfig,
+    validated: bool,
+) -> Result<Pair, ConfigError> {
     Ok(Pair {
         alloc,
-        ends: ends_with(alloc, transport)?,
+        ends: ends_with(alloc, transport, validated)?,
         given: Given::new(alloc),
     })
 }
@@ -119,7 +129,19 @@ pub(crate) fn with_pair<T, F: FnOnce(&mut Pair) -> Result<T, Fail>>(
 ) -> Result<T, Fail>
     requires { F.IsAlwaysCallable act }
 {
-    let mut pair = boxed(alloc, new_pair(alloc, transport)?)?;
+    with_server(alloc, transport, true, act)
+}
+
+/// The same, where the address of the server's peer is validated or isn't.
+pub(crate) fn with_server<T, F: FnOnce(&mut Pair) -> Result<T, Fail>>(
+    alloc: Global,
+    transport: TransportConfig,
+    validated: bool,
+    act: F,
+) -> Result<T, Fail>
+    requires { F.IsAlwaysCallable act }
+{
+    let mut pair = boxed(alloc, new_pair(alloc, transport, validated)?)?;
     act(pair.as_mut())
 }
 

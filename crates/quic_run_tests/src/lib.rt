@@ -32,3 +32,5 @@ mod scripts;
 mod statistics;
 #[cfg(test)]
 mod transfer;
+#[cfg(test)]
+mod validation;

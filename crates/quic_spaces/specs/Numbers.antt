@@ -2,16 +2,17 @@
 use Rattle.std.specs.Prelude.{ℕ, ◌+◌, ◌-◌, ◌^◌, max, Bool, nat_lt, ◌&&◌, [], Option, Some, None, unwrap_or}
 use Rattle.quic_recovery_core.specs.Duplicates.{Seen, after_insert}
 
--- the next number to give, the greatest own number that the peer named, the numbers opened, and the greatest whose whole payload was taken
+-- the next number to give, the greatest own number that the peer named, the numbers opened and the last of them, and the greatest whose whole payload was taken
 pub record Numbers : Type 0 where
   pub next : ℕ
   pub largest_acked : Option ℕ
   pub opened : Seen
+  pub present : ℕ
   pub taken : Option ℕ
 
 -- no number was given, opened or taken
 abbrev pub no_numbers : Numbers
-no_numbers = record { next = 0; largest_acked = None; opened = []; taken = None }
+no_numbers = record { next = 0; largest_acked = None; opened = []; present = 0; taken = None }
 
 -- one above the greatest of some numbers, if there is one
 abbrev pub after_greatest : Option ℕ → ℕ
@@ -40,7 +41,7 @@ number_given numbers n = record numbers { next = n + 1 }
 
 -- a packet of this number was opened
 abbrev pub number_opened : Numbers → ℕ → Numbers
-number_opened numbers n = record numbers { opened = after_insert numbers.opened n }
+number_opened numbers n = record numbers { opened = after_insert numbers.opened n; present = n }
 
 -- the greater of a number and one that may be there
 abbrev pub greatest_of : Option ℕ → ℕ → ℕ

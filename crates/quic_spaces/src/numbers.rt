@@ -12,13 +12,14 @@ use std::marker::Model;
 /// How many numbers are kept for closes.
 const KEPT_NUMBERS: u64 = 16;
 
-/// The next number to give, the greatest that the peer named, the numbers opened, and the greatest
-/// whose whole payload was taken.
+/// The next number to give, the greatest that the peer named, the numbers opened and the last of
+/// them, and the greatest whose whole payload was taken.
 #[derive(Drop)]
 pub struct Numbers {
     next: u64,
     largest_acked: Option<u64>,
     dedup: Dedup,
+    last_opened: u64,
     largest_taken: Option<u64>,
 }
 
@@ -28,7 +29,7 @@ impl Model for Numbers {
 
     ghost Value = { words.Numbers };
 
-    ghost view = { λ n. record { next = n.next; largest_acked = n.largest_acked; opened = n.dedup; taken = n.largest_taken } };
+    ghost view = { λ n. record { next = n.next; largest_acked = n.largest_acked; opened = n.dedup; present = n.last_opened; taken = n.largest_taken } };
 
     // All numbers lie below 2^62, and the peer named none that wasn't given.
     ghost invariant = { λ n. (n.next ≤ 2 ^ 62) × IfSome n.largest_acked (λ a. a < n.next) × IfSome n.largest_taken (λ t. t < 2 ^ 62) };
@@ -43,6 +44,7 @@ impl Numbers {
             next: 0,
             largest_acked: None,
             dedup: Dedup::new(),
+            last_opened: 0,
             largest_taken: None,
         }
     }
@@ -135,7 +137,19 @@ impl Numbers {
         ensures answer { result ≡ is_duplicate self.old.opened number }
         ensures next { self.new ≡ (if is_duplicate self.old.opened number then self.old else number_opened self.old number) }
     {
-        self.dedup.insert(number)
+        let came = self.dedup.insert(number);
+        if !came {
+            self.last_opened = number;
+        }
+        came
+    }
+
+    /// The number of the packet that opened last, of those that didn't come before: 0 where none
+    /// opened.
+    pub fn last_opened(&self) -> u64
+        ensures { result ≡ self.now.present }
+    {
+        self.last_opened
     }
 
     /// The whole payload of a packet of this number was taken.

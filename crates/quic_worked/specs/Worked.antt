@@ -40,6 +40,7 @@ use Rattle.quic_machine.specs.Policy.{Policy}
 use Rattle.quic_machine.specs.Control.{Control, after_told}
 use Rattle.quic_machine.specs.Closing.{failed}
 use Rattle.quic_machine.specs.Tracking.{TrackedPacket}
+use Rattle.quic_machine.specs.Validation.{challenge_sent}
 use Rattle.quic_machine.specs.End.{End, new_end, with_closing, streams_at, with_streams}
 use Rattle.quic_machine.specs.Calls.{is_open, after_reads}
 use Rattle.quic_machine.specs.Poll.{Polled, polled}
@@ -182,12 +183,12 @@ worked_parameters =
 -- first that is left out
 abbrev pub client_made : End
 client_made =
-    new_end Client plain_settings steady (parameters_of plain_settings) client_id server_id 0 true 63
+    new_end Client plain_settings steady (parameters_of plain_settings) client_id server_id 0 true (λ n. 63)
 
 -- the server before the first event
 abbrev pub server_made : End
 server_made =
-    new_end Server plain_settings steady (parameters_of plain_settings) server_id client_id 0 true 63
+    new_end Server plain_settings steady (parameters_of plain_settings) server_id client_id 0 true (λ n. 63)
 
 -- both ends, before anything was given
 abbrev pub started : World
@@ -238,9 +239,9 @@ numbered_from next e = record e { numbers = record e.numbers { next = next } }
 abbrev pub within : ℕ → End → End
 within limit e = record e { streams = record e.streams { sending = record e.streams.sending { limit = limit } } }
 
--- the client, which looks for a greater size of datagrams, on a path that is validated or isn't
+-- the client, which looks for a greater size of datagrams, on a path that is validated or isn't; what it asks then was sent
 abbrev pub searching : Bool → End
-searching validated = new_end Client default_settings steady (parameters_of default_settings) client_id server_id 0 validated 63
+searching validated = challenge_sent (new_end Client default_settings steady (parameters_of default_settings) client_id server_id 0 validated (λ n. 63))
 
 -- settings by which the peer may open no two-way stream
 abbrev pub no_two_way : Settings

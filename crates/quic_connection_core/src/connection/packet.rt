@@ -11,12 +11,13 @@ ghost use Rattle.quic_recovery_core.specs.PendingAcks.{can_send, is_filled};
 ghost use Rattle.quic_time.specs.Timers.{no_timers};
 ghost use Rattle.quic_retransmits.specs.Kept.{made};
 ghost use Rattle.quic_streams_state.specs.State.{streams_of};
-ghost use Rattle.quic_machine.specs.End.{with_end, with_number_given, number_of, policy_of, HasFailed};
+ghost use Rattle.quic_machine.specs.End.{with_end, with_number_given, number_of, policy_of, HasFailed, words_drawn};
 ghost use Rattle.quic_spaces.specs.Acknowledging.{most_ack_bytes};
 ghost use Rattle.quic_spaces.specs.Numbers.{can_number, cut_against};
 ghost use Rattle.quic_machine.specs.Tracking.{carried_in, retransmits_in};
 ghost use Rattle.quic_machine.specs.Poll.{alone, draft_left, draft_as, lazied_as, most_of, composed, frame_room, payload_of, datagram_of, datagram_size, paid_if, told_draft, after_given, asking, tracked, ack_of, after_ack};
-ghost use Rattle.quic_connection_core.specs.Leaving.{leaving_of, IsLooked, least_of};
+ghost use Rattle.quic_machine.specs.Validation.{path_waits};
+ghost use Rattle.quic_connection_core.specs.Leaving.{leaving_of, IsLooked, pads_left, least_of};
 ghost use Rattle.quic_machine.specs.Parts.{current_mtu};
 ghost use Rattle.quic_connection_core.specs.Frames.{control_part, content, content_at, with_content, asked, ping_bytes, pinged, fits_behind, ack_bytes_if, acked_if, end_after_ack_if};
 ghost use Rattle.quic_connection_core.specs.Drawn.{words_of, after_words};
@@ -28,6 +29,7 @@ use crate::connection::leaving::Leaving;
 use crate::connection::messages::put_messages;
 use crate::connection::sent::{Carried, SentFrames};
 use crate::connection::statistics::{count_frames, count_streams};
+use crate::connection::validation::PATH_FRAMES_SIZE;
 use quic_congestion::Controller;
 use quic_machine::{Failed, Timer};
 use quic_messages::DatagramState;
@@ -81,7 +83,7 @@ impl<H: HeaderKey + Drop, K: PacketKey + Drop, R: Rng + Drop, C: Controller> Con
         ensures control { OnOk result (self.new.control ≡ after_calls C.steps self.old.control (told_draft (draft_as (leaving_of leaving) self.old.end))) }
         ensures keys { self.new.keys ≡ self.old.keys }
         ensures heard { OnOk result (self.new.heard ≡ self.old.heard) }
-        ensures random { OnOk result (R.stream self.new.random ≡ after_words (self.new.end.filter.drawn - self.old.end.filter.drawn) (R.stream self.old.random)) }
+        ensures random { OnOk result (R.stream self.new.random ≡ after_words (words_drawn self.new.end - words_drawn self.old.end) (R.stream self.old.random)) }
         ensures failed { OnErr result (HasFailed self.old self.new) }
         ensures stopped { OnErr result (self.new.end.timers ≡ no_timers) }
         ensures nothing { OnErr result (out.new.items ≡ out.old.items) }
@@ -108,7 +110,7 @@ impl<H: HeaderKey + Drop, K: PacketKey + Drop, R: Rng + Drop, C: Controller> Con
         ensures control { OnOk result (self.new.control ≡ after_calls C.steps self.old.control (told_draft (draft_left (leaving_of leaving) self.old.end))) }
         ensures keys { self.new.keys ≡ self.old.keys }
         ensures heard { OnOk result (self.new.heard ≡ self.old.heard) }
-        ensures random { OnOk result (R.stream self.new.random ≡ after_words (self.new.end.filter.drawn - self.old.end.filter.drawn) (R.stream self.old.random)) }
+        ensures random { OnOk result (R.stream self.new.random ≡ after_words (words_drawn self.new.end - words_drawn self.old.end) (R.stream self.old.random)) }
         ensures failed { OnErr result (HasFailed self.old self.new) }
         ensures stopped { OnErr result (self.new.end.timers ≡ no_timers) }
         ensures nothing { OnErr result (out.new.items ≡ out.old.items) }
@@ -140,7 +142,7 @@ impl<H: HeaderKey + Drop, K: PacketKey + Drop, R: Rng + Drop, C: Controller> Con
         ensures capacity { vec_capacity out.old ≤ vec_capacity out.new }
         ensures end { OnOk result (self.new.end ≡ paid_if (asking (draft_left (leaving_of leaving) self.old.end).frames) (with_number_given (words_of R.stream self.old.random 0) (tracked (draft_left (leaving_of leaving) self.old.end))) (datagram_size (draft_left (leaving_of leaving) self.old.end))) }
         ensures control { OnOk result (self.new.control ≡ after_calls C.steps self.old.control (told_draft (draft_left (leaving_of leaving) self.old.end))) }
-        ensures random { OnOk result (R.stream self.new.random ≡ after_words (self.new.end.filter.drawn - self.old.end.filter.drawn) (R.stream self.old.random)) }
+        ensures random { OnOk result (R.stream self.new.random ≡ after_words (words_drawn self.new.end - words_drawn self.old.end) (R.stream self.old.random)) }
         ensures ids { OnOk result (self.new.end.ids ≡ self.old.end.ids) }
         ensures keys { self.new.keys ≡ self.old.keys }
         ensures heard { OnOk result (self.new.heard ≡ self.old.heard) }
@@ -187,7 +189,7 @@ impl<H: HeaderKey + Drop, K: PacketKey + Drop, R: Rng + Drop, C: Controller> Con
         let body = out.len();
         let sent = self.put_leave(leaving, out)?;
         let beside = body - start + TAG_LEN;
-        let least = self.least_size(leaving, sent.asks);
+        let least = self.least_size(leaving, &sent);
         pad(out, width, body, least.saturating_sub(beside));
         Ok(sent)
     }
@@ -207,6 +209,7 @@ impl<H: HeaderKey + Drop, K: PacketKey + Drop, R: Rng + Drop, C: Controller> Con
         ensures capacity { vec_capacity out.old ≤ vec_capacity out.new }
         ensures end { OnOk result (self.new ≡ with_end self.old (draft_left (leaving_of leaving) self.old.end).end) }
         ensures asks { IfOk result (λ sent. sent.asks ≡ asking (draft_left (leaving_of leaving) self.old.end).frames) }
+        ensures pads { IfOk result (λ sent. sent.requires_padding ≡ pads_left (leaving_of leaving) self.old.end) }
         ensures carried { IfOk result (λ sent. sent.carried ≡ carried_in (draft_left (leaving_of leaving) self.old.end).frames) }
         ensures front { take (vec_len out.old) out.new.items ≡ out.old.items }
         ensures others { self.new ≡ with_end self.old self.new.end }
@@ -226,16 +229,17 @@ impl<H: HeaderKey + Drop, K: PacketKey + Drop, R: Rng + Drop, C: Controller> Con
         }
     }
 
-    /// How many bytes a datagram has at least: a probe has its size, and one that asks that of its
-    /// path, where `pad_to_mtu` is set.
-    fn least_size(&self, leaving: Leaving, asks: bool) -> usize
-        ensures { result ≡ least_of (leaving_of leaving) asks self.now.end }
+    /// How many bytes a datagram has at least: a probe has its size, one with a frame of path
+    /// validation 1200, and one that asks that of its path, where `pad_to_mtu` is set.
+    fn least_size(&self, leaving: Leaving, sent: &SentFrames) -> usize
+        ensures { result ≡ least_of (leaving_of leaving) sent.now.requires_padding sent.now.asks self.now.end }
     {
         let size = match leaving {
+            Leaving::Whole if sent.requires_padding => PATH_FRAMES_SIZE,
             Leaving::Whole | Leaving::Alone => 0,
             Leaving::Probe(size) => size,
         };
-        if self.transport.get_pad_to_mtu() && asks {
+        if self.transport.get_pad_to_mtu() && sent.asks {
             usize::from(size.max(self.path.current_mtu()))
         } else {
             usize::from(size)
@@ -256,6 +260,7 @@ impl<H: HeaderKey + Drop, K: PacketKey + Drop, R: Rng + Drop, C: Controller> Con
         ensures capacity { vec_capacity out.old ≤ vec_capacity out.new }
         ensures end { OnOk result (self.new ≡ with_end self.old (composed self.old.end).end) }
         ensures asks { IfOk result (λ sent. sent.asks ≡ asking (composed self.old.end).frames) }
+        ensures pads { IfOk result (λ sent. sent.requires_padding ≡ path_waits self.old.end) }
         ensures carried { IfOk result (λ sent. sent.carried ≡ carried_in (composed self.old.end).frames) }
         ensures front { take (vec_len out.old) out.new.items ≡ out.old.items }
         ensures others { self.new ≡ with_end self.old self.new.end }
@@ -344,10 +349,10 @@ impl<H: HeaderKey + Drop, K: PacketKey + Drop, R: Rng + Drop, C: Controller> Con
         largest
     }
 
-    /// Appends what asks for an acknowledgement, PING, messages and frames about streams, behind
-    /// the frames of the packet whose payload begins at `body`: none, or an ACK. There is room for
-    /// the whole payload. This answers what went. An error is want of memory; the end is of no more
-    /// use then.
+    /// Appends what asks for an acknowledgement, frames of path validation, PING, messages and
+    /// frames about streams, behind the frames of the packet whose payload begins at `body`: none,
+    /// or an ACK. There is room for the whole payload. This answers what went. An error is want of
+    /// memory; the end is of no more use then.
     fn put_asking(&mut self, body: usize, out: &mut Vec<u8>) -> Result<SentFrames, AllocError>
         requires number { can_number self.old.end.numbers ≡ true }
         requires body { body ≤ vec_len out.old }
@@ -360,15 +365,18 @@ impl<H: HeaderKey + Drop, K: PacketKey + Drop, R: Rng + Drop, C: Controller> Con
         ensures capacity { vec_capacity out.old ≤ vec_capacity out.new }
         ensures end { OnOk result (self.new ≡ with_end self.old (asked self.old.end (vec_len out.old - body)).end) }
         ensures asks { IfOk result (λ sent. sent.asks ≡ asking (asked self.old.end (vec_len out.old - body)).frames) }
+        ensures pads { IfOk result (λ sent. sent.requires_padding ≡ path_waits self.old.end) }
         ensures carried { IfOk result (λ sent. sent.carried ≡ carried_in (asked self.old.end (vec_len out.old - body)).frames) }
         ensures front { take (vec_len out.old) out.new.items ≡ out.old.items }
         ensures others { self.new ≡ with_end self.old self.new.end }
     {
         let before = out.len();
+        let requires_padding = self.put_path_frames(out);
         self.put_ping(out);
         let carried = self.put_content(body, out)?;
         Ok(SentFrames {
             asks: before < out.len(),
+            requires_padding,
             carried,
         })
     }

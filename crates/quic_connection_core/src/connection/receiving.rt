@@ -341,6 +341,14 @@ impl<H: HeaderKey + Drop, K: PacketKey + Drop, R: Rng + Drop, C: Controller> Con
         match frame {
             Frame::Ack(frame) => self.take_ack(frame),
             Frame::Datagram { data } => self.take_message(data),
+            Frame::PathChallenge(token) => {
+                self.take_path_challenge(*token);
+                Ok(())
+            }
+            Frame::PathResponse(token) => {
+                self.take_path_response(*token);
+                Ok(())
+            }
             _ => take_other(&mut self.streams, frame),
         }
     }

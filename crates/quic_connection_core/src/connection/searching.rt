@@ -68,7 +68,7 @@ impl<H: HeaderKey + Drop, K: PacketKey + Drop, R: Rng + Drop, C: Controller> Con
     }
 
     /// Nothing goes, for want of anything to send.
-    fn rest(&mut self) -> Option<Leaving>
+    pub(crate) fn rest(&mut self) -> Option<Leaving>
         ensures none { result ≡ None }
         ensures end { self.new ≡ with_end self.old (with_app_limited self.old.end true) }
     {
