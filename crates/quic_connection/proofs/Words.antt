@@ -41,7 +41,7 @@ use Rattle.quic_machine.specs.LeaveCases.{by_expired}
 use Rattle.quic_machine.specs.PollCases.{ready_at, ready_leaves, draft_at, may_leave_at, composes, by_poll_to}
 use Rattle.quic_machine.specs.CallCases.{Plain, is_poll, by_plain_call}
 use Rattle.quic_machine.specs.CallCases as cases
-use Rattle.quic_machine.specs.Machine.{World, Policies, IsAnswer, IsDelivered, injected_if, IsLeft, IsTold, IsStep, after_call, after_delivered, after_injected_if, tells, told_delivered, gives, fails, changed, policy_at, end_at, end_met, reads_window, control_at, heard_at, given_by}
+use Rattle.quic_machine.specs.Machine.{World, Policies, IsAnswer, IsDelivered, injected_if, IsLeft, IsTold, CountsOpenings, IsStep, after_call, after_delivered, after_injected_if, tells, told_delivered, gives, fails, changed, policy_at, end_at, end_met, reads_window, control_at, heard_at, given_by}
 use Rattle.quic_machine.specs.Lacking.{GivesOrHasFailed, TakesFrames, MovesRecord, DeliveryTakes, LacksWhere}
 use Rattle.quic_connection_core.specs.Drawn.{after_words}
 use Rattle.quic_connection_core.specs.Given.{given_bytes}
@@ -371,6 +371,7 @@ step_as k p w event a next s step = record {
   end = subst (λ (q : Policy). IsLeft (fails a) q control e theirs event.call a (end_at event.side next)) (sym s.keys) (left_with one words control e theirs event.call same (fails a) a (end_at event.side next) step.end);
   control = subst (λ (q : Policy). IsTold (fails a) q control e theirs event.call (control_at event.side next)) (sym s.keys) (control_with one words control e theirs event.call same (fails a) (control_at event.side next) step.control);
   heard = step.heard;
+  openings = subst (λ (q : Policy). CountsOpenings q.openings e.closing.state (heard_at event.side w) a) (sym s.keys) step.openings;
   others = step.others ∙ ap (λ (ds : List (List ℕ)). changed event.side w (end_at event.side next) ds (control_at event.side next) (heard_at event.side next)) (sym (ap (λ (q : Policy). gives q met event.call a) s.keys ∙ gives_with one words met same event.call a));
   lacking = subst (λ (q : Policy). LacksWhere q met theirs event.call a) (sym s.keys) (lacks_with one words met same theirs event.call a step.lacking);
 }

@@ -11,7 +11,7 @@ use Rattle.quic_machine.specs.declared.run.View.{View}
 use Rattle.quic_machine.specs.declared.answers.ConfigError.{ConfigError}
 use Rattle.quic_machine.specs.declared.answers.State.TheVariants as states
 use Rattle.quic_machine.specs.Policy.{Policy}
-use Rattle.quic_machine.specs.End.{End, ConnectionValue, policy_of, refusal_of}
+use Rattle.quic_machine.specs.End.{End, ConnectionValue, policy_of, KeyLimits, refusal_of}
 use Rattle.quic_machine.specs.Control.{Control}
 use Rattle.quic_connection_core.specs.Configured.{Configured}
 use Rattle.quic_connection_core.specs.Drawn.{words_of, after_words}
@@ -48,11 +48,11 @@ first_world windows ends = record {
   server_heard = ends.server.heard;
 }
 
--- what the keys of both ends do, and which words their random sources answer
-abbrev pub policies_of : {H K R C : Type 0} → (H → Protection) → (K → Aead) → (R → Stream) → Ends H K R C → Policies
-policies_of protection aead stream ends = record {
-  client = policy_of protection aead (words_of stream) ends.client;
-  server = policy_of protection aead (words_of stream) ends.server;
+-- what the keys of both ends do, how long they last, and which words their random sources answer
+abbrev pub policies_of : {H K R C : Type 0} → (H → Protection) → (K → Aead) → (K → ℕ) → (K → ℕ) → (R → Stream) → Ends H K R C → Policies
+policies_of protection aead seals openings stream ends = record {
+  client = policy_of protection aead seals openings (words_of stream) ends.client;
+  server = policy_of protection aead seals openings (words_of stream) ends.server;
 }
 
 -- the datagram that a poll gave, where it gave one
@@ -81,9 +81,9 @@ pub record Serves (k p : Policy) (e : End) : Type 0 where
   pub words : e.closing.state ≢ states.Failed → (n : ℕ) → e.filter.drawn ≤ n → k.words n ≡ p.words n
 
 -- policies do at two ends what their keys and random sources do from here on
-pub record AreOf {H K R C : Type 0} (k : Policies) (protection : H → Protection) (aead : K → Aead) (stream : R → Stream) (ends : Ends H K R C) : Type 0 where
-  pub client : Serves k.client (policy_of protection aead (words_of stream) ends.client) ends.client.end
-  pub server : Serves k.server (policy_of protection aead (words_of stream) ends.server) ends.server.end
+pub record AreOf {H K R C : Type 0} (k : Policies) (protection : H → Protection) (aead : K → Aead) (seals openings : K → ℕ) (stream : R → Stream) (ends : Ends H K R C) : Type 0 where
+  pub client : Serves k.client (policy_of protection aead seals openings (words_of stream) ends.client) ends.client.end
+  pub server : Serves k.server (policy_of protection aead seals openings (words_of stream) ends.server) ends.server.end
 
 -- transport parameters in ascending order of their ids
 abbrev pub in_order : List ℕ
@@ -106,19 +106,19 @@ abbrev pub world_left : {H K R C : Type 0} → (C → Control) → Outcome H K R
 world_left windows o = world_of windows o.ends o.given
 
 -- a fact of the run of these ends over these events that came out so, where the run is honest
-abbrev pub OnHonest : {H K R C : Type 0} → (H → Protection) → (K → Aead) → (R → Stream) → (C → Control) → Ends H K R C → List RunEvent → Outcome H K R C → (Run → Type 0) → Type 0
-OnHonest protection aead stream windows ends events o P =
-    let r = run_of (policies_of protection aead stream ends) windows ends events o.answers.items o.views.items o.given in
+abbrev pub OnHonest : {H K R C : Type 0} → (H → Protection) → (K → Aead) → (K → ℕ) → (K → ℕ) → (R → Stream) → (C → Control) → Ends H K R C → List RunEvent → Outcome H K R C → (Run → Type 0) → Type 0
+OnHonest protection aead seals openings stream windows ends events o P =
+    let r = run_of (policies_of protection aead seals openings stream ends) windows ends events o.answers.items o.views.items o.given in
     IsHonest r → P r
 
 -- a fact of the run of these ends over these events that came out so, and of the ends that it left, whatever the ends, the keys and the applications
-abbrev pub OnRun : {H K R C : Type 0} → (H → Protection) → (K → Aead) → (R → Stream) → (C → Control) → Ends H K R C → List RunEvent → Outcome H K R C → (Run → World → Type 0) → Type 0
-OnRun protection aead stream windows ends events o P = P (run_of (policies_of protection aead stream ends) windows ends events o.answers.items o.views.items o.given) (world_left windows o)
+abbrev pub OnRun : {H K R C : Type 0} → (H → Protection) → (K → Aead) → (K → ℕ) → (K → ℕ) → (R → Stream) → (C → Control) → Ends H K R C → List RunEvent → Outcome H K R C → (Run → World → Type 0) → Type 0
+OnRun protection aead seals openings stream windows ends events o P = P (run_of (policies_of protection aead seals openings stream ends) windows ends events o.answers.items o.views.items o.given) (world_left windows o)
 
 -- a fact of both ends at each place of the run, where this one holds of the first ends
-abbrev pub AtEachPlace : {H K R C : Type 0} → (H → Protection) → (K → Aead) → (R → Stream) → (C → Control) → Ends H K R C → List RunEvent → Outcome H K R C → (World → Type 0) → (World → Type 0) → Type 0
-AtEachPlace protection aead stream windows ends events o Begins P =
-    let r = run_of (policies_of protection aead stream ends) windows ends events o.answers.items o.views.items o.given in
+abbrev pub AtEachPlace : {H K R C : Type 0} → (H → Protection) → (K → Aead) → (K → ℕ) → (K → ℕ) → (R → Stream) → (C → Control) → Ends H K R C → List RunEvent → Outcome H K R C → (World → Type 0) → (World → Type 0) → Type 0
+AtEachPlace protection aead seals openings stream windows ends events o Begins P =
+    let r = run_of (policies_of protection aead seals openings stream ends) windows ends events o.answers.items o.views.items o.given in
     Begins r.start → (i : ℕ) (w : World) → LeadsTo r i w → P w
 
 -- ---- making two ends
@@ -127,12 +127,12 @@ AtEachPlace protection aead stream windows ends events o Begins P =
 abbrev pub controller_for : {F C : Type 0} → (F → ℕ → ℕ → C) → Configured F → ℕ → C
 controller_for built config now = built config.factory now (first_mtu (transport_of config.settings))
 
--- why an end isn't made for a peer with these settings and this id, whose controller shows this window, want of memory aside
-abbrev pub refusal_for : Settings → ℕ → Settings → List ℕ → List ℕ → Option ConfigError
-refusal_for own window peer own_id peer_id = refusal_of {E = Unit {0}} own window (Ok (parameters_of peer)) own_id peer_id
+-- why an end isn't made for a peer with these settings and this id, whose controller shows this window and whose keys last so long, want of memory aside
+abbrev pub refusal_for : Settings → ℕ → KeyLimits → Settings → List ℕ → List ℕ → Option ConfigError
+refusal_for own window limits peer own_id peer_id = refusal_of {E = Unit {0}} own window limits (Ok (parameters_of peer)) own_id peer_id
 
--- two ends with these settings are refused, whose controllers show these windows: the client is, or else the server
-abbrev pub IsRefused : ConfigError → Settings → Settings → ℕ → ℕ → List ℕ → List ℕ → Type 0
-IsRefused e client server client_window server_window client_id server_id =
-    (refusal_for client client_window server client_id server_id ≡ Some e)
-    ⊎ ((refusal_for client client_window server client_id server_id ≡ None) × (refusal_for server server_window client server_id client_id ≡ Some e))
+-- two ends with these settings are refused, whose controllers show these windows, and whose keys last so long: the client is, or else the server
+abbrev pub IsRefused : ConfigError → Settings → Settings → ℕ → ℕ → KeyLimits → KeyLimits → List ℕ → List ℕ → Type 0
+IsRefused e client server client_window server_window client_limits server_limits client_id server_id =
+    (refusal_for client client_window client_limits server client_id server_id ≡ Some e)
+    ⊎ ((refusal_for client client_window client_limits server client_id server_id ≡ None) × (refusal_for server server_window server_limits client server_id client_id ≡ Some e))

@@ -48,16 +48,16 @@ module _ (leaving : Leaving) (e : End) (due : MayGo leaving e) where
       ∙ ap (λ (n : Numbers). (truncated (number_of e) (cut_against n)).width) same_numbers
 
   -- its datagram has the number and the id of the end
-  pub sent_of : (p : Policy) → sent p.header p.packet (number_of e) (cut_against e.numbers) e.ids.active.id (payload_of went) ≡ datagram_of p went
+  pub sent_of : (p : Policy) → sent p.header p.packet (number_of e) (cut_against e.numbers) e.ids.peer.id (payload_of went) ≡ datagram_of p went
   sent_of p =
       let payload : List ℕ = payload_of went in
-      ap (λ (k : ℕ). sent p.header p.packet k (cut_against e.numbers) e.ids.active.id payload) (sym same_number)
-      ∙ ap (λ (n : Numbers). sent p.header p.packet (number_of went.end) (cut_against n) e.ids.active.id payload) (sym same_numbers)
+      ap (λ (k : ℕ). sent p.header p.packet k (cut_against e.numbers) e.ids.peer.id payload) (sym same_number)
+      ∙ ap (λ (n : Numbers). sent p.header p.packet (number_of went.end) (cut_against n) e.ids.peer.id payload) (sym same_numbers)
       ∙ ap (λ (i : Ids). sent p.header p.packet (number_of went.end) (cut_against went.end.numbers) i.active.id payload) (sym same_ids)
 
   -- as many bytes stand beside its payload as the end says, and it has as many at least
   pub same_overhead : overhead went ≡ beside e
-  same_overhead = ap (λ (i : Ids). 1 + length i.active.id + number_width went + 16) same_ids ∙ ap (λ (k : ℕ). 1 + length e.ids.active.id + k + 16) same_width
+  same_overhead = ap (λ (i : Ids). 1 + length i.active.id + number_width went + 16) same_ids ∙ ap (λ (k : ℕ). 1 + length e.ids.peer.id + k + 16) same_width
 
   pub same_least : least_size went ≡ least_of leaving (asking went.frames) e
   same_least =
@@ -82,7 +82,7 @@ module _ (leaving : Leaving) (e : End) (due : MayGo leaving e) where
   payload_is = ap (λ (k : ℕ). went.bytes ++ replicate k 0) zeros_are
 
   -- how many bytes it has
-  pub size_is : datagram_size went ≡ 1 + length e.ids.active.id + (truncated (number_of e) (cut_against e.numbers)).width + length (payload_of went) + 16
+  pub size_is : datagram_size went ≡ 1 + length e.ids.peer.id + (truncated (number_of e) (cut_against e.numbers)).width + length (payload_of went) + 16
   size_is = let same = same_overhead in omega arith
 
   -- how many bytes its payload has

@@ -1,6 +1,6 @@
 -- What was wrong with a packet, where memory may lack.
 use Rattle.std.specs.Prelude.{◌≡◌, ◌<◌, ◌^◌, ℕ, Bool, List, [], ◌∷◌, Option, Some, None, IfSome, Result, Ok, Err}
-use Rattle.quic_wire.specs.Value.{FrameValue, ack, datagram, max_stream_data}
+use Rattle.quic_wire.specs.Value.{FrameValue, ack, datagram, max_stream_data, connection_close, application_close}
 use Rattle.quic_wire.specs.declared.frame.InvalidFrame.{InvalidFrame}
 use Rattle.quic_streams_parts.specs.declared.answers.ReceivedError.{ReceivedError}
 use Rattle.quic_streams_parts.specs.declared.answers.ReceivedError.TheVariants as errors
@@ -9,7 +9,7 @@ use Rattle.quic_streams_state.specs.State.{streams_of}
 use Rattle.quic_congestion.specs.Congestion.{Told, Steps, after_calls}
 use Rattle.quic_machine.specs.End.{End, ConnectionValue, with_streams}
 use Rattle.quic_wire_core.specs.declared.shared.EcnCodepoint.{EcnCodepoint}
-use Rattle.quic_machine.specs.Receive.{Fault, broke, too_many_pieces, fault_of_breach, Progress, take_frame, after_taken}
+use Rattle.quic_machine.specs.Receive.{Fault, broke, too_many_pieces, closed_by_peer, fault_of_breach, Progress, take_frame, after_taken}
 use Rattle.quic_connection_core.specs.declared.connection.receiving.Trouble.{Trouble}
 use Rattle.quic_connection_core.specs.declared.connection.receiving.Trouble.TheVariants as troubles
 
@@ -17,6 +17,7 @@ use Rattle.quic_connection_core.specs.declared.connection.receiving.Trouble.TheV
 abbrev pub fault_view : Trouble → Option Fault
 fault_view (troubles.Broke error) = Some (broke error)
 fault_view troubles.TooManyPieces = Some too_many_pieces
+fault_view (troubles.Closed close) = Some (closed_by_peer close.kept)
 fault_view troubles.Memory = None
 
 -- frames are taken as the machine takes them, up to the fault that is answered, unless memory lacked
@@ -54,15 +55,19 @@ holding s e = with_streams e (streams_of s.state s.pending)
 abbrev pub TakesOn : Result (Unit {0}) Trouble → FrameValue → EndStreams → EndStreams → Type 0
 TakesOn result f old new = (e : End) → TakesAs result (take_frame f (holding old e)) (holding new e)
 
--- a frame that is neither ACK nor DATAGRAM
+-- a frame that is neither ACK nor DATAGRAM, nor a close
 abbrev pub IsOther : FrameValue → Type 0
 IsOther (ack a) = ⊥
 IsOther (datagram m) = ⊥
+IsOther (connection_close c) = ⊥
+IsOther (application_close c) = ⊥
 IsOther f = Unit {0}
 
--- the limit on a stream that a frame tells, if it tells one, has a form as a variable-length integer (RFC 9000, section 16)
+-- the numbers that a frame tells of a limit on a stream, or of a close, have a form as variable-length integers (RFC 9000, section 16)
 abbrev pub HasForm : FrameValue → Type 0
 HasForm (max_stream_data f) = f.limit < 2 ^ 62
+HasForm (connection_close c) = (c.code < 2 ^ 62) × (c.frame_type < 2 ^ 62)
+HasForm (application_close c) = c.code < 2 ^ 62
 HasForm f = Unit {0}
 
 -- so it is of what was read of a payload

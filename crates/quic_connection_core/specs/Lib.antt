@@ -9,3 +9,4 @@ pub mod Handed
 pub mod Tracked
 pub mod Drawn
 pub mod Leaving
+pub mod Closes

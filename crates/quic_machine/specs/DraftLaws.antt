@@ -20,6 +20,7 @@ use Rattle.quic_streams_laws.specs.KindLaws.{GoesFirst}
 use Rattle.quic_streams_laws.specs.ControlWalk.{GoesOn, by_control, by_stream_frames}
 use Rattle.quic_recovery_core.specs.PendingAcks.{lazy_threshold, can_send, is_filled}
 use Rattle.quic_spaces.specs.Numbers.{cut_against}
+use Rattle.quic_machine.specs.Ids.{destination}
 use Rattle.quic_machine.specs.End.{End, number_of}
 use Rattle.quic_machine.specs.Parts.{current_mtu, Signals, signals_wait}
 use Rattle.quic_machine.specs.Poll.{Draft, frame_room, fits, left, with_signal, ping_if, behind_control, with_control_frames, with_message, with_messages_of, with_message_frames, behind_stream, no_stream_frames, with_stream_frames, Kind, order, put, with_asking, no_frames, ack_of, with_ack, ack_fits, ack_if, composed_if, composed, lazied, lazied_as, Leaving, whole, alone, probe, closing, nothing, with_frame, least_left, with_signal_frames, draft_left, draft_as}
@@ -39,7 +40,7 @@ width_few n = go (nat_lt (2 * n) 256) (nat_lt (2 * n) 65536) (nat_lt (2 * n) 167
 
 -- a datagram has room for frames: the id to which it goes has 20 bytes at most, and the path takes 1200 (RFC 9000, sections 17.2 and 14)
 abbrev pub HasRoom : End → Type 0
-HasRoom e = (length e.ids.active.id ≤ 20) × (1200 ≤ current_mtu e.path) × (current_mtu e.path < 2 ^ 16)
+HasRoom e = (length (destination e.ids) ≤ 20) × (1200 ≤ current_mtu e.path) × (current_mtu e.path < 2 ^ 16)
 
 -- how many bytes it has for them at least
 pub room_most : (e : End) → HasRoom e → 1159 ≤ frame_room e

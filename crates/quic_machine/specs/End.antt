@@ -1,6 +1,6 @@
 -- One end of a connection (RFC 9000, section 5): a record of parts, one for each concern, and beside it the keys, the random source, the congestion
 -- controller, and what was counted.
-use Rattle.std.specs.Prelude.{◌≡◌, ℕ, ◌+◌, ◌-◌, ◌*◌, Bool, ◌==◌, ◌||◌, not, nat_lt, if◌then◌else◌, List, length, false, Option, Some, None, Result, Ok, Err}
+use Rattle.std.specs.Prelude.{◌≡◌, ℕ, ◌+◌, ◌-◌, ◌*◌, Bool, true, ◌==◌, ◌||◌, not, nat_lt, if◌then◌else◌, List, length, false, Option, Some, None, Result, Ok, Err}
 use Rattle.quic_wire_core.specs.declared.stream_id.Side.{Side}
 use Rattle.quic_packet.specs.Keys.{Protection, Aead}
 use Rattle.quic_packet.specs.declared.crypto.Keys.{Keys}
@@ -15,7 +15,9 @@ use Rattle.quic_time.specs.Clocks.{saturated}
 use Rattle.quic_time.specs.Rtt as rtt
 use Rattle.quic_time.specs.Timers.{Timers, no_timers}
 use Rattle.quic_machine.specs.declared.answers.LostReason.{LostReason}
-use Rattle.quic_machine.specs.Closing.{Closing, closed_for}
+use Rattle.quic_wire.specs.Value.{FrameValue}
+use Rattle.quic_machine.specs.Reasons.{error_close}
+use Rattle.quic_machine.specs.Closing.{Closing, closing_for, drained_for}
 use Rattle.quic_machine.specs.Ids.{Ids, first_ids}
 use Rattle.quic_spaces.specs.Numbers.{Numbers, no_numbers, number_given}
 use Rattle.quic_spaces.specs.Filter.{Filter, first_filter, allocated, after_allocated}
@@ -43,6 +45,8 @@ pub record End : Type 0 where
   -- when timers expire, and the datagrams that are tracked (RFC 9002, sections 2 and 6)
   pub timers : Timers
   pub tracking : Tracking
+  -- whether the next packet that is given and asks lets the idle timeout begin anew (section 10.1)
+  pub idle_armed : Bool
   -- the path to the peer (section 8)
   pub path : Path
   -- how it sends, by its settings, and what the peer told of itself as the connection began (section 7.4)
@@ -70,10 +74,10 @@ with_end w e = record w { end = e }
 abbrev pub hearing : {H K R C : Type 0} → ConnectionValue H K R C → Heard → ConnectionValue H K R C
 hearing w h = record w { heard = h }
 
--- what the keys of an end do: it protects with the local ones, and opens with the remote ones; and which words its random source answers from here on, by how many
--- it answered before
-abbrev pub policy_of : {H K R C : Type 0} → (H → Protection) → (K → Aead) → (R → ℕ → ℕ) → ConnectionValue H K R C → Policy
-policy_of protection aead words w = keys_policy protection aead w.keys (λ n. words w.random (n - w.end.filter.drawn))
+-- what the keys of an end do: it protects with the local ones, and opens with the remote ones, each so many packets; and which words its random source answers from
+-- here on, by how many it answered before
+abbrev pub policy_of : {H K R C : Type 0} → (H → Protection) → (K → Aead) → (K → ℕ) → (K → ℕ) → (R → ℕ → ℕ) → ConnectionValue H K R C → Policy
+policy_of protection aead seals openings words w = keys_policy protection aead seals openings w.keys (λ n. words w.random (n - w.end.filter.drawn))
 
 -- no stream is opened: the peer's parameters are the limits on what is sent, the own settings those on what comes
 abbrev pub first_streams : Side → Settings → ParameterValues → StreamsState
@@ -82,7 +86,7 @@ first_streams side settings theirs = after_set_params (new_streams side settings
 -- an end as it is made at a moment, whose random source answers this word first, and whose controller shows these windows
 abbrev pub new_end : Side → Settings → Windows → ParameterValues → List ℕ → List ℕ → ℕ → Bool → ℕ → End
 new_end side settings windows theirs own_id peer_id now validated word = record {
-  closing = record { clock = now; state = states.Open; reason = None; told = false };
+  closing = record { clock = now; state = states.Open; reason = None; told = false; close = None; owed = false };
   ids = first_ids own_id peer_id;
   numbers = no_numbers;
   filter = first_filter word;
@@ -90,6 +94,7 @@ new_end side settings windows theirs own_id peer_id now validated word = record 
   marks = no_marks;
   timers = no_timers;
   tracking = nothing_tracked now;
+  idle_armed = true;
   path = first_path validated (transport_of settings) theirs.max_udp_payload_size windows now;
   transport = transport_of settings;
   peer_params = theirs;
@@ -105,10 +110,6 @@ side_of e = e.streams.side
 -- the end with another clock, state and reason
 abbrev pub with_closing : End → Closing → End
 with_closing e c = record e { closing = c }
-
--- the end closes for a reason: none of its timers is set any more
-abbrev pub closed_by : LostReason → End → End
-closed_by reason e = record e { closing = closed_for reason e.closing; timers = no_timers }
 
 -- the end with another search for the size of datagrams
 abbrev pub with_discovery : End → Discovery → End
@@ -172,6 +173,24 @@ probe_timeout e = saturated (rtt.probe_timeout e.path.rtt + peer_delay e)
 abbrev pub with_loss_timer : End → End
 with_loss_timer e = record e { timers = record e.timers { loss_detection = loss_moment (probe_timeout e) e.tracking } }
 
+-- ---- closing (section 10.2)
+
+-- three probe timeouts: so long an end is closing, and no idle timeout is shorter (section 10.1)
+abbrev pub three_timeouts : End → ℕ
+three_timeouts e = saturated (probe_timeout e * 3)
+
+-- the end closes for a reason, and owes its peer this close: of its timers only that of the close is set, three probe timeouts on
+abbrev pub closing_by : LostReason → FrameValue → End → End
+closing_by reason f e = record e { closing = closing_for reason f e.closing; timers = record no_timers { close = Some (saturated (e.closing.clock + three_timeouts e)) } }
+
+-- the end closes for a reason, of which its peer is told the code
+abbrev pub closed_by : LostReason → End → End
+closed_by reason e = closing_by reason (error_close reason) e
+
+-- the end is drained for a reason at once: none of its timers is set any more
+abbrev pub drained_by : LostReason → End → End
+drained_by reason e = record e { closing = drained_for reason e.closing; timers = no_timers }
+
 -- its streams, and what waits to be sent beside their bytes
 abbrev pub streams_at : End → Streams
 streams_at e = streams_of e.streams e.waiting.frames
@@ -221,14 +240,32 @@ are_sizes_wrong settings theirs = nat_lt most_payload settings.initial_mtu || na
 abbrev pub is_window_small : Settings → ℕ → Bool
 is_window_small settings window = nat_lt window (2 * first_mtu (transport_of settings))
 
+-- the least that a key may seal, and may refuse
+abbrev pub least_key_limit : ℕ
+least_key_limit = 16
+
+-- how many packets the own key may seal, and how many the peer's may refuse
+pub record KeyLimits : Type 0 where
+  pub seals : ℕ
+  pub openings : ℕ
+
+-- those of the keys of an end
+abbrev pub limits_of : {H K : Type 0} → (K → ℕ) → (K → ℕ) → Keys H K → KeyLimits
+limits_of seal_limit refusal_limit keys = record { seals = seal_limit keys.packet.local; openings = refusal_limit keys.packet.remote }
+
+-- whether the keys last too short
+abbrev pub are_keys_short : KeyLimits → Bool
+are_keys_short limits = nat_lt limits.seals least_key_limit || nat_lt limits.openings least_key_limit
+
 -- why no end is made, want of memory aside, the first in this order: the peer's parameters can't be read; the own id hasn't eight bytes, or the peer's has none;
--- the sizes of datagrams can't be; or the controller's window is too small
-abbrev pub refusal_of : {E : Type 0} → Settings → ℕ → Result ParameterValues E → List ℕ → List ℕ → Option ConfigError
-refusal_of settings window (Err e) own_id peer_id = Some config_errors.Parameters
-refusal_of settings window (Ok theirs) own_id peer_id =
+-- the sizes of datagrams can't be; the controller's window is too small; or the keys last too short
+abbrev pub refusal_of : {E : Type 0} → Settings → ℕ → KeyLimits → Result ParameterValues E → List ℕ → List ℕ → Option ConfigError
+refusal_of settings window limits (Err e) own_id peer_id = Some config_errors.Parameters
+refusal_of settings window limits (Ok theirs) own_id peer_id =
     if not (length own_id == 8) || (length peer_id == 0) then Some config_errors.IdLength
     else (if are_sizes_wrong settings theirs then Some config_errors.Size
-    else (if is_window_small settings window then Some config_errors.Window else None))
+    else (if is_window_small settings window then Some config_errors.Window
+    else (if are_keys_short limits then Some config_errors.KeyLimit else None)))
 
 -- an end is made of what was read of the peer's parameters
 abbrev pub IsMade : {E : Type 0} → Side → Settings → Windows → Result ParameterValues E → List ℕ → List ℕ → ℕ → Bool → ℕ → End → Type 0

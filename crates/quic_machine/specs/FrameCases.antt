@@ -18,8 +18,10 @@ use Rattle.quic_machine.specs.declared.answers.State.{State}
 use Rattle.quic_machine.specs.declared.answers.State.TheVariants as states
 use Rattle.quic_machine.specs.declared.answers.DropReason.TheVariants as drops
 use Rattle.quic_machine.specs.declared.answers.LostReason.{LostReason}
+use Rattle.quic_machine.specs.declared.answers.LostReason.TheVariants as reasons
+use Rattle.quic_wire.specs.Close.{CloseValue}
 use Rattle.quic_machine.specs.Policy.{Policy}
-use Rattle.quic_machine.specs.Closing.{ticked}
+use Rattle.quic_machine.specs.Closing.{ticked, close_asked}
 use Rattle.quic_machine.specs.Ids.{Ids, known}
 use Rattle.quic_recovery_core.specs.PendingAcks.{Pending}
 use Rattle.quic_wire_core.specs.declared.shared.IssuedCid.{IssuedCid}
@@ -30,7 +32,7 @@ use Rattle.quic_messages.specs.declared.errors.ReceivedError.{ReceivedError}
 use Rattle.quic_messages.specs.Messages.{received_answer}
 use Rattle.quic_machine.specs.Parts.{Messaging}
 use Rattle.quic_machine.specs.Tracking.{TrackedPacket, Carried, acked_by, Verdict, lost_by, after_detection}
-use Rattle.quic_machine.specs.End.{End, with_closing, closed_by, with_numbers, with_streams, with_messages, with_tracking, with_told, with_marking, with_discovery, with_queued}
+use Rattle.quic_machine.specs.End.{End, with_closing, closed_by, drained_by, with_numbers, with_streams, with_messages, with_tracking, with_told, with_marking, with_discovery, with_queued}
 use Rattle.quic_machine.specs.Opens.{own_id_length}
 use Rattle.quic_messages.specs.Messages.{without_longer}
 use Rattle.quic_congestion.specs.Search.{Discovery}
@@ -39,7 +41,7 @@ use Rattle.quic_machine.specs.Sizes.{is_resized, with_acked, search_acked, after
 use Rattle.quic_machine.specs.Steps.{Step, after}
 use Rattle.quic_machine.specs.Steps as steps
 use Rattle.quic_machine.specs.Acked.{without_known, reset_acked, resets_acked, stream_acked, streams_acked, packet_acked, packets_acked, stream_lost, streams_lost, again, carried_lost, packets_lost, lost_as, verdict, losses_detected, measured, sampled, without_acked, counts_judged, counts_answer, counts_seen, marks_seen, losses_taken, after_named, after_acked}
-use Rattle.quic_machine.specs.Receive.{Fault, violation, reason_of, Progress, goes_on, is_above, names_ungiven, message_taken, message_judged, take_message, take_frame, take_item, unless_fault, take_items, is_empty, take_payload, asks_in, after_taken, dropped, ends_as, by_state, opened_to, opened_as, opening, headed, received_in, received}
+use Rattle.quic_machine.specs.Receive.{Fault, broke, too_many_pieces, closed_by_peer, exhausted, unopened_in, violation, reason_of, Progress, goes_on, is_above, names_ungiven, message_taken, message_judged, take_message, take_frame, take_item, unless_fault, take_items, is_empty, take_payload, asks_in, after_taken, dropped, ends_as, by_state, opened_to, opened_as, opening, headed, received_in, received}
 
 -- ---- packets that are acknowledged, and those that are lost
 
@@ -328,6 +330,12 @@ pub record Receives (P : End → Type 0) : Type 0 where
   -- all was taken, or a frame was at fault
   pub takes : (n : ℕ) (asks : Bool) (mark : Option EcnCodepoint) (e : End) → P e → P (after_taken n asks mark e)
   pub closes : (reason : LostReason) (e : End) → P e → P (closed_by reason e)
+  -- the peer closed
+  pub drains : (close : CloseValue) (e : End) → P e → P (drained_by (reasons.Peer close) e)
+  -- an end that is closing owes its close once more
+  pub asks_close : (e : End) → P e → P (with_closing e (close_asked e.closing))
+  -- the last packet came that may not open
+  pub exhausts : (now : ℕ) (e : End) → P e → P (exhausted now e)
 
 module _ (P : End → Type 0) (c : Receives P) where
   -- a payload
@@ -341,14 +349,16 @@ module _ (P : End → Type 0) (c : Receives P) where
   -- all frames were taken, or one was at fault
   ends_keep : (fault : Option Fault) (asks : Bool) (n : ℕ) (mark : Option EcnCodepoint) (e : End) → P e → P (ends_as fault asks n mark e).end
   ends_keep None asks n mark e i = c.takes n asks mark e i
-  ends_keep (Some fault) asks n mark e i = c.closes (reason_of fault) e i
+  ends_keep (Some (closed_by_peer close)) asks n mark e i = c.drains close e i
+  ends_keep (Some (broke error)) asks n mark e i = c.closes (reason_of (broke error)) e i
+  ends_keep (Some too_many_pieces) asks n mark e i = c.closes (reason_of too_many_pieces) e i
 
   -- a packet whose number is new
   state_keeps : (state : State) (o : Opening) (arrival : Arrival) (e : End) → P e → P (by_state state o arrival (with_numbers e (number_opened e.numbers o.number))).end
   state_keeps states.Open o arrival e i =
       let taken = take_payload o.first (items o.payload) (begun e arrival.now o.number) in
       ends_keep taken.fault (asks_in (items o.payload)) o.number arrival.mark taken.end (payload_keeps o.first (items o.payload) (begun e arrival.now o.number) (c.begins arrival.now o.number e i))
-  state_keeps states.Closing o arrival e i = c.notes o.number e i
+  state_keeps states.Closing o arrival e i = c.asks_close (with_numbers e (number_opened e.numbers o.number)) (c.notes o.number e i)
   state_keeps states.Drained o arrival e i = c.notes o.number e i
   state_keeps states.Failed o arrival e i = c.notes o.number e i
 
@@ -362,7 +372,14 @@ module _ (P : End → Type 0) (c : Receives P) where
       go false false = state_keeps e.closing.state o arrival e i
 
   packet_keeps : (o : Option Opening) (arrival : Arrival) (e : End) → P e → P (opened_as o arrival e).end
-  packet_keeps None arrival e i = i
+  packet_keeps None arrival e i = go e.closing.state arrival.last
+    where
+      go : (state : State) (b : Bool) → P (unopened_in state b arrival e).end
+      go states.Open true = c.exhausts arrival.now e i
+      go states.Open false = i
+      go states.Closing b = i
+      go states.Drained b = i
+      go states.Failed b = i
   packet_keeps (Some o) arrival e i = opened_keeps o arrival e i
 
   headed_keeps : (r : Result (List ℕ) HeaderError) (p : Policy) (e : End) (arrival : Arrival) (d : List ℕ) → P e → P (headed r p e arrival d).end

@@ -1,11 +1,11 @@
 -- What an end gives when it is polled (RFC 9000, sections 12.2, 13.3 and 14.1).
-use Rattle.std.specs.Prelude.{ℕ, ◌+◌, ◌-◌, ◌≡◌, Bool, true, false, ◌&&◌, ◌||◌, ◌==◌, not, nat_le, nat_lt, if◌then◌else◌, List, [], ◌∷◌, ◌++◌, map, length, replicate, max, ◌⊎◌, Option, Some, None, IsSome, Result, Ok, Err}
+use Rattle.std.specs.Prelude.{ℕ, ◌+◌, ◌-◌, ◌≡◌, Bool, true, false, ◌&&◌, ◌||◌, ◌==◌, not, nat_le, nat_lt, if◌then◌else◌, List, [], ◌∷◌, ◌++◌, map, length, replicate, max, take, zero, suc, option_map, ◌⊎◌, Option, Some, None, IsSome, Result, Ok, Err}
 use Rattle.std.specs.List.{list_any, fold}
-use Rattle.std.specs.Option.{is_some}
+use Rattle.std.specs.Option.{is_some, is_none}
 use Rattle.quic_wire_core.specs.declared.shared.EcnCodepoint.{EcnCodepoint}
 use Rattle.quic_wire_core.specs.declared.shared.EcnCodepoint.TheVariants.{Ect0}
 use Rattle.quic_packet.specs.Number.{truncated}
-use Rattle.quic_wire.specs.Value.{FrameValue, AckValue, ack, ping, stream, datagram, asks}
+use Rattle.quic_wire.specs.Value.{FrameValue, AckValue, ack, ping, stream, datagram, application_close, asks}
 use Rattle.quic_wire.specs.Writing.{spelling, spelled_all, frame_size}
 use Rattle.quic_wire.specs.Grammar.{Payload}
 use Rattle.quic_packet.specs.Datagram.{sent}
@@ -20,14 +20,16 @@ use Rattle.quic_machine.specs.declared.answers.State.{State}
 use Rattle.quic_machine.specs.declared.answers.Failed.{Failed}
 use Rattle.quic_machine.specs.declared.answers.Transmit.{Transmit}
 use Rattle.quic_machine.specs.declared.answers.State.TheVariants as states
+use Rattle.quic_machine.specs.declared.answers.LostReason.{LostReason}
 use Rattle.quic_machine.specs.declared.answers.LostReason.TheVariants as reasons
 use Rattle.quic_congestion.specs.Congestion.{Told}
 use Rattle.quic_recovery_core.specs.PendingAcks.{Pending, can_send, is_filled, after_acks_sent, after_lazy}
 use Rattle.quic_spaces.specs.Acknowledging.{ack_at}
 use Rattle.quic_spaces.specs.Marks.{told_counts}
 use Rattle.quic_machine.specs.Tracking.{TrackedPacket, carried_in, after_sent, without_record}
-use Rattle.quic_machine.specs.Closing.{ticked, close_owed}
-use Rattle.quic_spaces.specs.Numbers.{can_number, cut_against}
+use Rattle.quic_machine.specs.Closing.{ticked, close_owed, close_given}
+use Rattle.quic_spaces.specs.Numbers.{can_number, may_give, cut_against}
+use Rattle.quic_machine.specs.Idle.{packet_given}
 use Rattle.quic_spaces.specs.Records.{first_record}
 use Rattle.quic_machine.specs.Policy.{Policy}
 use Rattle.quic_machine.specs.Parts.{current_mtu, Signals, signals_wait}
@@ -254,9 +256,9 @@ abbrev pub paid_if : Bool → End → ℕ → End
 paid_if true e size = paid e size
 paid_if false e size = e
 
--- the end after it went
+-- the end after it went: the times without a packet may begin anew (RFC 9000, section 10.1)
 abbrev pub after_given : Policy → Draft → End
-after_given p d = with_loss_timer (with_app_limited (paid_if (asking d.frames) (with_number_given (p.words d.end.filter.drawn) (tracked d)) (datagram_size d)) false)
+after_given p d = with_loss_timer (with_app_limited (packet_given (asking d.frames) (paid_if (asking d.frames) (with_number_given (p.words d.end.filter.drawn) (tracked d)) (datagram_size d))) false)
 
 -- ---- what waits
 
@@ -429,23 +431,61 @@ most_of (probe size) e = max size (current_mtu e.path)
 most_of (closing f) e = current_mtu e.path
 most_of (nothing held) e = current_mtu e.path
 
--- the end after a close went: its number is given, it isn't tracked, and it takes no tokens of the pacer
-abbrev pub after_close : Policy → Draft → End
-after_close p d = with_number_given (p.words d.end.filter.drawn) d.end
+-- ---- how long numbers and keys last (RFC 9000, section 12.3; RFC 9001, section 6.6)
 
--- a close goes, if one is owed
+-- how many packets that may be sealed are kept for closes
+abbrev pub kept_seals : ℕ
+kept_seals = 8
+
+-- whether the key may seal one more ordinary packet
+abbrev pub may_seal : Policy → End → Bool
+may_seal p e = nat_lt (e.numbers.sealed + kept_seals) p.seals
+
+-- why no ordinary datagram may be given any more, if none may: the numbers are used up, or the key is
+abbrev pub bounds : Policy → End → Option LostReason
+bounds p e = if not (can_number e.numbers) then Some reasons.NumberLimit else (if not (may_seal p e) then Some reasons.KeyLimit else None)
+
+-- whether there is a number and a seal for one more close
+abbrev pub may_close : Policy → End → Bool
+may_close p e = may_give e.numbers (number_of e) && nat_lt e.numbers.sealed p.seals
+
+-- ---- closes (RFC 9000, sections 10.2.1 and 19.19)
+
+-- the application's close with so much of its text
+abbrev pub close_with : ℕ → List ℕ → ℕ → FrameValue
+close_with code text n = application_close (record { code = code; reason = take n text })
+
+-- of the beginnings of a text that have so many bytes at most, the length of the longest with which the application's close has room in so many bytes
+abbrev pub longest_fitting : ℕ → ℕ → List ℕ → ℕ → ℕ
+longest_fitting room code text zero = 0
+longest_fitting room code text (suc n) = if nat_le (frame_size (close_with code text (suc n))) room then suc n else longest_fitting room code text n
+
+-- a close as it goes in so many bytes: of the application's text as much as fits
+abbrev pub fitted : ℕ → FrameValue → FrameValue
+fitted room (application_close c) = close_with c.code c.reason (longest_fitting room c.code c.reason (length c.reason))
+fitted room f = f
+
+-- the end after a close went: its number is given, it isn't tracked, takes no tokens of the pacer, and isn't owed any more
+abbrev pub after_close : Policy → Draft → End
+after_close p d = with_closing (with_number_given (p.words d.end.filter.drawn) d.end) (close_given d.end.closing)
+
+-- a close goes, if there is one to go
 abbrev pub closes_if : Option FrameValue → Policy → End → Polled
 closes_if None p e = gives_nothing e
 closes_if (Some f) p e = gives_datagram (datagram_of p (draft_as (closing f) e)) (after_close p (draft_as (closing f) e))
 
--- what an end gives that closes or is closing (RFC 9000, section 10.2.1)
-abbrev pub closes : Policy → End → Polled
-closes p e = closes_if (close_owed e.closing) p e
+-- the close that goes: the one that is owed, where it may go
+abbrev pub close_to_go : Policy → End → Option FrameValue
+close_to_go p e = if may_close p e then option_map (fitted (frame_room e)) (close_owed e.closing) else None
 
--- something goes: where the numbers are used up, the end closes
-abbrev pub sends : Bool → Policy → Ready → Polled
-sends true p g = gives_datagram (datagram_of p (draft_of g)) (after_given p (draft_of g))
-sends false p g = closes p (closed_by reasons.NumberLimit g.end)
+-- what an end gives that closes or is closing
+abbrev pub closes : Policy → End → Polled
+closes p e = closes_if (close_to_go p e) p e
+
+-- something goes: where numbers or key are used up, the end closes instead
+abbrev pub sends : Option LostReason → Policy → Ready → Polled
+sends None p g = gives_datagram (datagram_of p (draft_of g)) (after_given p (draft_of g))
+sends (Some reason) p g = closes p (closed_by reason g.end)
 
 -- nothing goes: for want of anything to send, or since it is held back
 abbrev pub rests : Ready → End
@@ -453,7 +493,7 @@ rests g = with_app_limited g.end (not (is_held g.leaving))
 
 -- what goes does, if anything
 abbrev pub polled_if : Bool → Policy → Ready → Polled
-polled_if true p g = sends (can_number g.end.numbers) p g
+polled_if true p g = sends (bounds p g.end) p g
 polled_if false p g = gives_nothing (rests g)
 
 -- what an open end gives
@@ -463,7 +503,7 @@ polled_open p e = polled_if (goes (ready e)) p (ready e)
 -- what an end gives by its state
 abbrev pub polled_in : State → Policy → End → ℕ → Polled
 polled_in states.Open p e now = polled_open p (with_closing e (ticked e.closing now))
-polled_in states.Closing p e now = closes p e
+polled_in states.Closing p e now = closes p (with_closing e (ticked e.closing now))
 polled_in states.Drained p e now = gives_nothing e
 polled_in states.Failed p e now = record { answer = Err (record {}); datagram = None; end = e }
 
@@ -483,12 +523,12 @@ told_if true g = told_draft (draft_of g)
 told_if false g = []
 
 -- of a poll of an end in a state
-abbrev pub told_polled_in : State → End → ℕ → List Told
-told_polled_in states.Open e now =
+abbrev pub told_polled_in : State → Policy → End → ℕ → List Told
+told_polled_in states.Open p e now =
     let g = ready (with_closing e (ticked e.closing now)) in
-    told_if (goes g && can_number g.end.numbers) g
-told_polled_in state e now = []
+    told_if (goes g && is_none (bounds p g.end)) g
+told_polled_in state p e now = []
 
 -- of a poll at a moment
-abbrev pub told_polled : End → ℕ → List Told
-told_polled e now = told_polled_in e.closing.state e now
+abbrev pub told_polled : Policy → End → ℕ → List Told
+told_polled p e now = told_polled_in e.closing.state p e now

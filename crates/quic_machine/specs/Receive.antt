@@ -5,7 +5,8 @@ use Rattle.quic_wire_core.specs.TransportError.{ErrorValue}
 use Rattle.quic_wire_core.specs.declared.shared.EcnCodepoint.{EcnCodepoint}
 use Rattle.quic_wire_core.specs.declared.stream_id.Side.{Side}
 use Rattle.quic_wire_core.specs.declared.stream_id.Side.TheVariants.{Client, Server}
-use Rattle.quic_wire.specs.Value.{FrameValue, AckValue, ack, stream, reset_stream, stop_sending, max_data, max_stream_data, max_streams, new_token, handshake_done, datagram, asks}
+use Rattle.quic_wire.specs.Value.{FrameValue, AckValue, ack, stream, reset_stream, stop_sending, max_data, max_stream_data, max_streams, new_token, handshake_done, connection_close, application_close, datagram, asks}
+use Rattle.quic_wire.specs.Close.{CloseValue, by_transport, by_application, transport_close}
 use Rattle.quic_wire.specs.Items.{items}
 use Rattle.quic_packet.specs.Header.{key_phase, reserved_bits}
 use Rattle.quic_packet.specs.Destination.{decoded, fixed_length_id}
@@ -24,7 +25,7 @@ use Rattle.quic_machine.specs.declared.answers.DropReason.{DropReason}
 use Rattle.quic_machine.specs.declared.answers.DropReason.TheVariants as drops
 use Rattle.quic_machine.specs.declared.answers.Received.{Received}
 use Rattle.quic_machine.specs.declared.answers.Received.TheVariants.{Taken, Dropped, Closed}
-use Rattle.quic_machine.specs.Closing.{ticked}
+use Rattle.quic_machine.specs.Closing.{ticked, close_asked}
 use Rattle.quic_machine.specs.Ids.{known}
 use Rattle.quic_spaces.specs.Numbers.{expected, number_opened, number_taken, number_named}
 use Rattle.quic_spaces.specs.Filter.{names_skipped}
@@ -43,17 +44,19 @@ use Rattle.quic_messages.specs.declared.errors.ReceivedError.{ReceivedError}
 use Rattle.quic_messages.specs.Messages.{received_answer, after_received}
 use Rattle.quic_time.specs.Clocks.{saturated}
 use Rattle.quic_machine.specs.Policy.{Policy}
-use Rattle.quic_machine.specs.End.{End, side_of, with_closing, closed_by, with_numbers, with_streams, with_messages, with_ack_timer, with_loss_timer}
+use Rattle.quic_machine.specs.Idle.{packet_heard}
+use Rattle.quic_machine.specs.End.{End, side_of, with_closing, closed_by, drained_by, with_numbers, with_streams, with_messages, with_ack_timer, with_loss_timer}
 use Rattle.quic_machine.specs.Opens.{own_id_length}
 use Rattle.quic_machine.specs.Tracking.{dir_named}
 use Rattle.quic_machine.specs.Acked.{after_acked, told_acked}
 
 -- ---- what is wrong with a packet that opened
 
--- a broken rule with its error, or too many runs of a stream that wait
+-- a broken rule with its error, or too many runs of a stream that wait; or nothing, but that the peer closed, which ends the reading too
 pub data Fault : Type 0 where
   broke : ErrorValue → Fault
   too_many_pieces : Fault
+  closed_by_peer : CloseValue → Fault
 
 -- an error that names no frame (RFC 9000, section 20.1)
 abbrev pub plain_error : ℕ → ErrorValue
@@ -81,15 +84,17 @@ fault_of_frame x = broke (record { code = 7; frame = x.ty })
 abbrev pub violation : Fault
 violation = broke (plain_error 10)
 
--- INTERNAL_ERROR where too many runs of a stream wait
+-- INTERNAL_ERROR where too many runs of a stream wait, and none where the peer closed
 abbrev pub error_of : Fault → ErrorValue
 error_of (broke error) = error
 error_of too_many_pieces = plain_error 1
+error_of (closed_by_peer close) = plain_error 0
 
 -- why an end closes for a fault
 abbrev pub reason_of : Fault → LostReason
 reason_of (broke error) = reasons.Transport error
 reason_of too_many_pieces = reasons.Pieces
+reason_of (closed_by_peer close) = reasons.Peer close
 
 -- ---- frames, one after another
 
@@ -152,6 +157,14 @@ message_judged (Err error) m e = record { end = e; fault = Some violation }
 abbrev pub take_message : List ℕ → End → Progress
 take_message m e = message_judged (received_answer e.transport.datagram_receive_buffer_size m e.messages.queues) m e
 
+-- the frame that was at fault, by its type; none is known where that is 0 (RFC 9000, section 19.19)
+abbrev pub frame_named : ℕ → Option ℕ
+frame_named ty = if ty == 0 then None else Some ty
+
+-- the peer closed: what stands behind isn't read
+abbrev pub take_close : CloseValue → End → Progress
+take_close close e = record { end = e; fault = Some (closed_by_peer close) }
+
 -- what a frame makes of the end; those of other kinds are read, held to their rule of ids and
 -- counts, and do nothing yet
 abbrev pub take_frame : FrameValue → End → Progress
@@ -163,6 +176,8 @@ take_frame (max_data limit) e = on_state None (after_max_data e.streams limit) e
 take_frame (max_stream_data f) e = on_state (sending_refusal e.streams f.id) (after_max_stream_data e.streams f.id f.limit) e
 take_frame (max_streams f) e = on_state (max_streams_breach f.count) (after_max_streams (dir_named f.one_way) f.count e.streams) e
 take_frame (datagram m) e = take_message m e
+take_frame (connection_close c) e = take_close (by_transport (transport_close c.code (frame_named c.frame_type) c.reason)) e
+take_frame (application_close c) e = take_close (by_application c) e
 take_frame (new_token t) e = record { end = e; fault = fault_at (side_of e) }
 take_frame handshake_done e = record { end = e; fault = fault_at (side_of e) }
 take_frame f e = record { end = e; fault = fault_of (broken e.streams (id_rule f)) }
@@ -246,13 +261,14 @@ number_noted n asking mark e =
       marks = record e.marks { came = after_mark mark e.marks.came };
     }
 
--- and the loss timer is set to what the frames left
+-- the times without a packet begin anew, and the loss timer is set to what the frames left
 abbrev pub after_taken : ℕ → Bool → Option EcnCodepoint → End → End
-after_taken n asking mark e = with_loss_timer (number_noted n asking mark e)
+after_taken n asking mark e = with_loss_timer (packet_heard (number_noted n asking mark e))
 
--- all frames were taken, or one was at fault: those before it keep their effect
+-- all frames were taken; or the peer closed, and the end is drained (section 10.2.2); or one was at fault: those before it keep their effect
 abbrev pub ends_as : Option Fault → Bool → ℕ → Option EcnCodepoint → End → Outcome
 ends_as None asking n mark e = record { answer = Taken; end = after_taken n asking mark e }
+ends_as (Some (closed_by_peer close)) asking n mark e = record { answer = Taken; end = drained_by (reasons.Peer close) e }
 ends_as (Some fault) asking n mark e = record { answer = Closed (error_of fault); end = closed_by (reason_of fault) e }
 
 -- what a payload comes to that asks for an acknowledgement or doesn't, where it was taken so far
@@ -272,10 +288,10 @@ asks_in is = list_any item_asks is
 abbrev pub processed : Opening → Arrival → End → Outcome
 processed o arrival e = judged (take_payload o.first (items o.payload) (with_closing e (ticked e.closing arrival.now))) (asks_in (items o.payload)) o.number arrival.mark
 
--- a closing end reads nothing of the packet
+-- a closing end reads nothing of the packet, and its close is to go once more (section 10.2.1)
 abbrev pub by_state : State → Opening → Arrival → End → Outcome
 by_state states.Open o arrival e = processed o arrival e
-by_state states.Closing o arrival e = dropped drops.Closing e
+by_state states.Closing o arrival e = dropped drops.Closing (with_closing e (close_asked e.closing))
 by_state states.Drained o arrival e = dropped drops.Drained e
 by_state states.Failed o arrival e = dropped drops.Failed e
 
@@ -286,9 +302,22 @@ opened_to o arrival e =
     else (if is_duplicate e.numbers.opened o.number then dropped drops.Duplicate e
     else by_state e.closing.state o arrival (with_numbers e (number_opened e.numbers o.number)))
 
+-- an end whose peer's key refused as many packets as it may closes (RFC 9001, section 6.6)
+abbrev pub exhausted : ℕ → End → End
+exhausted now e = closed_by reasons.KeyLimit (with_closing e (ticked e.closing now))
+
+-- AEAD_LIMIT_REACHED (RFC 9000, section 20.1)
+abbrev pub key_limit : ErrorValue
+key_limit = plain_error 15
+
+-- a packet that doesn't open is dropped, unless it is the last that may not, and the end is open
+abbrev pub unopened_in : State → Bool → Arrival → End → Outcome
+unopened_in states.Open true arrival e = record { answer = Closed key_limit; end = exhausted arrival.now e }
+unopened_in state is_last arrival e = dropped drops.NotOpened e
+
 -- what a packet comes to, where it opened
 abbrev pub opened_as : Option Opening → Arrival → End → Outcome
-opened_as None arrival e = dropped drops.NotOpened e
+opened_as None arrival e = unopened_in e.closing.state arrival.last arrival e
 opened_as (Some o) arrival e = opened_to o arrival e
 
 -- what a datagram opens to at an end, behind an own id

@@ -13,7 +13,7 @@ use Rattle.quic_machine.specs.Control.{Control}
 use Rattle.quic_machine.specs.Machine.{World, Policies}
 
 -- how one end was made: its settings, the windows that its controller showed, the parameter bytes that the settings come to, its first id, the moment, whether
--- the path was validated, and the first word that its random source answered
+-- the path was validated, and the words that its random source answers
 pub record Making : Type 0 where
   pub settings : Settings
   pub windows : Windows
@@ -21,7 +21,7 @@ pub record Making : Type 0 where
   pub id : List ℕ
   pub moment : ℕ
   pub validated : Bool
-  pub word : ℕ
+  pub words : ℕ → ℕ
 
 -- the parameter bytes say the settings, which are in range, and the id has the length of an own id
 pub record IsMaking (m : Making) : Type 0 where
@@ -37,8 +37,8 @@ pub record AreStarted (w : World) : Type 0 where
   pub server_making : Making
   pub client_is : IsMaking client_making
   pub server_is : IsMaking server_making
-  pub client : MadeFrom Client client_making.settings client_making.windows server_making.parameters client_making.id server_making.id client_making.moment client_making.validated client_making.word w.client
-  pub server : MadeFrom Server server_making.settings server_making.windows client_making.parameters server_making.id client_making.id server_making.moment server_making.validated server_making.word w.server
+  pub client : MadeFrom Client client_making.settings client_making.windows server_making.parameters client_making.id server_making.id client_making.moment client_making.validated client_making.words w.client
+  pub server : MadeFrom Server server_making.settings server_making.windows client_making.parameters server_making.id client_making.id server_making.moment server_making.validated server_making.words w.server
   pub client_gave : w.from_client ≡ []
   pub server_gave : w.from_server ≡ []
 

@@ -8,6 +8,8 @@ mod arrivals;
 #[cfg(test)]
 mod chance;
 #[cfg(test)]
+mod closing;
+#[cfg(test)]
 mod config;
 #[cfg(test)]
 mod ends;
@@ -32,3 +34,5 @@ mod scripts;
 mod statistics;
 #[cfg(test)]
 mod transfer;
+#[cfg(test)]
+mod validation;

@@ -162,15 +162,15 @@ once_asked n = ran worked_policies rested_start (take n blocked_run.events) (tak
 
 opens : IsStep worked_policies rested_start opens_stream (answers.Open (Some 0)) (once_asked 1)
 unfolding once_asked
-opens = record { answer = refl; end = refl; control = refl; heard = refl; others = refl; lacking = tt }
+opens = record { answer = refl; end = refl; control = refl; heard = refl; openings = tt; others = refl; lacking = tt }
 
 client_quiet : IsStep worked_policies (once_asked 1) asks_datagram gives_nothing (once_asked 2)
 unfolding once_asked
-client_quiet = record { answer = inl refl; end = refl; control = refl; heard = refl; others = refl; lacking = tt }
+client_quiet = record { answer = inl refl; end = refl; control = refl; heard = refl; openings = tt; others = refl; lacking = tt }
 
 server_quiet : IsStep worked_policies (once_asked 2) (asks_at Server 0) gives_nothing (once_asked 3)
 unfolding once_asked
-server_quiet = record { answer = inl refl; end = refl; control = refl; heard = refl; others = refl; lacking = tt }
+server_quiet = record { answer = inl refl; end = refl; control = refl; heard = refl; openings = tt; others = refl; lacking = tt }
 
 blocked_no : IsRefused (once_asked 3) writes_hello (answers.Write (Err write_errors.Blocked))
 unfolding once_asked

@@ -54,35 +54,35 @@ held_is_honest = record { start = held_started; keys = are_keys; ids = own_ids h
 
 pub opens : IsStep worked_policies held_start opens_stream (answers.Open (Some 0)) (once_held 1)
 unfolding once_held
-opens = record { answer = refl; end = refl; control = refl; heard = refl; others = refl; lacking = tt }
+opens = record { answer = refl; end = refl; control = refl; heard = refl; openings = tt; others = refl; lacking = tt }
 
 pub writes : IsStep worked_policies (once_held 1) (writes_bytes (replicate 4000 0x61)) (answers.Write (Ok 4000)) (once_held 2)
 unfolding once_held
-writes = record { answer = inl refl; end = refl; control = refl; heard = refl; others = refl; lacking = λ lacks. cc }
+writes = record { answer = inl refl; end = refl; control = refl; heard = refl; openings = tt; others = refl; lacking = λ lacks. cc }
 
 pub gives : IsStep worked_policies (once_held 2) (asks_at Client 0) (gives_bytes 1200) (once_held 3)
 unfolding once_held
-gives = record { answer = inl refl; end = refl; control = refl; heard = refl; others = refl; lacking = tt }
+gives = record { answer = inl refl; end = refl; control = refl; heard = refl; openings = tt; others = refl; lacking = tt }
 
 holds : IsStep worked_policies (once_held 3) (asks_at Client 0) gives_nothing (once_held 4)
 unfolding once_held
-holds = record { answer = inl refl; end = refl; control = refl; heard = refl; others = refl; lacking = tt }
+holds = record { answer = inl refl; end = refl; control = refl; heard = refl; openings = tt; others = refl; lacking = tt }
 
 expires : IsStep worked_policies (once_held 4) (serves Client 1024000000) (answers.Timeout (Ok tt)) (once_held 5)
 unfolding once_held
-expires = record { answer = inl refl; end = refl; control = refl; heard = refl; others = refl; lacking = tt }
+expires = record { answer = inl refl; end = refl; control = refl; heard = refl; openings = tt; others = refl; lacking = tt }
 
 probes : IsStep worked_policies (once_held 5) (asks_at Client 1024000000) (gives_bytes 1200) (once_held 6)
 unfolding once_held
-probes = record { answer = inl refl; end = refl; control = refl; heard = refl; others = refl; lacking = tt }
+probes = record { answer = inl refl; end = refl; control = refl; heard = refl; openings = tt; others = refl; lacking = tt }
 
 probes_again : IsStep worked_policies (once_held 6) (asks_at Client 1024000000) (gives_bytes 1200) (once_held 7)
 unfolding once_held
-probes_again = record { answer = inl refl; end = refl; control = refl; heard = refl; others = refl; lacking = tt }
+probes_again = record { answer = inl refl; end = refl; control = refl; heard = refl; openings = tt; others = refl; lacking = tt }
 
 holds_again : IsStep worked_policies (once_held 7) (asks_at Client 1024000000) gives_nothing (once_held 8)
 unfolding once_held
-holds_again = record { answer = inl refl; end = refl; control = refl; heard = refl; others = refl; lacking = tt }
+holds_again = record { answer = inl refl; end = refl; control = refl; heard = refl; openings = tt; others = refl; lacking = tt }
 
 pub unset_seen : held_view (view_with None None) ≡ view_of (once_held 1)
 unfolding once_held

@@ -23,24 +23,24 @@ use Rattle.quic_worked.proofs.BrokenRuns.{IsRefused, stops, behind, behind_sent}
 -- what the key refuses leaves both ends as they are, before the datagram came and behind it: the server counts it
 refused_first : (now : ℕ) → IsStep worked_policies once_sent (forges now) refused (came_in 1 1 once_sent)
 unfolding once_sent
-refused_first now = record { answer = refl; end = sym (injected_leaves worked_policies.server once_sent.server (record { now = now; ecn = None; bytes = forged_datagram })); control = refl; heard = refl; others = refl; lacking = tt }
+refused_first now = record { answer = refl; end = sym (injected_leaves worked_policies.server once_sent.server (record { now = now; ecn = None; bytes = forged_datagram })); control = refl; heard = refl; openings = tt; others = refl; lacking = tt }
 
 refused_again : (now : ℕ) → IsStep worked_policies (came_in 3 1 once_taken) (forges now) refused noisy_left
 unfolding once_taken
-refused_again now = record { answer = refl; end = sym (injected_leaves worked_policies.server once_taken.server (record { now = now; ecn = None; bytes = forged_datagram })); control = refl; heard = refl; others = refl; lacking = tt }
+refused_again now = record { answer = refl; end = sym (injected_leaves worked_policies.server once_taken.server (record { now = now; ecn = None; bytes = forged_datagram })); control = refl; heard = refl; openings = tt; others = refl; lacking = tt }
 
 -- the datagram comes behind what was refused, and comes again
 takes_behind : IsStep worked_policies (came_in 1 1 once_sent) delivers (answers.Deliver receives.Taken) (came_in 2 1 once_taken)
 unfolding once_taken
-takes_behind = record { answer = inl refl; end = refl; control = refl; heard = refl; others = refl; lacking = tt }
+takes_behind = record { answer = inl refl; end = refl; control = refl; heard = refl; openings = tt; others = refl; lacking = tt }
 
 drops_behind : IsStep worked_policies (came_in 2 1 once_taken) delivers (answers.Deliver (receives.Dropped drops.Duplicate)) (came_in 3 1 once_taken)
 unfolding once_taken
-drops_behind = record { answer = inl refl; end = refl; control = refl; heard = refl; others = refl; lacking = tt }
+drops_behind = record { answer = inl refl; end = refl; control = refl; heard = refl; openings = tt; others = refl; lacking = tt }
 
 waits : (count failures : ℕ) → IsStep worked_policies (came_in count failures once_taken) asks_wait (answers.Timer (Some 25000000)) (came_in count failures once_taken)
 unfolding once_taken
-waits count failures = record { answer = refl; end = refl; control = refl; heard = refl; others = refl; lacking = tt }
+waits count failures = record { answer = refl; end = refl; control = refl; heard = refl; openings = tt; others = refl; lacking = tt }
 
 -- so many bytes are what it counts of the datagram alone
 pub counted_once : once_taken ≡ quiet_left

@@ -49,7 +49,7 @@ takes = record { answer = inl refl; end = refl; control = refl; heard = refl; ot
 
 pub accepts_first : IsStep worked_policies pair_taken accepts_stream (answers.Accept (Some 0)) first_accepted
 unfolding pair_taken
-accepts_first = record { answer = refl; end = refl; control = refl; heard = counts_so worked_policies pair_taken accepts_stream (answers.Accept (Some 0)); others = refl; lacking = tt }
+accepts_first = record { answer = refl; end = refl; control = refl; heard = refl; others = refl; lacking = tt }
 
 pub accepts_both : IsStep worked_policies first_accepted accepts_stream (answers.Accept (Some 4)) both_accepted
 unfolding pair_taken
@@ -91,7 +91,7 @@ tells_stop = record { answer = refl; end = refl; control = refl; heard = counts_
 
 pub tells_nothing : IsStep worked_policies stop_told client_asks (answers.Event None) nothing_told
 unfolding stop_taken
-tells_nothing = record { answer = refl; end = refl; control = refl; heard = counts_so worked_policies stop_told client_asks (answers.Event None); others = refl; lacking = tt }
+tells_nothing = record { answer = refl; end = refl; control = refl; heard = refl; others = refl; lacking = tt }
 
 pub writes_no_more : IsStep worked_policies nothing_told (writes_on 4 abc) (answers.Write (Err (write_errors.Stopped 9))) write_refused
 unfolding stop_taken

@@ -61,7 +61,7 @@ given_is_honest = record { start = skipping_started; keys = are_keys; ids = own_
 
 step_0 : IsStep worked_policies leaving_out asks_ping answers.Ping (once_skipped 1)
 unfolding once_skipped
-step_0 = record { answer = refl; end = refl; control = refl; heard = refl; others = refl; lacking = tt }
+step_0 = record { answer = refl; end = refl; control = refl; heard = refl; openings = tt; others = refl; lacking = tt }
 
 seen_0 : ◌≡◌ {A = View} (record { client = open_view; server = open_view }) (view_of (once_skipped 1))
 unfolding once_skipped
@@ -69,7 +69,7 @@ seen_0 = refl
 
 step_1 : IsStep worked_policies (once_skipped 1) asks_datagram (gives_bytes 29) (once_skipped 2)
 unfolding once_skipped
-step_1 = record { answer = inl refl; end = refl; control = refl; heard = refl; others = refl; lacking = tt }
+step_1 = record { answer = inl refl; end = refl; control = refl; heard = refl; openings = tt; others = refl; lacking = tt }
 
 seen_1 : ◌≡◌ {A = View} (record { client = sent_view; server = open_view }) (view_of (once_skipped 2))
 unfolding once_skipped
@@ -77,7 +77,7 @@ seen_1 = refl
 
 step_2 : IsStep worked_policies (once_skipped 2) delivers (answers.Deliver receives.Taken) (once_skipped 3)
 unfolding once_skipped
-step_2 = record { answer = inl refl; end = refl; control = refl; heard = refl; others = refl; lacking = tt }
+step_2 = record { answer = inl refl; end = refl; control = refl; heard = refl; openings = tt; others = refl; lacking = tt }
 
 seen_2 : ◌≡◌ {A = View} (record { client = sent_view; server = waiting_view }) (view_of (once_skipped 3))
 unfolding once_skipped
@@ -85,7 +85,7 @@ seen_2 = refl
 
 step_3 : IsStep worked_policies (once_skipped 3) server_waits (answers.Timeout (Ok tt)) (once_skipped 4)
 unfolding once_skipped
-step_3 = record { answer = inl refl; end = refl; control = refl; heard = refl; others = refl; lacking = tt }
+step_3 = record { answer = inl refl; end = refl; control = refl; heard = refl; openings = tt; others = refl; lacking = tt }
 
 seen_3 : ◌≡◌ {A = View} (record { client = sent_view; server = open_view }) (view_of (once_skipped 4))
 unfolding once_skipped
@@ -93,7 +93,7 @@ seen_3 = refl
 
 step_4 : IsStep worked_policies (once_skipped 4) server_polled (gives_bytes 32) (once_skipped 5)
 unfolding once_skipped
-step_4 = record { answer = inl refl; end = refl; control = refl; heard = refl; others = refl; lacking = tt }
+step_4 = record { answer = inl refl; end = refl; control = refl; heard = refl; openings = tt; others = refl; lacking = tt }
 
 seen_4 : ◌≡◌ {A = View} (record { client = sent_view; server = open_view }) (view_of (once_skipped 5))
 unfolding once_skipped
@@ -101,7 +101,7 @@ seen_4 = refl
 
 step_5 : IsStep worked_policies (once_skipped 5) client_delivered (answers.Deliver receives.Taken) (once_skipped 6)
 unfolding once_skipped
-step_5 = record { answer = inl refl; end = refl; control = refl; heard = refl; others = refl; lacking = tt }
+step_5 = record { answer = inl refl; end = refl; control = refl; heard = refl; openings = tt; others = refl; lacking = tt }
 
 seen_5 : ◌≡◌ {A = View} (record { client = open_view; server = open_view }) (view_of (once_skipped 6))
 unfolding once_skipped

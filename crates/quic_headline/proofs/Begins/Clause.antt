@@ -688,7 +688,6 @@ module _ (r : Run) (end : World) (honest : IsHonest r) (run : IsRun r end) (side
   other_same = ap (λ (u : World). end_at (other_side side) u) made.made.step.others ∙ other_stays side front (end_at side made.behind) _ _ _
 
 pub waiting_begins : (r : Run) (end : World) → IsHonest r → IsRun r end → WaitingBegins r
-unfolding made
 waiting_begins r end honest run side i call a w v served here leads leads_behind =
     let found = made_at Known known r end honest run i side call a here served in
     let before : w ≡ found.before = one_behind r i w found.before (served_before r.answers i served) leads found.made.leads in

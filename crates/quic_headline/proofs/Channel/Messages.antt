@@ -255,7 +255,7 @@ MessagesFit x y = FitsAt y.end.transport.datagram_receive_buffer_size x
 fits_on : (B : Way) (x y : Party) (call : Call) (a : Answer) → Calls B x y call a → MessagesFit x y → MessagesFit (called x y.given call a) y
 fits_on B x y call a c i = record {
   told = ap (λ (theirs : ParameterValues). theirs.max_datagram_frame_size) (placed_call x.policy x.end y.given call a).peer ∙ i.told;
-  waiting = call_leaves window x.policy x.end y.given call a (λ room m. sized_taken window x.end.peer_params.max_datagram_frame_size (current_mtu x.end.path) (length x.end.ids.active.id) room m i.told) i.waiting;
+  waiting = call_leaves window x.policy x.end y.given call a (λ room m. sized_taken window x.end.peer_params.max_datagram_frame_size (current_mtu x.end.path) (length x.end.ids.peer.id) room m i.told) i.waiting;
   sent = λ s j. elim (in_append s x.sents (sents_by x.end call a) j) [ inl old ↦ i.sent s old | inr new ↦ goes call c.answer s new ];
 }
   where

@@ -108,7 +108,7 @@ module _ (G : Way) (g : SaysWhatMessages G) (r : Run) (end : World) (honest : Is
       let y : Party = party_at r (suc i) at.world (other_side side) at.theirs in
       let is : w ≡ at.world = (one_run r.keys (take (suc i) r.answers) r.start (take (suc i) r.events) (take (suc i) r.views) (take (suc i) r.views) w at.world served leads at.leads).1 in
       let here : In message x.end.messages.queues.outgoing = subst (λ (u : World). In message (end_at side u).messages.queues.outgoing) is waits in
-      let eight : length x.end.ids.active.id ≡ own_id_length = ap (λ (own : List ℕ). length own) (g.packets x y at.gives).active ∙ at.joined.y_long in
+      let eight : length x.end.ids.peer.id ≡ own_id_length = ap (λ (own : List ℕ). length own) (g.packets x y at.gives).active ∙ at.joined.y_long in
       held_back G (record { packets = g.packets; sight = g.sight }) r end honest side i now v at gave (message_asks x.end (short_waits x.end message (has_room x y (g.packets x y at.gives) at.joined.y_long) eight (g.short x y at.gives).short here))
 
 -- ---- all of it, at each place

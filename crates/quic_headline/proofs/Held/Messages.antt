@@ -98,7 +98,7 @@ frame_short : (size : ℕ) (m : List ℕ) → size < 2 ^ 16 → length m ≤ lon
 frame_short size m sized short = let most = size_most (datagram m) (omega arith, tt) in omega arith
 
 -- so one that waits fits
-pub short_waits : (e : End) (message : List ℕ) → HasRoom e → length e.ids.active.id ≡ own_id_length → AreTaken (Some (longest (current_mtu e.path))) e.messages.queues.outgoing → In message e.messages.queues.outgoing → message_waits e ≡ true
+pub short_waits : (e : End) (message : List ℕ) → HasRoom e → length e.ids.peer.id ≡ own_id_length → AreTaken (Some (longest (current_mtu e.path))) e.messages.queues.outgoing → In message e.messages.queues.outgoing → message_waits e ≡ true
 short_waits e message room eight all i = go e.messages.queues.outgoing all i
   where
     first_fits : (m : List ℕ) → is_taken (Some (longest (current_mtu e.path))) m ≡ true → nat_le (frame_bytes m) (least_room e) ≡ true
@@ -126,7 +126,7 @@ searching = record {
       let grown = sized_acked 1200 MAX_UDP_PAYLOAD p.0 p.1.size e.path.discovery i.sized in
       record {
         sized = grown.0;
-        short = longer_taken (bound (sizing e)) (bound (sizing (search_acked p e))) e.messages.queues.outgoing (bound_grows (sizing e).frame e.path.discovery.size (search_acked p e).path.discovery.size (length e.ids.active.id) grown.1) i.short;
+        short = longer_taken (bound (sizing e)) (bound (sizing (search_acked p e))) e.messages.queues.outgoing (bound_grows (sizing e).frame e.path.discovery.size (search_acked p e).path.discovery.size (length e.ids.peer.id) grown.1) i.short;
       });
   loses = losing;
 }
@@ -144,7 +144,7 @@ searching = record {
         fell None is = record {
           sized = sized;
           short = longer_taken (bound (sizing e)) (bound (sizing heard)) e.messages.queues.outgoing
-              (let none = bound_none (sizing e).frame heard.path.discovery.size e.path.discovery.size (length e.ids.active.id) is in omega arith) i.short;
+              (let none = bound_none (sizing e).frame heard.path.discovery.size e.path.discovery.size (length e.ids.peer.id) is in omega arith) i.short;
         }
         fell (Some most) is = record {
           sized = sized;
@@ -156,7 +156,7 @@ searching = record {
         go false is = record {
           sized = sized;
           short = longer_taken (bound (sizing e)) (bound (sizing heard)) e.messages.queues.outgoing
-              (bound_grows (sizing e).frame e.path.discovery.size heard.path.discovery.size (length e.ids.active.id) (let same = same_size e.path.discovery heard.path.discovery is in omega arith)) i.short;
+              (bound_grows (sizing e).frame e.path.discovery.size heard.path.discovery.size (length e.ids.peer.id) (let same = same_size e.path.discovery heard.path.discovery is in omega arith)) i.short;
         }
 
 -- behind any call
@@ -181,8 +181,8 @@ bounded_call p e theirs call a i = by_call p e theirs (λ (x : End). AreBounded 
         let placed = placed_call p e theirs (calls.Poll now) a in
         let size : current_mtu f.path ≡ current_mtu e.path = polled_search (λ (d : Discovery). d.size ≡ current_mtu e.path) (λ moment number d same. same) p e now refl in
         let same : bound (sizing f) ≡ bound (sizing e) =
-        ap (λ (n : ℕ). unwrap_or (max_size f.peer_params.max_datagram_frame_size n (length f.ids.active.id)) 0) size
-        ∙ ap (λ (x : ParameterValues). unwrap_or (max_size x.max_datagram_frame_size (current_mtu e.path) (length f.ids.active.id)) 0) placed.peer
+        ap (λ (n : ℕ). unwrap_or (max_size f.peer_params.max_datagram_frame_size n (length f.ids.peer.id)) 0) size
+        ∙ ap (λ (x : ParameterValues). unwrap_or (max_size x.max_datagram_frame_size (current_mtu e.path) (length f.ids.peer.id)) 0) placed.peer
         ∙ ap (λ (x : Ids). unwrap_or (max_size e.peer_params.max_datagram_frame_size (current_mtu e.path) (length x.active.id)) 0) placed.ids in
         record {
           sized = polled_search (IsSized 1200 MAX_UDP_PAYLOAD) (sized_polled 1200 MAX_UDP_PAYLOAD) p e now i.sized;
@@ -200,9 +200,9 @@ module _ (B : Way) (packets : (x y : Party) → B x y → PacketsHold x y) where
   short_on x y call a c i =
       let p = packets x y c.gives in
       let f : End = after_call x.policy x.end y.given call a in
-      let ids : length f.ids.active.id ≡ own_id_length = ap (λ (ids : Ids). length ids.active.id) (placed_call x.policy x.end y.given call a).ids ∙ ap (λ (id : List ℕ). length id) p.active ∙ c.joined.y_long in
+      let ids : length f.ids.peer.id ≡ own_id_length = ap (λ (ids : Ids). length ids.peer.id) (placed_call x.policy x.end y.given call a).ids ∙ ap (λ (id : List ℕ). length id) p.active ∙ c.joined.y_long in
       let left = bounded_call x.policy x.end y.given call a (record { sized = p.sized; short = i.bounded }) in
-      record { short = longer_taken (bound (sizing f)) (longest (current_mtu f.path)) f.messages.queues.outgoing (bound_short (sizing f).frame (current_mtu f.path) (length f.ids.active.id) ids) left.short; bounded = left.short }
+      record { short = longer_taken (bound (sizing f)) (longest (current_mtu f.path)) f.messages.queues.outgoing (bound_short (sizing f).frame (current_mtu f.path) (length f.ids.peer.id) ids) left.short; bounded = left.short }
 
   pub short_group : Group B AreShort
   short_group = record {

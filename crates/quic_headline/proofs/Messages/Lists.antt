@@ -186,8 +186,8 @@ module _ (r : Run) (end : World) (honest : IsHonest r) (run : IsRun r end) (side
         longest : longest_in r side v ≡ longest_of (sizing left)
         longest =
             let e : End = end_at side r.start in
-            ap (λ (n : ℕ). max_size e.peer_params.max_datagram_frame_size n (length e.ids.active.id)) (ap (λ (u : View). mtu_in u side) shown ∙ size_there side next)
-            ∙ ap (λ (p : ParameterValues). max_size p.max_datagram_frame_size (end_at side next).path.discovery.size (length e.ids.active.id)) (sym peer)
+            ap (λ (n : ℕ). max_size e.peer_params.max_datagram_frame_size n (length e.ids.peer.id)) (ap (λ (u : View). mtu_in u side) shown ∙ size_there side next)
+            ∙ ap (λ (p : ParameterValues). max_size p.max_datagram_frame_size (end_at side next).path.discovery.size (length e.ids.peer.id)) (sym peer)
             ∙ ap (λ (x : Ids). max_size (end_at side next).peer_params.max_datagram_frame_size (end_at side next).path.discovery.size (length x.active.id)) (sym ids)
             ∙ ap (λ (x : End). longest_of (sizing x)) left_is
 

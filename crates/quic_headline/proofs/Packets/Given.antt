@@ -65,7 +65,7 @@ number_small f numbers may =
     (omega arith, omega arith)
 
 -- what goes of an end that is ready does so in a datagram of its number
-pub datagram_given : (p : Policy) (g : Ready) → can_number g.end.numbers ≡ true → MayLeave g.leaving g.end → length g.end.ids.active.id ≡ own_id_length → IsSpellable g → IsGiven p g.end.ids.active.id (number_of g.end) (cut_against g.end.numbers) (frames_padded (draft_of g)) (datagram_of p (draft_of g))
+pub datagram_given : (p : Policy) (g : Ready) → can_number g.end.numbers ≡ true → MayLeave g.leaving g.end → length g.end.ids.peer.id ≡ own_id_length → IsSpellable g → IsGiven p g.end.ids.peer.id (number_of g.end) (cut_against g.end.numbers) (frames_padded (draft_of g)) (datagram_of p (draft_of g))
 datagram_given p g may alone eight spellable =
     let e : End = g.end in
     let c = composes g.leaving e alone in
@@ -85,8 +85,8 @@ datagram_given p g may alone eight spellable =
           (subst (λ (r : ℕ). 4 ≤ (truncated (number_of d.end) r).width + length (payload_of d)) reference four);
       near = small.1;
       small = small.0;
-      is = ap (λ (n : ℕ). sent p.header p.packet n (cut_against d.end.numbers) d.end.ids.active.id (payload_of d)) (draft_number g.leaving e alone)
-          ∙ ap (λ (r : ℕ). sent p.header p.packet (number_of e) r d.end.ids.active.id (payload_of d)) reference
+      is = ap (λ (n : ℕ). sent p.header p.packet n (cut_against d.end.numbers) d.end.ids.peer.id (payload_of d)) (draft_number g.leaving e alone)
+          ∙ ap (λ (r : ℕ). sent p.header p.packet (number_of e) r d.end.ids.peer.id (payload_of d)) reference
           ∙ ap (λ (x : Ids). sent p.header p.packet (number_of e) (cut_against e.numbers) x.active.id (payload_of d)) c.ids;
     }
 
@@ -158,7 +158,7 @@ gives_more p f word numbers sents given s d number is g =
     }
 
 -- a poll gives one or none
-polled_gives : (p : Policy) (e : End) (now : ℕ) (sents : List Sent) (given : List (List ℕ)) → length e.ids.active.id ≡ own_id_length → (goes (ready_at e now) ≡ true → IsSpellable (ready_at e now)) → Gives p e.numbers e.filter.last sents given
+polled_gives : (p : Policy) (e : End) (now : ℕ) (sents : List Sent) (given : List (List ℕ)) → length e.ids.peer.id ≡ own_id_length → (goes (ready_at e now) ≡ true → IsSpellable (ready_at e now)) → Gives p e.numbers e.filter.last sents given
     → Gives p (polled p e now).end.numbers (polled p e now).end.filter.last (sents ++ sent_if (gave (answers.Poll (polled p e now).answer)) (sent_by e now)) (given ++ given_as (polled p e now).answer (polled p e now).datagram)
 polled_gives p e now sents given eight spellable before =
     by_poll p e now (λ (q : Polled). Gives p q.end.numbers q.end.filter.last (sents ++ sent_if (gave (answers.Poll q.answer)) (sent_by e now)) (given ++ given_as q.answer q.datagram))
@@ -181,9 +181,9 @@ polled_gives p e now sents given eight spellable before =
         let due : MayLeave leaving there = may_leave e now leaving there ready in
         let c = composes leaving there due in
         let frames_are : frames_at e now ≡ frames = ap (λ (x : Ready). frames_padded (draft_of x)) ready in
-        let given_now : IsGiven p e.ids.active.id (number_of e) (cut_against e.numbers) frames d = datagram_given p g may due eight (subst IsSpellable ready (spellable some)) in
-        let here : IsGiven p e.ids.active.id (number_of e) (cut_against e.numbers) (frames_at e now) d =
-        subst (λ (fs : List FrameValue). IsGiven p e.ids.active.id (number_of e) (cut_against e.numbers) fs d) (sym frames_are) given_now in
+        let given_now : IsGiven p e.ids.peer.id (number_of e) (cut_against e.numbers) frames d = datagram_given p g may due eight (subst IsSpellable ready (spellable some)) in
+        let here : IsGiven p e.ids.peer.id (number_of e) (cut_against e.numbers) (frames_at e now) d =
+        subst (λ (fs : List FrameValue). IsGiven p e.ids.peer.id (number_of e) (cut_against e.numbers) fs d) (sym frames_are) given_now in
         let more : OneMore d e.filter e.numbers = gives_more p e.filter (p.words e.filter.drawn) e.numbers sents given (sent_by e now) d refl here before in
         subst (λ (x : Numbers). OneMore d (draft_of g).end.filter x) (sym c.numbers) (subst (λ (f : Filter). OneMore d f e.numbers) (sym c.filter) more)
 
@@ -202,7 +202,7 @@ module _ (p : Policy) (e : End) (theirs : List (List ℕ)) (a : Answer) (given :
       (gives_quiet p e.numbers (after_call p e theirs call a).numbers e.filter.last sents given stays.next stays.behind g))
 
   -- after each call that lacks no memory, each datagram that was given was sent under its number, and the numbers rise
-  pub gives_step : (call : Call) → IsAnswer p e theirs call a → fails a ≡ false → length e.ids.active.id ≡ own_id_length → ((now : ℕ) → goes (ready_at e now) ≡ true → IsSpellable (ready_at e now)) → Gives p e.numbers e.filter.last sents given → GivesOn call
+  pub gives_step : (call : Call) → IsAnswer p e theirs call a → fails a ≡ false → length e.ids.peer.id ≡ own_id_length → ((now : ℕ) → goes (ready_at e now) ≡ true → IsSpellable (ready_at e now)) → Gives p e.numbers e.filter.last sents given → GivesOn call
   gives_step (calls.Poll now) is ok eight spellable g =
       let said = poll_answer p e now a is ok in
       let all : gives p e (calls.Poll now) a ≡ given_as (polled p e now).answer (polled p e now).datagram = ap (λ (x : Answer). gives p e (calls.Poll now) x) said ∙ gives_as p e now (polled p e now).answer in

@@ -54,7 +54,7 @@ pub record PacketsHold (x y : Party) : Type 0 where
   pub gives : Gives x.policy x.end.numbers x.end.filter.last x.sents x.given
   -- they went to the id of y, and so does what goes next, in datagrams of 1200 bytes at least, and no more than a UDP payload has
   pub went : (s : Sent) → In s x.sents → s.id ≡ y.id
-  pub active : x.end.ids.active.id ≡ y.id
+  pub active : x.end.ids.peer.id ≡ y.id
   pub sized : HasSize 1200 MAX_UDP_PAYLOAD x.end
   pub count : length x.given ≡ count_given x.told
   -- what x waits for was sent
@@ -77,7 +77,7 @@ meets x y p = record { each = p.gives.each; knows = p.knows }
 -- a datagram of x has room for frames, and fewer than 2 ^ 16 bytes
 pub has_room : (x y : Party) → PacketsHold x y → length y.id ≡ own_id_length → HasRoom x.end
 has_room x y p long =
-    let id : length x.end.ids.active.id ≡ own_id_length = ap (λ (bytes : List ℕ). length bytes) p.active ∙ long in
+    let id : length x.end.ids.peer.id ≡ own_id_length = ap (λ (bytes : List ℕ). length bytes) p.active ∙ long in
     let least = p.sized.between.size in
     let most = p.sized.size in
     (omega arith, least, omega arith)
@@ -168,10 +168,10 @@ abbrev pub SpellsNext : End → Type 0
 SpellsNext e = (now : ℕ) → goes (ready_at e now) ≡ true → IsSpellable (ready_at e now)
 
 -- what a call sends goes to the peer's id in use
-sent_to : (e : End) (call : Call) (a : Answer) (s : Sent) → In s (sents_by e call a) → s.id ≡ e.ids.active.id
+sent_to : (e : End) (call : Call) (a : Answer) (s : Sent) → In s (sents_by e call a) → s.id ≡ e.ids.peer.id
 sent_to e (calls.Poll now) a s i = go (gave a) i
   where
-    go : (b : Bool) → In s (sent_if b (sent_by e now)) → s.id ≡ e.ids.active.id
+    go : (b : Bool) → In s (sent_if b (sent_by e now)) → s.id ≡ e.ids.peer.id
     go true (inl same) = ap (λ (t : Sent). t.id) same
     go true (inr none) = absurd none
     go false none = absurd none
@@ -195,7 +195,7 @@ module _ (B : Way) (spells : (x y : Party) → AreJoined x y → B x y → B y x
       record {
         gives = gives_step x.policy x.end y.given a x.given x.sents call c.answer c.served (ap (λ (id : List ℕ). length id) p.active ∙ c.joined.y_long) (spells x y c.joined c.gives c.takes p back) p.gives;
         went = λ s i. elim (in_append s x.sents more i) [ inl old ↦ p.went s old | inr new ↦ sent_to x.end call a s new ∙ p.active ];
-        active = ap (λ (ids : Ids). ids.active.id) placed.ids ∙ p.active;
+        active = ap (λ (ids : Ids). ids.peer.id) placed.ids ∙ p.active;
         sized = sized_call 1200 MAX_UDP_PAYLOAD x.policy x.end y.given call a p.sized;
         count = counted B x y call a c p.count;
         tracked = tracked_step x.policy x.end y.given call a x.sents c.answer c.served p.tracked;

@@ -68,7 +68,7 @@ pub record Sizing : Type 0 where
   pub outgoing : List (List ℕ)
 
 abbrev pub sizing : End → Sizing
-sizing e = record { discovery = e.path.discovery; frame = e.peer_params.max_datagram_frame_size; id = e.ids.active.id; outgoing = e.messages.queues.outgoing }
+sizing e = record { discovery = e.path.discovery; frame = e.peer_params.max_datagram_frame_size; id = e.ids.peer.id; outgoing = e.messages.queues.outgoing }
 
 -- what stays of that where packets are acknowledged, and where packets are lost
 pub record Searching (Q : Sizing → Type 0) : Type 0 where

@@ -220,7 +220,7 @@ module _ (l : Lens) (rest : List (List ℕ)) (lawful : IsLawful l.own) (mates : 
 
   -- what a poll gives was sent so
   abbrev pub GivesAt : ℕ → Polled → Type 0
-  GivesAt now r = (d : List ℕ) → r.datagram ≡ Some d → IsGiven l.own e.ids.active.id (number_of e) (cut_against e.numbers) (frames_at e now) d
+  GivesAt now r = (d : List ℕ) → r.datagram ≡ Some d → IsGiven l.own e.ids.peer.id (number_of e) (cut_against e.numbers) (frames_at e now) d
 
   -- an observer goes on with what a poll comes to, where what it gives is the first of what was to be given
   abbrev GoesOn : ℕ → State → Polled → Type 0
@@ -273,7 +273,7 @@ module _ (l : Lens) (rest : List (List ℕ)) (lawful : IsLawful l.own) (mates : 
       ticks : Watch
       ticks = record w { clock = max w.clock now }
 
-      was : IsGiven l.own e.ids.active.id (number_of e) (cut_against e.numbers) (frames_at e now) d
+      was : IsGiven l.own e.ids.peer.id (number_of e) (cut_against e.numbers) (frames_at e now) d
       was = given d refl
 
       moment : max w.clock now ≡ max e.closing.clock now
@@ -293,7 +293,7 @@ module _ (l : Lens) (rest : List (List ℕ)) (lawful : IsLawful l.own) (mates : 
       near = rw (number, cut) was.near
 
       size : length d ≡ datagram_size draft
-      size = let long = sent_length l.own.header l.own.packet lawful.width lawful.tag (number_of draft.end) (cut_against draft.end.numbers) draft.end.ids.active.id (payload_of draft) near in omega arith
+      size = let long = sent_length l.own.header l.own.packet lawful.width lawful.tag (number_of draft.end) (cut_against draft.end.numbers) draft.end.ids.peer.id (payload_of draft) near in omega arith
 
       above : cut_against e.numbers ≤ number_of e
       above = let more = (allocated_near e.filter e.numbers.next).0 in let less : cut_against e.numbers ≤ e.numbers.next = behind in omega arith
@@ -302,9 +302,9 @@ module _ (l : Lens) (rest : List (List ℕ)) (lawful : IsLawful l.own) (mates : 
       read : sent_as (opened_packet l.taker.header l.taker.packet (own_id_length + 1) (acknowledged w.intake.took) d) (acknowledged w.intake.took) (max w.clock now) d ≡ s ∷ []
       read =
           ap (λ (n : ℕ). sent_as (opened_packet l.taker.header l.taker.packet (own_id_length + 1) n d) n (max w.clock now) d) (sym (knows opened))
-          ∙ sent_read l.own l.taker e.ids.active.id (number_of e) (cut_against e.numbers) (frames_at e now) d was mates lawful above (max w.clock now)
-          ∙ ap (λ (n : ℕ). record { id = e.ids.active.id; number = number_of e; reference = cut_against e.numbers; frames = frames_at e now; moment = n; size = length d } ∷ []) moment
-          ∙ ap (λ (n : ℕ). record { id = e.ids.active.id; number = number_of e; reference = cut_against e.numbers; frames = frames_at e now; moment = max e.closing.clock now; size = n } ∷ []) size
+          ∙ sent_read l.own l.taker e.ids.peer.id (number_of e) (cut_against e.numbers) (frames_at e now) d was mates lawful above (max w.clock now)
+          ∙ ap (λ (n : ℕ). record { id = e.ids.peer.id; number = number_of e; reference = cut_against e.numbers; frames = frames_at e now; moment = n; size = length d } ∷ []) moment
+          ∙ ap (λ (n : ℕ). record { id = e.ids.peer.id; number = number_of e; reference = cut_against e.numbers; frames = frames_at e now; moment = max e.closing.clock now; size = n } ∷ []) size
 
       is : behind_poll now states.Open (sends true l.own (ready_at e now)) ≡ record ticks { left = rest; own = w.own ++ s ∷ []; flight = and_flying s w.flight }
       is =

@@ -22,7 +22,7 @@ use Rattle.quic_headline.specs.Observer.{Sent, Terms, terms_of, Watch, first_wat
 
 -- what the datagram is sent as that an end gives at a moment, if it gives one
 abbrev pub sent_by : End → ℕ → Sent
-sent_by e now = record { id = e.ids.active.id; number = number_of e; reference = cut_against e.numbers; frames = frames_at e now; moment = max e.closing.clock now; size = datagram_size (draft_at e now) }
+sent_by e now = record { id = e.ids.peer.id; number = number_of e; reference = cut_against e.numbers; frames = frames_at e now; moment = max e.closing.clock now; size = datagram_size (draft_at e now) }
 
 -- one more datagram as it was sent, where one was given
 abbrev pub sent_if : Bool → Sent → List Sent

@@ -259,5 +259,5 @@ module _ (K : Streams → Type 0) (spelling : Spelling K) (bringing : Bringing K
       number_case false still shown gone = cc
 
       going_case : (b : Bool) → goes g ≡ b → Behind (polled_if b p g)
-      going_case true some still shown gone = number_case (can_number g.end.numbers) still shown gone
+      going_case true some = number_case (can_number g.end.numbers)
       going_case false none still shown gone = nothing_paced (readied e now acks) none shown gone

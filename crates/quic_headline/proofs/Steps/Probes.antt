@@ -200,7 +200,7 @@ module _ (K : Streams → Type 0) (k : Spelling K) (c : Bringing K) (p : Policy)
   -- which asks
   goes_asks : Asks (composed (lazied x))
   goes_asks = composed_asks K k c (lazied x) (let there = subst (λ (p : Pending). Acks p e.marks.came) (sym same_acks) acks in record { runs = there.runs; small = there.small; counts = subst CountsFit (sym same_came) there.counts })
-      (subst (λ (ids : Ids). length ids.active.id ≤ 20) (sym same_ids) short.0, subst (λ (n : ℕ). 1200 ≤ n) (sym same_size) short.1, subst (λ (n : ℕ). n < 2 ^ 16) (sym same_size) short.2) (subst (λ (g : Ready). K (streams_at g.end)) let_so streams) (readied_has e now probes)
+      (subst (λ (ids : Ids). length ids.peer.id ≤ 20) (sym same_ids) short.0, subst (λ (n : ℕ). 1200 ≤ n) (sym same_size) short.1, subst (λ (n : ℕ). n < 2 ^ 16) (sym same_size) short.2) (subst (λ (g : Ready). K (streams_at g.end)) let_so streams) (readied_has e now probes)
 
   -- and so do the frames of its datagram
   frames_ask : asking (frames_at e now) ≡ true

@@ -100,7 +100,7 @@ module _ (H : Way) (s : Spells H) (g : Group Nothing (And (And PacketsHold H) Si
     size =
         let lawful = lawful_at side r.keys honest.keys in
         let near : number_of d.end - cut_against d.end.numbers < 2 ^ 31 = rw (number, numbers) (number_small e.filter e.numbers gives.may).1 in
-        let long = sent_length p.header p.packet lawful.width lawful.tag (number_of d.end) (cut_against d.end.numbers) d.end.ids.active.id (payload_of d) near in
+        let long = sent_length p.header p.packet lawful.width lawful.tag (number_of d.end) (cut_against d.end.numbers) d.end.ids.peer.id (payload_of d) near in
         let all : length (datagram_of p d) ≡ datagram_size d = omega arith in
         gives.size ∙ all ∙ ap (λ (x : Sent). x.size) (probing.same H g r end honest run side i now gave w next m)
 

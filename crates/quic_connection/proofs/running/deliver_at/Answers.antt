@@ -9,7 +9,7 @@ use Rattle.quic_connection.proofs.running.deliver_at.Goals as goal
 
 pub returns-in_ok-copy-in-Some-clause-control : goal.returns-in_ok-copy-in-Some-clause-control
 returns-in_ok-copy-in-Some-clause-control g c =
-    let p : Policy = policy_of g.H.HeaderKey.protection g.K.PacketKey.aead (words_of g.R.Rng.stream) c.args.end.now in
+    let p : Policy = policy_of g.H.HeaderKey.protection g.K.PacketKey.aead g.K.PacketKey.seal_limit g.K.PacketKey.refusal_limit (words_of g.R.Rng.stream) c.args.end.now in
     let bytes : c.deref_mut.result.now ≡ c.in-Some.datagram.now = search rules in
     let found = c.in-Some.ensures.lookup in
     let within : c.args.delivery.now.index < length c.args.theirs.now = search rules in
@@ -19,7 +19,7 @@ returns-in_ok-copy-in-Some-clause-control g c =
 
 pub returns-in_ok-copy-in-Some-clause-heard : goal.returns-in_ok-copy-in-Some-clause-heard
 returns-in_ok-copy-in-Some-clause-heard g c =
-    let p : Policy = policy_of g.H.HeaderKey.protection g.K.PacketKey.aead (words_of g.R.Rng.stream) c.args.end.now in
+    let p : Policy = policy_of g.H.HeaderKey.protection g.K.PacketKey.aead g.K.PacketKey.seal_limit g.K.PacketKey.refusal_limit (words_of g.R.Rng.stream) c.args.end.now in
     let bytes : c.deref_mut.result.now ≡ c.in-Some.datagram.now = search rules in
     let found = c.in-Some.ensures.lookup in
     let within : c.args.delivery.now.index < length c.args.theirs.now = search rules in

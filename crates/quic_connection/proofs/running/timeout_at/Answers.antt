@@ -6,14 +6,14 @@ use Rattle.quic_connection.proofs.running.timeout_at.Goals as goal
 pub returns-clause-answer : goal.returns-clause-answer
 returns-clause-answer g c =
     let timeout = c.handle_timeout in
-    timeout_answers g.C.Controller.steps g.C.Controller.window_of (policy_of g.H.HeaderKey.protection g.K.PacketKey.aead (words_of g.R.Rng.stream) c.args.end.now) c.args.end.now timeout.new.self c.args.now timeout.result timeout.ensures.answer
+    timeout_answers g.C.Controller.steps g.C.Controller.window_of (policy_of g.H.HeaderKey.protection g.K.PacketKey.aead g.K.PacketKey.seal_limit g.K.PacketKey.refusal_limit (words_of g.R.Rng.stream) c.args.end.now) c.args.end.now timeout.new.self c.args.now timeout.result timeout.ensures.answer
 
 pub returns-clause-control : goal.returns-clause-control
 returns-clause-control g c =
     let timeout = c.handle_timeout in
-    timeout_told g.C.Controller.steps g.C.Controller.window_of (policy_of g.H.HeaderKey.protection g.K.PacketKey.aead (words_of g.R.Rng.stream) c.args.end.now) c.args.end.now timeout.new.self c.args.now timeout.result timeout.ensures.end
+    timeout_told g.C.Controller.steps g.C.Controller.window_of (policy_of g.H.HeaderKey.protection g.K.PacketKey.aead g.K.PacketKey.seal_limit g.K.PacketKey.refusal_limit (words_of g.R.Rng.stream) c.args.end.now) c.args.end.now timeout.new.self c.args.now timeout.result timeout.ensures.end
 
 pub returns-clause-heard : goal.returns-clause-heard
 returns-clause-heard g c =
     let timeout = c.handle_timeout in
-    timeout_heard g.C.Controller.steps g.C.Controller.window_of (policy_of g.H.HeaderKey.protection g.K.PacketKey.aead (words_of g.R.Rng.stream) c.args.end.now) c.args.end.now timeout.new.self c.args.now timeout.result timeout.ensures.end
+    timeout_heard g.C.Controller.steps g.C.Controller.window_of (policy_of g.H.HeaderKey.protection g.K.PacketKey.aead g.K.PacketKey.seal_limit g.K.PacketKey.refusal_limit (words_of g.R.Rng.stream) c.args.end.now) c.args.end.now timeout.new.self c.args.now timeout.result timeout.ensures.end

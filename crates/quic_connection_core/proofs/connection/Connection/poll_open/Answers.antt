@@ -40,7 +40,7 @@ pub returns-in_default-clause-answer : goal.returns-in_default-clause-answer
 returns-in_default-clause-answer g c =
     let w = c.args.self.now in
     let none : goes (ready_at w.end c.args.now) ≡ false = rw c.in_default.is at c.in_ok-leaving.ensures.leaving in
-    let p = policy_of g.H.HeaderKey.protection g.K.PacketKey.aead (words_of g.R.Rng.stream) w in
+    let p = policy_of g.H.HeaderKey.protection g.K.PacketKey.aead g.K.PacketKey.seal_limit g.K.PacketKey.refusal_limit (words_of g.R.Rng.stream) w in
     sym (ap (λ (x : Polled). x.answer) (polled_idle p w.end c.args.now c.requires none))
 
 pub returns-in_default-clause-end : goal.returns-in_default-clause-end
@@ -48,7 +48,7 @@ returns-in_default-clause-end g c =
     let w = c.args.self.now in
     let none : goes (ready_at w.end c.args.now) ≡ false = rw c.in_default.is at c.in_ok-leaving.ensures.leaving in
     let is = none_left w c.make_ready.new.self c.args.now c.in_ok-leaving.ensures.end none in
-    let p = policy_of g.H.HeaderKey.protection g.K.PacketKey.aead (words_of g.R.Rng.stream) w in
+    let p = policy_of g.H.HeaderKey.protection g.K.PacketKey.aead g.K.PacketKey.seal_limit g.K.PacketKey.refusal_limit (words_of g.R.Rng.stream) w in
     ap (λ x. x.end) is ∙ sym (ap (λ (x : Polled). x.end) (polled_idle p w.end c.args.now c.requires none))
 
 pub returns-in_default-clause-control : goal.returns-in_default-clause-control
@@ -75,7 +75,7 @@ pub returns-in_default-clause-datagram : goal.returns-in_default-clause-datagram
 returns-in_default-clause-datagram g c =
     let w = c.args.self.now in
     let none : goes (ready_at w.end c.args.now) ≡ false = rw c.in_default.is at c.in_ok-leaving.ensures.leaving in
-    let p = policy_of g.H.HeaderKey.protection g.K.PacketKey.aead (words_of g.R.Rng.stream) w in
+    let p = policy_of g.H.HeaderKey.protection g.K.PacketKey.aead g.K.PacketKey.seal_limit g.K.PacketKey.refusal_limit (words_of g.R.Rng.stream) w in
     sym (append-nil c.args.out.now.items) ∙ ap (λ (x : Polled). c.args.out.now.items ++ given_bytes x.datagram) (sym (polled_idle p w.end c.args.now c.requires none))
 
 pub returns-in_default-clause-silent : goal.returns-in_default-clause-silent
@@ -94,7 +94,7 @@ returns-then-not-can_number-clause-answer g c =
     let so : Leaves (Some c.in-Some.leaving) (ready_at w.end c.args.now).leaving = rw c.in-Some.is at c.in_ok-leaving.ensures.leaving in
     let is = some_left w z c.args.now c.in_ok-leaving.ensures.end c.in-Some.leaving so in
     let used_up : can_number z.end.numbers ≡ false = search rules in
-    let p = policy_of g.H.HeaderKey.protection g.K.PacketKey.aead (words_of g.R.Rng.stream) w in
+    let p = policy_of g.H.HeaderKey.protection g.K.PacketKey.aead g.K.PacketKey.seal_limit g.K.PacketKey.refusal_limit (words_of g.R.Rng.stream) w in
     sym (ap (λ (x : Polled). x.answer) (polled_closes p w.end c.args.now c.requires (some_goes w z c.args.now c.in_ok-leaving.ensures.end c.in-Some.leaving so) (sym (ap (λ x. can_number x.end.numbers) is) ∙ used_up)))
 
 pub returns-then-not-can_number-clause-end : goal.returns-then-not-can_number-clause-end
@@ -104,7 +104,7 @@ returns-then-not-can_number-clause-end g c =
     let so : Leaves (Some c.in-Some.leaving) (ready_at w.end c.args.now).leaving = rw c.in-Some.is at c.in_ok-leaving.ensures.leaving in
     let is = some_left w z c.args.now c.in_ok-leaving.ensures.end c.in-Some.leaving so in
     let used_up : can_number z.end.numbers ≡ false = search rules in
-    let p = policy_of g.H.HeaderKey.protection g.K.PacketKey.aead (words_of g.R.Rng.stream) w in
+    let p = policy_of g.H.HeaderKey.protection g.K.PacketKey.aead g.K.PacketKey.seal_limit g.K.PacketKey.refusal_limit (words_of g.R.Rng.stream) w in
     ap (λ x. x.end) c.close_by.ensures ∙ ap (λ x. closed_by reasons.NumberLimit x.end) is
     ∙ sym (ap (λ (x : Polled). x.end) (polled_closes p w.end c.args.now c.requires (some_goes w z c.args.now c.in_ok-leaving.ensures.end c.in-Some.leaving so) (sym (ap (λ x. can_number x.end.numbers) is) ∙ used_up)))
 
@@ -127,7 +127,7 @@ returns-then-not-can_number-clause-random g c =
     let stream = g.R.Rng.stream in
     let so : Leaves (Some c.in-Some.leaving) (ready_at w.end c.args.now).leaving = rw c.in-Some.is at c.in_ok-leaving.ensures.leaving in
     let is = some_left w z c.args.now c.in_ok-leaving.ensures.end c.in-Some.leaving so in
-    let none = none_drawn g.H.HeaderKey.protection g.K.PacketKey.aead (words_of stream) w z c.args.now is in
+    let none = none_drawn g.H.HeaderKey.protection g.K.PacketKey.aead g.K.PacketKey.seal_limit g.K.PacketKey.refusal_limit (words_of stream) w z c.args.now is in
     ap (λ x. stream x.random) c.close_by.ensures ∙ ap (λ x. stream x.random) is ∙ ap (λ (k : ℕ). after_words k (stream w.random)) (sym none)
     ∙ ap (λ x. after_words (x.end.filter.drawn - w.end.filter.drawn) (stream w.random)) (sym c.close_by.ensures)
 
@@ -138,7 +138,7 @@ returns-then-not-can_number-clause-datagram g c =
     let so : Leaves (Some c.in-Some.leaving) (ready_at w.end c.args.now).leaving = rw c.in-Some.is at c.in_ok-leaving.ensures.leaving in
     let is = some_left w z c.args.now c.in_ok-leaving.ensures.end c.in-Some.leaving so in
     let used_up : can_number z.end.numbers ≡ false = search rules in
-    let p = policy_of g.H.HeaderKey.protection g.K.PacketKey.aead (words_of g.R.Rng.stream) w in
+    let p = policy_of g.H.HeaderKey.protection g.K.PacketKey.aead g.K.PacketKey.seal_limit g.K.PacketKey.refusal_limit (words_of g.R.Rng.stream) w in
     let closes = polled_closes p w.end c.args.now c.requires (some_goes w z c.args.now c.in_ok-leaving.ensures.end c.in-Some.leaving so) (sym (ap (λ x. can_number x.end.numbers) is) ∙ used_up) in
     sym (append-nil c.args.out.now.items) ∙ ap (λ (x : Polled). c.args.out.now.items ++ given_bytes x.datagram) (sym closes)
 
@@ -165,7 +165,7 @@ returns-in_err-size-clause-lacking g c =
     let so : Leaves (Some c.in-Some.leaving) (ready_at w.end c.args.now).leaving = rw c.in-Some.is at c.in_ok-leaving.ensures.leaving in
     let is = some_left w z c.args.now c.in_ok-leaving.ensures.end c.in-Some.leaving so in
     let can : can_number z.end.numbers ≡ true = search rules in
-    let p = policy_of g.H.HeaderKey.protection g.K.PacketKey.aead (words_of g.R.Rng.stream) w in
+    let p = policy_of g.H.HeaderKey.protection g.K.PacketKey.aead g.K.PacketKey.seal_limit g.K.PacketKey.refusal_limit (words_of g.R.Rng.stream) w in
     on_err c.from_residual-in_err-size.result (gives_takes p w.end c.args.now c.requires (some_goes w z c.args.now c.in_ok-leaving.ensures.end c.in-Some.leaving so) (sym (ap (λ x. can_number x.end.numbers) is) ∙ can))
 
 pub returns-clause-end : goal.returns-clause-end
@@ -176,7 +176,7 @@ returns-clause-end g c =
     let left = c.in_ok-leaving.ensures.end in
     let so : Leaves (Some l) (ready_at w.end c.args.now).leaving = rw c.in-Some.is at c.in_ok-leaving.ensures.leaving in
     let can : can_number z.end.numbers ≡ true = search rules in
-    let gives = ready_gives g.H.HeaderKey.protection g.K.PacketKey.aead (words_of g.R.Rng.stream) w z c.args.now (some_left w z c.args.now left l so) l (some_is w z c.args.now left l so) c.requires (some_goes w z c.args.now left l so) can in
+    let gives = ready_gives g.H.HeaderKey.protection g.K.PacketKey.aead g.K.PacketKey.seal_limit g.K.PacketKey.refusal_limit (words_of g.R.Rng.stream) w z c.args.now (some_left w z c.args.now left l so) l (some_is w z c.args.now left l so) c.requires (some_goes w z c.args.now left l so) can in
     ap (λ x. x.end) c.count_bytes.ensures ∙ c.in_ok-size.ensures.end ∙ ap (λ (x : Polled). x.end) (sym gives)
 
 pub returns-clause-control : goal.returns-clause-control
@@ -188,7 +188,7 @@ returns-clause-control g c =
     let so : Leaves (Some l) (ready_at w.end c.args.now).leaving = rw c.in-Some.is at c.in_ok-leaving.ensures.leaving in
     let is = some_left w z c.args.now left l so in
     let can : can_number z.end.numbers ≡ true = search rules in
-    let tells = ready_tells g.H.HeaderKey.protection g.K.PacketKey.aead (words_of g.R.Rng.stream) w z c.args.now is l (some_is w z c.args.now left l so) c.requires (some_goes w z c.args.now left l so) can in
+    let tells = ready_tells g.H.HeaderKey.protection g.K.PacketKey.aead g.K.PacketKey.seal_limit g.K.PacketKey.refusal_limit (words_of g.R.Rng.stream) w z c.args.now is l (some_is w z c.args.now left l so) c.requires (some_goes w z c.args.now left l so) can in
     ap (λ x. x.control) c.count_bytes.ensures ∙ c.in_ok-size.ensures.control ∙ ap (λ x. after_calls g.C.Controller.steps x.control (told_draft (draft_as (leaving_of l) z.end))) is ∙ ap (λ (ts : List Told). after_calls g.C.Controller.steps w.control ts) (sym tells)
 
 pub returns-clause-random : goal.returns-clause-random
@@ -198,7 +198,7 @@ returns-clause-random g c =
     let stream = g.R.Rng.stream in
     let so : Leaves (Some c.in-Some.leaving) (ready_at w.end c.args.now).leaving = rw c.in-Some.is at c.in_ok-leaving.ensures.leaving in
     let is = some_left w z c.args.now c.in_ok-leaving.ensures.end c.in-Some.leaving so in
-    let filter = ready_filter g.H.HeaderKey.protection g.K.PacketKey.aead (words_of stream) w z c.args.now is in
+    let filter = ready_filter g.H.HeaderKey.protection g.K.PacketKey.aead g.K.PacketKey.seal_limit g.K.PacketKey.refusal_limit (words_of stream) w z c.args.now is in
     ap (λ x. stream x.random) c.count_bytes.ensures
     ∙ c.in_ok-size.ensures.random
     ∙ ap (λ x. after_words (c.give.new.self.end.filter.drawn - z.end.filter.drawn) (stream x.random)) is
@@ -213,7 +213,7 @@ returns-clause-datagram g c =
     let left = c.in_ok-leaving.ensures.end in
     let so : Leaves (Some l) (ready_at w.end c.args.now).leaving = rw c.in-Some.is at c.in_ok-leaving.ensures.leaving in
     let can : can_number z.end.numbers ≡ true = search rules in
-    let gives = ready_gives g.H.HeaderKey.protection g.K.PacketKey.aead (words_of g.R.Rng.stream) w z c.args.now (some_left w z c.args.now left l so) l (some_is w z c.args.now left l so) c.requires (some_goes w z c.args.now left l so) can in
+    let gives = ready_gives g.H.HeaderKey.protection g.K.PacketKey.aead g.K.PacketKey.seal_limit g.K.PacketKey.refusal_limit (words_of g.R.Rng.stream) w z c.args.now (some_left w z c.args.now left l so) l (some_is w z c.args.now left l so) c.requires (some_goes w z c.args.now left l so) can in
     c.in_ok-size.ensures.items ∙ ap (λ (x : Polled). c.args.out.now.items ++ given_bytes x.datagram) (sym gives)
 
 pub returns-clause-answer : goal.returns-clause-answer
@@ -224,8 +224,8 @@ returns-clause-answer g c =
     let left = c.in_ok-leaving.ensures.end in
     let so : Leaves (Some l) (ready_at w.end c.args.now).leaving = rw c.in-Some.is at c.in_ok-leaving.ensures.leaving in
     let can : can_number z.end.numbers ≡ true = search rules in
-    let gives = ready_gives g.H.HeaderKey.protection g.K.PacketKey.aead (words_of g.R.Rng.stream) w z c.args.now (some_left w z c.args.now left l so) l (some_is w z c.args.now left l so) c.requires (some_goes w z c.args.now left l so) can in
-    let datagram = datagram_of (policy_of g.H.HeaderKey.protection g.K.PacketKey.aead (words_of g.R.Rng.stream) z) (draft_as (leaving_of l) z.end) in
+    let gives = ready_gives g.H.HeaderKey.protection g.K.PacketKey.aead g.K.PacketKey.seal_limit g.K.PacketKey.refusal_limit (words_of g.R.Rng.stream) w z c.args.now (some_left w z c.args.now left l so) l (some_is w z c.args.now left l so) c.requires (some_goes w z c.args.now left l so) can in
+    let datagram = datagram_of (policy_of g.H.HeaderKey.protection g.K.PacketKey.aead g.K.PacketKey.seal_limit g.K.PacketKey.refusal_limit (words_of g.R.Rng.stream) z) (draft_as (leaving_of l) z.end) in
     let long = ap length c.in_ok-size.ensures.items ∙ length-append c.args.out.now.items datagram in
     let more = c.in_ok-size.ensures.size in
     let size : c.in_ok-size.size ≡ length datagram = omega arith in

@@ -8,16 +8,16 @@ use Rattle.quic_connection_core.proofs.connection.Connection.poll_transmit.Goals
 
 pub returns-clause-answer : goal.returns-clause-answer
 returns-clause-answer g c =
-    subst (λ w. OnOk c.poll_open.result (c.poll_open.result ≡ (polled (policy_of g.H.HeaderKey.protection g.K.PacketKey.aead (words_of g.R.Rng.stream) w) w.end c.args.now).answer)) c.read_window.ensures c.poll_open.ensures.answer
+    subst (λ w. OnOk c.poll_open.result (c.poll_open.result ≡ (polled (policy_of g.H.HeaderKey.protection g.K.PacketKey.aead g.K.PacketKey.seal_limit g.K.PacketKey.refusal_limit (words_of g.R.Rng.stream) w) w.end c.args.now).answer)) c.read_window.ensures c.poll_open.ensures.answer
 
 pub returns-clause-end : goal.returns-clause-end
 returns-clause-end g c =
-    subst (λ w. OnOk c.poll_open.result (c.poll_open.new.self.end ≡ (polled (policy_of g.H.HeaderKey.protection g.K.PacketKey.aead (words_of g.R.Rng.stream) w) w.end c.args.now).end)) c.read_window.ensures c.poll_open.ensures.end
+    subst (λ w. OnOk c.poll_open.result (c.poll_open.new.self.end ≡ (polled (policy_of g.H.HeaderKey.protection g.K.PacketKey.aead g.K.PacketKey.seal_limit g.K.PacketKey.refusal_limit (words_of g.R.Rng.stream) w) w.end c.args.now).end)) c.read_window.ensures c.poll_open.ensures.end
 
 pub returns-clause-datagram : goal.returns-clause-datagram
 returns-clause-datagram g c =
-    subst (λ w. OnOk c.poll_open.result (c.poll_open.new.out.items ≡ c.args.out.now.items ++ given_bytes (polled (policy_of g.H.HeaderKey.protection g.K.PacketKey.aead (words_of g.R.Rng.stream) w) w.end c.args.now).datagram)) c.read_window.ensures c.poll_open.ensures.datagram
+    subst (λ w. OnOk c.poll_open.result (c.poll_open.new.out.items ≡ c.args.out.now.items ++ given_bytes (polled (policy_of g.H.HeaderKey.protection g.K.PacketKey.aead g.K.PacketKey.seal_limit g.K.PacketKey.refusal_limit (words_of g.R.Rng.stream) w) w.end c.args.now).datagram)) c.read_window.ensures c.poll_open.ensures.datagram
 
 pub returns-clause-lacking : goal.returns-clause-lacking
 returns-clause-lacking g c =
-    subst (λ w. OnErr c.poll_open.result (PollTakes (policy_of g.H.HeaderKey.protection g.K.PacketKey.aead (words_of g.R.Rng.stream) w) w.end c.args.now)) c.read_window.ensures c.poll_open.ensures.lacking
+    subst (λ w. OnErr c.poll_open.result (PollTakes (policy_of g.H.HeaderKey.protection g.K.PacketKey.aead g.K.PacketKey.seal_limit g.K.PacketKey.refusal_limit (words_of g.R.Rng.stream) w) w.end c.args.now)) c.read_window.ensures c.poll_open.ensures.lacking

@@ -31,13 +31,13 @@ returns-clause-items g c =
     let served = sym c.is_err.ensures.value ∙ c.if-is_err.false in
     let ids = on_ok c.put_tracked.result served c.put_tracked.ensures.ids in
     let start : c.len-start.result ≡ length front = c.len-start.ensures ∙ c.args.out.now.ok.0 in
-    let seals : c.seal.new.out.items ≡ take (length front) plain ++ protected (prot w.keys.header.local) (aead w.keys.packet.local) (length e.ids.active.id + 1) (number_of e) (drop (length front) plain)
+    let seals : c.seal.new.out.items ≡ take (length front) plain ++ protected (prot w.keys.header.local) (aead w.keys.packet.local) (length e.ids.peer.id + 1) (number_of e) (drop (length front) plain)
     = c.seal.ensures.items
-    ∙ ap (λ k. take c.len-start.result plain ++ protected (prot k.header.local) (aead k.packet.local) (length z.end.ids.active.id + 1) c.number-number.result (drop c.len-start.result plain)) c.put_tracked.ensures.keys
+    ∙ ap (λ k. take c.len-start.result plain ++ protected (prot k.header.local) (aead k.packet.local) (length z.end.ids.peer.id + 1) c.number-number.result (drop c.len-start.result plain)) c.put_tracked.ensures.keys
     ∙ ap (λ i. take c.len-start.result plain ++ protected (prot w.keys.header.local) (aead w.keys.packet.local) (length i.active.id + 1) c.number-number.result (drop c.len-start.result plain)) ids
-    ∙ ap (λ (n : ℕ). take c.len-start.result plain ++ protected (prot w.keys.header.local) (aead w.keys.packet.local) (length e.ids.active.id + 1) n (drop c.len-start.result plain)) c.number-number.ensures.value
-    ∙ ap (λ (n : ℕ). take n plain ++ protected (prot w.keys.header.local) (aead w.keys.packet.local) (length e.ids.active.id + 1) (number_of e) (drop n plain)) start in
-    sealed_of (prot w.keys.header.local) (aead w.keys.packet.local) (λ s bytes. g.met.H.HeaderKey.keeps_length _ s bytes) (number_of e) (cut_against e.numbers) front e.ids.active.id plain c.seal.new.out.items (payload_of (draft_left (leaving_of c.args.leaving) e))
+    ∙ ap (λ (n : ℕ). take c.len-start.result plain ++ protected (prot w.keys.header.local) (aead w.keys.packet.local) (length e.ids.peer.id + 1) n (drop c.len-start.result plain)) c.number-number.ensures.value
+    ∙ ap (λ (n : ℕ). take n plain ++ protected (prot w.keys.header.local) (aead w.keys.packet.local) (length e.ids.peer.id + 1) (number_of e) (drop n plain)) start in
+    sealed_of (prot w.keys.header.local) (aead w.keys.packet.local) (λ s bytes. g.met.H.HeaderKey.keeps_length _ s bytes) (number_of e) (cut_against e.numbers) front e.ids.peer.id plain c.seal.new.out.items (payload_of (draft_left (leaving_of c.args.leaving) e))
     (numbers_near e.filter e.numbers c.requires.number).1 (on_ok c.put_tracked.result served c.put_tracked.ensures.items) seals
     ∙ ap (λ (z : List ℕ). front ++ z) (sent_of (leaving_of c.args.leaving) e c.requires.due (policy_of prot aead (words_of g.R.Rng.stream) w))
 

@@ -74,8 +74,8 @@ returns-clause-items g c =
     let body = c.len-body.ensures in
     let zeros : max (4 - (c.put_header-width.result + (vec_len c.put_leave.new.out - c.len-body.result))) (c.saturating_sub.result - (vec_len c.put_leave.new.out - c.len-body.result)) ≡ zeros_of e (length d.bytes) (least_of l (asking d.frames) e)
     = omega (arith, least, grown, few, width, len, start, body) in
-    plain_of c.args.out.now.items before (header_bytes e.ids.active.id t) whole c.pad.new.out.items d.bytes _ _ c.put_header-width.ensures.items c.in_ok-sent.ensures.items c.pad.ensures.items zeros
-    ∙ ap (λ (z : List ℕ). c.args.out.now.items ++ (header_bytes e.ids.active.id t ++ z)) (sym (payload_is l e c.requires.due))
+    plain_of c.args.out.now.items before (header_bytes e.ids.peer.id t) whole c.pad.new.out.items d.bytes _ _ c.put_header-width.ensures.items c.in_ok-sent.ensures.items c.pad.ensures.items zeros
+    ∙ ap (λ (z : List ℕ). c.args.out.now.items ++ (header_bytes e.ids.peer.id t ++ z)) (sym (payload_is l e c.requires.due))
 
 pub returns-clause-within : goal.returns-clause-within
 returns-clause-within g c =
