@@ -25,11 +25,15 @@
 //!
 //! All take `loss=` and `reorder=` (how many of 1000 datagrams are lost, or come late), `seed=`,
 //! `batch=`, how many datagrams an end takes before it may send, and `window=`, how many bytes may
-//! come of a stream before any is read; `hostile`, `floor` and `connections` do nothing with most
-//! of these. A datagram counts as lost that comes too late for its end to tell whether it came
-//! before. A workload or name that it doesn't know ends it with status 2, and so does work that
-//! can't be done: that loses messages or each datagram, takes none at once, writes or reads no
-//! byte at a time, has pieces of more than 65,536 bytes, or leaves more unread than the window.
+//! come of a stream before any is read; and `acks=`, `ack_reordering=` and `ack_delay=`: how many
+//! ack-eliciting packets may come before an end acknowledges at once (0 where nothing is asked, as
+//! at first), how far out of order one has to come for that, and how many microseconds it may hold
+//! an acknowledgement back (0 where that is its own choice), as each end asks the other by
+//! ACK_FREQUENCY. `hostile`, `floor` and `connections` do nothing with most of these. A datagram
+//! counts as lost that comes too late for its end to tell whether it came before. A workload or
+//! name that it doesn't know ends it with status 2, and so does work that can't be done: that loses
+//! messages or each datagram, takes none at once, writes or reads no byte at a time, has pieces of
+//! more than 65,536 bytes, or leaves more unread than the window.
 //!
 //! `quic_bench check` does a little of each, and prints counts and a checksum that don't vary.
 #![tactic(auto)]

@@ -6,8 +6,8 @@ use crate::fault::Fault;
 use crate::figures::{Figures, Watch};
 use crate::lane::{Datagram, LANE_MTU, Lane, ONE_WAY, earlier};
 use quic_connection::{
-    Config, ConfigError, Connection, DropReason, EcnCodepoint, Ends, Instant, Making, NewReno,
-    NewRenoConfig, Received, TransportConfig,
+    AckFrequencyConfig, Config, ConfigError, Connection, DropReason, EcnCodepoint, Ends, Instant,
+    Making, NewReno, NewRenoConfig, Received, TransportConfig,
 };
 use quic_run_core::Words;
 use quic_run_core::key::{PlainHeaderKey, PlainKey, keys_for};
@@ -38,7 +38,7 @@ pub struct Network {
     pub batch: u64,
 }
 
-/// What each end lets the other do.
+/// What each end lets the other do, and asks of it.
 #[derive(Drop)]
 pub struct Limits {
     /// How many streams of each kind the peer may have open at once.
@@ -46,6 +46,8 @@ pub struct Limits {
     /// How many bytes the peer may send on a stream before any is read. Eight times as many may be
     /// written that aren't acknowledged.
     pub window: VarInt,
+    /// How it asks for acknowledgements, if it does.
+    pub acks: Option<AckFrequencyConfig>,
 }
 
 impl Limits {
@@ -54,6 +56,7 @@ impl Limits {
         Limits {
             streams: self.streams,
             window: self.window,
+            acks: self.acks,
         }
     }
 }
@@ -131,6 +134,7 @@ fn transport(limits: &Limits) -> TransportConfig {
     transport.max_concurrent_bidi_streams(limits.streams);
     transport.stream_receive_window(limits.window);
     transport.send_window(limits.window.into_inner().saturating_mul(8));
+    transport.ack_frequency_config(limits.acks);
     transport
 }
 

@@ -3,6 +3,7 @@ use crate::application::PATTERN;
 use crate::bulk::Plan;
 use crate::pair::{Limits, Network};
 use anyhow::Result;
+use quic_connection::{AckFrequencyConfig, Duration};
 use quic_wire_core::VarInt;
 use std::alloc::{AllocError, Global};
 use std::collections::BTreeMap;
@@ -76,6 +77,36 @@ pub struct Task {
     pub network: Network,
     /// How many bytes may come of a stream before any is read.
     window: u64,
+    /// How each end asks the other to acknowledge.
+    acks: Acks,
+}
+
+/// How each end asks the other to acknowledge (the ACK frequency extension).
+#[derive(Clone, Copy)]
+struct Acks {
+    /// How many packets that ask may come before an acknowledgement goes at once: 0 where an end
+    /// asks for nothing.
+    threshold: u64,
+    /// How far out of order one has to come for that.
+    reordering: u64,
+    /// How many microseconds it may be held back: 0 where that is left to the peer.
+    micros: u64,
+}
+
+impl Acks {
+    /// The same as a setting, if an end asks for something.
+    fn config(&self) -> Result<Option<AckFrequencyConfig>> {
+        if self.threshold == 0 {
+            return Ok(None);
+        }
+        let mut config = AckFrequencyConfig::default();
+        config.ack_eliciting_threshold(VarInt::from_u64(self.threshold)?);
+        config.reordering_threshold(VarInt::from_u64(self.reordering)?);
+        if self.micros > 0 {
+            config.max_ack_delay(Some(Duration::from_micros(self.micros)));
+        }
+        Ok(Some(config))
+    }
 }
 
 /// Values by their names, as far as they weren't taken yet.
@@ -172,6 +203,15 @@ impl Values {
         })
     }
 
+    /// How they let the ends ask for acknowledgements.
+    fn acks(&mut self) -> Acks {
+        Acks {
+            threshold: self.take("acks", 0),
+            reordering: self.take("ack_reordering", 2),
+            micros: self.take("ack_delay", 0),
+        }
+    }
+
     /// The network that they name.
     fn network(&mut self) -> Network {
         Network {
@@ -201,6 +241,7 @@ impl Task {
             workload,
             network: values.network(),
             window: values.take("window", DEFAULT_WINDOW),
+            acks: values.acks(),
         };
         if values.given.is_empty() && task.can_be_done() {
             Ok(Some(task))
@@ -227,11 +268,12 @@ impl Task {
         }
     }
 
-    /// What each end lets the other do.
+    /// What each end lets the other do, and asks of it.
     pub fn limits(&self) -> Result<Limits> {
         Ok(Limits {
             streams: VarInt::from_u64(self.streams())?,
             window: VarInt::from_u64(self.window)?,
+            acks: self.acks.config()?,
         })
     }
 

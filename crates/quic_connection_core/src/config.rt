@@ -20,8 +20,9 @@ use std::marker::Model;
 /// persistent congestion, and on the sizes of datagrams: they have at most as many bytes as a path
 /// begins with, or as the peer takes where that is less, until a larger size is found where one is
 /// looked for; and those that are ack-eliciting are filled up to that size where `pad_to_mtu` says
-/// so. It tells the peer of the other settings that have a transport parameter, and doesn't
-/// act on them: it has no idle timeout, and an ACK_FREQUENCY frame changes nothing.
+/// so. Where `ack_frequency_config` is set and the peer takes such frames, it asks for
+/// acknowledgements as that says. It tells the peer of the other settings that have a transport
+/// parameter, and doesn't act on them: it has no idle timeout.
 #[derive(Clone, Copy, Debug, Drop)]
 pub struct Config<F> {
     transport: TransportConfig,

@@ -24,6 +24,7 @@ ghost use Rattle.quic_time.specs.Timers.{no_timers};
 
 mod acked;
 mod closing;
+mod frequency;
 mod ids;
 mod leaving;
 mod losses;
@@ -49,8 +50,9 @@ use quic_messages::DatagramState;
 use quic_packet::crypto::{HeaderKey, Keys, PacketKey};
 use quic_parameters::TransportParameters;
 use quic_paths::{PathData, PathResponses};
+use quic_recovery_core::AckFrequencyState;
 use quic_retransmits::Retransmits;
-use quic_spaces::{PacketNumberFilter, PacketSpace, ack_due};
+use quic_spaces::{PacketNumberFilter, PacketSpace};
 use quic_stats::ConnectionStats;
 use quic_streams_handles::{EndStreams, RecvStream, SendStream, Streams};
 use quic_streams_state::StreamsState;
@@ -163,6 +165,8 @@ pub struct Connection<H, K, R, C: Controller> {
     path_responses: PathResponses,
     // How many challenges were made, each by a word of the random source.
     challenges: u64,
+    // What is asked of acknowledgements, and what the peer asks.
+    ack_frequency: AckFrequencyState,
     // What the controller showed at the last poll.
     window: u64,
     // Whether the last poll found that one more datagram would come to more than three times what
@@ -319,6 +323,7 @@ impl<H: HeaderKey + Drop, K: PacketKey + Drop, R: Rng + Drop, C: Controller> Con
             path,
             path_responses: PathResponses::new(),
             challenges: 0,
+            ack_frequency: AckFrequencyState::new(told_ack_delay(&theirs)),
             window,
             blocked: false,
             app_limited: false,
@@ -437,24 +442,19 @@ impl<H: HeaderKey + Drop, K: PacketKey + Drop, R: Rng + Drop, C: Controller> Con
         space.numbers.take(number);
         space.on_mark(ecn);
         if waits {
-            self.timers.set(Timer::MaxAckDelay, ack_due(now));
+            let delay = self.ack_frequency.max_ack_delay();
+            self.timers.set(Timer::MaxAckDelay, now + delay);
         }
         self.set_loss_timer();
         Ok(())
     }
 
-    /// How long the peer may hold an acknowledgement back, as it told (RFC 9000, section 18.2).
-    fn peer_delay(&self) -> Duration
-        ensures { result ≡ peer_delay self.now.end }
-    {
-        told_ack_delay(&self.peer_params)
-    }
-
-    /// How long an acknowledgement is waited for before a probe goes (RFC 9002, section 6.2.1).
+    /// How long an acknowledgement is waited for before a probe goes (RFC 9002, section 6.2.1): the
+    /// peer may hold it back as long as it told, or was asked to since.
     fn probe_timeout(&self) -> Duration
         ensures { result ≡ probe_timeout self.now.end }
     {
-        self.path.rtt.pto_base() + self.peer_delay()
+        self.path.rtt.pto_base() + self.ack_frequency.max_ack_delay_for_pto()
     }
 
     /// Sets the loss timer to where what is tracked puts it, or stops it.
@@ -524,10 +524,13 @@ impl<H: HeaderKey + Drop, K: PacketKey + Drop, R: Rng + Drop, C: Controller> Con
     fn asks_to_go(&self) -> bool
         ensures { result ≡ asks_to_go self.now.end }
     {
-        self.path_frames_wait() || self.space.ping_pending || self.frames_wait()
+        self.path_frames_wait()
+            || self.space.ping_pending
+            || self.space.immediate_ack_pending
+            || self.frames_wait()
     }
 
-    /// The same beside PATH_CHALLENGE, PATH_RESPONSE and PING.
+    /// The same beside PATH_CHALLENGE, PATH_RESPONSE, PING and IMMEDIATE_ACK.
     fn frames_wait(&self) -> bool
         ensures { result ≡ (not (is_empty self.now.end.waiting.frames self.now.end.streams) || (message_waits self.now.end || can_send_stream_data self.now.end.streams)) }
     {

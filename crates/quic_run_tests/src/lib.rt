@@ -16,6 +16,8 @@ mod erasing;
 #[cfg(test)]
 mod frames;
 #[cfg(test)]
+mod frequency;
+#[cfg(test)]
 mod lacking;
 pub mod laws;
 #[cfg(test)]

@@ -5,17 +5,14 @@ ghost use Rattle.quic_wire.specs.AckView.{shown_ecn};
 ghost use Rattle.quic_wire.specs.AckWriting.{ack_spelling, ack_size};
 ghost use Rattle.quic_recovery_core.specs.declared.spaces.pending_acks.TheConstants.{MAX_ACK_RUNS};
 ghost use Rattle.quic_recovery_core.specs.PendingAcks.{none_pending, after_insert, after_packet, packet_starts_wait, after_subtract, after_timeout, after_lazy, can_send, is_filled, after_acks_sent};
-ghost use Rattle.quic_spaces.specs.Acknowledging.{ack_due, with_due, delay_at, ack_at, most_ack_bytes};
+ghost use Rattle.quic_spaces.specs.Acknowledging.{with_due, delay_at, ack_at, most_ack_bytes};
 
 use quic_recovery_core::{Dedup, PendingAcks};
 use quic_sets::ArrayRangeSet;
 use quic_time::Instant;
-use quic_wire::frame::{Ack, EcnCounts};
+use quic_wire::frame::{Ack, AckFrequency, EcnCounts};
 use std::alloc::{AllocError, Global};
 use std::marker::Model;
-
-/// How long an acknowledgement may wait, in nanoseconds (RFC 9000, section 18.2).
-const MAX_ACK_DELAY: u64 = 25_000_000;
 
 /// Microseconds of one unit in which ACK frames tell their delay: the default exponent is 3 (RFC
 /// 9000, section 18.2).
@@ -23,13 +20,6 @@ const ACK_DELAY_UNIT: u64 = 8;
 
 /// The greatest number that a frame can tell (RFC 9000, section 16).
 const MAX_DELAY: u64 = (1 << 62) - 1;
-
-/// The moment at which an acknowledgement is due that waits from this one on.
-pub fn ack_due(now: Instant) -> Instant
-    ensures { result ≡ ack_due now }
-{
-    Instant::from_nanos(now.as_nanos().saturating_add(MAX_ACK_DELAY))
-}
 
 /// The numbers of packets that were taken and are to be acknowledged, and when that is due (over
 /// quinn-proto's `PendingAcks`). Moments and waits are nanoseconds.
@@ -101,6 +91,13 @@ impl Acknowledging {
         ensures { self.new ≡ after_lazy self.old }
     {
         self.pending.maybe_ack_non_eliciting();
+    }
+
+    /// The peer asks for acknowledgements by these thresholds (the ACK frequency extension).
+    pub fn set_ack_frequency_params(&mut self, frame: &AckFrequency)
+        ensures { self.new ≡ record self.old { threshold = frame.now.ack_eliciting_threshold; reordering = frame.now.reordering_threshold } }
+    {
+        self.pending.set_ack_frequency_params(frame);
     }
 
     /// The peer wants an acknowledgement at once.

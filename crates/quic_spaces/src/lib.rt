@@ -12,7 +12,7 @@ mod persistent;
 mod space;
 mod tracking;
 
-pub use acknowledging::{Acknowledging, ack_due};
+pub use acknowledging::Acknowledging;
 pub use loss::Verdict;
 pub use number_filter::PacketNumberFilter;
 pub use numbers::Numbers;

@@ -320,6 +320,7 @@ impl<H: HeaderKey + Drop, K: PacketKey + Drop, R: Rng + Drop, C: Controller> Con
         while let Some((number, packet)) = acked.pop() {
             self.tell_acked(&packet);
             self.search_acked(number, packet.size);
+            self.ack_frequency.on_acked(number);
             self.on_packet_acked(packet)?;
         }
         Ok(())
@@ -405,7 +406,7 @@ impl<H: HeaderKey + Drop, K: PacketKey + Drop, R: Rng + Drop, C: Controller> Con
     {
         let exponent = self.peer_params.ack_delay_exponent.into_inner();
         let micros = frame.delay().saturating_mul(1 << exponent);
-        Duration::from_micros(micros).min(self.peer_delay())
+        Duration::from_micros(micros).min(self.ack_frequency.peer_max_ack_delay())
     }
 
     /// How late a packet may be at this moment (RFC 9002, section 6.1).

@@ -349,10 +349,10 @@ impl<H: HeaderKey + Drop, K: PacketKey + Drop, R: Rng + Drop, C: Controller> Con
         largest
     }
 
-    /// Appends what asks for an acknowledgement, frames of path validation, PING, messages and
-    /// frames about streams, behind the frames of the packet whose payload begins at `body`: none,
-    /// or an ACK. There is room for the whole payload. This answers what went. An error is want of
-    /// memory; the end is of no more use then.
+    /// Appends what asks for an acknowledgement, frames of path validation, PING, frames of the
+    /// ACK frequency extension, messages and frames about streams, behind the frames of the packet
+    /// whose payload begins at `body`: none, or an ACK. There is room for the whole payload. This
+    /// answers what went. An error is want of memory; the end is of no more use then.
     fn put_asking(&mut self, body: usize, out: &mut Vec<u8>) -> Result<SentFrames, AllocError>
         requires number { can_number self.old.end.numbers ≡ true }
         requires body { body ≤ vec_len out.old }
@@ -373,7 +373,12 @@ impl<H: HeaderKey + Drop, K: PacketKey + Drop, R: Rng + Drop, C: Controller> Con
         let before = out.len();
         let requires_padding = self.put_path_frames(out);
         self.put_ping(out);
-        let carried = self.put_content(body, out)?;
+        self.put_immediate_ack(out);
+        let asked = self.put_ack_frequency(out);
+        let mut carried = self.put_content(body, out)?;
+        if asked {
+            carried.note_ack_frequency(self.alloc)?;
+        }
         Ok(SentFrames {
             asks: before < out.len(),
             requires_padding,

@@ -153,6 +153,7 @@ impl<H: HeaderKey + Drop, K: PacketKey + Drop, R: Rng + Drop, C: Controller> Con
         self.tick(now);
         self.timers.stop(Timer::Pacing);
         self.queue_probe()?;
+        self.queue_ack_frequency();
         Ok(self.leaving())
     }
 
@@ -233,8 +234,9 @@ impl<H: HeaderKey + Drop, K: PacketKey + Drop, R: Rng + Drop, C: Controller> Con
     {
         // The proof reads that the numbers ascend.
         let _packet = self.space.tracking.packets().get(0);
+        let immediate = self.peer_supports_ack_frequency();
         let EndStreams { state, pending } = &mut self.streams;
-        self.space.maybe_queue_probe(false, pending, state)
+        self.space.maybe_queue_probe(immediate, pending, state)
     }
 
     /// Whether what asks for an acknowledgement is held back: it would exceed the congestion

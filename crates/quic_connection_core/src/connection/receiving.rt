@@ -349,6 +349,11 @@ impl<H: HeaderKey + Drop, K: PacketKey + Drop, R: Rng + Drop, C: Controller> Con
                 self.take_path_response(*token);
                 Ok(())
             }
+            Frame::ImmediateAck => {
+                self.take_immediate_ack();
+                Ok(())
+            }
+            Frame::AckFrequency(frame) => self.take_ack_frequency(frame),
             _ => take_other(&mut self.streams, frame),
         }
     }

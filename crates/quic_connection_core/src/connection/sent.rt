@@ -52,6 +52,17 @@ impl Model for Carried {
     } };
 }
 
+impl Carried {
+    /// ACK_FREQUENCY went besides. An error is want of memory.
+    pub(crate) fn note_ack_frequency(&mut self, alloc: Global) -> Result<(), AllocError> {
+        self.retransmits.create(alloc)?;
+        if let Some(kept) = self.retransmits.get_mut() {
+            kept.set_ack_frequency(true);
+        }
+        Ok(())
+    }
+}
+
 /// What went into a datagram (quinn-proto's `SentFrames`).
 #[derive(Drop)]
 pub(crate) struct SentFrames {
