@@ -127,6 +127,16 @@ impl Values {
         }
     }
 
+    /// Streams, as they say.
+    fn streams(&mut self) -> Workload {
+        Workload::Streams {
+            count: self.take("count", 100_000),
+            size: self.take("size", 100),
+            open: self.take("open", 100),
+            idle: self.take("idle", 0),
+        }
+    }
+
     /// The workload of this name with its values, if there is one.
     fn workload(&mut self, name: &str) -> Option<Workload> {
         Some(match name {
@@ -150,12 +160,7 @@ impl Values {
                 bytes: self.take("bytes", 16 << 20),
                 times: self.take("times", 4),
             },
-            "streams" => Workload::Streams {
-                count: self.take("count", 100_000),
-                size: self.take("size", 100),
-                open: self.take("open", 100),
-                idle: self.take("idle", 0),
-            },
+            "streams" => self.streams(),
             "messages" => Workload::Messages {
                 count: self.take("count", 1_000_000),
                 size: self.take("size", 100),

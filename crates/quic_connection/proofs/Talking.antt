@@ -17,7 +17,8 @@ use Rattle.quic_machine.specs.Policy.{Policy}
 use Rattle.quic_machine.specs.End.{End}
 use Rattle.quic_machine.specs.Poll.{polled}
 use Rattle.quic_machine.specs.Control.{Control}
-use Rattle.quic_machine.specs.Machine.{gave, end_at, given_by, policy_at, control_at, end_met, changed, gives, World, Policies, IsAnswer, IsLeft, IsStep, fails}
+use Rattle.quic_machine.specs.Heard.{Heard}
+use Rattle.quic_machine.specs.Machine.{gave, end_at, given_by, policy_at, control_at, heard_at, end_met, changed, gives, World, Policies, IsAnswer, IsLeft, IsStep, fails}
 use Rattle.quic_connection.specs.Settled.{Round, asks, quiet, polled_on, Turn, polls, awaits, polls_in, poll_event, delivery_event, timeout_event, IsPassedOn, IsPolled, IsHandled, IsWaited, IsTalk, Talks, Leads, IsHalfHandled, IsCut, IsCutOff, EndsAs, IsStill, AreStill, no_datagram, AreAtRest, AreOpen, HasClosed, Settles, most_polls, end_wakes, wakes}
 
 -- ---- turns
@@ -134,18 +135,18 @@ more_behind old mid new first rest =
     (first.0 ++ rest.0, rest.1 ∙ ap (λ (ds : List (List ℕ)). ds ++ rest.0) first.1 ∙ append_assoc old first.0 rest.0)
 
 -- one end has given more, or none has
-changed_more : (at_side side : Side) (w : World) (e : End) (ds : List (List ℕ)) (control : Control) → HasMore (given_by side w) (given_by side (changed at_side w e ds control))
-changed_more Client Client w e ds control = (ds, refl)
-changed_more Client Server w e ds control = ([], sym (append-nil w.from_server))
-changed_more Server Client w e ds control = ([], sym (append-nil w.from_client))
-changed_more Server Server w e ds control = (ds, refl)
+changed_more : (at_side side : Side) (w : World) (e : End) (ds : List (List ℕ)) (control : Control) (heard : Heard) → HasMore (given_by side w) (given_by side (changed at_side w e ds control heard))
+changed_more Client Client w e ds control heard = (ds, refl)
+changed_more Client Server w e ds control heard = ([], sym (append-nil w.from_server))
+changed_more Server Client w e ds control heard = ([], sym (append-nil w.from_client))
+changed_more Server Server w e ds control heard = (ds, refl)
 
 -- a step leaves what was given
 step_more : (k : Policies) (w : World) (event : RunEvent) (a : Answer) (next : World) (side : Side) → IsStep k w event a next → HasMore (given_by side w) (given_by side next)
 step_more k w event a next side step =
     let e = end_at event.side next in
     let ds = gives (policy_at event.side k) (end_met w event) event.call a in
-    let here = changed_more event.side side w e ds (control_at event.side next) in
+    let here = changed_more event.side side w e ds (control_at event.side next) (heard_at event.side next) in
     (here.0, ap (λ (v : World). given_by side v) step.others ∙ here.1)
 
 -- so does a delivery, where one is made

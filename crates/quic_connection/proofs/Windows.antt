@@ -1,5 +1,5 @@
--- The windows that a controller shows behind a call, and what it is told in one.
-use Rattle.std.proofs.Common.{◌≡◌, ℕ, Bool, true, false, List, [], ◌∷◌, ◌++◌, Option, Some, None, Result, Ok, Err, OnOk, inl, inr, refl, sym, ap, ◌∙◌}
+-- The windows that a controller shows behind a call, what it is told in one, and what is counted in one.
+use Rattle.std.proofs.Common.{◌≡◌, ℕ, Bool, true, false, List, [], ◌∷◌, ◌++◌, Option, Some, None, Result, Ok, Err, IfOk, OnOk, inl, inr, refl, sym, ap, ◌∙◌}
 use Rattle.std.specs.Prelude.{◌≢◌, ◌||◌, if◌then◌else◌, slice_get}
 use Rattle.std.specs.Option.{is_some}
 use Rattle.quic_congestion.specs.Congestion.{Told, Steps, after_call, after_calls}
@@ -22,13 +22,14 @@ use Rattle.quic_machine.specs.declared.run.Injection.{Injection}
 use Rattle.quic_machine.specs.declared.run.Answer.TheVariants as answers
 use Rattle.quic_machine.specs.Ids.{known}
 use Rattle.quic_machine.specs.Policy.{Policy}
-use Rattle.quic_machine.specs.End.{End, ConnectionValue, with_numbers}
+use Rattle.quic_machine.specs.End.{End, ConnectionValue, hearing, with_numbers}
+use Rattle.quic_machine.specs.Heard.{Heard, heard_datagram, heard_given}
 use Rattle.quic_machine.specs.Control.{Control, after_told}
 use Rattle.quic_machine.specs.Opens.{own_id_length, in_phase, opens_behind, would_open}
 use Rattle.quic_machine.specs.Receive.{received, received_in, headed, opened_as, dropped, by_state, opening, told_by_state, told_opened_as, told_headed, told_received_in, told_received}
 use Rattle.quic_machine.specs.Lacking.{TakesFrames}
 use Rattle.quic_machine.specs.Timeouts.{timed_out, told_timed_out}
-use Rattle.quic_machine.specs.Machine.{IsAnswer, IsTold, reads_window, fails, told_delivered}
+use Rattle.quic_machine.specs.Machine.{IsAnswer, IsTold, IsHeard, heard_delivery, reads_window, fails, told_delivered}
 use Rattle.quic_machine.specs.Poll.{polled, told_polled}
 use Rattle.quic_machine.specs.declared.answers.Transmit.{Transmit}
 use Rattle.quic_connection_core.specs.Telling.{windows_of, reading, telling}
@@ -105,41 +106,75 @@ module _ {H K R C : Type 0} (steps : Steps C) (window : C → ℕ) (p : Policy) 
   poll_answers now (Err x) is = inr refl
 
   -- a moment
-  pub timeout_answers : (now : ℕ) (r : Result (Unit {0}) Failed) → OnOk r (r ≡ (timed_out old.end now).answer)
+  pub timeout_answers : (now : ℕ) (r : Result (Unit {0}) Failed) → OnOk r (r ≡ (timed_out p old.end now).answer)
       → IsAnswer p (reads_window (windows_of steps window old.control) (calls.Timeout now) old.end) [] (calls.Timeout now) (answers.Timeout r)
   timeout_answers now (Ok x) is = inl (ap answers.Timeout is)
   timeout_answers now (Err x) is = inr refl
 
-  pub timeout_told : (now : ℕ) (r : Result (Unit {0}) Failed) → OnOk r (new ≡ telling steps old (told_timed_out old.end now) (timed_out old.end now).end)
+  pub timeout_told : (now : ℕ) (r : Result (Unit {0}) Failed) → OnOk r (new ≡ telling steps old (told_timed_out old.end now) (timed_out p old.end now).end)
       → IsTold (fails (answers.Timeout r)) p (windows_of steps window old.control) old.end [] (calls.Timeout now) (windows_of steps window new.control)
-  timeout_told now (Ok x) left = windows_left (told_timed_out old.end now) (timed_out old.end now).end left
+  timeout_told now (Ok x) left = windows_left (told_timed_out old.end now) (timed_out p old.end now).end left
   timeout_told now (Err x) left = tt
 
   -- a datagram of the other end
-  received_left : (arrival : Arrival) (d : List ℕ) (r : Received) → r ≢ receives.Failed → (r ≢ receives.Failed → new ≡ telling steps old (told_received p old.end arrival.now d) (received p old.end arrival d).end)
+  received_left : (arrival : Arrival) (d : List ℕ) (h : Heard) → new ≡ telling steps (hearing old h) (told_received p old.end arrival.now d) (received p old.end arrival d).end
       → windows_of steps window new.control ≡ after_told (windows_of steps window old.control) (told_received p old.end arrival.now d)
-  received_left arrival d r kept left = windows_left (told_received p old.end arrival.now d) (received p old.end arrival d).end (left kept)
+  received_left arrival d h left = windows_are steps window old.control new.control (told_received p old.end arrival.now d) (ap (λ w. w.control) left)
 
-  pub delivery_told : (theirs : List (List ℕ)) (delivery : Delivery) (d : List ℕ) (r : Received) → slice_get theirs delivery.index ≡ Some d
-      → (r ≢ receives.Failed → new ≡ telling steps old (told_received p old.end delivery.now d) (received p old.end (delivered_by delivery) d).end)
+  -- such a datagram came
+  abbrev Came : Arrival → List ℕ → Received → Type 0
+  Came arrival d r = r ≢ receives.Failed → new ≡ telling steps (hearing old (heard_datagram d r old.heard)) (told_received p old.end arrival.now d) (received p old.end arrival d).end
+
+  pub delivery_told : (theirs : List (List ℕ)) (delivery : Delivery) (d : List ℕ) (r : Received) → slice_get theirs delivery.index ≡ Some d → Came (delivered_by delivery) d r
       → IsTold (fails (answers.Deliver r)) p (windows_of steps window old.control) old.end theirs (calls.Deliver delivery) (windows_of steps window new.control)
   delivery_told theirs delivery d r is left = go r left
     where
-      told : (r : Received) → r ≢ receives.Failed → (r ≢ receives.Failed → new ≡ telling steps old (told_received p old.end delivery.now d) (received p old.end (delivered_by delivery) d).end)
+      told : (r : Received) → r ≢ receives.Failed → Came (delivered_by delivery) d r
           → windows_of steps window new.control ≡ after_told (windows_of steps window old.control) (told_delivered p old.end delivery.now (slice_get theirs delivery.index))
-      told r kept left = received_left (delivered_by delivery) d r kept left ∙ ap (λ (o : Option (List ℕ)). after_told (windows_of steps window old.control) (told_delivered p old.end delivery.now o)) (sym is)
+      told r kept left = received_left (delivered_by delivery) d (heard_datagram d r old.heard) (left kept) ∙ ap (λ (o : Option (List ℕ)). after_told (windows_of steps window old.control) (told_delivered p old.end delivery.now o)) (sym is)
 
-      go : (r : Received) → (r ≢ receives.Failed → new ≡ telling steps old (told_received p old.end delivery.now d) (received p old.end (delivered_by delivery) d).end)
-          → IsTold (fails (answers.Deliver r)) p (windows_of steps window old.control) old.end theirs (calls.Deliver delivery) (windows_of steps window new.control)
+      go : (r : Received) → Came (delivered_by delivery) d r → IsTold (fails (answers.Deliver r)) p (windows_of steps window old.control) old.end theirs (calls.Deliver delivery) (windows_of steps window new.control)
       go receives.Failed left = tt
       go receives.Taken left = told receives.Taken (λ failed. cc) left
       go (receives.Dropped reason) left = told (receives.Dropped reason) (λ failed. cc) left
       go (receives.Closed error) left = told (receives.Closed error) (λ failed. cc) left
 
   -- bytes that don't open
-  pub injection_told : (injection : Injection) (arrival : Arrival) (d : List ℕ) (r : Received) → would_open p old.end d ≡ false → (r ≡ receives.Failed → TakesFrames (received p old.end arrival d).answer)
-      → (r ≢ receives.Failed → new ≡ telling steps old (told_received p old.end arrival.now d) (received p old.end arrival d).end)
+  pub injection_told : (injection : Injection) (arrival : Arrival) (d : List ℕ) (r : Received) → would_open p old.end d ≡ false → (r ≡ receives.Failed → TakesFrames (received p old.end arrival d).answer) → Came arrival d r
       → IsTold false p (windows_of steps window old.control) old.end [] (calls.Inject injection) (windows_of steps window new.control)
   injection_told injection arrival d r none takes left =
-      received_left arrival d r (λ failed. received_drops old.end.closing.state p old.end arrival d none (takes failed)) left
+      received_left arrival d (heard_datagram d r old.heard) (left (λ failed. received_drops old.end.closing.state p old.end arrival d none (takes failed)))
       ∙ ap (after_told (windows_of steps window old.control)) (received_tells old.end.closing.state p old.end arrival.now d none)
+
+  -- ---- what is counted in a call
+
+  -- a poll
+  pub poll_heard : (now : ℕ) (r : Result (Option Transmit) Failed) → IfOk r (λ given. new.heard ≡ heard_given given old.heard) → IsHeard (fails (answers.Poll r)) [] (calls.Poll now) (answers.Poll r) old.heard new.heard
+  poll_heard now (Ok given) is = is
+  poll_heard now (Err x) is = tt
+
+  -- a moment
+  pub timeout_heard : (now : ℕ) (r : Result (Unit {0}) Failed) → OnOk r (new ≡ telling steps old (told_timed_out old.end now) (timed_out p old.end now).end) → IsHeard (fails (answers.Timeout r)) [] (calls.Timeout now) (answers.Timeout r) old.heard new.heard
+  timeout_heard now (Ok x) left = ap (λ w. w.heard) left
+  timeout_heard now (Err x) left = tt
+
+  -- a datagram of the other end
+  pub delivery_heard : (theirs : List (List ℕ)) (delivery : Delivery) (d : List ℕ) (r : Received) → slice_get theirs delivery.index ≡ Some d → Came (delivered_by delivery) d r
+      → IsHeard (fails (answers.Deliver r)) theirs (calls.Deliver delivery) (answers.Deliver r) old.heard new.heard
+  delivery_heard theirs delivery d r is left = go r left
+    where
+      heard : (r : Received) → r ≢ receives.Failed → Came (delivered_by delivery) d r → new.heard ≡ heard_delivery (slice_get theirs delivery.index) r old.heard
+      heard r kept left = ap (λ w. w.heard) (left kept) ∙ ap (λ (o : Option (List ℕ)). heard_delivery o r old.heard) (sym is)
+
+      go : (r : Received) → Came (delivered_by delivery) d r → IsHeard (fails (answers.Deliver r)) theirs (calls.Deliver delivery) (answers.Deliver r) old.heard new.heard
+      go receives.Failed left = tt
+      go receives.Taken left = heard receives.Taken (λ failed. cc) left
+      go (receives.Dropped reason) left = heard (receives.Dropped reason) (λ failed. cc) left
+      go (receives.Closed error) left = heard (receives.Closed error) (λ failed. cc) left
+
+  -- bytes that don't open
+  pub injection_heard : (injection : Injection) (arrival : Arrival) (d : List ℕ) (r : Received) → injection.bytes ≡ d → would_open p old.end d ≡ false → (r ≡ receives.Failed → TakesFrames (received p old.end arrival d).answer) → Came arrival d r
+      → IsHeard false [] (calls.Inject injection) (answers.Inject r) old.heard new.heard
+  injection_heard injection arrival d r bytes none takes left =
+      ap (λ w. w.heard) (left (λ failed. received_drops old.end.closing.state p old.end arrival d none (takes failed)))
+      ∙ ap (λ (ds : List ℕ). heard_datagram ds r old.heard) (sym bytes)

@@ -36,10 +36,13 @@ use Rattle.quic_machine.specs.Control.{with_app_limited}
 use Rattle.quic_machine.specs.Poll.{Polled, gives_datagram, datagram_of, datagram_size, asking, paid_if, tracked, goes, sends, polled_if, polled_in, polled}
 use Rattle.quic_machine.specs.Control.{Control, after_told}
 use Rattle.quic_machine.specs.FrameCases.{Settling, losses_keep, named, ack_taken, acked_keeps, message_leaves, by_received}
+use Rattle.quic_machine.specs.Steps as steps
 use Rattle.quic_machine.specs.LeaveCases.{by_expired}
 use Rattle.quic_machine.specs.PollCases.{ready_at, ready_leaves, draft_at, may_leave_at, composes, by_poll_to}
-use Rattle.quic_machine.specs.CallCases.{is_poll, by_plain_call}
-use Rattle.quic_machine.specs.Machine.{World, Policies, IsAnswer, IsDelivered, injected_if, IsLeft, IsTold, IsStep, after_call, after_delivered, after_injected_if, tells, told_delivered, gives, fails, changed, policy_at, end_at, end_met, reads_window, control_at, given_by}
+use Rattle.quic_machine.specs.CallCases.{Plain, is_poll, by_plain_call}
+use Rattle.quic_machine.specs.CallCases as cases
+use Rattle.quic_machine.specs.Timeouts.{TimedOut, timed_out, timed_out_in}
+use Rattle.quic_machine.specs.Machine.{World, Policies, IsAnswer, IsDelivered, injected_if, IsLeft, IsTold, IsStep, after_call, after_delivered, after_injected_if, tells, told_delivered, gives, fails, changed, policy_at, end_at, end_met, reads_window, control_at, heard_at, given_by}
 use Rattle.quic_machine.specs.Lacking.{GivesOrHasFailed, TakesFrames, MovesRecord, DeliveryTakes, LacksWhere}
 use Rattle.quic_connection_core.specs.Drawn.{after_words}
 use Rattle.quic_connection_core.specs.Given.{given_bytes}
@@ -55,10 +58,12 @@ abbrev Quiet : End → End → Type 0
 Quiet e f = (f.filter ≡ e.filter) × (f.closing.state ≢ states.Failed → e.closing.state ≢ states.Failed)
 
 settling : (e : End) → Settling (Quiet e)
-settling e = record { known = λ n x q. q; reset = λ id x q. q; acked = λ m x q. q; lost = λ m x q. q; again = λ c x q. q; searched = λ d x q. q; shortens = λ most x q. q; tracked = λ t x q. q; measured = λ r first x q. q; marked = λ m marking x q. q }
+settling e (steps.known n) x q = q
+settling e s x q = q
 
 filter_settling : (e : End) → Settling (λ (f : End). f.filter ≡ e.filter)
-filter_settling e = record { known = λ n x q. q; reset = λ id x q. q; acked = λ m x q. q; lost = λ m x q. q; again = λ c x q. q; searched = λ d x q. q; shortens = λ most x q. q; tracked = λ t x q. q; measured = λ r first x q. q; marked = λ m marking x q. q }
+filter_settling e (steps.known n) x q = q
+filter_settling e s x q = q
 
 filter_ack : (b : Bool) (a : AckValue) (e x : End) → x.filter ≡ e.filter → (ack_taken b a x).end.filter ≡ e.filter
 filter_ack true a e x q = q
@@ -88,20 +93,16 @@ failed_received p e arrival d = go e.closing.state refl
     go states.Drained is kept = λ failed. (let no : states.Drained ≡ states.Failed = sym is ∙ failed in cc)
 
 quiet_call : (p : Policy) (e : End) (theirs : List (List ℕ)) (call : Call) (a : Answer) → is_poll call ≡ false → Quiet e (after_call p e theirs call a)
-quiet_call p e theirs call a other = by_plain_call p e theirs (Quiet e) call a (record {
-  same = same;
-  on_streams = λ t. same;
-  on_messages = λ m. same;
-  pings = same;
-  heard = λ path is. same;
-  times = λ now expiry is. by_expired e now (Quiet e) (λ pending tracking timers runs packets. same) (λ pending timers runs. losses_keep (Quiet e) (settling e) (with_closing e (ticked e.closing now)) same) expiry;
-  polls = λ now is. cc;
-  hears = λ arrival d is. (filter_received p e arrival d, failed_received p e arrival d);
-  tells = λ told. same;
-})
+quiet_call p e theirs call a other = by_plain_call p e theirs (Quiet e) call a keep
   where
     same : Quiet e e
     same = (refl, λ kept. kept)
+
+    keep : Plain p e call (Quiet e)
+    keep (cases.times now expiry) may = by_expired e now (Quiet e) (λ pending tracking timers runs packets. same) (λ pending timers runs. losses_keep (Quiet e) (settling e) (with_closing e (ticked e.closing now)) same) expiry
+    keep (cases.polls now) is = cc
+    keep (cases.hears arrival d) may = (filter_received p e arrival d, failed_received p e arrival d)
+    keep c may = same
 
 -- nor does it read the window
 reads_no_window : (control : Control) (call : Call) (e : End) → is_poll call ≡ false → reads_window control call e ≡ e
@@ -148,7 +149,7 @@ poll_draws p e now = by_poll_to p e now (λ x. e.filter.drawn ≤ x.end.filter.d
   silent = omega arith;
   failed = omega arith;
   nothing = λ is_open none. (let same = ap (λ (f : Filter). f.drawn) (ready_filter e now) in omega arith);
-  used_up = let same = ap (λ (f : Filter). f.drawn) (ready_filter e now) in omega arith;
+  closes = let same = ap (λ (f : Filter). f.drawn) (ready_filter e now) in omega arith;
   gives = λ is_open can some. (let d = draft_at e now in
       let same = ap (λ (f : Filter). f.drawn) (draft_filter e now) in
       let paid = ap (λ (f : Filter). f.drawn) (paid_filter (asking d.frames) (with_number_given (p.words d.end.filter.drawn) (tracked d)) (datagram_size d)) in
@@ -196,7 +197,7 @@ one_given p e now t is = by_poll_to p e now (λ (x : Polled). x.answer ≡ Ok (S
   silent = λ i. cc;
   failed = λ i. cc;
   nothing = λ is_open none i. cc;
-  used_up = λ i. cc;
+  closes = λ i. cc;
   gives = λ is_open can some i. refl;
 }) is
 
@@ -309,9 +310,20 @@ module _ (p : Policy) (words : ℕ → ℕ) (e : End) (same : e.closing.state �
   after_injected_with true i = refl
   after_injected_with false i = ap (λ (x : Outcome). x.end) (received_with p words e (injected_by i) i.bytes)
 
+  -- a moment asks for no words
+  timed_with : (now : ℕ) → timed_out other e now ≡ timed_out p e now
+  timed_with now = go e.closing.state
+    where
+      go : (s : State) → timed_out_in s other e now ≡ timed_out_in s p e now
+      go states.Open = refl
+      go states.Closing = refl
+      go states.Drained = refl
+      go states.Failed = refl
+
   -- any call
   answer_with : (theirs : List (List ℕ)) (call : Call) (a : Answer) → IsAnswer p e theirs call a → IsAnswer other e theirs call a
   answer_with theirs (calls.Poll now) a h = subst (λ (x : Polled). (a ≡ answers.Poll x.answer) ⊎ (a ≡ answers.Poll (Err (record {})))) (sym (polled_with p words e now same)) h
+  answer_with theirs (calls.Timeout now) a h = subst (λ (x : TimedOut). (a ≡ answers.Timeout x.answer) ⊎ (a ≡ answers.Timeout (Err (record {})))) (sym (timed_with now)) h
   answer_with theirs (calls.Deliver delivery) a h = delivered_with delivery (slice_get theirs delivery.index) a h
   answer_with theirs (calls.Inject injection) a h =
       h
@@ -321,6 +333,7 @@ module _ (p : Policy) (words : ℕ → ℕ) (e : End) (same : e.closing.state �
 
   after_with : (theirs : List (List ℕ)) (call : Call) (a : Answer) → after_call other e theirs call a ≡ after_call p e theirs call a
   after_with theirs (calls.Poll now) a = ap (λ (x : Polled). x.end) (polled_with p words e now same)
+  after_with theirs (calls.Timeout now) a = ap (λ (x : TimedOut). x.end) (timed_with now)
   after_with theirs (calls.Deliver delivery) a = after_delivered_with delivery (slice_get theirs delivery.index)
   after_with theirs (calls.Inject injection) a =
       ap (λ (b : Bool). after_injected_if b other e injection) (opens_with p words e injection.bytes)
@@ -370,7 +383,8 @@ step_as k p w event a next s step = record {
   answer = subst (λ (q : Policy). IsAnswer q met theirs event.call a) (sym s.keys) (answer_with one words met same theirs event.call a step.answer);
   end = subst (λ (q : Policy). IsLeft (fails a) q control e theirs event.call a (end_at event.side next)) (sym s.keys) (left_with one words control e theirs event.call same (fails a) a (end_at event.side next) step.end);
   control = subst (λ (q : Policy). IsTold (fails a) q control e theirs event.call (control_at event.side next)) (sym s.keys) (control_with one words control e theirs event.call same (fails a) (control_at event.side next) step.control);
-  others = step.others ∙ ap (λ (ds : List (List ℕ)). changed event.side w (end_at event.side next) ds (control_at event.side next)) (sym (ap (λ (q : Policy). gives q met event.call a) s.keys ∙ gives_with one words met same event.call a));
+  heard = step.heard;
+  others = step.others ∙ ap (λ (ds : List (List ℕ)). changed event.side w (end_at event.side next) ds (control_at event.side next) (heard_at event.side next)) (sym (ap (λ (q : Policy). gives q met event.call a) s.keys ∙ gives_with one words met same event.call a));
   lacking = subst (λ (q : Policy). LacksWhere q met theirs event.call a) (sym s.keys) (lacks_with one words met same theirs event.call a step.lacking);
 }
   where

@@ -22,7 +22,7 @@ use Rattle.quic_connection.specs.declared.running.Ends.{Ends}
 use Rattle.quic_connection.specs.declared.running.Given.{Given}
 use Rattle.quic_connection.specs.declared.running.Outcome.{Outcome}
 
--- both ends, whose controllers show these windows, and what each has given
+-- both ends, whose controllers show these windows, what each has given, and what it counted
 abbrev pub world_of : {H K R C : Type 0} → (C → Control) → Ends H K R C → Given → World
 world_of windows ends given = record {
   client = ends.client.end;
@@ -31,6 +31,8 @@ world_of windows ends given = record {
   from_server = given.server.items;
   client_control = windows ends.client.control;
   server_control = windows ends.server.control;
+  client_heard = ends.client.heard;
+  server_heard = ends.server.heard;
 }
 
 -- both ends, of which neither has given anything
@@ -42,6 +44,8 @@ first_world windows ends = record {
   from_server = [];
   client_control = windows ends.client.control;
   server_control = windows ends.server.control;
+  client_heard = ends.client.heard;
+  server_heard = ends.server.heard;
 }
 
 -- what the keys of both ends do, and which words their random sources answer

@@ -5,6 +5,7 @@ ghost use Rattle.quic_parameters.specs.ParametersRead.{parameters_at};
 ghost use Rattle.quic_config.specs.Transport.{parameters_of, first_mtu, IsInRange};
 ghost use Rattle.quic_machine.specs.Policy.{KeysCanOpen};
 ghost use Rattle.quic_machine.specs.End.{MadeFrom, refusal_of};
+ghost use Rattle.quic_machine.specs.Heard.{nothing_heard};
 ghost use Rattle.quic_machine.specs.Start.{AreStarted, AreControlled, AreKeys};
 ghost use Rattle.quic_machine.specs.declared.answers.ConfigError.TheVariants as config_errors;
 ghost use Rattle.quic_headline.specs.Rest.{HaveRoom};
@@ -75,6 +76,7 @@ fn end_for<
     ensures roomy { IfOk result (λ c. IsRoomy C.size_of C.window_of c.control (first_mtu c.end.transport)) }
     ensures keys { IfOk result (λ c. c.keys ≡ own.keys) }
     ensures random { IfOk result (λ c. R.stream c.random ≡ after_words 1 (R.stream own.random)) }
+    ensures heard { IfOk result (λ c. c.heard ≡ nothing_heard) }
     ensures refusal { IfErr result (λ e.
         Some e ≡ refusal_of own.config.settings (C.window_of (controller_for F.built own.config now)) (parameters_at peer_parameters.entry.now) own.id peer_id) }
     ensures lawful { OnOk result (
@@ -138,6 +140,8 @@ impl<H: HeaderKey + Drop, K: PacketKey + Drop, R: Rng + Drop, C: Controller> End
             R.stream ends.client.random ≡ after_words 1 (R.stream client.random)) }
         ensures server_random { IfOk result (λ ends.
             R.stream ends.server.random ≡ after_words 1 (R.stream server.random)) }
+        ensures client_heard { IfOk result (λ ends. ends.client.heard ≡ nothing_heard) }
+        ensures server_heard { IfOk result (λ ends. ends.server.heard ≡ nothing_heard) }
         ensures refusal { IfErr result (λ e.
             e ≢ config_errors.Memory
             → IsRefused e client.config.settings server.config.settings

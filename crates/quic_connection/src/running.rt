@@ -2,14 +2,16 @@
 ghost use Rattle.std.specs.Prelude.{◌≡◌, ◌++◌, [], length, ◌≤◌, ◌<◌, vec_len, vec_capacity, slice_get, IsSome, IfOk, OnErr, true, false};
 ghost use Rattle.quic_wire_core.specs.StreamId.{other_side};
 ghost use Rattle.quic_machine.specs.End.{policy_of, with_end};
-ghost use Rattle.quic_machine.specs.Machine.{Policies, IsAnswer, reads_window, IsLeft, IsTold, fails, gives, given_by, IsStep, view_of, end_view, Follows};
+ghost use Rattle.quic_machine.specs.Machine.{Policies, IsAnswer, reads_window, IsLeft, IsTold, IsHeard, fails, gives, given_by, IsStep, view_of, end_view, Follows};
 ghost use Rattle.quic_machine.specs.CallCases.{is_poll};
 ghost use Rattle.quic_machine.specs.Lacking.{LacksWhere, TakesOfItsOwn};
 ghost use Rattle.quic_machine.specs.Start.{AreStarted};
 ghost use Rattle.quic_time.specs.Timers.{each_timer};
 ghost use Rattle.quic_headline.specs.Waited.{EachWaited};
+ghost use Rattle.quic_headline.specs.Begins.{WaitingBegins};
 ghost use Rattle.quic_headline.specs.Queue.{MessagesGo, MessagesGoInOrder};
 ghost use Rattle.quic_headline.specs.Telling.{ControllersAreTold};
+ghost use Rattle.quic_headline.specs.Spread.{PacerIsOfHistory};
 ghost use Rattle.quic_headline.specs.Causes.{NoBlame, TooManyPieces, NumberLimit, TakenOrTooMany};
 ghost use Rattle.quic_headline.specs.Headline.{CodeIsSmall, AreCodes, OrderedPrefix, Slices, Once, EndAfterAll, BlockedOnlyWithoutBytes, AcceptsAll, FinishedMeansArrived, FinishedIsTold, AcknowledgedWereTaken, NamesWereTaken, OpensExactly, NewestOpens, LossTimersFollow, AckTimersFollow, NumbersRise};
 ghost use Rattle.quic_headline.specs.Amounts.{WritesTakeWhatLimitsAllow};
@@ -24,6 +26,7 @@ ghost use Rattle.quic_headline.specs.Rest.{DeliveredAtRest, NothingOwedAtRest};
 ghost use Rattle.quic_headline.specs.AcksDue.{AcksAreDue};
 ghost use Rattle.quic_headline.specs.Resets.{ResetsAreTold};
 ghost use Rattle.quic_headline.specs.Ids.{IdsAreNew, AcceptedWereOpened};
+ghost use Rattle.quic_headline.specs.ConnectionIds.{SentToFirstId, NoUnknownId, FirstIdStays};
 ghost use Rattle.quic_headline.specs.Reasons.{ClosedHasAReason};
 ghost use Rattle.quic_headline.specs.Views.{ViewsTell};
 ghost use Rattle.quic_headline.specs.Events.{MessagesAreTold, OpeningsAreTold, ReadablesAreTold};
@@ -185,6 +188,8 @@ pub fn call_at<H: HeaderKey + Drop, K: PacketKey + Drop, R: Rng + Drop, C: Contr
         IsTold (fails a) (policy_of H.protection K.aead (words_of R.stream) end.old)
         (windows_of C.steps C.window_of end.old.control) end.old.end [] call.now
         (windows_of C.steps C.window_of end.new.control)) }
+    ensures heard { IfOk result (λ a.
+        IsHeard (fails a) [] call.now a end.old.heard end.new.heard) }
     ensures appended { IfOk result (λ a.
         given.new.items
         ≡ given.old.items ++ gives (policy_of H.protection K.aead (words_of R.stream) end.old)
@@ -219,6 +224,8 @@ fn at_end<H: HeaderKey + Drop, K: PacketKey + Drop, R: Rng + Drop, C: Controller
         IsTold (fails a) (policy_of H.protection K.aead (words_of R.stream) end.old)
         (windows_of C.steps C.window_of end.old.control) end.old.end theirs.now call.now
         (windows_of C.steps C.window_of end.new.control)) }
+    ensures heard { IfOk result (λ a.
+        IsHeard (fails a) theirs.now call.now a end.old.heard end.new.heard) }
     ensures given { IfOk result (λ a.
         mine.new.items
         ≡ mine.old.items ++ gives (policy_of H.protection K.aead (words_of R.stream) end.old)
@@ -283,6 +290,8 @@ fn send_at<H: HeaderKey + Drop, K: PacketKey + Drop, R: Rng + Drop, C: Controlle
         IsTold (fails a) (policy_of H.protection K.aead (words_of R.stream) end.old)
         (windows_of C.steps C.window_of end.old.control) end.old.end [] (Call.Send message.now makes_room)
         (windows_of C.steps C.window_of end.new.control)) }
+    ensures heard { IfOk result (λ a.
+        IsHeard (fails a) [] (Call.Send message.now makes_room) a end.old.heard end.new.heard) }
     ensures given { IfOk result (λ a.
         gives (policy_of H.protection K.aead (words_of R.stream) end.old)
         (reads_window (windows_of C.steps C.window_of end.old.control) (Call.Send message.now makes_room) end.old.end) (Call.Send message.now makes_room) a ≡ []) }
@@ -309,6 +318,7 @@ fn recv_at<H: HeaderKey + Drop, K: PacketKey + Drop, R: Rng + Drop, C: Controlle
     ensures control { IsTold (fails result) (policy_of H.protection K.aead (words_of R.stream) end.old)
         (windows_of C.steps C.window_of end.old.control) end.old.end [] Call.Recv
         (windows_of C.steps C.window_of end.new.control) }
+    ensures heard { IsHeard (fails result) [] Call.Recv result end.old.heard end.new.heard }
     ensures given { gives (policy_of H.protection K.aead (words_of R.stream) end.old)
         (reads_window (windows_of C.steps C.window_of end.old.control) Call.Recv end.old.end) Call.Recv result
         ≡ [] }
@@ -333,6 +343,7 @@ fn ping_at<H: HeaderKey + Drop, K: PacketKey + Drop, R: Rng + Drop, C: Controlle
     ensures control { IsTold (fails result) (policy_of H.protection K.aead (words_of R.stream) end.old)
         (windows_of C.steps C.window_of end.old.control) end.old.end [] Call.Ping
         (windows_of C.steps C.window_of end.new.control) }
+    ensures heard { IsHeard (fails result) [] Call.Ping result end.old.heard end.new.heard }
     ensures given { gives (policy_of H.protection K.aead (words_of R.stream) end.old)
         (reads_window (windows_of C.steps C.window_of end.old.control) Call.Ping end.old.end) Call.Ping result
         ≡ [] }
@@ -362,6 +373,8 @@ fn poll_at<H: HeaderKey + Drop, K: PacketKey + Drop, R: Rng + Drop, C: Controlle
         IsTold (fails a) (policy_of H.protection K.aead (words_of R.stream) end.old)
         (windows_of C.steps C.window_of end.old.control) end.old.end [] (Call.Poll now)
         (windows_of C.steps C.window_of end.new.control)) }
+    ensures heard { IfOk result (λ a.
+        IsHeard (fails a) [] (Call.Poll now) a end.old.heard end.new.heard) }
     ensures given { IfOk result (λ a.
         mine.new.items
         ≡ mine.old.items ++ gives (policy_of H.protection K.aead (words_of R.stream) end.old)
@@ -402,6 +415,7 @@ fn timeout_at<H: HeaderKey + Drop, K: PacketKey + Drop, R: Rng + Drop, C: Contro
     ensures control { IsTold (fails result) (policy_of H.protection K.aead (words_of R.stream) end.old)
         (windows_of C.steps C.window_of end.old.control) end.old.end [] (Call.Timeout now)
         (windows_of C.steps C.window_of end.new.control) }
+    ensures heard { IsHeard (fails result) [] (Call.Timeout now) result end.old.heard end.new.heard }
     ensures given { gives (policy_of H.protection K.aead (words_of R.stream) end.old)
         (reads_window (windows_of C.steps C.window_of end.old.control) (Call.Timeout now) end.old.end) (Call.Timeout now) result
         ≡ [] }
@@ -430,6 +444,8 @@ fn deliver_at<H: HeaderKey + Drop, K: PacketKey + Drop, R: Rng + Drop, C: Contro
         IsTold (fails a) (policy_of H.protection K.aead (words_of R.stream) end.old)
         (windows_of C.steps C.window_of end.old.control) end.old.end theirs.now (Call.Deliver delivery.entry.now)
         (windows_of C.steps C.window_of end.new.control)) }
+    ensures heard { IfOk result (λ a.
+        IsHeard (fails a) theirs.now (Call.Deliver delivery.entry.now) a end.old.heard end.new.heard) }
     ensures keys { KeepsKeys end.old end.new }
     ensures err { OnErr result (end.new ≡ end.old) }
     ensures own { OnErr result (IsSome (slice_get theirs.now delivery.entry.now.index)) }
@@ -459,6 +475,8 @@ fn inject_at<H: HeaderKey + Drop, K: PacketKey + Drop, R: Rng + Drop, C: Control
         IsTold (fails a) (policy_of H.protection K.aead (words_of R.stream) end.old)
         (windows_of C.steps C.window_of end.old.control) end.old.end [] (Call.Inject injection.entry.now)
         (windows_of C.steps C.window_of end.new.control)) }
+    ensures heard { IfOk result (λ a.
+        IsHeard (fails a) [] (Call.Inject injection.entry.now) a end.old.heard end.new.heard) }
     ensures keys { KeepsKeys end.old end.new }
     ensures err { OnErr result (end.new ≡ end.old) }
 {
@@ -530,7 +548,8 @@ fn view<H: HeaderKey + Drop, K: PacketKey + Drop, R: Rng + Drop, C: Controller>(
 /// came names only what the other end took, and packet numbers rise, one or two at a time. No end
 /// closes but for more than 2048 runs of a stream that wait to be read, or for used-up numbers, and
 /// each packet of the other end that comes is taken whole, but for such runs; each datagram with a
-/// number above all that the other end took opens there as it was sent. No stream is told to be
+/// number above all that the other end took opens there as it was sent; each goes to the id with
+/// which the other end began, and none is dropped for its id. No stream is told to be
 /// finished twice, and where an open end has nothing left to tell, each was that is wholly
 /// acknowledged and wasn't reset, and no other; all that was written waits to go, is under way, or
 /// arrived, and so does each limit that was said; a limit that grew waits to be said; a write at an
@@ -539,16 +558,16 @@ fn view<H: HeaderKey + Drop, K: PacketKey + Drop, R: Rng + Drop, C: Controller>(
 /// messages, unless the congestion window is full or the pacer names a later moment, to which its
 /// timer is set, and gives nothing that these hold back but probes; no datagram has more bytes than
 /// the current size but an MTU probe, and that size grows only by one that was acknowledged; the
-/// window that a view shows is that of the controller behind all that it was told; and an open end
-/// tracks exactly the datagrams that it gave and that are neither acknowledged, nor lost by number
-/// or by time, nor forgotten, shows its loss timer set to the moment that is due for them and its
-/// own round trips, and not set once all that ask were named, and its timer of acknowledgements to
-/// one that is due for a packet that it took and hasn't acknowledged since. An end rests where its
-/// last call was a poll that gave nothing, and it is open, its path validated, and none of its
-/// timers of losses, of acknowledgements and of the pacer set: then all that it wrote, on streams
-/// that it didn't reset, has arrived, and it owes no acknowledgement, where the controllers keep
-/// their law and their windows hold two datagrams at first (`HaveRoom`), as those of [`Ends::new`]
-/// do.
+/// window that a view shows is that of the controller behind all that it was told; what the pacer
+/// holds follows from the polls up to there and the bytes that went; and an open end tracks exactly
+/// the datagrams that it gave and that are neither acknowledged, nor lost by number or by time, nor
+/// forgotten, shows its loss timer set to the moment that is due for them and its own round trips,
+/// and not set once all that ask were named, and its timer of acknowledgements to one that is due
+/// for a packet that it took and hasn't acknowledged since. An end rests where its last call was a
+/// poll that gave nothing, and it is open, its path validated, and none of its timers of losses, of
+/// acknowledgements and of the pacer set: then all that it wrote, on streams that it didn't reset,
+/// has arrived, and it owes no acknowledgement, where the controllers keep their law and their
+/// windows hold two datagrams at first (`HaveRoom`), as those of [`Ends::new`] do.
 ///
 /// Nor is a stream opened or accepted twice, or accepted where no frame opened it; a reset is told
 /// only with the code that the other end's application gave; each view shows why an end isn't open,
@@ -559,8 +578,8 @@ fn view<H: HeaderKey + Drop, K: PacketKey + Drop, R: Rng + Drop, C: Controller>(
 /// began so has its timer of acknowledgements set only where a packet that asks came since the last
 /// acknowledgement went. And the run less any of its injections, and any deliveries that an end
 /// dropped while it wasn't closing, is a run again, with the same answers, views and datagrams, and
-/// the same ends: what doesn't open, and what came before, changes nothing (RFC 9000, sections 5.2,
-/// 12.2 and 12.3).
+/// the same ends but for what these count: what doesn't open, and what came before, changes nothing
+/// else (RFC 9000, sections 5.2, 12.2 and 12.3).
 pub fn run<H: HeaderKey + Drop, K: PacketKey + Drop, R: Rng + Drop, C: Controller>(
     alloc: Global,
     ends: Ends<H, K, R, C>,
@@ -640,6 +659,11 @@ pub fn run<H: HeaderKey + Drop, K: PacketKey + Drop, R: Rng + Drop, C: Controlle
     ensures isolated_by_lists { OnRun H.protection K.aead R.stream (windows_of C.steps C.window_of) ends events.now result
         (λ r end. AreStarted r.start → IsolatedByLists r) }
     ensures numbers_rise { OnHonest H.protection K.aead R.stream (windows_of C.steps C.window_of) ends events.now result NumbersRise }
+    ensures sent_to_first_id { OnHonest H.protection K.aead R.stream (windows_of C.steps C.window_of) ends events.now result
+        SentToFirstId }
+    ensures no_unknown_id { OnHonest H.protection K.aead R.stream (windows_of C.steps C.window_of) ends events.now result NoUnknownId }
+    ensures first_id_stays { OnHonest H.protection K.aead R.stream (windows_of C.steps C.window_of) ends events.now result
+        FirstIdStays }
     ensures no_blame { OnHonest H.protection K.aead R.stream (windows_of C.steps C.window_of) ends events.now result NoBlame }
     ensures closed_has_a_reason { OnHonest H.protection K.aead R.stream (windows_of C.steps C.window_of) ends events.now result
         ClosedHasAReason }
@@ -676,6 +700,10 @@ pub fn run<H: HeaderKey + Drop, K: PacketKey + Drop, R: Rng + Drop, C: Controlle
         MessagesGoInOrder }
     ensures each_waited { OnHonest H.protection K.aead R.stream (windows_of C.steps C.window_of) ends events.now result
         EachWaited }
+    ensures waiting_begins { OnHonest H.protection K.aead R.stream (windows_of C.steps C.window_of) ends events.now result
+        WaitingBegins }
+    ensures pacer_is_of_history { OnHonest H.protection K.aead R.stream (windows_of C.steps C.window_of) ends events.now result
+        PacerIsOfHistory }
     ensures messages_are_told { OnHonest H.protection K.aead R.stream (windows_of C.steps C.window_of) ends events.now result
         MessagesAreTold }
     ensures openings_are_told { OnHonest H.protection K.aead R.stream (windows_of C.steps C.window_of) ends events.now result
@@ -724,6 +752,9 @@ pub fn run<H: HeaderKey + Drop, K: PacketKey + Drop, R: Rng + Drop, C: Controlle
     headline::isolated_by_answers();
     headline::isolated_by_lists();
     headline::numbers_rise();
+    headline::sent_to_first_id();
+    headline::no_unknown_id();
+    headline::first_id_stays();
     headline::no_blame();
     headline::closed_has_a_reason();
     headline::too_many_pieces();
@@ -743,6 +774,8 @@ pub fn run<H: HeaderKey + Drop, K: PacketKey + Drop, R: Rng + Drop, C: Controlle
     headline::messages_go();
     headline::messages_go_in_order();
     headline::each_waited();
+    headline::waiting_begins();
+    headline::pacer_is_of_history();
     headline::messages_are_told();
     headline::openings_are_told();
     headline::readables_are_told();

@@ -5,6 +5,7 @@ ghost use Rattle.quic_time.specs.Timers.{earlier};
 ghost use Rattle.quic_machine.specs.End.{End};
 ghost use Rattle.quic_machine.specs.Machine.{Policies, given_by, gave};
 ghost use Rattle.quic_machine.specs.Control.{Control};
+ghost use Rattle.quic_machine.specs.Heard.{Heard};
 ghost use Rattle.quic_connection_core.specs.Telling.{windows_of};
 ghost use Rattle.quic_connection.specs.Ends.{world_of, AreOf, GoOn};
 ghost use Rattle.quic_connection.specs.Settled.{Talks, Leads, asks, quiet, polled_on, IsPolled, IsHandled, IsHalfHandled, IsHalfPolled, IsCutOff, AreOpen, AreAtRest, HasClosed, Settles, end_wakes, wakes};
@@ -262,13 +263,15 @@ fn time_out<H: HeaderKey + Drop, K: PacketKey + Drop, R: Rng + Drop, C: Controll
 
 /// How many datagrams an end gave.
 fn count_given(given: &Given, side: Side) -> usize
-    ensures { (client server : End) (of_client of_server : Control) → result ≡ length (given_by side (record {
+    ensures { (client server : End) (of_client of_server : Control) (client_heard server_heard : Heard) → result ≡ length (given_by side (record {
       client = client;
       server = server;
       from_client = given.now.client.items;
       from_server = given.now.server.items;
       client_control = of_client;
       server_control = of_server;
+      client_heard = client_heard;
+      server_heard = server_heard;
     })) }
 {
     match side {

@@ -115,25 +115,25 @@ ping_goes false d = rw (append-nil d.frames, append-nil d.bytes) refl
 pub asked_behind : (d : Draft) → with_asking d ≡ behind d (asked d.end (length d.bytes))
 unfolding asked content_behind pinged_draft
 asked_behind d =
-    let b : Bool = d.end.waiting.ping in
+    let b : Bool = d.end.waiting.signals.ping in
     let long : length (d.bytes ++ ping_bytes b) ≡ length d.bytes + length (ping_bytes b) = length-append d.bytes (ping_bytes b) in
     ap (λ (x : Draft). with_stream_frames (with_message_frames (with_control_frames x))) (ping_goes b d)
     ∙ content_goes (pinged_draft b d)
     ∙ ap (λ (k : ℕ). content_behind (pinged_draft b d) (content_at (end_after_ping_if b d.end) k)) long
     ∙ together (content_at (end_after_ping_if b d.end) (length d.bytes + length (ping_bytes b)))
   where
-    together : (a : Content) → content_behind (pinged_draft d.end.waiting.ping d) a
-        ≡ behind d (record { frames = ping_list d.end.waiting.ping ++ a.frames; bytes = ping_bytes d.end.waiting.ping ++ a.bytes; least = 0; end = with_content (end_after_ping_if d.end.waiting.ping d.end) a })
+    together : (a : Content) → content_behind (pinged_draft d.end.waiting.signals.ping d) a
+        ≡ behind d (record { frames = ping_list d.end.waiting.signals.ping ++ a.frames; bytes = ping_bytes d.end.waiting.signals.ping ++ a.bytes; least = 0; end = with_content (end_after_ping_if d.end.waiting.signals.ping d.end) a })
     together a =
-        let fs = append_assoc d.frames (ping_list d.end.waiting.ping) a.frames in
-        let bs = append_assoc d.bytes (ping_bytes d.end.waiting.ping) a.bytes in
+        let fs = append_assoc d.frames (ping_list d.end.waiting.signals.ping) a.frames in
+        let bs = append_assoc d.bytes (ping_bytes d.end.waiting.signals.ping) a.bytes in
         rw (fs, bs) refl
 
 -- ---- what it says
 
 -- PING leaves as much room in all
 pub pinged_room : (e : End) → frame_room (pinged e) ≡ frame_room e
-pinged_room e = go e.waiting.ping
+pinged_room e = go e.waiting.signals.ping
   where
     go : (b : Bool) → frame_room (end_after_ping_if b e) ≡ frame_room e
     go true = refl
@@ -146,7 +146,7 @@ asked_room e used = pinged_room e
 
 -- and as many numbers are given
 pub pinged_numbers : (e : End) → (pinged e).numbers ≡ e.numbers
-pinged_numbers e = go e.waiting.ping
+pinged_numbers e = go e.waiting.signals.ping
   where
     go : (b : Bool) → (end_after_ping_if b e).numbers ≡ e.numbers
     go true = refl
@@ -163,40 +163,40 @@ ping_marked false = inr (refl, refl)
 pub asked_marked : (e : End) (used : ℕ) → Marked (asked e used).frames (asked e used).bytes
 unfolding asked
 asked_marked e used =
-    let a : Content = content_at (pinged e) (used + length (ping_bytes e.waiting.ping)) in
-    marked_both (ping_list e.waiting.ping) a.frames (ping_bytes e.waiting.ping) a.bytes (ping_marked e.waiting.ping)
-    (content_marked (pinged e).transport.send_fairness (frame_room (pinged e)) (used + length (ping_bytes e.waiting.ping)) (pinged e).streams (pinged e).waiting.frames (pinged e).messages.queues.outgoing)
+    let a : Content = content_at (pinged e) (used + length (ping_bytes e.waiting.signals.ping)) in
+    marked_both (ping_list e.waiting.signals.ping) a.frames (ping_bytes e.waiting.signals.ping) a.bytes (ping_marked e.waiting.signals.ping)
+    (content_marked (pinged e).transport.send_fairness (frame_room (pinged e)) (used + length (ping_bytes e.waiting.signals.ping)) (pinged e).streams (pinged e).waiting.frames (pinged e).messages.queues.outgoing)
 
 -- PING carries nothing
 ping_carried : (b : Bool) (fs : List FrameValue) → carried_in (ping_list b ++ fs) ≡ carried_in fs
 ping_carried true fs = refl
 ping_carried false fs = refl
 
-pub asked_carried : (e : End) (used : ℕ) → carried_in (asked e used).frames ≡ carried_in (content_at (pinged e) (used + length (ping_bytes e.waiting.ping))).frames
+pub asked_carried : (e : End) (used : ℕ) → carried_in (asked e used).frames ≡ carried_in (content_at (pinged e) (used + length (ping_bytes e.waiting.signals.ping))).frames
 unfolding asked
-asked_carried e used = ping_carried e.waiting.ping (content_at (pinged e) (used + length (ping_bytes e.waiting.ping))).frames
+asked_carried e used = ping_carried e.waiting.signals.ping (content_at (pinged e) (used + length (ping_bytes e.waiting.signals.ping))).frames
 
 -- what asks names no number
 pub asked_names_none : (e : End) (used : ℕ) → acked_in (asked e used).frames ≡ None
 asked_names_none e used =
-    ap (λ (c : Carried). c.largest_acked) (asked_carried e used ∙ content_carried (pinged e).transport.send_fairness (frame_room (pinged e)) (used + length (ping_bytes e.waiting.ping)) (pinged e).streams (pinged e).waiting.frames (pinged e).messages.queues.outgoing)
+    ap (λ (c : Carried). c.largest_acked) (asked_carried e used ∙ content_carried (pinged e).transport.send_fairness (frame_room (pinged e)) (used + length (ping_bytes e.waiting.signals.ping)) (pinged e).streams (pinged e).waiting.frames (pinged e).messages.queues.outgoing)
 
 -- ---- PING went, and the others go behind it
 
-module _ (e x : End) (used behind_ping : ℕ) (left : x ≡ pinged e) (grown : behind_ping ≡ used + length (ping_bytes e.waiting.ping)) where
-  content_same : content_at x behind_ping ≡ content_at (pinged e) (used + length (ping_bytes e.waiting.ping))
+module _ (e x : End) (used behind_ping : ℕ) (left : x ≡ pinged e) (grown : behind_ping ≡ used + length (ping_bytes e.waiting.signals.ping)) where
+  content_same : content_at x behind_ping ≡ content_at (pinged e) (used + length (ping_bytes e.waiting.signals.ping))
   content_same = ap (λ (y : End). content_at y behind_ping) left ∙ ap (λ (k : ℕ). content_at (pinged e) k) grown
 
-  pub asked_written : (old mid new : List ℕ) → mid ≡ old ++ ping_bytes e.waiting.ping → new ≡ mid ++ (content_at x behind_ping).bytes → new ≡ old ++ (asked e used).bytes
+  pub asked_written : (old mid new : List ℕ) → mid ≡ old ++ ping_bytes e.waiting.signals.ping → new ≡ mid ++ (content_at x behind_ping).bytes → new ≡ old ++ (asked e used).bytes
   unfolding asked
   asked_written old mid new first second =
-      let a : Content = content_at (pinged e) (used + length (ping_bytes e.waiting.ping)) in
-      second ∙ ap (λ (b : Content). mid ++ b.bytes) content_same ∙ ap (λ (z : List ℕ). z ++ a.bytes) first ∙ append_assoc old (ping_bytes e.waiting.ping) a.bytes
+      let a : Content = content_at (pinged e) (used + length (ping_bytes e.waiting.signals.ping)) in
+      second ∙ ap (λ (b : Content). mid ++ b.bytes) content_same ∙ ap (λ (z : List ℕ). z ++ a.bytes) first ∙ append_assoc old (ping_bytes e.waiting.signals.ping) a.bytes
 
   pub asked_left : with_content x (content_at x behind_ping) ≡ (asked e used).end
   unfolding asked
   asked_left =
-      let a : Content = content_at (pinged e) (used + length (ping_bytes e.waiting.ping)) in
+      let a : Content = content_at (pinged e) (used + length (ping_bytes e.waiting.signals.ping)) in
       ap (λ (b : Content). with_content x b) content_same ∙ ap (λ (y : End). with_content y a) left
 
   pub asked_kept : (carried : Carried) → carried ≡ carried_in (content_at x behind_ping).frames → carried ≡ carried_in (asked e used).frames

@@ -23,3 +23,4 @@ mod Items
 mod Told
 mod Rooms
 pub mod Marks
+mod Counted

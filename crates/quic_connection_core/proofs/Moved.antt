@@ -9,6 +9,7 @@ use Rattle.quic_streams_state.specs.Waiting.{is_empty, can_send_stream_data}
 use Rattle.quic_recovery_core.specs.PendingAcks.{can_send}
 use Rattle.quic_spaces.specs.Records.{first_record}
 use Rattle.quic_machine.specs.Tracking.{TrackedPacket}
+use Rattle.quic_machine.specs.Parts.{signals_wait}
 use Rattle.quic_machine.specs.End.{End}
 use Rattle.quic_machine.specs.Poll.{record_moved, probe_filled, probe_if, probed, waits, message_waits, asks_to_go}
 
@@ -28,14 +29,14 @@ first_has s (q ∷ ps) p is = go (is_empty q.1.carried.retransmits s) refl is (f
 no_frames : (e : End) → waits e ≡ false → is_empty e.waiting.frames e.streams ≡ true
 no_frames e none =
     let asking = or_parts (can_send e.acknowledging) (asks_to_go e) none in
-    let beside = or_parts e.waiting.ping (not (is_empty e.waiting.frames e.streams) || (message_waits e || can_send_stream_data e.streams)) asking.1 in
+    let beside = or_parts (signals_wait e.waiting.signals) (not (is_empty e.waiting.frames e.streams) || (message_waits e || can_send_stream_data e.streams)) asking.1 in
     let frames = or_parts (not (is_empty e.waiting.frames e.streams)) (message_waits e || can_send_stream_data e.streams) beside.1 in
     not-false (is_empty e.waiting.frames e.streams) frames.0
 
-no_ping : (e : End) → waits e ≡ false → e.waiting.ping ≡ false
+no_ping : (e : End) → waits e ≡ false → e.waiting.signals.ping ≡ false
 no_ping e none =
     let asking = or_parts (can_send e.acknowledging) (asks_to_go e) none in
-    (or_parts e.waiting.ping (not (is_empty e.waiting.frames e.streams) || (message_waits e || can_send_stream_data e.streams)) asking.1).0
+    (or_parts (signals_wait e.waiting.signals) (not (is_empty e.waiting.frames e.streams) || (message_waits e || can_send_stream_data e.streams)) asking.1).0
 
 -- where nothing waits beside a probe, no probe does
 pub silent_probes : (e : End) → waits (probed e) ≡ false → (probed e).tracking.probes ≡ 0

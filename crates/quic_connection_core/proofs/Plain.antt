@@ -8,7 +8,6 @@ use Rattle.quic_packet.specs.Header.{header_bytes}
 use Rattle.quic_packet.specs.Keys.{Protection, Aead, KeepsLength}
 use Rattle.quic_packet.specs.Datagram.{protected, sent}
 use Rattle.quic_packet.proofs.Opening.{sealed_is_sent}
-use Rattle.quic_recovery_core.specs.PendingAcks.{can_send}
 use Rattle.quic_machine.specs.Ids.{Ids}
 use Rattle.quic_spaces.specs.Numbers.{Numbers, cut_against, can_number}
 use Rattle.quic_spaces.specs.Filter.{Filter, allocated, is_skipped}
@@ -17,13 +16,13 @@ use Rattle.quic_machine.specs.End.{End, number_of}
 use Rattle.quic_machine.specs.Tracking.{Carried, carried_in}
 use Rattle.quic_config.specs.Transport.{TransportSettings}
 use Rattle.quic_machine.specs.Parts.{Path, current_mtu}
-use Rattle.quic_machine.specs.Poll.{Draft, Leaving, whole, alone, probe, nothing, draft_left, least_left, most_of, number_width, overhead, least_size, zeros_behind, payload_of, datagram_of, datagram_size, asking, tracked}
-use Rattle.quic_machine.specs.DraftLaws.{left_least}
+use Rattle.quic_machine.specs.Poll.{Draft, Leaving, whole, alone, probe, closing, nothing, draft_left, least_left, most_of, number_width, overhead, least_size, zeros_behind, payload_of, datagram_of, datagram_size, asking, tracked}
+use Rattle.quic_machine.specs.DraftLaws.{MayGo, left_least}
 use Rattle.quic_connection_core.specs.Leaving.{least_of, beside, zeros_of}
 use Rattle.quic_connection_core.specs.Frames.{tracked_as}
 use Rattle.quic_machine.specs.PollCases.{composes_left}
 
-module _ (leaving : Leaving) (e : End) (due : leaving ≡ alone → can_send e.acknowledging ≡ true) where
+module _ (leaving : Leaving) (e : End) (due : MayGo leaving e) where
   -- what goes
   abbrev went : Draft
   went = draft_left leaving e
@@ -100,16 +99,19 @@ least_within leaving asks e = by (e.transport.pad_to_mtu && asks) leaving
     by true whole = omega arith
     by true alone = omega arith
     by true (probe size) = omega arith
+    by true (closing f) = omega arith
     by true (nothing held) = omega arith
     by false whole = omega arith
     by false alone = omega arith
     by false (probe size) = omega arith
+    by false (closing f) = omega arith
     by false (nothing held) = omega arith
 
 pub mtu_within : (leaving : Leaving) (e : End) → current_mtu e.path ≤ most_of leaving e
 mtu_within whole e = omega arith
 mtu_within alone e = omega arith
 mtu_within (probe size) e = omega arith
+mtu_within (closing f) e = omega arith
 mtu_within (nothing held) e = omega arith
 
 -- it is tracked as its parts say

@@ -15,9 +15,9 @@ use Rattle.quic_machine.specs.Tracking.{Tracking}
 use Rattle.quic_machine.specs.Closing.{ticked}
 use Rattle.quic_machine.specs.End.{End, ConnectionValue, with_end, with_closing, most_payload, policy_of, closed_by}
 use Rattle.quic_machine.specs.Control.{is_window_full, pacer_asked, Gated, lets, holds, with_pacing_timer}
-use Rattle.quic_machine.specs.Poll.{Polled, gives_nothing, gives_datagram, datagram_of, after_given, probed, asks_to_go, is_gated, gated, alone, probe, lazied_as, most_of, Ready, leaves, ready, goes, goes_as, draft_left, draft_of, rests, sends, polled_if, polled_in, polled, told_polled_in, told_polled, told_if, told_draft, waits, IsSilent}
+use Rattle.quic_machine.specs.Poll.{Polled, gives_nothing, gives_datagram, datagram_of, after_given, probed, asks_to_go, is_gated, gated, probe, most_of, Ready, leaves, ready, goes, goes_as, draft_left, draft_of, rests, sends, polled_if, polled_in, polled, told_polled_in, told_polled, told_if, told_draft, waits, IsSilent}
 use Rattle.quic_machine.specs.Poll as poll
-use Rattle.quic_machine.specs.DraftLaws.{MayLeave}
+use Rattle.quic_machine.specs.DraftLaws.{MayGo, MayLeave}
 use Rattle.quic_connection_core.specs.declared.connection.leaving.Leaving.{Leaving}
 use Rattle.quic_connection_core.specs.declared.connection.leaving.Leaving.TheVariants.{Whole, Alone, Probe}
 use Rattle.quic_connection_core.specs.Leaving.{leaving_of, Leaves, rested_if, rested, IsLooked}
@@ -63,7 +63,7 @@ pub same_policy : {H K R C : Type 0} (protection : H → Protection) (aead : K �
 same_policy protection aead words w e same = ap (λ (f : Filter). policy_of protection aead words (with_end w (record e { filter = f }))) same
 
 -- the next word is the first that it answers
-pub word_is : {R : Type 0} (words : R → ℕ → ℕ) (r : R) (l : poll.Leaving) (e : End) → (l ≡ alone → can_send e.acknowledging ≡ true) → words r ((draft_left l e).end.filter.drawn - e.filter.drawn) ≡ words r 0
+pub word_is : {R : Type 0} (words : R → ℕ → ℕ) (r : R) (l : poll.Leaving) (e : End) → MayGo l e → words r ((draft_left l e).end.filter.drawn - e.filter.drawn) ≡ words r 0
 word_is words r l e due = ap (λ (k : ℕ). words r k) (let same = ap (λ (f : Filter). f.drawn) (same_filter l e due) in let none : (draft_left l e).end.filter.drawn - e.filter.drawn ≡ 0 = omega (arith, same) in none)
 
 -- ---- an open end that is ready to give
@@ -73,11 +73,6 @@ goes_on : (l : Leaving) → goes_as (leaving_of l) ≡ true
 goes_on Whole = refl
 goes_on Alone = refl
 goes_on (Probe size) = refl
-
-due_as : (l : Leaving) (e : End) → MayLeave (leaving_of l) e → leaving_of l ≡ alone → can_send (lazied_as (leaving_of l) e).acknowledging ≡ true
-due_as Whole e may is = cc
-due_as Alone e may is = may is
-due_as (Probe size) e may is = cc
 
 -- a probe that goes has no less than the size of the path, and no more than a bound of the search
 ready_looked : (least most : ℕ) (e : End) (now size : ℕ) → IsSized least most e.path.discovery → (ready_at e now).leaving ≡ probe size → (current_mtu (ready_at e now).end.path ≤ size) × (size ≤ most)
@@ -146,8 +141,8 @@ module _ {H K R C : Type 0} (w z : ConnectionValue H K R C) (now : ℕ) (left : 
     some_is = ap (λ (x : ConnectionValue H K R C). record { leaving = leaving_of l; end = x.end }) some_left ∙ ap (λ (k : poll.Leaving). record G { leaving = k }) (sym leaves_so)
 
     -- where an ACK goes alone, it is due
-    pub some_due : leaving_of l ≡ alone → can_send (lazied_as (leaving_of l) z.end).acknowledging ≡ true
-    some_due = due_as l z.end (subst (λ (r : Ready). MayLeave r.leaving r.end) (sym some_is) (may_leave_at w.end now))
+    pub some_due : MayLeave (leaving_of l) z.end
+    some_due = subst (λ (r : Ready). MayLeave r.leaving r.end) (sym some_is) (may_leave_at w.end now)
 
     -- a probe has a size that a datagram may have
     pub some_looked : (most : ℕ) → most ≤ most_payload → IsSized 1200 most w.end.path.discovery → IsLooked l z.end

@@ -16,7 +16,7 @@ use Rattle.quic_machine.specs.Poll.{Draft, asking, datagram_size, told_draft}
 use Rattle.quic_machine.specs.Control.{last_sent, told_sent, told_packet, told_acks_ended}
 use Rattle.quic_machine.specs.Sizes.{search_acked, told_probe, told_packets}
 use Rattle.quic_machine.specs.Acked.{without_known, reset_acked, resets_acked, stream_acked, streams_acked, carried_acked, packet_acked, packets_acked, stream_lost, streams_lost, carried_lost, packets_lost, measured, sampled, without_acked, told_detected, told_of_losses, told_named, told_seen, told_marks, losses_taken, marks_seen, after_named}
-use Rattle.quic_connection_core.specs.Telling.{telling, KeepsKeys}
+use Rattle.quic_connection_core.specs.Telling.{telling, KeepsRest}
 use Rattle.quic_connection_core.specs.Tracked.{sampled_at, acked_taken, acked_told, acked_count}
 use Rattle.quic_connection_core.proofs.Tracked.{moment_measured}
 use Rattle.quic_connection_core.proofs.Lost.{packets_acked_beside, sample_of, reversed_none}
@@ -119,7 +119,7 @@ told_all_same (p ∷ ps) e f k =
 pub record Acks {H K R C : Type 0} (steps : Steps C) (first : ConnectionValue H K R C) (all : Packets) (w : ConnectionValue H K R C) (left : Packets) : Type 0 where
   pub takes : packets_acked (reverse left) w.end ≡ packets_acked (reverse all) first.end
   pub told : after_calls steps w.control (told_packets w.end (reverse left)) ≡ after_calls steps first.control (told_packets first.end (reverse all))
-  pub others : KeepsKeys first w
+  pub others : KeepsRest first w
 
 pub acks_begin : {H K R C : Type 0} (steps : Steps C) (w : ConnectionValue H K R C) (all : Packets) → Acks steps w all w all
 acks_begin steps w all = record { takes = refl; told = refl; others = refl }
@@ -156,15 +156,15 @@ acks_end {H} {K} {R} {C} steps first w all left a none =
 
 -- ---- keys and random source stay
 
-pub keys_told : {H K R C : Type 0} (steps : Steps C) (w t : ConnectionValue H K R C) (told : List Told) (e : End) → t ≡ telling steps w told e → KeepsKeys w t
+pub keys_told : {H K R C : Type 0} (steps : Steps C) (w t : ConnectionValue H K R C) (told : List Told) (e : End) → t ≡ telling steps w told e → KeepsRest w t
 keys_told {H} {K} {R} {C} steps w t told e is = is ∙ ap (λ (z : ConnectionValue H K R C). record w { control = z.control; end = z.end }) (sym is)
 
-pub keys_end : {H K R C : Type 0} (w t left : ConnectionValue H K R C) → KeepsKeys w t → left ≡ with_end t left.end → KeepsKeys w left
+pub keys_end : {H K R C : Type 0} (w t left : ConnectionValue H K R C) → KeepsRest w t → left ≡ with_end t left.end → KeepsRest w left
 keys_end {H} {K} {R} {C} w t left k is =
     let control : left.control ≡ t.control = ap (λ (z : ConnectionValue H K R C). z.control) is in
     is ∙ ap (λ (z : ConnectionValue H K R C). with_end z left.end) k ∙ ap (λ (c : C). record w { control = c; end = left.end }) (sym control)
 
-pub keys_step : {H K R C : Type 0} (w t left : ConnectionValue H K R C) → KeepsKeys w t → KeepsKeys t left → KeepsKeys w left
+pub keys_step : {H K R C : Type 0} (w t left : ConnectionValue H K R C) → KeepsRest w t → KeepsRest t left → KeepsRest w left
 keys_step {H} {K} {R} {C} w t left k l = l ∙ ap (λ (z : ConnectionValue H K R C). record z { control = left.control; end = left.end }) k
 
 -- ---- an ACK frame

@@ -84,17 +84,17 @@ end_after_ping_if false e = e
 
 -- the end after PING went if it waits
 abbrev pub pinged : End → End
-pinged e = end_after_ping_if e.waiting.ping e
+pinged e = end_after_ping_if e.waiting.signals.ping e
 
 -- ---- what asks
 
 -- what asks for an acknowledgement behind so many bytes of a payload: PING, and the others behind it; how they are written, and the end that they leave
 unfoldable pub asked : End → ℕ → Draft
 asked e used = record {
-  frames = ping_list e.waiting.ping ++ (content_at (pinged e) (used + length (ping_bytes e.waiting.ping))).frames;
-  bytes = ping_bytes e.waiting.ping ++ (content_at (pinged e) (used + length (ping_bytes e.waiting.ping))).bytes;
+  frames = ping_list e.waiting.signals.ping ++ (content_at (pinged e) (used + length (ping_bytes e.waiting.signals.ping))).frames;
+  bytes = ping_bytes e.waiting.signals.ping ++ (content_at (pinged e) (used + length (ping_bytes e.waiting.signals.ping))).bytes;
   least = 0;
-  end = with_content (pinged e) (content_at (pinged e) (used + length (ping_bytes e.waiting.ping)));
+  end = with_content (pinged e) (content_at (pinged e) (used + length (ping_bytes e.waiting.signals.ping)));
 }
 
 -- ---- ACK

@@ -25,7 +25,11 @@ reading window w = with_window w.end (window w.control)
 
 -- keys and random source stay
 abbrev pub KeepsKeys : {H K R C : Type 0} → ConnectionValue H K R C → ConnectionValue H K R C → Type 0
-KeepsKeys old new = new ≡ record old { control = new.control; end = new.end }
+KeepsKeys old new = new ≡ record old { control = new.control; heard = new.heard; end = new.end }
+
+-- and so does what was counted
+abbrev pub KeepsRest : {H K R C : Type 0} → ConnectionValue H K R C → ConnectionValue H K R C → Type 0
+KeepsRest old new = new ≡ record old { control = new.control; end = new.end }
 
 -- a controller was told a size of datagrams, two of which fit its window
 pub record IsRoomy {C : Type 0} (size_of window_of : C → ℕ) (c : C) (bytes : ℕ) : Type 0 where

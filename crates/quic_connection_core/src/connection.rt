@@ -13,6 +13,7 @@ ghost use Rattle.quic_paths.specs.Paths.{new_path};
 ghost use Rattle.quic_machine.specs.Parts.{current_mtu};
 ghost use Rattle.quic_retransmits.specs.Retransmits.{nothing_waits};
 ghost use Rattle.quic_machine.specs.Closing.{ticked};
+ghost use Rattle.quic_machine.specs.Heard.{nothing_heard};
 ghost use Rattle.quic_machine.specs.Poll.{asks_to_go, message_waits};
 ghost use Rattle.quic_streams_state.specs.Waiting.{is_empty, can_send_stream_data};
 ghost use Rattle.quic_machine.specs.Receive.{after_taken};
@@ -144,8 +145,8 @@ fn first_filter<R: Rng>(random: &mut R) -> PacketNumberFilter
 /// One end of a connection: a deterministic state machine of datagrams, moments and application
 /// calls (quinn-proto's `Connection`, without handshake and sockets).
 ///
-/// Contracts see its keys, its random source, its congestion controller, and the record of its
-/// state.
+/// Contracts see its keys, its random source, its congestion controller, what it counted of
+/// datagrams, and the record of its state.
 #[derive(Drop)]
 pub struct Connection<H, K, R, C: Controller> {
     closing: Closing,
@@ -169,6 +170,8 @@ pub struct Connection<H, K, R, C: Controller> {
     // All messages, and how often the application has still to be told that one came.
     datagrams: DatagramState,
     messages_to_tell: u64,
+    // How many packets didn't open under its keys.
+    authentication_failures: u64,
     // What was counted. Contracts don't see it.
     stats: ConnectionStats,
     keys: Keys<H, K>,
@@ -190,6 +193,7 @@ impl<H, K, R, C: Controller> Model for Connection<H, K, R, C> {
       keys = c.keys;
       random = c.random;
       control = c.path.congestion;
+      heard = record { received = c.path.received; sent = c.path.sent; failures = c.authentication_failures };
       end = record {
         closing = c.closing;
         ids = c.ids;
@@ -214,7 +218,7 @@ impl<H, K, R, C: Controller> Model for Connection<H, K, R, C> {
         peer_params = c.peer_params;
         streams = c.streams.state;
         messages = record { queues = c.datagrams; to_tell = c.messages_to_tell };
-        waiting = record { ping = c.space.ping_pending; frames = c.streams.pending };
+        waiting = record { signals = record { ping = c.space.ping_pending }; frames = c.streams.pending };
       };
     } };
 
@@ -263,6 +267,7 @@ impl<H: HeaderKey + Drop, K: PacketKey + Drop, R: Rng + Drop, C: Controller> Con
         ensures roomy { IfOk result (λ c. IsRoomy C.size_of C.window_of c.control (first_mtu c.end.transport)) }
         ensures keys { IfOk result (λ c. c.keys ≡ keys) }
         ensures random { IfOk result (λ c. R.stream c.random ≡ after_words 1 (R.stream random)) }
+        ensures heard { IfOk result (λ c. c.heard ≡ nothing_heard) }
         ensures refusal { IfErr result (λ e. Some e ≡ refusal_of config.now.settings (C.window_of (F.built config.now.factory now (first_mtu (transport_of config.now.settings)))) (parameters_at peer_parameters.now) own_id peer_id) }
         ensures lawful { OnOk result (refusal_of config.now.settings (C.window_of (F.built config.now.factory now (first_mtu (transport_of config.now.settings)))) (parameters_at peer_parameters.now) own_id peer_id ≡ None) }
     {
@@ -302,6 +307,7 @@ impl<H: HeaderKey + Drop, K: PacketKey + Drop, R: Rng + Drop, C: Controller> Con
             streams: first_streams(alloc, side, &transport, &theirs),
             datagrams: DatagramState::new(alloc),
             messages_to_tell: 0,
+            authentication_failures: 0,
             stats: ConnectionStats::default(),
             keys,
             random,
@@ -515,7 +521,7 @@ impl<H: HeaderKey + Drop, K: PacketKey + Drop, R: Rng + Drop, C: Controller> Con
 
     /// A PING that waits is taken: whether one did.
     fn take_ping(&mut self) -> bool
-        ensures waited { result ≡ self.old.end.waiting.ping }
+        ensures waited { result ≡ self.old.end.waiting.signals.ping }
         ensures end { self.new ≡ with_end self.old (with_ping self.old.end false) }
     {
         let waited = self.space.ping_pending;

@@ -21,3 +21,6 @@ pub mod Allowed
 pub mod Events
 pub mod Tellings
 pub mod Waited
+pub mod Begins
+pub mod Spread
+pub mod AppLimited

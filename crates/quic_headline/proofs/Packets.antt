@@ -4,6 +4,7 @@ pub mod Growth
 pub mod Rising
 pub mod Window
 pub mod Intakes
+pub mod ByKey
 pub mod Delivered
 pub mod Stays
 pub mod Knowing
@@ -24,6 +25,7 @@ pub mod Sizes
 pub mod Numbered
 pub mod Waited
 pub mod Flying
+pub mod Closeless
 pub mod Watching
 pub mod Entries
 pub mod Naming

@@ -14,11 +14,9 @@ use Rattle.quic_machine.specs.declared.answers.Received.TheVariants as receives
 use Rattle.quic_machine.specs.declared.run.Answer.TheVariants as answers
 use Rattle.quic_machine.specs.declared.run.View.{View}
 use Rattle.quic_wire_core.specs.TransportError.{ErrorValue}
-use Rattle.quic_machine.specs.Ids.{known}
 use Rattle.quic_machine.specs.Policy.{Policy}
-use Rattle.quic_machine.specs.Opens.{opens}
-use Rattle.quic_machine.specs.Machine.{policy_at, end_at}
-use Rattle.quic_headline.specs.Runs.{Run, Told, Packet, Intake, nothing_came, and_told, folded, given_of, until, AreServed, In, frames_of, expected_behind, is_again, handed, acknowledged, reads, offsets_of, HasArrived}
+use Rattle.quic_machine.specs.Machine.{policy_at}
+use Rattle.quic_headline.specs.Runs.{Run, Told, Packet, Intake, nothing_came, and_told, folded, given_of, until, AreServed, In, frames_of, is_again, handed, came_open, acknowledged, reads, offsets_of, HasArrived}
 use Rattle.quic_headline.specs.Observer.{took, sents_until, next_number}
 
 -- ---- what a view shows
@@ -81,13 +79,13 @@ pub record HasMoreRuns (S : ℕ → Type 0) (count : ℕ) : Type 0 where
 abbrev pub IsUnread : List Packet → List Told → ℕ → ℕ → Type 0
 IsUnread packets told id offset = HasArrived packets id offset × (In offset (offsets_of (reads id told)) → ⊥)
 
--- what came by these calls to an end with these keys and ids; `given` are the datagrams that the other end gave
-abbrev pub came_by : Policy → List (List ℕ) → List (List ℕ) → List Told → Intake
-came_by p ids given told = folded (and_told p given) told (nothing_came ids)
+-- what came by these calls to an end with these keys; `given` are the datagrams that the other end gave
+abbrev pub came_by : Policy → List (List ℕ) → List Told → Intake
+came_by p given told = folded (and_told p given) told nothing_came
 
--- Of the calls at an end, with these keys and ids, one handed a datagram to the end while it was open, which opened to a packet
+-- Of the calls at an end with these keys, one handed a datagram to the end while it was open, which opened to a packet
 -- that was no duplicate. `given` are the datagrams that the other end gave.
-pub record PacketCame (p : Policy) (ids given : List (List ℕ)) (told : List Told) : Type 0 where
+pub record PacketCame (p : Policy) (given : List (List ℕ)) (told : List Told) : Type 0 where
   -- the calls before that one, it, and those behind it
   pub before : List Told
   pub call : Told
@@ -99,18 +97,18 @@ pub record PacketCame (p : Policy) (ids given : List (List ℕ)) (told : List To
   pub handed_in : handed given call.call call.answer ≡ Some datagram
   -- what that opened to, by what had come before
   pub opening : Opening
-  pub opened : opens p (came_by p ids given before).ids (expected_behind (came_by p ids given before).took) datagram ≡ Some opening
-  pub new : is_again opening.number (came_by p ids given before).opened ≡ false
+  pub opened : came_open p (came_by p given before).took call.answer datagram ≡ Some opening
+  pub new : is_again opening.number (came_by p given before).opened ≡ false
 
 -- It has a STREAM frame with which more than so many runs of its stream had arrived and not been read: in the packets that were
 -- taken before it, and in its own frames up to that one.
-pub record IsCrowded (p : Policy) (ids given : List (List ℕ)) (told : List Told) (c : PacketCame p ids given told) (count : ℕ) : Type 0 where
+pub record IsCrowded (p : Policy) (given : List (List ℕ)) (told : List Told) (c : PacketCame p given told) (count : ℕ) : Type 0 where
   -- its frames before that one, it, and those behind it
   pub front : List FrameValue
   pub frame : StreamValue
   pub rest : List FrameValue
   pub frames : frames_of (items c.opening.payload) ≡ front ++ stream frame ∷ rest
-  pub many : HasMoreRuns (IsUnread (record { number = c.opening.number; frames = front ++ stream frame ∷ [] } ∷ (came_by p ids given c.before).took) c.before frame.id) count
+  pub many : HasMoreRuns (IsUnread (record { number = c.opening.number; frames = front ++ stream frame ∷ [] } ∷ (came_by p given c.before).took) c.before frame.id) count
 
 -- so many runs of a stream may wait to be read (RFC 9000, section 21.7)
 abbrev pub most_runs : ℕ
@@ -121,20 +119,20 @@ abbrev pub internal_error : ErrorValue
 internal_error = record { code = 1; frame = None }
 
 -- one that has it came
-pub record CrowdCame (p : Policy) (ids given : List (List ℕ)) (told : List Told) : Type 0 where
-  pub packet : PacketCame p ids given told
-  pub crowded : IsCrowded p ids given told packet most_runs
+pub record CrowdCame (p : Policy) (given : List (List ℕ)) (told : List Told) : Type 0 where
+  pub packet : PacketCame p given told
+  pub crowded : IsCrowded p given told packet most_runs
 
 -- an end closes for too many pieces only where more than 2048 runs of one stream had arrived and not been read
 abbrev pub TooManyPieces : Run → Type 0
-TooManyPieces r = (side : Side) (place : ℕ) → Shows r side place (Some reasons.Pieces) → CrowdCame (policy_at side r.keys) (known (end_at side r.start).ids) (given_of r (other_side side)) (until r side (place + 1))
+TooManyPieces r = (side : Side) (place : ℕ) → Shows r side place (Some reasons.Pieces) → CrowdCame (policy_at side r.keys) (given_of r (other_side side)) (until r side (place + 1))
 
 -- A packet that came was taken whole; or it was refused, by INTERNAL_ERROR, and came to too many pieces.
-abbrev pub IsTakenOrCrowded : (p : Policy) (ids given : List (List ℕ)) (told : List Told) → PacketCame p ids given told → Type 0
-IsTakenOrCrowded p ids given told c = (c.call.answer ≡ answers.Deliver receives.Taken) ⊎ ((c.call.answer ≡ answers.Deliver (receives.Closed internal_error)) × IsCrowded p ids given told c most_runs)
+abbrev pub IsTakenOrCrowded : (p : Policy) (given : List (List ℕ)) (told : List Told) → PacketCame p given told → Type 0
+IsTakenOrCrowded p given told c = (c.call.answer ≡ answers.Deliver receives.Taken) ⊎ ((c.call.answer ≡ answers.Deliver (receives.Closed internal_error)) × IsCrowded p given told c most_runs)
 
 -- each packet that comes is taken whole, unless it comes to too many pieces: so it is the rules of receiving that say which packets an
 -- end takes, and not what it answers
 abbrev pub TakenOrTooMany : Run → Type 0
-TakenOrTooMany r = (side : Side) (i : ℕ) → AreServed r i → (c : PacketCame (policy_at side r.keys) (known (end_at side r.start).ids) (given_of r (other_side side)) (until r side i))
-    → IsTakenOrCrowded (policy_at side r.keys) (known (end_at side r.start).ids) (given_of r (other_side side)) (until r side i) c
+TakenOrTooMany r = (side : Side) (i : ℕ) → AreServed r i → (c : PacketCame (policy_at side r.keys) (given_of r (other_side side)) (until r side i))
+    → IsTakenOrCrowded (policy_at side r.keys) (given_of r (other_side side)) (until r side i) c

@@ -15,13 +15,12 @@ use Rattle.quic_machine.specs.declared.run.Call.TheVariants as calls
 use Rattle.quic_machine.specs.declared.run.Answer.{Answer}
 use Rattle.quic_machine.specs.declared.run.Answer.TheVariants as answers
 use Rattle.quic_machine.specs.Policy.{Policy}
-use Rattle.quic_machine.specs.Ids.{known}
-use Rattle.quic_machine.specs.Machine.{policy_at, end_at}
+use Rattle.quic_machine.specs.Machine.{policy_at}
 use Rattle.quic_headline.specs.Runs.{Run, Told, Packet, Intake, nothing_came, and_told, folded, until, given_of, AreServed}
 use Rattle.quic_headline.specs.Observer.{news, took}
 use Rattle.quic_headline.specs.Headline.{IsAt}
 use Rattle.quic_headline.specs.Ids.{WasOpened}
-use Rattle.quic_headline.specs.Credit.{is_read_up}
+use Rattle.quic_headline.specs.Credit.{was_reset, is_read_up}
 
 -- ---- messages (RFC 9221)
 
@@ -59,9 +58,9 @@ pub record Mail : Type 0 where
   pub unread : ℕ
   pub told : Bool
 
--- nothing came to an end that is known by these ids
-abbrev pub no_mail : List (List ℕ) → Mail
-no_mail ids = record { intake = nothing_came ids; unread = 0; told = false }
+-- nothing came
+abbrev pub no_mail : Mail
+no_mail = record { intake = nothing_came; unread = 0; told = false }
 
 -- one call more, where this has come behind it
 abbrev pub mail_behind : Told → Mail → Intake → Mail
@@ -76,7 +75,7 @@ mail_told p given t m = mail_behind t m (and_told p given t m.intake)
 
 -- so it is at an end behind the first so many answers
 abbrev pub mail : Run → Side → ℕ → Mail
-mail r side i = folded (mail_told (policy_at side r.keys) (given_of r (other_side side))) (until r side i) (no_mail (known (end_at side r.start).ids))
+mail r side i = folded (mail_told (policy_at side r.keys) (given_of r (other_side side))) (until r side i) no_mail
 
 -- where nothing is told next while messages wait, it was told that they came since the first of
 -- them did, whatever the state of the end
@@ -97,9 +96,9 @@ pub record Openings : Type 0 where
   pub intake : Intake
   pub heard : List Packet
 
--- nothing came to an end that is known by these ids
-abbrev pub no_openings : List (List ℕ) → Openings
-no_openings ids = record { intake = nothing_came ids; heard = [] }
+-- nothing came
+abbrev pub no_openings : Openings
+no_openings = record { intake = nothing_came; heard = [] }
 
 -- one call more
 abbrev pub openings_told : Policy → List (List ℕ) → Dir → Told → Openings → Openings
@@ -108,7 +107,7 @@ openings_told p given dir t o = record { intake = and_told p given t o.intake; h
 -- the packets that an end had taken when it was told last, by the first so many answers, that the
 -- peer opened streams of a kind
 abbrev pub heard_of : Run → Side → Dir → ℕ → List Packet
-heard_of r side dir i = (folded (openings_told (policy_at side r.keys) (given_of r (other_side side)) dir) (until r side i) (no_openings (known (end_at side r.start).ids))).heard
+heard_of r side dir i = (folded (openings_told (policy_at side r.keys) (given_of r (other_side side)) dir) (until r side i) no_openings).heard
 
 -- where nothing is told next, each stream that a frame opened was opened when it was told last that
 -- the peer opened streams of its kind, whatever was accepted, and whatever the state of the end
@@ -136,22 +135,27 @@ tells_readable id call a = false
 abbrev pub is_reading : Side → ℕ → List Packet → List Packet → List Told → Bool
 is_reading side id before after told = (is_own side id || brings id before) && not (is_read_up id after told)
 
+-- whether it is told of these packets, where they come behind others, and these are all: they bring
+-- something of a stream that it reads behind them, or the first reset of one that it read before them
+abbrev pub comes_to_read : Side → ℕ → List Packet → List Packet → List Packet → List Told → Bool
+comes_to_read side id before new after told = (brings id new && is_reading side id before after told) || (was_reset id new && is_reading side id before before told)
+
 -- what came to an end, what was told at it, and whether it is to be told that a stream may be read
 pub record Reading : Type 0 where
   pub intake : Intake
   pub told : List Told
   pub waits : Bool
 
--- nothing came to an end that is known by these ids
-abbrev pub no_reading : List (List ℕ) → Reading
-no_reading ids = record { intake = nothing_came ids; told = []; waits = false }
+-- nothing came
+abbrev pub no_reading : Reading
+no_reading = record { intake = nothing_came; told = []; waits = false }
 
 -- one call more at the end of this side, where this has come behind it
 abbrev pub reading_behind : Side → ℕ → Told → Reading → Intake → Reading
 reading_behind side id t r after = record {
   intake = after;
   told = r.told ++ t ∷ [];
-  waits = if tells_readable id t.call t.answer then false else r.waits || (brings id (news r.intake after) && is_reading side id r.intake.took after.took (r.told ++ t ∷ []));
+  waits = if tells_readable id t.call t.answer then false else r.waits || comes_to_read side id r.intake.took (news r.intake after) after.took (r.told ++ t ∷ []);
 }
 
 abbrev pub reading_told : Side → Policy → List (List ℕ) → ℕ → Told → Reading → Reading
@@ -159,9 +163,9 @@ reading_told side p given id t r = reading_behind side id t r (and_told p given 
 
 -- so it is behind the first so many answers
 abbrev pub reading : Run → Side → ℕ → ℕ → Reading
-reading r side id i = folded (reading_told side (policy_at side r.keys) (given_of r (other_side side)) id) (until r side i) (no_reading (known (end_at side r.start).ids))
+reading r side id i = folded (reading_told side (policy_at side r.keys) (given_of r (other_side side)) id) (until r side i) no_reading
 
--- where nothing is told next, it was told that a stream may be read since the last STREAM frame
--- came on it, of those that it is told of, whatever the state of the end
+-- where nothing is told next, it was told that a stream may be read since the last STREAM frame and
+-- the first RESET_STREAM frame came on it, of those that it is told of, whatever the state of the end
 abbrev pub ReadablesAreTold : Run → Type 0
 ReadablesAreTold r = (side : Side) (i id : ℕ) → AreServed r i → IsAt r i side calls.Event (answers.Event None) → (reading r side id i).waits ≡ false

@@ -27,8 +27,8 @@ use Rattle.quic_machine.specs.Tracking.{asks_any}
 use Rattle.quic_machine.specs.End.{End}
 use Rattle.quic_machine.specs.Poll.{IsDatagram}
 use Rattle.quic_machine.specs.Machine.{World, policy_at, end_at, Follows}
-use Rattle.quic_headline.specs.Runs.{Run, Told, Next, Packet, In, until, state_at, AreServed, written, ended, nexts, chunks_of, reads, bytes_of, offsets_of, ids_of, accepts, only_in_order, reset, WasNamed, HasArrived, EndHasArrived, IsTaken, IsNamed, names, finishes_told, given_until, first_id_of_peer, expected_behind}
-use Rattle.quic_headline.specs.Observer.{Sent, HoldsOffset, HoldsEnd, frames_opened, watch, took, sents_until, references_until, acked_until}
+use Rattle.quic_headline.specs.Runs.{Run, Told, Next, Packet, In, until, state_at, AreServed, written, ended, nexts, chunks_of, reads, bytes_of, offsets_of, ids_of, accepts, only_in_order, reset, WasNamed, HasArrived, EndHasArrived, IsTaken, IsNamed, names, finishes_told, given_until, LeadsTo, destination, opens_by_key, expected_behind}
+use Rattle.quic_headline.specs.Observer.{Sent, HoldsOffset, HoldsEnd, frames_opened, took, sents_until, references_until, acked_until}
 
 -- ---- the premises
 
@@ -165,10 +165,10 @@ pub record IsNamedIn (frames : List FrameValue) (number : ℕ) : Type 0 where
   pub carried : In (ack frame) frames
   pub named : names frame number ≡ true
 
--- the frames of a datagram that an end gave, read with the keys and ids of the end that takes it,
--- where this number is expected
+-- the frames of a datagram that an end gave, read with the keys of the end that takes it, where this
+-- number is expected, whichever id it was sent to
 abbrev pub frames_given : Run → Side → ℕ → List ℕ → List FrameValue
-frames_given r side expected d = frames_opened (opens (policy_at (other_side side) r.keys) (known (end_at (other_side side) r.start).ids) expected d)
+frames_given r side expected d = frames_opened (opens_by_key (policy_at (other_side side) r.keys) expected d)
 
 -- each ACK frame in a datagram that an end gave before a place names only packets that the end had
 -- taken whole before it, whatever number is expected where the datagram is read (RFC 9000, section
@@ -178,22 +178,23 @@ NamesWereTaken r = (side : Side) (i expected number : ℕ) (datagram : List ℕ)
 
 -- ---- injections
 
--- whether bytes open at an end by the run's lists: with its keys, under an id that it is known by,
--- where one above the greatest number that it took is expected (RFC 9000, sections 5.2 and 12.2, and
--- A.3), in key phase 0
-abbrev pub would_open_at : Run → Side → ℕ → List ℕ → Bool
-would_open_at r side i d = is_some (opens (policy_at side r.keys) (watch r side i).intake.ids (expected_behind (took r side i)) d)
+-- whether bytes open at an end to which the first so many events lead: with its keys, under an id
+-- that it has there, where by the run's lists one above the greatest number that it took is expected
+-- (RFC 9000, sections 5.2 and 12.2, and A.3), in key phase 0. An end may have an id that it drew and
+-- told nobody, which no list shows.
+abbrev pub would_open_at : Run → World → Side → ℕ → List ℕ → Bool
+would_open_at r w side i d = is_some (opens (policy_at side r.keys) (known (end_at side w).ids) (expected_behind (took r side i)) d)
 
 -- an injection is answered `Opens` exactly where its bytes open so, whatever the state of its end
 abbrev pub OpensExactly : Run → Type 0
-OpensExactly r = (side : Side) (i : ℕ) (injection : Injection) (a : Answer) → AreServed r i → IsAt r i side (calls.Inject injection) a → (a ≡ answers.Opens) ↔ (would_open_at r side i injection.bytes ≡ true)
+OpensExactly r = (side : Side) (i : ℕ) (w : World) (injection : Injection) (a : Answer) → AreServed r i → LeadsTo r i w → IsAt r i side (calls.Inject injection) a → (a ≡ answers.Opens) ↔ (would_open_at r w side i injection.bytes ≡ true)
 
 -- ---- what opens
 
--- what a datagram that an end gave opens to at the other end by the run's lists: with its keys, under an id that it began with, where
--- one above the greatest number that it took is expected (RFC 9000, section 17.1 and A.3)
+-- what a datagram that an end gave opens to at the other end by the run's lists: with its keys, whichever id it was sent to, where one
+-- above the greatest number that it took is expected (RFC 9000, section 17.1 and A.3)
 abbrev pub opened_there : Run → Side → ℕ → List ℕ → Option Opening
-opened_there r side i d = opens (policy_at (other_side side) r.keys) (known (end_at (other_side side) r.start).ids) (expected_behind (took r (other_side side) i)) d
+opened_there r side i d = opens_by_key (policy_at (other_side side) r.keys) (expected_behind (took r (other_side side) i)) d
 
 -- none of these packets has a number above this one
 abbrev pub NoneAbove : List Packet → ℕ → Type 0
@@ -233,21 +234,21 @@ AckTimersFollow w = AckTimerFollows w.client × AckTimerFollows w.server
 
 -- ---- numbers
 
--- A datagram has this number: it is the datagram of it, of an id and of stated frames (RFC 9000, sections 12.4 and 17.3.1).
-pub record IsNumbered (p : Policy) (reference number : ℕ) (id datagram : List ℕ) : Type 0 where
+-- A datagram has this number: it is the datagram of it, of the id that stands in it and of stated frames (RFC 9000, sections 12.4 and 17.3.1).
+pub record IsNumbered (p : Policy) (reference number : ℕ) (datagram : List ℕ) : Type 0 where
   pub frames : List FrameValue
-  pub is : IsDatagram p reference number id frames datagram
+  pub is : IsDatagram p reference number (destination datagram) frames datagram
 
 -- each datagram has a number, cut against its reference, at or above `low` and above those before it, and no two numbers that follow one another are left out
-abbrev pub Rise : Policy → List ℕ → ℕ → List ℕ → List (List ℕ) → Type 0
-Rise p id low references [] = Unit {0}
-Rise p id low [] (d ∷ ds) = ⊥
-Rise p id low (reference ∷ references) (d ∷ ds) = (number : ℕ) × (low ≤ number) × (number ≤ low + 1) × IsNumbered p reference number id d × Rise p id (number + 1) references ds
+abbrev pub Rise : Policy → ℕ → List ℕ → List (List ℕ) → Type 0
+Rise p low references [] = Unit {0}
+Rise p low [] (d ∷ ds) = ⊥
+Rise p low (reference ∷ references) (d ∷ ds) = (number : ℕ) × (low ≤ number) × (number ≤ low + 1) × IsNumbered p reference number d × Rise p (number + 1) references ds
 
--- at each end and each place, each datagram given is that of a number, the peer's id and stated frames, and the numbers rise, by
--- one or by two: at most one is left out between two that are given
+-- at each end and each place, each datagram given is that of a number, the id that stands in it and stated frames, and the numbers rise,
+-- by one or by two: at most one is left out between two that are given
 abbrev pub NumbersRise : Run → Type 0
-NumbersRise r = (side : Side) (i : ℕ) → AreServed r i → Rise (policy_at side r.keys) (first_id_of_peer r side) 0 (references_until r side i) (given_until r side i)
+NumbersRise r = (side : Side) (i : ℕ) → AreServed r i → Rise (policy_at side r.keys) 0 (references_until r side i) (given_until r side i)
 
 -- ---- a run of the machine
 

@@ -11,9 +11,8 @@ use Rattle.quic_machine.specs.declared.run.Call.TheVariants as calls
 use Rattle.quic_machine.specs.declared.run.Answer.{Answer}
 use Rattle.quic_machine.specs.declared.run.Answer.TheVariants as answers
 use Rattle.quic_packet.specs.Datagram.{Opening}
-use Rattle.quic_machine.specs.Opens.{opens}
 use Rattle.quic_machine.specs.Machine.{World, policy_at, Follows}
-use Rattle.quic_headline.specs.Runs.{Run, given_of, handed, is_again, expected_behind, AreServed}
+use Rattle.quic_headline.specs.Runs.{Run, given_of, handed, is_again, came_open, AreServed}
 use Rattle.quic_headline.specs.Observer.{watch}
 use Rattle.quic_headline.specs.Headline.{IsAt, IsRun}
 
@@ -45,10 +44,18 @@ OnlyIdle r gone = (side : Side) (i : ℕ) (call : Call) (a : Answer) → gone i 
 abbrev pub erased : (ℕ → Bool) → Run → Run
 erased gone r = record r { events = without gone r.events; answers = without gone r.answers; views = without gone r.views }
 
--- Less any choice of its idle events it is a run again, from the same start to the same ends: each call that stays is answered as it was, each view behind one
--- is the same, and both ends gave the same datagrams.
+-- the same ends, with the same controllers, which gave the same datagrams, whatever they have counted
+abbrev pub SameButCounts : World → World → Type 0
+SameButCounts end left = left ≡ record end { client_heard = left.client_heard; server_heard = left.server_heard }
+
+-- Less the events at these places it is a run again, from the same start to the same ends: each call that stays is answered as it was, each view behind one is the
+-- same, and both ends gave the same datagrams. The ends have counted other datagrams then: each counts what comes, also what is dropped.
+abbrev pub IsRunWithout : (ℕ → Bool) → Run → World → Type 0
+IsRunWithout gone r end = (left : World) × SameButCounts end left × IsRun (erased gone r) left
+
+-- so it is less any choice of its idle events
 abbrev pub Isolated : Run → World → Type 0
-Isolated r end = (gone : ℕ → Bool) → OnlyIdle r gone → IsRun (erased gone r) end
+Isolated r end = (gone : ℕ → Bool) → OnlyIdle r gone → IsRunWithout gone r end
 
 -- ---- the choice by answers
 
@@ -89,7 +96,7 @@ answered_idle r = places_of (λ i event a. is_answered_idle event.call a) r
 
 -- less these it is a run again
 abbrev pub IsolatedByAnswers : Run → World → Type 0
-IsolatedByAnswers r end = IsRun (erased (answered_idle r) r) end
+IsolatedByAnswers r end = IsRunWithout (answered_idle r) r end
 
 -- ---- the choice by the lists
 
@@ -98,19 +105,20 @@ abbrev pub is_new : Option Opening → List ℕ → Bool
 is_new None numbers = false
 is_new (Some o) numbers = not (is_again o.number numbers)
 
--- Whether a datagram that is handed to an end opens there and is no duplicate, by the run's lists: with the end's keys, under an id that it began with, where one
--- above the greatest number that it took is expected, in key phase 0, and under another number than those that opened before (sections 5.2, 12.2 and 12.3, and A.3).
-abbrev pub is_new_at : Run → Side → ℕ → List ℕ → Bool
-is_new_at r side i d = let came = (watch r side i).intake in is_new (opens (policy_at side r.keys) came.ids (expected_behind came.took) d) came.opened
+-- Whether a datagram that is handed to an end, which answers so, opens there and is no duplicate, by the run's lists: with the end's keys, where one above the
+-- greatest number that it took is expected, in key phase 0, under another number than those that opened before, and not answered that it was sent to no id of the
+-- end's (sections 5.2, 12.2 and 12.3, and A.3).
+abbrev pub is_new_at : Run → Side → ℕ → Answer → List ℕ → Bool
+is_new_at r side i a d = let came = (watch r side i).intake in is_new (came_open (policy_at side r.keys) came.took a d) came.opened
 
 -- whether a datagram is handed in, and is nothing new
-abbrev pub is_nothing_new : Run → Side → ℕ → Option (List ℕ) → Bool
-is_nothing_new r side i None = false
-is_nothing_new r side i (Some d) = not (is_new_at r side i d)
+abbrev pub is_nothing_new : Run → Side → ℕ → Answer → Option (List ℕ) → Bool
+is_nothing_new r side i a None = false
+is_nothing_new r side i a (Some d) = not (is_new_at r side i a d)
 
 -- an injection, or a delivery of a datagram that is nothing new
 abbrev pub brings_nothing : Run → ℕ → RunEvent → Answer → Bool
-brings_nothing r i event a = is_injection event.call || is_nothing_new r event.side i (handed (given_of r (other_side event.side)) event.call a)
+brings_nothing r i event a = is_injection event.call || is_nothing_new r event.side i a (handed (given_of r (other_side event.side)) event.call a)
 
 -- the places of what is so by the lists
 abbrev pub listed_idle : Run → ℕ → Bool

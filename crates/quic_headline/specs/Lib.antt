@@ -13,6 +13,7 @@ pub mod Rest
 pub mod AcksDue
 pub mod Resets
 pub mod Ids
+pub mod ConnectionIds
 pub mod Reasons
 pub mod Views
 pub mod Isolated
@@ -23,5 +24,8 @@ pub mod Credit
 pub mod Allowed
 pub mod Queue
 pub mod Events
+pub mod AppLimited
 pub mod Telling
 pub mod Waited
+pub mod Begins
+pub mod Spread

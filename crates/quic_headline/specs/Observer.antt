@@ -4,7 +4,7 @@ use Rattle.std.specs.Prelude.{ℕ, ◌+◌, ◌-◌, ◌*◌, ◌/◌, ◌^◌, 
 use Rattle.std.specs.List.{list_any}
 use Rattle.quic_wire_core.specs.declared.stream_id.Side.{Side}
 use Rattle.quic_wire_core.specs.StreamId.{other_side}
-use Rattle.quic_wire.specs.Value.{FrameValue, StreamValue, AckValue, ack, stream, asks}
+use Rattle.quic_wire.specs.Value.{FrameValue, StreamValue, AckValue, ack, stream, connection_close, application_close, asks}
 use Rattle.quic_wire.specs.Items.{items}
 use Rattle.quic_packet.specs.Datagram.{Opening, opened_packet}
 use Rattle.quic_time.specs.Rtt.{Rtt, assumed_rtt, best_rtt, conservative_rtt, with_sample}
@@ -14,17 +14,17 @@ use Rattle.quic_machine.specs.declared.answers.State.TheVariants as states
 use Rattle.quic_machine.specs.declared.run.Call.{Call}
 use Rattle.quic_machine.specs.declared.run.Call.TheVariants as calls
 use Rattle.quic_machine.specs.Policy.{Policy}
-use Rattle.quic_machine.specs.Ids.{known}
 use Rattle.quic_machine.specs.Opens.{own_id_length}
 use Rattle.quic_machine.specs.End.{End}
 use Rattle.quic_machine.specs.Machine.{policy_at, end_at, gave}
-use Rattle.quic_headline.specs.Runs.{Run, Told, Packet, Intake, In, nothing_came, frames_of, names, acknowledged, and_told, folded, until, given_of}
+use Rattle.quic_headline.specs.Runs.{Run, Told, Packet, Intake, In, nothing_came, destination, frames_of, names, acknowledged, and_told, folded, until, given_of}
 
 -- ---- what was sent
 
--- A datagram as it was sent: its number, what that was cut against (RFC 9000, A.2), its frames, when it went, in nanoseconds, and how many bytes it has.
--- There is one destination id so far: once it changes, it has its place here.
+-- A datagram as it was sent: the id to which it went, its number, what that was cut against (RFC 9000, A.2), its frames, when it went, in nanoseconds, and how
+-- many bytes it has.
 pub record Sent : Type 0 where
+  pub id : List ℕ
   pub number : ℕ
   pub reference : ℕ
   pub frames : List FrameValue
@@ -208,8 +208,22 @@ abbrev pub kept_flying : Bool → Flight → List Sent
 kept_flying asks f = if not asks && nat_lt 1000 (length (unasked f)) then without_oldest (unasked f) f.flying else f.flying
 
 -- a datagram is in flight from when it goes; one that asks takes away a probe that waits
+abbrev pub and_flying : Sent → Flight → Flight
+and_flying s f = record f { flying = kept_flying (asks_of s) f ++ s ∷ []; asked = if asks_of s then Some s else f.asked; probes = if asks_of s then f.probes - 1 else f.probes }
+
+-- whether a frame is a close (RFC 9000, section 19.19)
+abbrev pub is_close : FrameValue → Bool
+is_close (connection_close c) = true
+is_close (application_close c) = true
+is_close f = false
+
+-- whether a datagram closes its connection
+abbrev pub closes_of : Sent → Bool
+closes_of s = list_any is_close s.frames
+
+-- one that closes its connection isn't in flight: no acknowledgement of it is waited for (RFC 9000, section 10.2.1)
 abbrev pub and_sent : Sent → Flight → Flight
-and_sent s f = record f { flying = kept_flying (asks_of s) f ++ s ∷ []; asked = if asks_of s then Some s else f.asked; probes = if asks_of s then f.probes - 1 else f.probes }
+and_sent s f = if closes_of s then f else and_flying s f
 
 -- ---- the timer of losses (RFC 9002, section 6.2.1)
 
@@ -261,9 +275,9 @@ pub record Watch : Type 0 where
   pub own : List Sent
   pub flight : Flight
 
--- nothing happened to an end that is known by these ids, gives these datagrams in all, was made at this moment, and takes a round trip to last so long
-abbrev pub first_watch : List (List ℕ) → List (List ℕ) → ℕ → ℕ → Watch
-first_watch ids gives moment initial_rtt = record { intake = nothing_came ids; clock = moment; left = gives; own = []; flight = no_flight initial_rtt }
+-- nothing happened to an end that gives these datagrams in all, was made at this moment, and takes a round trip to last so long
+abbrev pub first_watch : List (List ℕ) → ℕ → ℕ → Watch
+first_watch gives moment initial_rtt = record { intake = nothing_came; clock = moment; left = gives; own = []; flight = no_flight initial_rtt }
 
 -- the packets that came between two intakes
 abbrev pub news : Intake → Intake → List Packet
@@ -290,10 +304,10 @@ abbrev pub frames_opened : Option Opening → List FrameValue
 frames_opened None = []
 frames_opened (Some o) = frames_of (items o.payload)
 
--- what a datagram of so many bytes that opens so was sent as, cut against this reference, at a moment; one that doesn't open is none
-abbrev pub sent_as : Option Opening → ℕ → ℕ → ℕ → List Sent
-sent_as None reference moment size = []
-sent_as (Some o) reference moment size = record { number = o.number; reference = reference; frames = frames_of (items o.payload); moment = moment; size = size } ∷ []
+-- what a datagram that opens so was sent as, cut against this reference, at a moment; one that doesn't open is none
+abbrev pub sent_as : Option Opening → ℕ → ℕ → List ℕ → List Sent
+sent_as None reference moment d = []
+sent_as (Some o) reference moment d = record { id = destination d; number = o.number; reference = reference; frames = frames_of (items o.payload); moment = moment; size = length d } ∷ []
 
 -- what is in flight once these are sent
 abbrev pub and_all_sent : List Sent → Flight → Flight
@@ -304,7 +318,7 @@ and_all_sent (s ∷ ss) f = and_all_sent ss (and_sent s f)
 abbrev pub watch_sent : Policy → List (List ℕ) → Watch → Watch
 watch_sent taker [] w = w
 watch_sent taker (d ∷ ds) w =
-    let sent = sent_as (opened_packet taker.header taker.packet (own_id_length + 1) (acknowledged w.intake.took) d) (acknowledged w.intake.took) w.clock (length d) in
+    let sent = sent_as (opened_packet taker.header taker.packet (own_id_length + 1) (acknowledged w.intake.took) d) (acknowledged w.intake.took) w.clock d in
     record w { left = ds; own = w.own ++ sent; flight = and_all_sent sent w.flight }
 
 -- how the lists of a run are read for one end: the keys of its peer, its own, all datagrams of its peer, and by what losses are judged
@@ -347,7 +361,7 @@ lens_of r side = record { taker = policy_at (other_side side) r.keys; own = poli
 
 -- nothing happened yet to an end that gives these datagrams in all
 abbrev pub watch_from : End → List (List ℕ) → Watch
-watch_from e gives = first_watch (known e.ids) gives e.closing.clock e.transport.initial_rtt
+watch_from e gives = first_watch gives e.closing.clock e.transport.initial_rtt
 
 -- what the observer of an end knows by the first so many answers
 abbrev pub watch : Run → Side → ℕ → Watch

@@ -12,6 +12,7 @@ use Rattle.quic_assembler.specs.declared.assembler.Chunk.{Chunk}
 use Rattle.quic_streams_parts.specs.declared.answers.ReadError.{ReadError}
 use Rattle.quic_machine.specs.declared.answers.Event.TheVariants as events
 use Rattle.quic_streams_parts.specs.declared.answers.StreamEvent.TheVariants.{Finished}
+use Rattle.quic_machine.specs.declared.answers.DropReason.TheVariants as drops
 use Rattle.quic_machine.specs.declared.answers.Received.TheVariants as receives
 use Rattle.quic_machine.specs.declared.answers.State.{State}
 use Rattle.quic_machine.specs.declared.answers.State.TheVariants as states
@@ -23,7 +24,7 @@ use Rattle.quic_machine.specs.declared.run.Answer.TheVariants as answers
 use Rattle.quic_machine.specs.declared.run.View.{View}
 use Rattle.quic_machine.specs.Ids.{own_id}
 use Rattle.quic_machine.specs.Policy.{Policy}
-use Rattle.quic_machine.specs.Opens.{opens}
+use Rattle.quic_machine.specs.Opens.{own_id_length, opens}
 use Rattle.quic_machine.specs.Machine.{World, Policies, end_at, fails, gave, Follows}
 
 -- ---- a run
@@ -232,17 +233,16 @@ pub record Packet : Type 0 where
   pub number : ℕ
   pub frames : List FrameValue
 
--- What came to an end, the latest first: the ids that it is known by; the numbers of the packets that opened; the packets that
--- were taken; and, where one was refused, what could be read of it: the frames before the one at fault are the first of these.
+-- What came to an end, the latest first: the numbers of the packets that opened; the packets that were taken; and, where one was
+-- refused, what could be read of it: the frames before the one at fault are the first of these.
 pub record Intake : Type 0 where
-  pub ids : List (List ℕ)
   pub opened : List ℕ
   pub took : List Packet
   pub part : Option Packet
 
--- nothing came to an end that is known by these ids
-abbrev pub nothing_came : List (List ℕ) → Intake
-nothing_came ids = record { ids = ids; opened = []; took = []; part = None }
+-- nothing came
+abbrev pub nothing_came : Intake
+nothing_came = record { opened = []; took = []; part = None }
 
 -- the number that is expected next: one above the greatest taken, or 0 (RFC 9000, A.3)
 abbrev pub expected_behind : List Packet → ℕ
@@ -265,6 +265,26 @@ handed given (calls.Deliver delivery) answers.NoDatagram = None
 handed given (calls.Deliver delivery) a = slice_get given delivery.index
 handed given call a = None
 
+-- the id that a datagram was sent to, where each has the length of own ones: it stands behind the first byte (RFC 9000, section 17.3.1)
+abbrev pub destination : List ℕ → List ℕ
+destination [] = []
+destination (first ∷ rest) = take own_id_length rest
+
+-- What a datagram opens to by its key alone, whichever id it was sent to: what it does at an end that has that id, where this number
+-- is expected (section 12.2).
+abbrev pub opens_by_key : Policy → ℕ → List ℕ → Option Opening
+opens_by_key p expected d = opens p (destination d ∷ []) expected d
+
+-- whether a delivery was answered that its datagram was sent to no id of the end's
+abbrev pub is_elsewhere : Answer → Bool
+is_elsewhere (answers.Deliver (receives.Dropped drops.UnknownId)) = true
+is_elsewhere a = false
+
+-- What a datagram opens to that is handed to an end, which took these packets before: to what it does by its key, and to nothing where
+-- it was sent to no id of the end's. The lists show no ids, so the answer says where that is.
+abbrev pub came_open : Policy → List Packet → Answer → List ℕ → Option Opening
+came_open p packets a d = if is_elsewhere a then None else opens_by_key p (expected_behind packets) d
+
 -- whether a delivery closed its end: some frame of its packet was refused
 abbrev pub is_refused : Answer → Bool
 is_refused (answers.Deliver (receives.Closed error)) = true
@@ -280,7 +300,6 @@ and_opened None a i = i
 and_opened (Some o) a i =
     if is_again o.number i.opened then i
     else record {
-      ids = i.ids;
       opened = o.number ∷ i.opened;
       took = (if is_refused a then i.took else packet_of o ∷ i.took);
       part = (if is_refused a then Some (packet_of o) else i.part);
@@ -288,7 +307,7 @@ and_opened (Some o) a i =
 
 -- an open end is handed a datagram
 abbrev pub and_handed : State → Option (List ℕ) → Policy → Answer → Intake → Intake
-and_handed states.Open (Some d) p a i = and_opened (opens p i.ids (expected_behind i.took) d) a i
+and_handed states.Open (Some d) p a i = and_opened (came_open p i.took a d) a i
 and_handed states.Open None p a i = i
 and_handed states.Closing d p a i = i
 and_handed states.Drained d p a i = i

@@ -2,8 +2,8 @@
 -- the end knows (RFC 9002, sections 6, 7, 7.3 and 7.6; RFC 9000, sections 13.4.2 and 14.4; RFC
 -- 8899, section 4.3): which datagrams go, are acknowledged and are lost. Some of what is told the
 -- lists don't say here. It is left open:
---  * in what is told of acknowledgements, whether the end had nothing more to send (`app_limited`):
---    either;
+--  * in what is told of acknowledgements, whether the end had nothing more to send (`app_limited`),
+--    where its last poll doesn't tell (`MayCount`): either, but the same in one packet;
 --  * whether counts of CE that came are believed and grew (`marks`): a controller may be told so,
 --    where they may have;
 --  * which of the datagrams that may be probes of a size is one (`probe`), whether such a one gives
@@ -19,11 +19,13 @@ use Rattle.quic_congestion.specs.Congestion as congestion
 use Rattle.quic_congestion.specs.Search.{is_number}
 use Rattle.quic_spaces.specs.Numbers.{greatest_of}
 use Rattle.quic_spaces.specs.Persistent.{Loss, IsPersistent}
+use Rattle.quic_machine.specs.declared.answers.State.TheVariants as states
 use Rattle.quic_machine.specs.declared.run.View.{View}
 use Rattle.quic_machine.specs.Machine.{end_at, control_at}
 use Rattle.quic_headline.specs.Runs.{Run, Told, Packet, Intake, In, given_of, names, is_refused, and_told, until, AreServed}
 use Rattle.quic_headline.specs.Observer.{Sent, asks_of, Terms, Flight, latest, late_by, is_lost, is_greatest, measures, rtt_behind, after_ack, after_packets, waited, loss_due, is_past, Watch, news, has_opened, moment_of, clock_behind, Lens, is_timely, watch_came, watch_told, lens_of, watch_from, next_number}
 use Rattle.quic_headline.specs.Polls.{window_in, mtu_in, search_at}
+use Rattle.quic_headline.specs.AppLimited.{CountsAt}
 
 -- what a controller is told, one thing behind another
 abbrev pub Tellings : Type 0
@@ -34,13 +36,15 @@ abbrev pub told_if : Bool → congestion.Told → Tellings
 told_if true told = told ∷ []
 told_if false told = []
 
--- By what losses are judged at an end (sections 6.1 and 7.6): its terms and settings, the number
--- that goes next, and the one that did as a round trip was first measured, if one was.
+-- By what acknowledgements and losses are judged at an end (sections 6.1, 7.6 and 7.8): its terms and
+-- settings, the number that goes next, the one that did as a round trip was first measured, if one
+-- was, and whether the end counts as having nothing more to send.
 pub record Judging : Type 0 where
   pub terms : Terms
   pub settings : TransportSettings
   pub next : ℕ
   pub first : Option ℕ
+  pub limited : Bool
 
 -- the number that went next as a round trip was first measured: this one, or, where one is measured
 -- by now, the one that goes next now
@@ -143,14 +147,13 @@ pub record MayMark (named : Option ℕ) (a : AckValue) : Type 0 where
 -- named; what is lost then; and, where counts of CE grew, that the path is congested, when the last
 -- of these went, and of no bytes.
 pub record TellsSettled (j : Judging) (clock : ℕ) (a : AckValue) (acked others : List Sent) (f : Flight) (told : Tellings) : Type 0 where
-  pub app_limited : Bool
   pub each : Tellings
-  pub acks : TellsAcked j.settings.min_mtu clock app_limited f.rtt acked each
+  pub acks : TellsAcked j.settings.min_mtu clock j.limited f.rtt acked each
   pub lost : Tellings
   pub losses : TellsLosses j clock true (acked_flight j.terms clock a acked others f) lost
   pub marks : Bool
   pub counts : marks ≡ true → MayMark f.named a
-  pub is : told ≡ each ++ congestion.AcksEnded clock (min (bytes_asking others) latest) app_limited (Some (greatest_of f.named a.largest)) ∷ lost ++ told_if marks (congestion.Congested clock (last_moment acked) false 0)
+  pub is : told ≡ each ++ congestion.AcksEnded clock (min (bytes_asking others) latest) j.limited (Some (greatest_of f.named a.largest)) ∷ lost ++ told_if marks (congestion.Congested clock (last_moment acked) false 0)
 
 -- an ACK frame that names none in flight tells nothing
 abbrev pub TellsNamed : Judging → ℕ → AckValue → List Sent → List Sent → Flight → Tellings → Type 0
@@ -191,43 +194,45 @@ TellsMoment false j clock f told = told ≡ []
 
 -- ---- a call
 
--- by what losses are judged where the observer knows this
-abbrev pub judging : Lens → TransportSettings → Option ℕ → Watch → Judging
-judging l c first w = record { terms = l.terms; settings = c; next = next_number w.own; first = first }
+-- by what they are judged where the observer knows this
+abbrev pub judging : Lens → TransportSettings → Option ℕ → Bool → Watch → Judging
+judging l c first limited w = record { terms = l.terms; settings = c; next = next_number w.own; first = first; limited = limited }
 
 -- the number that went next as a round trip was first measured, by what the observer knows behind a
 -- call
 abbrev pub first_behind : Option ℕ → Watch → Option ℕ
 first_behind first w = measured_first first (next_number w.own) w.flight.rtt.smoothed
 
--- The controller of an end is told this by a call at the end, of which the observer knows this
--- before: of the packets that it took, or of one that it refused; of what is lost by time; and of
--- what went.
-pub record TellsCall (l : Lens) (c : TransportSettings) (first : Option ℕ) (w : Watch) (t : Told) (told : Tellings) : Type 0 where
+-- The controller of an end is told this by a call at the end, which counts as having nothing more to
+-- send or doesn't, and of which the observer knows this before: of the packets that it took, or of
+-- one that it refused; of what is lost by time; and of what went.
+pub record TellsCall (l : Lens) (c : TransportSettings) (first : Option ℕ) (limited : Bool) (w : Watch) (t : Told) (told : Tellings) : Type 0 where
   pub after : Intake
   pub came : after ≡ and_told l.own l.peer_gave t w.intake
   pub clock : ℕ
   pub moment : clock ≡ clock_behind w.clock (moment_of t.state (has_opened w.intake after) t.call)
   pub taken : Tellings
-  pub takes : TellsPackets (judging l c first w) clock (news w.intake after) w.flight taken
+  pub takes : TellsPackets (judging l c first limited w) clock (news w.intake after) w.flight taken
   pub refused : Tellings
-  pub refuses : TellsPart (judging l c first w) clock (has_opened w.intake after && is_refused t.answer) after.part w.flight refused
+  pub refuses : TellsPart (judging l c first limited w) clock (has_opened w.intake after && is_refused t.answer) after.part w.flight refused
   pub late : Tellings
-  pub expires : let f = (watch_came l.terms after clock w).flight in TellsMoment (is_timely t.state t.call && is_past (loss_due l.terms f) clock) (judging l c first w) clock f late
+  pub expires : let f = (watch_came l.terms after clock w).flight in TellsMoment (is_timely t.state t.call && is_past (loss_due l.terms f) clock) (judging l c first limited w) clock f late
   pub went : List Sent
   pub gave : (watch_told l t w).own ≡ w.own ++ went
   pub is : told ≡ taken ++ refused ++ late ++ told_gone went
 
--- calls at the end, one behind another
-abbrev pub TellsCalls : Lens → TransportSettings → Option ℕ → Watch → List Told → Tellings → Type 0
-TellsCalls l c first w [] told = told ≡ []
-TellsCalls l c first w (t ∷ ts) told = (now later : Tellings) × TellsCall l c first w t now × TellsCalls l c (first_behind first (watch_told l t w)) (watch_told l t w) ts later × (told ≡ now ++ later)
+-- calls at the end, one behind another, of which the first stands behind so many others: at each that
+-- finds the end open, the end may count so
+abbrev pub TellsCalls : Lens → TransportSettings → (ℕ → Bool → Type 0) → ℕ → Option ℕ → Watch → List Told → Tellings → Type 0
+TellsCalls l c may n first w [] told = told ≡ []
+TellsCalls l c may n first w (t ∷ ts) told =
+    (limited : Bool) × (now later : Tellings) × (t.state ≡ states.Open → may n limited) × TellsCall l c first limited w t now × TellsCalls l c may (suc n) (first_behind first (watch_told l t w)) (watch_told l t w) ts later × (told ≡ now ++ later)
 
 -- ---- over a run
 
 -- the controller of an end may have been told this by the first so many answers
 abbrev pub MayTell : Run → Side → ℕ → Tellings → Type 0
-MayTell r side i told = TellsCalls (lens_of r side) (end_at side r.start).transport None (watch_from (end_at side r.start) (given_of r side)) (until r side i) told
+MayTell r side i told = TellsCalls (lens_of r side) (end_at side r.start).transport (CountsAt r side) 0 None (watch_from (end_at side r.start) (given_of r side)) (until r side i) told
 
 -- the window that a view shows is that which the controller, as it was when the run began, shows
 -- once it was told of what went, was acknowledged and was lost up to there; and the size of

@@ -23,13 +23,16 @@ ghost use Rattle.quic_headline.specs.Undone.{NoneOpenedOnlyForUndone};
 ghost use Rattle.quic_headline.specs.Allowed.{ReadsAreAllowed, ReadsAreOver, WritesAreAllowed, ResetsAreAllowed};
 ghost use Rattle.quic_headline.specs.AcksDue.{AcksAreDue};
 ghost use Rattle.quic_headline.specs.Waited.{EachWaited};
+ghost use Rattle.quic_headline.specs.Begins.{WaitingBegins};
 ghost use Rattle.quic_headline.specs.Events.{MessagesAreTold, OpeningsAreTold, ReadablesAreTold};
 ghost use Rattle.quic_headline.specs.Resets.{ResetsAreTold};
 ghost use Rattle.quic_headline.specs.Ids.{IdsAreNew, AcceptedWereOpened};
+ghost use Rattle.quic_headline.specs.ConnectionIds.{SentToFirstId, NoUnknownId, FirstIdStays};
 ghost use Rattle.quic_headline.specs.Reasons.{ClosedHasAReason};
 ghost use Rattle.quic_headline.specs.Views.{ViewsTell};
 ghost use Rattle.quic_headline.specs.Sizes.{SizeIsOfHistory, SizesMove, DatagramsAreSized};
 ghost use Rattle.quic_headline.specs.Telling.{ControllersAreTold};
+ghost use Rattle.quic_headline.specs.Spread.{PacerIsOfHistory};
 ghost use Rattle.quic_machine.specs.Start.{AreStarted};
 ghost use Rattle.quic_headline.specs.Headline.{IsHonest, IsRun, OrderedPrefix, Slices, Once, EndAfterAll, BlockedOnlyWithoutBytes, AcceptsAll, FinishedMeansArrived, FinishedIsTold, AcknowledgedWereTaken, NamesWereTaken, OpensExactly, NewestOpens, LossTimersFollow, AckTimersFollow, NumbersRise};
 
@@ -155,8 +158,8 @@ pub fn ack_timers_follow()
     ensures starts { (w : World) → AreStarted w → AckTimersFollow w }
 {}
 
-/// An injection is answered `Opens` exactly where its bytes open by the run's lists: with the keys
-/// of its end, under an id that the end began with, and where one above the greatest number that it
+/// An injection is answered `Opens` exactly where its bytes open: with the keys of its end, under
+/// an id that the end has there, and where by the run's lists one above the greatest number that it
 /// took is expected (RFC 9000, section 12.2). So it is at an end in any state.
 pub fn opens_exactly()
     ensures { (r : Run) (end : World) → IsHonest r → IsRun r end → OpensExactly r }
@@ -164,8 +167,8 @@ pub fn opens_exactly()
 
 /// Each datagram that was given opens at the other end as it was sent, under its number and to its
 /// frames, where that end took none with a number above it: by the run's lists, with its keys,
-/// under an id that it began with, and where one above the greatest number that it took is
-/// expected. So the bytes that go of a number tell it (RFC 9000, sections 12.3 and 17.1, and A.3).
+/// whichever id it was sent to, and where one above the greatest number that it took is expected.
+/// So the bytes that go of a number tell it (RFC 9000, sections 12.3 and 17.1, and A.3).
 pub fn newest_opens()
     ensures { (r : Run) (end : World) → IsHonest r → IsRun r end → NewestOpens r }
 {}
@@ -181,8 +184,26 @@ pub fn names_were_taken()
     ensures { (r : Run) (end : World) → IsHonest r → IsRun r end → NamesWereTaken r }
 {}
 
-/// Each datagram given is the datagram of a number, the peer's id and stated frames, and its number
-/// is one or two above the one before (RFC 9000, section 12.3).
+/// Each datagram given was sent to the id with which the other end began, as its bytes say, since
+/// no end tells of another id yet (RFC 9000, section 5.1).
+pub fn sent_to_first_id()
+    ensures { (r : Run) (end : World) → IsHonest r → IsRun r end → SentToFirstId r }
+{}
+
+/// No delivery is answered `Dropped(UnknownId)`, whatever the state of its end: each datagram that
+/// is delivered was sent to an id that the end has (RFC 9000, section 5.2). So what a delivery
+/// brings can be read by the end's key alone.
+pub fn no_unknown_id()
+    ensures { (r : Run) (end : World) → IsHonest r → IsRun r end → NoUnknownId r }
+{}
+
+/// Wherever a run leads, each end has the id with which it began, and no other.
+pub fn first_id_stays()
+    ensures { (r : Run) (end : World) → IsHonest r → IsRun r end → FirstIdStays r }
+{}
+
+/// Each datagram given is the datagram of a number, the id that stands in it and stated frames, and
+/// its number is one or two above the one before (RFC 9000, section 12.3).
 pub fn numbers_rise()
     ensures { (r : Run) (end : World) → IsHonest r → IsRun r end → NumbersRise r }
 {}
@@ -302,6 +323,16 @@ pub fn messages_go_in_order()
 /// poll.
 pub fn pacer_sets_its_timer()
     ensures { (r : Run) (end : World) → IsHonest r → IsRun r end → PacerSetsItsTimer r }
+{}
+
+/// The tokens of an end's pacer follow from the lists: which polls asked it, with which window,
+/// size of datagrams, round trip and moment, and how many bytes of ack-eliciting datagrams went,
+/// probes too. A poll leaves the pacer's timer set to the moment that the pacer names by them, or
+/// not set; where no PTO probe waits, an ack-eliciting datagram goes only where it names no later
+/// moment, or as an MTU probe; and where a poll gives nothing though a byte or an end waits, and
+/// the window has room, it names one, to which the timer is set (RFC 9002, section 7.7).
+pub fn pacer_is_of_history()
+    ensures { (r : Run) (end : World) → IsHonest r → IsRun r end → PacerIsOfHistory r }
 {}
 
 /// Where no PTO probe waits by the lists, an ack-eliciting datagram goes only where the congestion
@@ -439,6 +470,16 @@ pub fn each_waited()
     ensures { (r : Run) (end : World) → IsHonest r → IsRun r end → EachWaited r }
 {}
 
+/// What waits at an open end behind a call waited before it, or has one of these causes: a call
+/// asks for it, as a write of bytes, a finish, a reset, a stop, a message or PING; a write is
+/// blocked; bytes are read, or a frame that comes uses up what may come, or may end a stream; a
+/// packet comes that is to be acknowledged, or waited for 25 ms; a datagram that bore it is lost;
+/// or the loss timer expired, and a PTO probe says it again. At the other end nothing begins to
+/// wait (RFC 9000, sections 13.2.1 and 13.3; RFC 9002, sections 6.1 and 6.2.4).
+pub fn waiting_begins()
+    ensures { (r : Run) (end : World) → IsHonest r → IsRun r end → WaitingBegins r }
+{}
+
 /// Where the application asks what is told next and nothing is, while messages wait to be received,
 /// it was told that messages came since the first of those came that wait. By the lists a message
 /// waits from the packet that brought it on until a call received it, or another received none
@@ -455,9 +496,10 @@ pub fn openings_are_told()
 {}
 
 /// Where the application asks what is told next and nothing is, it was told that a stream may be
-/// read since the last STREAM frame came on it, of those that it is told of: on a stream that this
-/// end opened, or of which one came before, and of which the end wasn't read, which wasn't stopped,
-/// and whose reset didn't come (RFC 9000, section 2.2).
+/// read since the last STREAM frame and the first RESET_STREAM frame came on it, of those that it
+/// is told of: on a stream that this end opened, or of which a STREAM frame came before, and of
+/// which the end wasn't read, which wasn't stopped, and whose reset didn't come, or came first with
+/// that packet (RFC 9000, sections 2.2 and 3.2).
 pub fn readables_are_told()
     ensures { (r : Run) (end : World) → IsHonest r → IsRun r end → ReadablesAreTold r }
 {}
@@ -465,8 +507,9 @@ pub fn readables_are_told()
 /// A run less any choice of its idle events, which are injections and deliveries that their end
 /// dropped while it wasn't closing, is a run again: the calls that stay are answered as they were,
 /// the views behind them are the same, both ends gave the same datagrams, and the same ends are
-/// left. So datagrams that don't open, and repeated ones, change nothing (RFC 9000, sections 5.2,
-/// 12.2 and 12.3). It wants no premise, and holds where memory lacks too.
+/// left, whatever they have counted. So datagrams that don't open, and repeated ones, change
+/// nothing else (RFC 9000, sections 5.2, 12.2 and 12.3). It wants no premise, and holds where
+/// memory lacks too.
 pub fn isolated()
     ensures { (r : Run) (end : World) → IsRun r end → Isolated r end }
 {}

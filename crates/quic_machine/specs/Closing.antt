@@ -3,6 +3,7 @@ use Rattle.std.specs.Prelude.{ℕ, max, Bool, true, if◌then◌else◌, Option,
 use Rattle.quic_machine.specs.declared.answers.State.{State}
 use Rattle.quic_machine.specs.declared.answers.State.TheVariants as states
 use Rattle.quic_machine.specs.declared.answers.LostReason.{LostReason}
+use Rattle.quic_wire.specs.Value.{FrameValue}
 
 -- the greatest moment that was taken over, in nanoseconds, whether the end is open (RFC 9000, section 10), why it isn't, and whether the
 -- application was told
@@ -19,6 +20,10 @@ ticked c now = record c { clock = max c.clock now }
 -- an end that closes sends no close yet: it is drained at once
 abbrev pub closed_for : LostReason → Closing → Closing
 closed_for reason c = record c { state = states.Drained; reason = Some reason }
+
+-- the close that an end owes (section 10.2.1): none, as long as an end that closes is drained at once
+abbrev pub close_owed : Closing → Option FrameValue
+close_owed c = None
 
 -- an end that lacked memory where it can't say so: no reason is left
 abbrev pub failed : Closing → Closing

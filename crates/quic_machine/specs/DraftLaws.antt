@@ -1,10 +1,10 @@
 -- What holds of a draft, whichever frames go; and that a datagram has a frame.
-use Rattle.std.proofs.Common.{◌≡◌, ℕ, ◌+◌, ◌-◌, ◌<◌, ◌≤◌, ◌^◌, List, [], ◌∷◌, ◌++◌, Bool, true, false, ◌&&◌, ◌||◌, length, Some, refl, sym, ap, ◌∙◌, subst, arith, nat_lt, ◌⊎◌, inl, inr}
+use Rattle.std.proofs.Common.{◌≡◌, ℕ, ◌+◌, ◌-◌, ◌<◌, ◌≤◌, ◌^◌, List, [], ◌∷◌, ◌++◌, Bool, true, false, ◌&&◌, ◌||◌, length, Some, refl, sym, ap, ◌∙◌, subst, arith, nat_lt, inl, inr}
 use Rattle.std.specs.Prelude.{if◌then◌else◌, map, ◌*◌}
 use Rattle.std.specs.List.{fold}
 use Rattle.std.proofs.lemmas.Bool.{and_parts}
 use Rattle.std.proofs.lemmas.List.{length-append, append_assoc, append-nil}
-use Rattle.quic_wire.specs.Value.{FrameValue, StreamValue, stream, datagram, ack, ping}
+use Rattle.quic_wire.specs.Value.{FrameValue, StreamValue, ping, stream, datagram, ack, connection_close, application_close, asks}
 use Rattle.quic_wire.specs.Writing.{spelling, spelled_all, stream_spelling}
 use Rattle.quic_packet.specs.Number.{width_for}
 use Rattle.quic_send_buffer.specs.Buffered.{writes_length}
@@ -13,18 +13,19 @@ use Rattle.quic_streams_parts.specs.SendHalf.{SendHalf, frame_of, frame_counts}
 use Rattle.quic_streams_parts.specs.Queue.{first_queued}
 use Rattle.quic_retransmits.specs.Retransmits.{nothing_waits}
 use Rattle.quic_retransmits.specs.declared.retransmits.ControlKind.{ControlKind}
-use Rattle.quic_streams_state.specs.State.{streams_of}
-use Rattle.quic_streams_state.specs.Control.{without_first, first_sent, frame_told}
+use Rattle.quic_streams_state.specs.Control.{first_sent}
 use Rattle.quic_streams_state.specs.Control as control
 use Rattle.quic_streams_state.specs.Frames as of_streams
 use Rattle.quic_streams_laws.specs.KindLaws.{GoesFirst}
 use Rattle.quic_streams_laws.specs.ControlWalk.{GoesOn, by_control, by_stream_frames}
 use Rattle.quic_recovery_core.specs.PendingAcks.{lazy_threshold, can_send, is_filled}
 use Rattle.quic_spaces.specs.Numbers.{cut_against}
-use Rattle.quic_machine.specs.End.{End, number_of, with_streams, with_ping}
-use Rattle.quic_machine.specs.Parts.{current_mtu}
-use Rattle.quic_machine.specs.Poll.{Draft, frame_room, fits, with_frame, left, ping_if, behind_control, with_control_frames, with_message, with_messages_of, with_message_frames, behind_stream, no_stream_frames, with_stream_frames, Kind, order, put, with_asking, no_frames, ack_of, with_ack, ack_fits, ack_if, composed_if, composed, probing, lazied, lazied_as, Leaving, whole, alone, probe, nothing, least_left, with_ping_frame, draft_left, draft_as}
+use Rattle.quic_machine.specs.End.{End, number_of}
+use Rattle.quic_machine.specs.Parts.{current_mtu, Signals, signals_wait}
+use Rattle.quic_machine.specs.Poll.{Draft, frame_room, fits, left, with_signal, ping_if, behind_control, with_control_frames, with_message, with_messages_of, with_message_frames, behind_stream, no_stream_frames, with_stream_frames, Kind, order, put, with_asking, no_frames, ack_of, with_ack, ack_fits, ack_if, composed_if, composed, lazied, lazied_as, Leaving, whole, alone, probe, closing, nothing, with_frame, least_left, with_signal_frames, draft_left, draft_as}
 use Rattle.quic_machine.specs.Poll as poll
+use Rattle.quic_machine.specs.Puts.{Put, after, May, MayClose, stream_room, without_entry, with_entry, with_half_frame}
+use Rattle.quic_machine.specs.Puts as puts
 
 -- a number takes four bytes at most
 pub width_few : (n : ℕ) → width_for n ≤ 4
@@ -50,26 +51,6 @@ room_most e room =
 
 -- ---- one frame of each kind
 
--- how many bytes are left behind the type and the id of a STREAM frame, behind the frames of a draft
-abbrev pub stream_room : Draft → ℕ → ℕ
-stream_room d id = of_streams.stream_room (left d) (no_stream_frames d) id
-
--- the first that waits of a kind is dropped
-abbrev pub without_entry : Draft → ControlKind → Draft
-without_entry d kind = record d { end = with_streams d.end (streams_of d.end.streams (without_first kind d.end.waiting.frames)) }
-
--- its frame goes
-abbrev pub with_entry : Draft → ControlKind → FrameValue → Draft
-with_entry d kind f = with_frame d f (spelling f) (with_streams d.end (streams_of (frame_told f d.end.streams) (without_first kind d.end.waiting.frames)))
-
--- the frame of a half goes, where so many bytes are left behind its type and id
-abbrev pub with_half_frame : Draft → ℕ → SendHalf → ℕ → Draft
-with_half_frame d id h room = with_frame d (stream (frame_of id h room)) (stream_spelling (writes_length h.buffer room) (frame_of id h room)) (record d.end { streams = of_streams.after_frame_sent d.end.transport.send_fairness d.end.streams id h room })
-
--- an ACK may go: no frame went before it, or it fits
-abbrev pub MayAck : Draft → Type 0
-MayAck d = (d.bytes ≡ []) ⊎ (fits d (ack (ack_of d.end)) ≡ true)
-
 -- what waits beside the bytes of streams is dropped, since it is no longer due
 abbrev pub Drops : (Draft → Type 0) → Type 0
 Drops P = (d : Draft) (kind : ControlKind) → P d → P (without_entry d kind)
@@ -87,17 +68,50 @@ SendsHalf P = (d : Draft) (id : ℕ) (h : SendHalf) (room : ℕ) → at d.end.st
 abbrev pub SendsMessage : (Draft → Type 0) → Type 0
 SendsMessage P = (d : Draft) (m : List ℕ) (ms : List (List ℕ)) → d.end.messages.queues.outgoing ≡ m ∷ ms → fits d (datagram m) ≡ true → P d → P (with_message d m ms)
 
--- what holds of a draft stays where a frame goes, of each kind: ACK, PING, one that waits beside the bytes of streams, a message, or one of a stream; and where
--- what waits is dropped
-pub record Writing (P : Draft → Type 0) : Type 0 where
-  pub ack : (d : Draft) → is_filled d.end.acknowledging.runs ≡ true → MayAck d → P d → P (with_ack d)
-  pub ping : (d : Draft) → P d → P (with_frame d ping (spelling ping) (with_ping d.end false))
-  -- PING goes alone, as a probe of a size
-  pub probes : (e : End) (size : ℕ) → P (no_frames e) → P (probing size e)
-  pub drops : Drops P
-  pub control : SendsEntry P
-  pub message : SendsMessage P
-  pub stream : SendsHalf P
+-- what holds of a draft stays where a frame goes, of each kind, and where what waits is dropped
+abbrev pub Writing : (Draft → Type 0) → Type 0
+Writing P = (p : Put) (d : Draft) → May p d → P d → P (after p d)
+
+module _ (P : Draft → Type 0) (w : Writing P) where
+  pub drops_of : Drops P
+  drops_of d kind i = w (puts.drops kind) d tt i
+
+  pub entry_of : SendsEntry P
+  entry_of d kind f is i = w (puts.control kind f) d is i
+
+  pub half_of : SendsHalf P
+  half_of d id h room found first some is counts i = w (puts.stream id h room) d (found, first, some, is, counts) i
+
+  pub message_of : SendsMessage P
+  message_of d m ms is fit i = w (puts.message m ms) d (is, fit) i
+
+-- ---- signals
+
+-- whether a frame is a signal: it asks, and no packet's record has it
+abbrev pub IsSignal : FrameValue → Type 0
+IsSignal ping = Unit {0}
+IsSignal f = ⊥
+
+-- it asks
+pub signal_asks : (f : FrameValue) → IsSignal f → asks f ≡ true
+signal_asks ping is = refl
+signal_asks f is = absurd is
+
+-- what holds of a draft, and stays where one goes, holds where those go that wait
+pub by_signals : (P : Draft → Type 0) → ((d : Draft) (f : FrameValue) (left : Signals) → IsSignal f → P d → P (with_signal d f left)) → (d : Draft) → P d → P (with_signal_frames d)
+by_signals P goes d p = go d.end.waiting.signals.ping
+  where
+    go : (b : Bool) → P (ping_if b d)
+    go true = goes d ping (record d.end.waiting.signals { ping = false }) tt p
+    go false = p
+
+-- where one waits, one goes last
+pub by_some_signal : (P : Draft → Type 0) → ((d : Draft) (f : FrameValue) (left : Signals) → IsSignal f → P (with_signal d f left)) → (d : Draft) → signals_wait d.end.waiting.signals ≡ true → P (with_signal_frames d)
+by_some_signal P goes d some = subst (λ (b : Bool). P (ping_if b d)) (sym some) (goes d ping (record d.end.waiting.signals { ping = false }) tt)
+
+-- where none waits, none goes
+pub no_signal : (d : Draft) → signals_wait d.end.waiting.signals ≡ false → with_signal_frames d ≡ d
+no_signal d none = ap (λ (b : Bool). ping_if b d) none
 
 -- ---- all of them
 
@@ -171,14 +185,14 @@ module _ (P : Draft → Type 0) (goes : SendsMessage P) where
 module _ (P : Draft → Type 0) (w : Writing P) where
   -- one kind
   kind_keeps : (kind : Kind) (d : Draft) → P d → P (put d kind)
-  kind_keeps poll.pings d p = go d.end.waiting.ping
+  kind_keeps poll.signals d p = go d.end.waiting.signals.ping
     where
       go : (b : Bool) → P (ping_if b d)
-      go true = w.ping d p
+      go true = w puts.ping d tt p
       go false = p
-  kind_keeps poll.controls d p = by_entries P w.drops w.control d p
-  kind_keeps poll.messages d p = by_messages P w.message d p
-  kind_keeps poll.streams d p = by_streams P w.stream d p
+  kind_keeps poll.controls d p = by_entries P (drops_of P w) (entry_of P w) d p
+  kind_keeps poll.messages d p = by_messages P (message_of P w) d p
+  kind_keeps poll.streams d p = by_streams P (half_of P w) d p
 
   -- several, one behind another
   kinds_keep : (kinds : List Kind) (d : Draft) → P d → P (fold put d kinds)
@@ -193,7 +207,7 @@ module _ (P : Draft → Type 0) (w : Writing P) where
   late_keeps : (b : Bool) (d : Draft) → ack_fits d ≡ b → P d → P (ack_if b d)
   late_keeps true d goes p =
       let parts = and_parts (is_filled d.end.acknowledging.runs) (fits d (ack (ack_of d.end))) goes in
-      w.ack d parts.0 (inr parts.1) p
+      w puts.ack d (parts.0, inr parts.1) p
   late_keeps false d goes p = p
 
 -- what holds where no frame went, and stays where one goes, holds of what is composed
@@ -201,12 +215,24 @@ pub by_writing : (P : Draft → Type 0) → Writing P → (e : End) → P (no_fr
 by_writing P w e p = go (can_send e.acknowledging) refl
   where
     go : (b : Bool) → can_send e.acknowledging ≡ b → P (composed_if b e)
-    go true due = by_asking P w (with_ack (no_frames e)) (w.ack (no_frames e) (and_parts e.acknowledging.due (is_filled e.acknowledging.runs) due).1 (inl refl) p)
+    go true due = by_asking P w (with_ack (no_frames e)) (w puts.ack (no_frames e) ((and_parts e.acknowledging.due (is_filled e.acknowledging.runs) due).1, inl refl) p)
     go false due = late_keeps P w (ack_fits (with_asking (no_frames e))) (with_asking (no_frames e)) refl (by_asking P w (no_frames e) p)
 
--- where an ACK goes alone, it is due
+-- whether a frame is a close (RFC 9000, section 19.19)
+abbrev pub IsClose : FrameValue → Type 0
+IsClose (connection_close c) = Unit {0}
+IsClose (application_close c) = Unit {0}
+IsClose f = ⊥
+
+-- what may go: an ACK alone that is due, and a close that has a form, and room
+abbrev pub MayGo : Leaving → End → Type 0
+MayGo alone e = can_send e.acknowledging ≡ true
+MayGo (closing f) e = IsClose f × MayClose (no_frames e) f
+MayGo leaving e = Unit {0}
+
+-- so it is where an acknowledgement became due
 abbrev pub MayLeave : Leaving → End → Type 0
-MayLeave leaving e = leaving ≡ alone → can_send (lazied e).acknowledging ≡ true
+MayLeave leaving e = MayGo leaving (lazied_as leaving e)
 
 -- one that is due is due where many packets came that don't ask
 pub lazy_due : (e : End) → can_send e.acknowledging ≡ true → can_send (lazied e).acknowledging ≡ true
@@ -217,37 +243,33 @@ lazy_due e is = go e.acknowledging.due (is_filled e.acknowledging.runs) is
     go true false is = absurd cc
     go false filled is = absurd cc
 
--- what goes: what is composed, a due ACK alone, a probe of a size, or nothing
-pub by_left : (P : Draft → Type 0) → Writing P → (leaving : Leaving) (e : End) → (leaving ≡ alone → can_send e.acknowledging ≡ true) → P (no_frames e) → P (draft_left leaving e)
-by_left P w whole e due p = by_writing P w e p
-by_left P w alone e due p = w.ack (no_frames e) (and_parts e.acknowledging.due (is_filled e.acknowledging.runs) (due refl)).1 (inl refl) p
-by_left P w (probe size) e due p = w.probes e size p
-by_left P w (nothing held) e due p = p
+-- what goes: what is composed, a due ACK alone, a probe of a size, a close, or nothing
+pub by_left : (P : Draft → Type 0) → Writing P → (leaving : Leaving) (e : End) → MayGo leaving e → P (no_frames e) → P (draft_left leaving e)
+by_left P w whole e may p = by_writing P w e p
+by_left P w alone e due p = w puts.ack (no_frames e) ((and_parts e.acknowledging.due (is_filled e.acknowledging.runs) due).1, inl refl) p
+by_left P w (probe size) e may p = w (puts.probes size) (no_frames e) tt p
+by_left P w (closing f) e may p = go f may.0 may.1
+  where
+    go : (g : FrameValue) → IsClose g → MayClose (no_frames e) g → P (with_frame (no_frames e) g (spelling g) e)
+    go (connection_close c) is may = w (puts.connection_close c) (no_frames e) may p
+    go (application_close c) is may = w (puts.application_close c) (no_frames e) may p
+    go g is may = absurd is
+by_left P w (nothing held) e may p = p
 
 -- so it is where an acknowledgement became due
 pub by_leave : (P : Draft → Type 0) → Writing P → (leaving : Leaving) (e : End) → MayLeave leaving e → P (no_frames (lazied_as leaving e)) → P (draft_as leaving e)
-by_leave P w leaving e may p = by_left P w leaving (lazied_as leaving e) (due leaving may) p
-  where
-    due : (l : Leaving) → MayLeave l e → l ≡ alone → can_send (lazied_as l e).acknowledging ≡ true
-    due whole may is = cc
-    due alone may is = may is
-    due (probe size) may is = cc
-    due (nothing held) may is = cc
+by_leave P w leaving e may p = by_left P w leaving (lazied_as leaving e) may p
 
 -- ---- its least size
 
 -- what asks leaves it
 asking_least : (d : Draft) → (with_asking d).least ≡ d.least
-asking_least d = by_streams Keeps (λ x id h room found first some is counts same. same) (with_message_frames (with_control_frames (with_ping_frame d)))
-    (by_messages Keeps (λ x m ms is fit same. same) (with_control_frames (with_ping_frame d))
-    (by_entries Keeps (λ x kind same. same) (λ x kind f is same. same) (with_ping_frame d) (pinged d.end.waiting.ping)))
+asking_least d = by_streams Keeps (λ x id h room found first some is counts same. same) (with_message_frames (with_control_frames (with_signal_frames d)))
+    (by_messages Keeps (λ x m ms is fit same. same) (with_control_frames (with_signal_frames d))
+    (by_entries Keeps (λ x kind same. same) (λ x kind f is same. same) (with_signal_frames d) (by_signals Keeps (λ x f left is same. same) d refl)))
   where
     Keeps : Draft → Type 0
     Keeps x = x.least ≡ d.least
-
-    pinged : (b : Bool) → (ping_if b d).least ≡ d.least
-    pinged true = refl
-    pinged false = refl
 
 composed_least : (e : End) → (composed e).least ≡ 0
 composed_least e = go (can_send e.acknowledging)
@@ -265,4 +287,5 @@ pub left_least : (leaving : Leaving) (e : End) → (draft_left leaving e).least 
 left_least whole e = composed_least e
 left_least alone e = refl
 left_least (probe size) e = refl
+left_least (closing f) e = refl
 left_least (nothing held) e = refl

@@ -1,5 +1,5 @@
--- One end of a connection (RFC 9000, section 5): a record of parts, one for each concern, and beside it the keys, the random source and the congestion
--- controller.
+-- One end of a connection (RFC 9000, section 5): a record of parts, one for each concern, and beside it the keys, the random source, the congestion
+-- controller, and what was counted.
 use Rattle.std.specs.Prelude.{◌≡◌, ℕ, ◌+◌, ◌-◌, ◌*◌, Bool, ◌==◌, ◌||◌, not, nat_lt, if◌then◌else◌, List, length, false, Option, Some, None, Result, Ok, Err}
 use Rattle.quic_wire_core.specs.declared.stream_id.Side.{Side}
 use Rattle.quic_packet.specs.Keys.{Protection, Aead}
@@ -20,11 +20,12 @@ use Rattle.quic_machine.specs.Ids.{Ids, first_ids}
 use Rattle.quic_spaces.specs.Numbers.{Numbers, no_numbers, number_given}
 use Rattle.quic_spaces.specs.Filter.{Filter, first_filter, allocated, after_allocated}
 use Rattle.quic_machine.specs.Tracking.{Tracking, nothing_tracked, loss_moment}
+use Rattle.quic_machine.specs.Heard.{Heard}
 use Rattle.quic_streams_state.specs.declared.state.StreamsState.{StreamsState}
 use Rattle.quic_streams_state.specs.State.{Streams, streams_of, new_streams, after_set_params}
 use Rattle.quic_congestion.specs.Search.{Discovery}
 use Rattle.quic_spaces.specs.Marks.{Counts}
-use Rattle.quic_machine.specs.Parts.{Path, Windows, first_path, Marks, no_marks, Messaging, no_messaging, with_queues, Waiting, nothing_waits}
+use Rattle.quic_machine.specs.Parts.{Path, Windows, first_path, Marks, no_marks, Messaging, no_messaging, with_queues, Signals, Waiting, nothing_waits}
 use Rattle.quic_messages.specs.Messages.{Messages}
 use Rattle.quic_machine.specs.Policy.{Policy, keys_policy}
 
@@ -53,16 +54,21 @@ pub record End : Type 0 where
   pub messages : Messaging
   pub waiting : Waiting
 
--- an end with its keys, its random source and its controller
+-- an end with its keys, its random source and its controller, and what it counted
 pub record ConnectionValue (H K R C : Type 0) : Type 0 where
   pub keys : Keys H K
   pub random : R
   pub control : C
+  pub heard : Heard
   pub end : End
 
--- the same keys, random source and controller, and another end
+-- the same keys, random source, controller and counts, and another end
 abbrev pub with_end : {H K R C : Type 0} → ConnectionValue H K R C → End → ConnectionValue H K R C
 with_end w e = record w { end = e }
+
+-- the same in all else, and this was counted
+abbrev pub hearing : {H K R C : Type 0} → ConnectionValue H K R C → Heard → ConnectionValue H K R C
+hearing w h = record w { heard = h }
 
 -- what the keys of an end do: it protects with the local ones, and opens with the remote ones; and which words its random source answers from here on, by how many
 -- it answered before
@@ -186,16 +192,20 @@ with_queued e queues = with_messages e (with_queues e.messages queues)
 abbrev pub with_waiting : End → Waiting → End
 with_waiting e w = record e { waiting = w }
 
+-- the end where these signals wait
+abbrev pub with_signals : End → Signals → End
+with_signals e signals = with_waiting e (record e.waiting { signals = signals })
+
 -- the end with PING waiting or not
 abbrev pub with_ping : End → Bool → End
-with_ping e waits = with_waiting e (record e.waiting { ping = waits })
+with_ping e waits = with_signals e (record e.waiting.signals { ping = waits })
 
 -- an end that met want of memory where a datagram was taken or given, or packets were lost at a timeout: it is failed for good, for no reason, and
--- keeps its keys and its random source. What else stands in it isn't said
+-- keeps its keys and its random source. What else stands in it, and what it counted, isn't said
 pub record HasFailed {H K R C : Type 0} (old new : ConnectionValue H K R C) : Type 0 where
   pub state : new.end.closing.state ≡ states.Failed
   pub reason : new.end.closing.reason ≡ None
-  pub keys : new ≡ record old { end = new.end; control = new.control }
+  pub keys : new ≡ record old { end = new.end; control = new.control; heard = new.heard }
 
 -- ---- making an end
 

@@ -1,7 +1,7 @@
 -- What a datagram that comes leaves, as cases: of the packets that an ACK frame names or that are lost, of frames, and of the packet that has them.
 use Rattle.std.proofs.Common.{◌≡◌, ℕ, Bool, true, false, not, ◌||◌, ◌==◌, List, [], ◌∷◌, map, length, Option, Some, None, Result, Ok, Err, refl, sym, ◌∙◌}
 use Rattle.std.specs.Prelude.{if◌then◌else◌}
-use Rattle.quic_wire.specs.Value.{FrameValue, AckValue, ack, stream, reset_stream, stop_sending, max_data, max_stream_data, max_streams, new_token, handshake_done, datagram}
+use Rattle.quic_wire.specs.Value.{FrameValue, AckValue, ack, stream, reset_stream, stop_sending, max_data, max_stream_data, max_streams, datagram}
 use Rattle.quic_wire_core.specs.declared.shared.EcnCodepoint.{EcnCodepoint}
 use Rattle.quic_wire.specs.Items.{items}
 use Rattle.quic_wire.specs.declared.frame.InvalidFrame.{InvalidFrame}
@@ -20,21 +20,24 @@ use Rattle.quic_machine.specs.declared.answers.DropReason.TheVariants as drops
 use Rattle.quic_machine.specs.declared.answers.LostReason.{LostReason}
 use Rattle.quic_machine.specs.Policy.{Policy}
 use Rattle.quic_machine.specs.Closing.{ticked}
-use Rattle.quic_machine.specs.Ids.{known}
+use Rattle.quic_machine.specs.Ids.{Ids, known}
+use Rattle.quic_recovery_core.specs.PendingAcks.{Pending}
+use Rattle.quic_wire_core.specs.declared.shared.IssuedCid.{IssuedCid}
 use Rattle.quic_spaces.specs.Numbers.{number_opened, number_named}
 use Rattle.quic_spaces.specs.Marks.{Counts}
 use Rattle.quic_spaces.specs.declared.space.EcnError.{EcnError}
-use Rattle.quic_time.specs.Rtt.{Rtt}
 use Rattle.quic_messages.specs.declared.errors.ReceivedError.{ReceivedError}
 use Rattle.quic_messages.specs.Messages.{received_answer}
 use Rattle.quic_machine.specs.Parts.{Messaging}
-use Rattle.quic_machine.specs.Tracking.{Tracking, TrackedPacket, Carried, acked_by, Verdict, lost_by, after_detection}
-use Rattle.quic_machine.specs.End.{End, with_closing, closed_by, with_numbers, with_streams, with_messages, with_tracking, with_rtt, with_told, with_marking, with_discovery, with_queued}
+use Rattle.quic_machine.specs.Tracking.{TrackedPacket, Carried, acked_by, Verdict, lost_by, after_detection}
+use Rattle.quic_machine.specs.End.{End, with_closing, closed_by, with_numbers, with_streams, with_messages, with_tracking, with_told, with_marking, with_discovery, with_queued}
 use Rattle.quic_machine.specs.Opens.{own_id_length}
 use Rattle.quic_messages.specs.Messages.{without_longer}
 use Rattle.quic_congestion.specs.Search.{Discovery}
 use Rattle.quic_machine.specs.MessageCalls.{most_message}
 use Rattle.quic_machine.specs.Sizes.{is_resized, with_acked, search_acked, after_lost, without_longer_if, shortened, with_searched}
+use Rattle.quic_machine.specs.Steps.{Step, after}
+use Rattle.quic_machine.specs.Steps as steps
 use Rattle.quic_machine.specs.Acked.{without_known, reset_acked, resets_acked, stream_acked, streams_acked, packet_acked, packets_acked, stream_lost, streams_lost, again, carried_lost, packets_lost, lost_as, verdict, losses_detected, measured, sampled, without_acked, counts_judged, counts_answer, counts_seen, marks_seen, losses_taken, after_named, after_acked}
 use Rattle.quic_machine.specs.Receive.{Fault, violation, reason_of, Progress, goes_on, is_above, names_ungiven, message_taken, message_judged, take_message, take_frame, take_item, unless_fault, take_items, is_empty, take_payload, asks_in, after_taken, dropped, ends_as, by_state, opened_to, opened_as, opening, headed, received_in, received}
 
@@ -79,24 +82,9 @@ by_marks rises newly a e P all = go e.path.marking rises a.ecn
     go true false (Some counts) = all e.marks.told e.path.marking
     go false rises o = all e.marks.told e.path.marking
 
--- what an ACK frame makes of an end, step by step
-pub record Settling (P : End → Type 0) : Type 0 where
-  -- numbers that the peer knows of need no more acknowledgement
-  pub known : (n : ℕ) (e : End) → P e → P (without_known (Some n) e)
-  -- RESET_STREAM of a stream is acknowledged; a STREAM frame is acknowledged, or lost; and what else a packet carried is
-  pub reset : (id : ℕ) (e : End) → P e → P (reset_acked id e)
-  pub acked : (m : StreamMeta) (e : End) → P e → P (stream_acked m e)
-  pub lost : (m : StreamMeta) (e : End) → P e → P (stream_lost m e)
-  pub again : (carried : Carried) (e : End) → P e → P (again carried e)
-  -- the search for a size learns of it, and messages that are too long are dropped
-  pub searched : (d : Discovery) (e : End) → P e → P (with_discovery e d)
-  pub shortens : (most : ℕ) (e : End) → P e → P (with_queued e (without_longer most e.messages.queues))
-  -- fewer packets are tracked
-  pub tracked : (t : Tracking) (e : End) → P e → P (with_tracking e t)
-  -- the round trip is measured
-  pub measured : (r : Rtt) (first : Option ℕ) (e : End) → P e → P (with_rtt e r first)
-  -- the peer's counts of marks are kept, and marking may end
-  pub marked : (counts : Counts) (marking : Bool) (e : End) → P e → P (with_marking (with_told e counts) marking)
+-- a fact that each step of an ACK frame keeps
+abbrev pub Settling : (End → Type 0) → Type 0
+Settling P = (s : Step) (e : End) → P e → P (after s e)
 
 -- with another search messages that are too long are dropped, or none is
 pub by_searched : (d : Discovery) (e : End) (P : End → Type 0) → P (with_discovery e d) → ((most : ℕ) → P (with_queued (with_discovery e d) (without_longer most e.messages.queues))) → P (with_searched d e)
@@ -114,7 +102,7 @@ module _ (P : End → Type 0) (c : Settling P) where
   -- what the peer knows of, if anything
   known_keeps : (o : Option ℕ) (e : End) → P e → P (without_known o e)
   known_keeps None e i = i
-  known_keeps (Some n) e i = c.known n e i
+  known_keeps (Some n) e i = c (steps.known n) e i
 
   -- packets are acknowledged
   packets_acked_keep : (ps : Table TrackedPacket) (e : End) → P e → P (packets_acked ps e)
@@ -122,8 +110,8 @@ module _ (P : End → Type 0) (c : Settling P) where
   packets_acked_keep (p ∷ ps) e i =
       let heard : End = search_acked p e in
       let known : End = without_known p.1.carried.largest_acked heard in
-      let resets = resets_acked_keep P c.reset p.1.carried.retransmits.reset_stream known (known_keeps p.1.carried.largest_acked heard (c.searched (with_acked p e.path.discovery) e i)) in
-      packets_acked_keep ps (packet_acked p e) (streams_acked_keep P c.acked p.1.carried.stream_frames (resets_acked p.1.carried.retransmits.reset_stream known) resets)
+      let resets = resets_acked_keep P (λ id. c (steps.reset id)) p.1.carried.retransmits.reset_stream known (known_keeps p.1.carried.largest_acked heard (c (steps.searched (with_acked p e.path.discovery)) e i)) in
+      packets_acked_keep ps (packet_acked p e) (streams_acked_keep P (λ m. c (steps.acked m)) p.1.carried.stream_frames (resets_acked p.1.carried.retransmits.reset_stream known) resets)
 
   -- packets are lost
   lost_keeps : (v : Verdict) (e : End) → P e → P (lost_as v e)
@@ -131,8 +119,8 @@ module _ (P : End → Type 0) (c : Settling P) where
       let lost = lost_by v e.tracking.packets in
       let left : End = with_tracking (packets_lost lost e) (after_detection v e.tracking) in
       let d : Discovery = after_lost left.closing.clock lost left.path.discovery in
-      let told : P (with_discovery left d) = c.searched d left (c.tracked (after_detection v e.tracking) (packets_lost lost e) (packets_lost_keep P c.lost c.again lost e i)) in
-      by_searched d left P told (λ most. c.shortens most (with_discovery left d) told)
+      let told : P (with_discovery left d) = c (steps.searched d) left (c (steps.tracked (after_detection v e.tracking)) (packets_lost lost e) (packets_lost_keep P (λ m. c (steps.lost m)) (λ carried. c (steps.again carried)) lost e i)) in
+      by_searched d left P told (λ most. c (steps.shortens most) (with_discovery left d) told)
 
   -- losses are detected
   pub losses_keep : (e : End) → P e → P (losses_detected e)
@@ -141,7 +129,7 @@ module _ (P : End → Type 0) (c : Settling P) where
   -- a round trip is measured, if one is
   sampled_keeps : (o : Option TrackedPacket) (a : AckValue) (e : End) → P e → P (sampled o a e)
   sampled_keeps None a e i = i
-  sampled_keeps (Some p) a e i = c.measured (sampled (Some p) a e).path.rtt (sampled (Some p) a e).path.first_after_rtt e i
+  sampled_keeps (Some p) a e i = c (steps.measured (sampled (Some p) a e).path.rtt (sampled (Some p) a e).path.first_after_rtt) e i
 
   -- an ACK frame that names these packets
   named_keeps : (ps : Table TrackedPacket) (rises : Bool) (a : AckValue) (e : End) → P e → P (after_named ps rises a e)
@@ -150,10 +138,10 @@ module _ (P : End → Type 0) (c : Settling P) where
       let left = without_acked (p ∷ ps) a e in
       let timed = sampled (measured rises a (p ∷ ps)) a left in
       let found = losses_detected timed in
-      let stays : P left = c.tracked left.tracking (packets_acked (p ∷ ps) e) (packets_acked_keep (p ∷ ps) e i) in
+      let stays : P left = c (steps.tracked left.tracking) (packets_acked (p ∷ ps) e) (packets_acked_keep (p ∷ ps) e i) in
       let taken = losses_taken (p ∷ ps) rises a e in
-      let kept : P taken = c.tracked taken.tracking found (losses_keep timed (sampled_keeps (measured rises a (p ∷ ps)) a left stays)) in
-      by_marks rises (length (p ∷ ps)) a taken P (λ counts marking. c.marked counts marking taken kept)
+      let kept : P taken = c (steps.tracked taken.tracking) found (losses_keep timed (sampled_keeps (measured rises a (p ∷ ps)) a left stays)) in
+      by_marks rises (length (p ∷ ps)) a taken P (λ counts marking. c (steps.marked counts marking) taken kept)
 
   -- an ACK frame, whose greatest number is counted already
   pub acked_keeps : (rises : Bool) (a : AckValue) (e : End) → P e → P (after_acked rises a e)
@@ -183,6 +171,40 @@ OnStreams (max_stream_data f) = Unit {0}
 OnStreams (max_streams f) = Unit {0}
 OnStreams f = ⊥
 
+-- a frame apart from streams, which says nothing of what is tracked, and is no message
+abbrev pub IsApart : FrameValue → Type 0
+IsApart (ack a) = ⊥
+IsApart (stream f) = ⊥
+IsApart (reset_stream f) = ⊥
+IsApart (stop_sending f) = ⊥
+IsApart (max_data limit) = ⊥
+IsApart (max_stream_data f) = ⊥
+IsApart (max_streams f) = ⊥
+IsApart (datagram m) = ⊥
+IsApart f = Unit {0}
+
+-- what such a frame may change: ids, and which wait to be told of and to be retired; whether the peer's address is validated; and what is to be acknowledged, but for
+-- the numbers
+pub record Apart : Type 0 where
+  pub ids : Ids
+  pub new_cids : List IssuedCid
+  pub retire_cids : List ℕ
+  pub validated : Bool
+  pub acknowledging : Pending
+
+-- the end with that
+abbrev pub with_apart : End → Apart → End
+with_apart e c = record e {
+  ids = c.ids;
+  waiting = record e.waiting { frames = record e.waiting.frames { new_cids = c.new_cids; retire_cids = c.retire_cids } };
+  path = record e.path { validated = c.validated };
+  acknowledging = record c.acknowledging { runs = e.acknowledging.runs };
+}
+
+-- that of an end as it is
+abbrev pub apart_of : End → Apart
+apart_of e = record { ids = e.ids; new_cids = e.waiting.frames.new_cids; retire_cids = e.waiting.frames.retire_cids; validated = e.path.validated; acknowledging = e.acknowledging }
+
 -- the frames that change an end, by kind
 pub record TakesFrame (P : End → Type 0) : Type 0 where
   pub ack : (rises : Bool) (a : AckValue) (e : End) → P e → P (after_acked rises a (named a e))
@@ -190,6 +212,8 @@ pub record TakesFrame (P : End → Type 0) : Type 0 where
   pub on_streams : (f : FrameValue) (e : End) → OnStreams f → P e → P (take_frame f e).end
   -- a message: others wait, and it is told of or isn't
   pub message : (m : Messaging) (e : End) → P e → P (with_messages e m)
+  -- a frame apart from these
+  pub apart : (f : FrameValue) (e : End) → IsApart f → P e → P (take_frame f e).end
 
 -- a message leaves the end as it was, or with other messages
 pub message_leaves : (P : End → Type 0) (m : List ℕ) (e : End) → P e → ((left : Messaging) → P (with_messages e left)) → P (take_message m e).end
@@ -213,9 +237,7 @@ frame_keeps P c (max_data limit) e i = c.on_streams (max_data limit) e tt i
 frame_keeps P c (max_stream_data f) e i = c.on_streams (max_stream_data f) e tt i
 frame_keeps P c (max_streams f) e i = c.on_streams (max_streams f) e tt i
 frame_keeps P c (datagram m) e i = message_leaves P m e i (λ left. c.message left e i)
-frame_keeps P c (new_token t) e i = i
-frame_keeps P c handshake_done e i = i
-frame_keeps P c f e i = i
+frame_keeps P c f e i = c.apart f e tt i
 
 -- a frame on streams leaves other streams, and another end in nothing else
 pub frame_leaves : (P : End → Type 0) (f : FrameValue) (e : End) → OnStreams f → ((t : Streams) → P (with_streams e t)) → P (take_frame f e).end
@@ -226,6 +248,30 @@ frame_leaves P (max_data limit) e on all = all _
 frame_leaves P (max_stream_data f) e on all = all _
 frame_leaves P (max_streams f) e on all = all _
 frame_leaves P f e on all = absurd on
+
+-- a frame apart from streams leaves what such a one may change, and another end in nothing else
+pub apart_leaves : (P : End → Type 0) (f : FrameValue) (e : End) → IsApart f → ((c : Apart) → P (with_apart e c)) → P (take_frame f e).end
+apart_leaves P (ack a) e apart all = absurd apart
+apart_leaves P (stream f) e apart all = absurd apart
+apart_leaves P (reset_stream f) e apart all = absurd apart
+apart_leaves P (stop_sending f) e apart all = absurd apart
+apart_leaves P (max_data limit) e apart all = absurd apart
+apart_leaves P (max_stream_data f) e apart all = absurd apart
+apart_leaves P (max_streams f) e apart all = absurd apart
+apart_leaves P (datagram m) e apart all = absurd apart
+apart_leaves P f e apart all = all (apart_of e)
+
+-- none of them changes an end so far
+pub apart_same : (f : FrameValue) (e : End) → IsApart f → (take_frame f e).end ≡ e
+apart_same (ack a) e apart = absurd apart
+apart_same (stream f) e apart = absurd apart
+apart_same (reset_stream f) e apart = absurd apart
+apart_same (stop_sending f) e apart = absurd apart
+apart_same (max_data limit) e apart = absurd apart
+apart_same (max_stream_data f) e apart = absurd apart
+apart_same (max_streams f) e apart = absurd apart
+apart_same (datagram m) e apart = absurd apart
+apart_same f e apart = refl
 
 module _ (P : End → Type 0) (step : (f : FrameValue) (e : End) → P e → P (take_frame f e).end) where
   -- an item of a payload

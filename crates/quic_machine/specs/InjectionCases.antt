@@ -15,7 +15,6 @@ use Rattle.quic_machine.specs.Ids.{known}
 use Rattle.quic_spaces.specs.Numbers.{expected, number_opened}
 use Rattle.quic_recovery_core.specs.Duplicates.{is_duplicate}
 use Rattle.quic_machine.specs.Policy.{Policy}
-use Rattle.quic_machine.specs.Parts.{Path, IsSamePath}
 use Rattle.quic_machine.specs.End.{End, with_numbers}
 use Rattle.quic_machine.specs.Opens.{own_id_length, in_phase, opens_behind, would_open}
 use Rattle.quic_machine.specs.Receive.{dropped, by_state, opened_as, opening, headed, received_in}
@@ -49,9 +48,9 @@ injected_leaves p e injection = go (would_open p e injection.bytes) refl
     go true is = refl
     go false is = received_leaves e.closing.state p e (injected_by injection) injection.bytes is
 
--- what holds of the end as it was, and of it whatever its path counts, holds after an injection
-pub by_injection : (p : Policy) (e : End) (injection : Injection) (P : End → Type 0) → P e → ((path : Path) → IsSamePath e.path path → P (record e { path = path })) → P (after_injected_if (would_open p e injection.bytes) p e injection)
-by_injection p e injection P same heard = subst P (sym (injected_leaves p e injection)) same
+-- what holds of the end as it was holds after an injection
+pub by_injection : (p : Policy) (e : End) (injection : Injection) (P : End → Type 0) → P e → P (after_injected_if (would_open p e injection.bytes) p e injection)
+by_injection p e injection P same = subst P (sym (injected_leaves p e injection)) same
 
 -- it gives no datagram
 pub injected_gives : (b : Bool) (p : Policy) (e : End) (injection : Injection) → gave (injected_if b p e injection) ≡ false

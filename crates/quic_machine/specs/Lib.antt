@@ -5,9 +5,11 @@ pub mod Ids
 pub mod Parts
 pub mod PathLaws
 pub mod Tracking
+pub mod Heard
 pub mod End
 pub mod Opens
 pub mod Acked
+pub mod Steps
 pub mod Arrival
 pub mod Receive
 pub mod Poll
@@ -19,6 +21,7 @@ pub mod MessageCalls
 pub mod Lacking
 pub mod Machine
 pub mod Start
+pub mod Puts
 pub mod DraftLaws
 pub mod PollCases
 pub mod LeaveCases

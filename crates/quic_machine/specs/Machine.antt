@@ -6,6 +6,7 @@ use Rattle.quic_wire_core.specs.declared.stream_id.Side.TheVariants.{Client, Ser
 use Rattle.quic_wire_core.specs.StreamId.{other_side}
 use Rattle.quic_machine.specs.Arrival.{delivered_by, injected_by}
 use Rattle.quic_machine.specs.declared.answers.State.TheVariants as states
+use Rattle.quic_machine.specs.declared.answers.Received.{Received}
 use Rattle.quic_machine.specs.declared.answers.Received.TheVariants as receives
 use Rattle.quic_machine.specs.declared.run.RunEvent.{RunEvent}
 use Rattle.quic_machine.specs.declared.run.Call.{Call}
@@ -21,6 +22,7 @@ use Rattle.quic_machine.specs.Parts.{current_mtu}
 use Rattle.quic_machine.specs.Policy.{Policy}
 use Rattle.quic_machine.specs.End.{End, streams_at, with_streams, with_window}
 use Rattle.quic_machine.specs.Control.{Control, after_told}
+use Rattle.quic_machine.specs.Heard.{Heard, heard_datagram, heard_given}
 use Rattle.quic_time.specs.Timers.{no_timers, timer_at, each_timer, next_timer}
 use Rattle.quic_machine.specs.Opens.{would_open}
 use Rattle.quic_machine.specs.Timeouts.{timed_out, told_timed_out}
@@ -57,7 +59,7 @@ IsAnswer p e theirs (calls.Send message makes_room) a = IsMessageAnswer e (calls
 IsAnswer p e theirs calls.Recv a = IsMessageAnswer e calls.Recv a
 IsAnswer p e theirs calls.Ping a = a ≡ answers.Ping
 IsAnswer p e theirs (calls.Poll now) a = (a ≡ answers.Poll (polled p e now).answer) ⊎ (a ≡ answers.Poll (Err (record {})))
-IsAnswer p e theirs (calls.Timeout now) a = (a ≡ answers.Timeout (timed_out e now).answer) ⊎ (a ≡ answers.Timeout (Err (record {})))
+IsAnswer p e theirs (calls.Timeout now) a = (a ≡ answers.Timeout (timed_out p e now).answer) ⊎ (a ≡ answers.Timeout (Err (record {})))
 IsAnswer p e theirs (calls.Deliver delivery) a = IsDelivered p e delivery (slice_get theirs delivery.index) a
 IsAnswer p e theirs (calls.Inject injection) a = a ≡ injected_if (would_open p e injection.bytes) p e injection
 IsAnswer p e theirs calls.Event a = a ≡ answers.Event (end_tells e)
@@ -81,7 +83,7 @@ after_call p e theirs (calls.Send message makes_room) a = end_on_messages e (cal
 after_call p e theirs calls.Recv a = end_on_messages e calls.Recv a
 after_call p e theirs calls.Ping a = end_after_ping e
 after_call p e theirs (calls.Poll now) a = (polled p e now).end
-after_call p e theirs (calls.Timeout now) a = (timed_out e now).end
+after_call p e theirs (calls.Timeout now) a = (timed_out p e now).end
 after_call p e theirs (calls.Deliver delivery) a = after_delivered p e delivery (slice_get theirs delivery.index)
 after_call p e theirs (calls.Inject injection) a = after_injected_if (would_open p e injection.bytes) p e injection
 after_call p e theirs calls.Event a = end_after_event e
@@ -136,9 +138,26 @@ abbrev pub IsTold : Bool → Policy → Control → End → List (List ℕ) → 
 IsTold true p control e theirs call next = Unit {0}
 IsTold false p control e theirs call next = next ≡ after_told control (tells p (reads_window control call e) theirs call)
 
+-- what an end has counted behind a delivery: as much as before, where there is no such datagram
+abbrev pub heard_delivery : Option (List ℕ) → Received → Heard → Heard
+heard_delivery None a h = h
+heard_delivery (Some d) a h = heard_datagram d a h
+
+-- what an end has counted behind a call that was answered so: what comes counts, whatever is made of it, and so does what is given
+abbrev pub heard_by : List (List ℕ) → Call → Answer → Heard → Heard
+heard_by theirs (calls.Poll now) (answers.Poll (Ok given)) h = heard_given given h
+heard_by theirs (calls.Deliver delivery) (answers.Deliver a) h = heard_delivery (slice_get theirs delivery.index) a h
+heard_by theirs (calls.Inject injection) (answers.Inject a) h = heard_datagram injection.bytes a h
+heard_by theirs call a h = h
+
+-- what a call leaves counted: of an end that fails nothing is said
+abbrev pub IsHeard : Bool → List (List ℕ) → Call → Answer → Heard → Heard → Type 0
+IsHeard true theirs call a h next = Unit {0}
+IsHeard false theirs call a h next = next ≡ heard_by theirs call a h
+
 -- ---- two ends
 
--- both ends, the datagrams that each has given, in their order, and the controller of each
+-- both ends, the datagrams that each has given, in their order, the controller of each, and what each has counted
 pub record World : Type 0 where
   pub client : End
   pub server : End
@@ -146,6 +165,8 @@ pub record World : Type 0 where
   pub from_server : List (List ℕ)
   pub client_control : Control
   pub server_control : Control
+  pub client_heard : Heard
+  pub server_heard : Heard
 
 -- what the keys and the random sources of both ends do
 pub record Policies : Type 0 where
@@ -172,10 +193,15 @@ abbrev pub control_at : Side → World → Control
 control_at Client w = w.client_control
 control_at Server w = w.server_control
 
--- that end changes, gives these datagrams, and has this controller
-abbrev pub changed : Side → World → End → List (List ℕ) → Control → World
-changed Client w e ds control = record w { client = e; from_client = w.from_client ++ ds; client_control = control }
-changed Server w e ds control = record w { server = e; from_server = w.from_server ++ ds; server_control = control }
+-- what one of the ends has counted
+abbrev pub heard_at : Side → World → Heard
+heard_at Client w = w.client_heard
+heard_at Server w = w.server_heard
+
+-- that end changes, gives these datagrams, has this controller, and has counted this
+abbrev pub changed : Side → World → End → List (List ℕ) → Control → Heard → World
+changed Client w e ds control heard = record w { client = e; from_client = w.from_client ++ ds; client_control = control; client_heard = heard }
+changed Server w e ds control heard = record w { server = e; from_server = w.from_server ++ ds; server_control = control; server_heard = heard }
 
 -- the end to which an event comes
 abbrev pub end_met : World → RunEvent → End
@@ -186,7 +212,8 @@ pub record IsStep (k : Policies) (w : World) (event : RunEvent) (a : Answer) (ne
   pub answer : IsAnswer (policy_at event.side k) (end_met w event) (given_by (other_side event.side) w) event.call a
   pub end : IsLeft (fails a) (policy_at event.side k) (control_at event.side w) (end_at event.side w) (given_by (other_side event.side) w) event.call a (end_at event.side next)
   pub control : IsTold (fails a) (policy_at event.side k) (control_at event.side w) (end_at event.side w) (given_by (other_side event.side) w) event.call (control_at event.side next)
-  pub others : next ≡ changed event.side w (end_at event.side next) (gives (policy_at event.side k) (end_met w event) event.call a) (control_at event.side next)
+  pub heard : IsHeard (fails a) (given_by (other_side event.side) w) event.call a (heard_at event.side w) (heard_at event.side next)
+  pub others : next ≡ changed event.side w (end_at event.side next) (gives (policy_at event.side k) (end_met w event) event.call a) (control_at event.side next) (heard_at event.side next)
   pub lacking : LacksWhere (policy_at event.side k) (end_met w event) (given_by (other_side event.side) w) event.call a
 
 -- what is seen of an end and its controller

@@ -1,5 +1,5 @@
 -- Parts of an end: each has its place, so that a new field moves no other.
-use Rattle.std.specs.Prelude.{◌≡◌, ℕ, Bool, true, false, Option, None}
+use Rattle.std.specs.Prelude.{ℕ, Bool, true, false, Option, None}
 use Rattle.quic_time.specs.Rtt.{Rtt, assumed_rtt}
 use Rattle.quic_config.specs.Transport.{TransportSettings, first_mtu}
 use Rattle.quic_congestion.specs.Pacer.{Pacing, new_pacing}
@@ -50,17 +50,6 @@ first_path validated settings limit windows now = record {
 abbrev pub current_mtu : Path → ℕ
 current_mtu p = p.discovery.size
 
--- the same path, whatever came on it
-pub record IsSamePath (p q : Path) : Type 0 where
-  pub generation : q.generation ≡ p.generation
-  pub discovery : q.discovery ≡ p.discovery
-  pub rtt : q.rtt ≡ p.rtt
-  pub first_after_rtt : q.first_after_rtt ≡ p.first_after_rtt
-  pub window : q.window ≡ p.window
-  pub pacing : q.pacing ≡ p.pacing
-  pub app_limited : q.app_limited ≡ p.app_limited
-  pub marking : q.marking ≡ p.marking
-
 -- the marks of congestion (RFC 9000, section 13.4): how many packets came with each, and how many the peer said last
 pub record Marks : Type 0 where
   pub came : Counts
@@ -84,11 +73,19 @@ no_messaging = record { queues = no_messages; to_tell = 0 }
 abbrev pub with_queues : Messaging → Messages → Messaging
 with_queues m queues = record m { queues = queues }
 
--- whether PING waits to be sent (RFC 9000, section 19.2), and what waits beside the bytes of streams (section 13.3)
-pub record Waiting : Type 0 where
+-- frames that ask for an acknowledgement and that no packet's record has: each goes once, and not again where it is lost. Whether PING waits (RFC 9000, section 19.2)
+pub record Signals : Type 0 where
   pub ping : Bool
+
+-- whether one of them waits
+abbrev pub signals_wait : Signals → Bool
+signals_wait s = s.ping
+
+-- which of them wait to be sent, and what waits beside the bytes of streams (RFC 9000, section 13.3)
+pub record Waiting : Type 0 where
+  pub signals : Signals
   pub frames : retransmits.Retransmits
 
 -- nothing waits
 abbrev pub nothing_waits : Waiting
-nothing_waits = record { ping = false; frames = retransmits.nothing_waits }
+nothing_waits = record { signals = record { ping = false }; frames = retransmits.nothing_waits }

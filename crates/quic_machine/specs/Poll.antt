@@ -26,12 +26,12 @@ use Rattle.quic_recovery_core.specs.PendingAcks.{Pending, can_send, is_filled, a
 use Rattle.quic_spaces.specs.Acknowledging.{ack_at}
 use Rattle.quic_spaces.specs.Marks.{told_counts}
 use Rattle.quic_machine.specs.Tracking.{TrackedPacket, carried_in, after_sent, without_record}
-use Rattle.quic_machine.specs.Closing.{ticked}
+use Rattle.quic_machine.specs.Closing.{ticked, close_owed}
 use Rattle.quic_spaces.specs.Numbers.{can_number, cut_against}
 use Rattle.quic_spaces.specs.Records.{first_record}
 use Rattle.quic_machine.specs.Policy.{Policy}
-use Rattle.quic_machine.specs.Parts.{current_mtu}
-use Rattle.quic_machine.specs.End.{End, with_closing, closed_by, number_of, with_number_given, with_acknowledging, with_ack_timer_at, with_tracking, with_loss_timer, with_streams, with_queued, with_waiting, with_ping}
+use Rattle.quic_machine.specs.Parts.{current_mtu, Signals, signals_wait}
+use Rattle.quic_machine.specs.End.{End, with_closing, closed_by, number_of, with_number_given, with_acknowledging, with_ack_timer_at, with_tracking, with_loss_timer, with_streams, with_queued, with_waiting, with_signals, with_ping}
 use Rattle.quic_machine.specs.Control.{is_window_full, Gated, gated_if, paid, with_pacing_timer, with_app_limited, told_sent}
 use Rattle.quic_machine.specs.Sizes.{may_search, search_names, search_asked}
 
@@ -96,14 +96,18 @@ with_frame d f bytes e = record d { frames = d.frames ++ f ∷ []; bytes = d.byt
 abbrev pub fits : Draft → FrameValue → Bool
 fits d f = nat_le (length d.bytes + frame_size f) (frame_room d.end)
 
+-- a signal goes, which leaves these
+abbrev pub with_signal : Draft → FrameValue → Signals → Draft
+with_signal d f left = with_frame d f (spelling f) (with_signals d.end left)
+
 -- PING goes if it waits
 abbrev pub ping_if : Bool → Draft → Draft
-ping_if true d = with_frame d ping (spelling ping) (with_ping d.end false)
+ping_if true d = with_signal d ping (record d.end.waiting.signals { ping = false })
 ping_if false d = d
 
--- PING goes where it waits
-abbrev pub with_ping_frame : Draft → Draft
-with_ping_frame d = ping_if d.end.waiting.ping d
+-- the signals that wait go
+abbrev pub with_signal_frames : Draft → Draft
+with_signal_frames d = ping_if d.end.waiting.signals.ping d
 
 -- frames of control behind those of a draft, which leave these streams, and this to be sent besides
 abbrev pub behind_control : Draft → control.Draft → Draft
@@ -163,20 +167,20 @@ abbrev pub ack_if : Bool → Draft → Draft
 ack_if true d = with_ack d
 ack_if false d = d
 
--- what asks for an acknowledgement: PING, what has to be told of streams, messages, and the bytes of streams
+-- what asks for an acknowledgement: signals, what has to be told of streams, messages, and the bytes of streams
 pub data Kind : Type 0 where
-  pings : Kind
+  signals : Kind
   controls : Kind
   messages : Kind
   streams : Kind
 
 -- the kinds, in the order in which they go
 abbrev pub order : List Kind
-order = pings ∷ controls ∷ messages ∷ streams ∷ []
+order = signals ∷ controls ∷ messages ∷ streams ∷ []
 
 -- what waits of a kind goes behind the frames of a draft, where it fits
 abbrev pub put : Draft → Kind → Draft
-put d pings = with_ping_frame d
+put d signals = with_signal_frames d
 put d controls = with_control_frames d
 put d messages = with_message_frames d
 put d streams = with_stream_frames d
@@ -285,9 +289,9 @@ least_room e = current_mtu e.path - (length e.ids.active.id + 21)
 abbrev pub message_waits : End → Bool
 message_waits e = is_some (fitting (least_room e) e.messages.queues.outgoing)
 
--- whether something waits beside acknowledgements: PING, what has to be told of streams, a message, or the bytes of streams
+-- whether something waits beside acknowledgements: a signal, what has to be told of streams, a message, or the bytes of streams
 abbrev pub asks_to_go : End → Bool
-asks_to_go e = e.waiting.ping || (not (is_empty e.waiting.frames e.streams) || (message_waits e || can_send_stream_data e.streams))
+asks_to_go e = signals_wait e.waiting.signals || (not (is_empty e.waiting.frames e.streams) || (message_waits e || can_send_stream_data e.streams))
 
 -- whether anything waits to be sent
 abbrev pub waits : End → Bool
@@ -305,11 +309,12 @@ gated e = gated_if (is_gated e) e
 
 -- ---- what goes, if anything
 
--- all that waits; where what asks is held back, a due ACK alone; PING as a probe of a size; or nothing: it is held back, or nothing waits
+-- all that waits; where what asks is held back, a due ACK alone; PING as a probe of a size; a close; or nothing: it is held back, or nothing waits
 pub data Leaving : Type 0 where
   whole : Leaving
   alone : Leaving
   probe : (size : ℕ) → Leaving
+  closing : FrameValue → Leaving
   nothing : (held : Bool) → Leaving
 
 -- what goes, and the end that it leaves
@@ -355,6 +360,7 @@ abbrev pub goes_as : Leaving → Bool
 goes_as whole = true
 goes_as alone = true
 goes_as (probe size) = true
+goes_as (closing f) = true
 goes_as (nothing held) = false
 
 -- so it is of an end that is ready
@@ -366,6 +372,7 @@ abbrev pub is_held : Leaving → Bool
 is_held whole = false
 is_held alone = false
 is_held (probe size) = false
+is_held (closing f) = false
 is_held (nothing held) = held
 
 -- An end has nothing to send but what window or pacer hold back, the pacer until its timer expires; and no probe waits.
@@ -378,11 +385,12 @@ pub record IsSilent (e : End) : Type 0 where
 abbrev pub lazied : End → End
 lazied e = with_acknowledging e (after_lazy e.acknowledging)
 
--- a probe of a size carries none, so that none is due for it
+-- a probe of a size and a close carry none, so that none is due for them
 abbrev pub lazy_as : Leaving → Pending → Pending
 lazy_as whole p = after_lazy p
 lazy_as alone p = after_lazy p
 lazy_as (probe size) p = p
+lazy_as (closing f) p = p
 lazy_as (nothing held) p = p
 
 -- the end of which it goes
@@ -394,6 +402,7 @@ abbrev pub draft_left : Leaving → End → Draft
 draft_left whole e = composed e
 draft_left alone e = with_ack (no_frames e)
 draft_left (probe size) e = probing size e
+draft_left (closing f) e = with_frame (no_frames e) f (spelling f) e
 draft_left (nothing held) e = no_frames e
 
 -- what goes of an end
@@ -409,6 +418,7 @@ abbrev pub least_left : Leaving → ℕ
 least_left whole = 0
 least_left alone = 0
 least_left (probe size) = size
+least_left (closing f) = 0
 least_left (nothing held) = 0
 
 -- how many bytes the datagram of what goes has at most: the size of the path, or that of a probe
@@ -416,12 +426,26 @@ abbrev pub most_of : Leaving → End → ℕ
 most_of whole e = current_mtu e.path
 most_of alone e = current_mtu e.path
 most_of (probe size) e = max size (current_mtu e.path)
+most_of (closing f) e = current_mtu e.path
 most_of (nothing held) e = current_mtu e.path
 
--- something goes: where the numbers are used up, the end closes and gives nothing
+-- the end after a close went: its number is given, it isn't tracked, and it takes no tokens of the pacer
+abbrev pub after_close : Policy → Draft → End
+after_close p d = with_number_given (p.words d.end.filter.drawn) d.end
+
+-- a close goes, if one is owed
+abbrev pub closes_if : Option FrameValue → Policy → End → Polled
+closes_if None p e = gives_nothing e
+closes_if (Some f) p e = gives_datagram (datagram_of p (draft_as (closing f) e)) (after_close p (draft_as (closing f) e))
+
+-- what an end gives that closes or is closing (RFC 9000, section 10.2.1)
+abbrev pub closes : Policy → End → Polled
+closes p e = closes_if (close_owed e.closing) p e
+
+-- something goes: where the numbers are used up, the end closes
 abbrev pub sends : Bool → Policy → Ready → Polled
 sends true p g = gives_datagram (datagram_of p (draft_of g)) (after_given p (draft_of g))
-sends false p g = gives_nothing (closed_by reasons.NumberLimit g.end)
+sends false p g = closes p (closed_by reasons.NumberLimit g.end)
 
 -- nothing goes: for want of anything to send, or since it is held back
 abbrev pub rests : Ready → End
@@ -439,7 +463,7 @@ polled_open p e = polled_if (goes (ready e)) p (ready e)
 -- what an end gives by its state
 abbrev pub polled_in : State → Policy → End → ℕ → Polled
 polled_in states.Open p e now = polled_open p (with_closing e (ticked e.closing now))
-polled_in states.Closing p e now = gives_nothing e
+polled_in states.Closing p e now = closes p e
 polled_in states.Drained p e now = gives_nothing e
 polled_in states.Failed p e now = record { answer = Err (record {}); datagram = None; end = e }
 

@@ -24,9 +24,10 @@ use Rattle.quic_machine.specs.Parts.{Waiting}
 use Rattle.quic_machine.specs.End.{End, with_closing, closed_by, with_number_given, with_loss_timer, with_ping, with_discovery}
 use Rattle.quic_machine.specs.Control.{is_window_full, paced_until, pacer_asked, Gated, lets, holds, by_pacer, by_window, gated_if, with_pacing_timer, with_app_limited}
 use Rattle.quic_machine.specs.Sizes.{may_search, search_names, search_asked}
-use Rattle.quic_machine.specs.Poll.{Polled, Draft, gives_nothing, gives_datagram, asking, datagram_of, datagram_size, tracked, paid_if, after_given, record_moved, probe_filled, probe_if, probed, waits, is_gated, gated, Leaving, whole, alone, probe, nothing, Ready, probe_named, searched_if, free_if, held_if, leaves_if, leaves, ready, goes, is_held, zeros_behind, draft_left, draft_as, draft_of, rests, sends, polled_if, polled_in, polled}
+use Rattle.quic_machine.specs.Poll.{Polled, Draft, gives_nothing, gives_datagram, asking, datagram_of, datagram_size, tracked, paid_if, after_given, record_moved, probe_filled, probe_if, probed, waits, is_gated, gated, Leaving, whole, alone, probe, closing, nothing, Ready, probe_named, searched_if, free_if, held_if, leaves_if, leaves, ready, goes, is_held, zeros_behind, draft_left, draft_as, draft_of, rests, closes, sends, polled_if, polled_in, polled}
 use Rattle.quic_machine.specs.Machine.{gives, gave}
-use Rattle.quic_machine.specs.DraftLaws.{Writing, MayLeave, lazy_due, by_left, by_leave}
+use Rattle.quic_machine.specs.DraftLaws.{Writing, MayGo, MayLeave, lazy_due, by_left, by_leave}
+use Rattle.quic_machine.specs.Puts as puts
 
 -- what a poll changes of an end beside its moment, where nothing goes: which packets are tracked and which frames wait, for a probe; its pacer, whose timer may be set;
 -- the search for a size; and whether it had something to send
@@ -175,7 +176,18 @@ search_leaves g = by_leaves g (λ (r : Ready). r.end ≡ with_discovery g.end r.
 -- where an ACK goes alone, it is due
 pub may_leave_at : (e : End) (now : ℕ) → MayLeave (ready_at e now).leaving (ready_at e now).end
 may_leave_at e now = by_leaves (gated (probed (with_pacing_timer (with_closing e (ticked e.closing now)) None))) (λ (r : Ready). MayLeave r.leaving r.end) (record {
-  acks = λ held due is. lazy_due (gated (probed (with_pacing_timer (with_closing e (ticked e.closing now)) None))).end due;
+  acks = λ held due. lazy_due (gated (probed (with_pacing_timer (with_closing e (ticked e.closing now)) None))).end due;
+  held = λ held none. tt;
+  all = λ free some. tt;
+  idle = λ free none. tt;
+  asked = λ free none. tt;
+  probes = λ size free none may named. tt;
+})
+
+-- no close goes of an end that is open
+pub ready_closes_not : (e : End) (now : ℕ) (f : FrameValue) → (ready_at e now).leaving ≡ closing f → ⊥
+ready_closes_not e now f = by_leaves (gated (probed (with_pacing_timer (with_closing e (ticked e.closing now)) None))) (λ (r : Ready). r.leaving ≡ closing f → ⊥) (record {
+  acks = λ held due is. cc;
   held = λ held none is. cc;
   all = λ free some is. cc;
   idle = λ free none is. cc;
@@ -229,8 +241,8 @@ pub record PollsTo (p : Policy) (e : End) (now : ℕ) (P : Polled → Type 0) : 
   pub failed : P (record { answer = Err (record {}); datagram = None; end = e })
   -- nothing has to go, or what has to is held back
   pub nothing : e.closing.state ≡ states.Open → goes (ready_at e now) ≡ false → P (gives_nothing (rests (ready_at e now)))
-  -- the numbers are used up: the end closes
-  pub used_up : P (gives_nothing (closed_by reasons.NumberLimit (ready_at e now).end))
+  -- the numbers are used up: the end closes, and gives the close that it owes, if it owes one
+  pub closes : P (closes p (closed_by reasons.NumberLimit (ready_at e now).end))
   -- something goes
   pub gives : e.closing.state ≡ states.Open → can_number e.numbers ≡ true → goes (ready_at e now) ≡ true → P (gives_datagram (datagram_of p (draft_at e now)) (after_given p (draft_at e now)))
 
@@ -241,8 +253,8 @@ pub record Polls (p : Policy) (e : End) (now : ℕ) (P : Polled → Type 0) : Ty
   pub failed : P (record { answer = Err (record {}); datagram = None; end = e })
   -- nothing has to go, or what has to is held back
   pub nothing : (c : PollChange) → P (gives_nothing (at_poll e now c))
-  -- the numbers are used up: the end closes
-  pub used_up : (c : PollChange) → P (gives_nothing (closed_by reasons.NumberLimit (at_poll e now c)))
+  -- the numbers are used up: the end closes, and gives the close that it owes, if it owes one
+  pub closes : (c : PollChange) → P (closes p (closed_by reasons.NumberLimit (at_poll e now c)))
   -- something goes
   pub gives : (leaving : Leaving) (c : PollChange) (left : Paid) → e.closing.state ≡ states.Open → can_number e.numbers ≡ true → ready_at e now ≡ record { leaving = leaving; end = at_poll e now c } → goes (ready_at e now) ≡ true
       → P (gives_datagram (datagram_of p (draft_as leaving (at_poll e now c))) (after_draft p (draft_as leaving (at_poll e now c)) left))
@@ -251,7 +263,7 @@ module _ (p : Policy) (e : End) (now : ℕ) (P : Polled → Type 0) (c : PollsTo
   -- a number may be given or not
   number_case : e.closing.state ≡ states.Open → goes (ready_at e now) ≡ true → (b : Bool) → can_number e.numbers ≡ b → P (sends b p (ready_at e now))
   number_case s w true n = c.gives s n w
-  number_case s w false n = c.used_up
+  number_case s w false n = c.closes
 
   -- an end that is made ready gives no number
   same_numbers : can_number (ready_at e now).end.numbers ≡ can_number e.numbers
@@ -290,7 +302,7 @@ given_leaves p d = go (asking d.frames)
 
 -- the same, whatever is tracked, whichever timers are set, and whatever the pacer holds
 pub by_poll : (p : Policy) (e : End) (now : ℕ) (P : Polled → Type 0) → Polls p e now P → P (polled p e now)
-by_poll p e now P c = by_poll_to p e now P (record { silent = c.silent; failed = c.failed; nothing = none; used_up = used_up; gives = gives })
+by_poll p e now P c = by_poll_to p e now P (record { silent = c.silent; failed = c.failed; nothing = none; closes = closing; gives = gives })
   where
     g : Ready
     g = ready_at e now
@@ -307,8 +319,8 @@ by_poll p e now P c = by_poll_to p e now P (record { silent = c.silent; failed =
     none : e.closing.state ≡ states.Open → goes g ≡ false → P (gives_nothing (rests g))
     none s w = subst (λ (y : End). P (gives_nothing (with_app_limited y (not (is_held g.leaving))))) (sym is) (c.nothing (record (changed_by g.end) { limited = not (is_held g.leaving) }))
 
-    used_up : P (gives_nothing (closed_by reasons.NumberLimit g.end))
-    used_up = subst (λ (y : End). P (gives_nothing (closed_by reasons.NumberLimit y))) (sym is) (c.used_up (changed_by g.end))
+    closing : P (closes p (closed_by reasons.NumberLimit g.end))
+    closing = subst (λ (y : End). P (closes p (closed_by reasons.NumberLimit y))) (sym is) (c.closes (changed_by g.end))
 
     gives : e.closing.state ≡ states.Open → can_number e.numbers ≡ true → goes g ≡ true → P (gives_datagram (datagram_of p (draft_of g)) (after_given p (draft_of g)))
     gives s n goes =
@@ -334,7 +346,7 @@ gives_as p e now (Err f) = refl
 pub poll_count : (p : Policy) (e : End) (now : ℕ) → length (gives p e (calls.Poll now) (answers.Poll (polled p e now).answer)) ≡ (if gave (answers.Poll (polled p e now).answer) then 1 else 0)
 poll_count p e now =
     ap length (gives_as p e now (polled p e now).answer)
-    ∙ by_poll p e now (λ x. length (given_as x.answer x.datagram) ≡ (if gave (answers.Poll x.answer) then 1 else 0)) (record { silent = refl; failed = refl; nothing = λ c. refl; used_up = λ c. refl; gives = λ leaving c left s n is goes. refl })
+    ∙ by_poll p e now (λ x. length (given_as x.answer x.datagram) ≡ (if gave (answers.Poll x.answer) then 1 else 0)) (record { silent = refl; failed = refl; nothing = λ c. refl; closes = λ c. refl; gives = λ leaving c left s n is goes. refl })
 
 -- ---- what a poll leaves as it was
 
@@ -352,17 +364,10 @@ pub record Composes (e f : End) : Type 0 where
   pub peer : f.peer_params ≡ e.peer_params
 
 writing : (e : End) → Writing (λ (d : Draft). Composes e d.end)
-writing e = record {
-  ack = λ d filled may c. record { ids = c.ids; numbers = c.numbers; filter = c.filter; closing = c.closing; tracking = c.tracking; loss = c.loss; pacing = c.pacing; path = c.path; transport = c.transport; peer = c.peer };
-  ping = λ d c. record { ids = c.ids; numbers = c.numbers; filter = c.filter; closing = c.closing; tracking = c.tracking; loss = c.loss; pacing = c.pacing; path = c.path; transport = c.transport; peer = c.peer };
-  probes = λ f size c. record { ids = c.ids; numbers = c.numbers; filter = c.filter; closing = c.closing; tracking = c.tracking; loss = c.loss; pacing = c.pacing; path = c.path; transport = c.transport; peer = c.peer };
-  drops = λ d kind c. record { ids = c.ids; numbers = c.numbers; filter = c.filter; closing = c.closing; tracking = c.tracking; loss = c.loss; pacing = c.pacing; path = c.path; transport = c.transport; peer = c.peer };
-  control = λ d kind f is c. record { ids = c.ids; numbers = c.numbers; filter = c.filter; closing = c.closing; tracking = c.tracking; loss = c.loss; pacing = c.pacing; path = c.path; transport = c.transport; peer = c.peer };
-  message = λ d m ms is fit c. record { ids = c.ids; numbers = c.numbers; filter = c.filter; closing = c.closing; tracking = c.tracking; loss = c.loss; pacing = c.pacing; path = c.path; transport = c.transport; peer = c.peer };
-  stream = λ d id h room found first some is counts c. record { ids = c.ids; numbers = c.numbers; filter = c.filter; closing = c.closing; tracking = c.tracking; loss = c.loss; pacing = c.pacing; path = c.path; transport = c.transport; peer = c.peer };
-}
+writing e puts.ping d may c = record { ids = c.ids; numbers = c.numbers; filter = c.filter; closing = c.closing; tracking = c.tracking; loss = c.loss; pacing = c.pacing; path = c.path; transport = c.transport; peer = c.peer }
+writing e p d may c = record { ids = c.ids; numbers = c.numbers; filter = c.filter; closing = c.closing; tracking = c.tracking; loss = c.loss; pacing = c.pacing; path = c.path; transport = c.transport; peer = c.peer }
 
-pub composes_left : (leaving : Leaving) (e : End) → (leaving ≡ alone → can_send e.acknowledging ≡ true) → Composes e (draft_left leaving e).end
+pub composes_left : (leaving : Leaving) (e : End) → MayGo leaving e → Composes e (draft_left leaving e).end
 composes_left leaving e due = by_left (λ (d : Draft). Composes e d.end) (writing e) leaving e due
     (record { ids = refl; numbers = refl; filter = refl; closing = refl; tracking = refl; loss = refl; pacing = refl; path = refl; transport = refl; peer = refl })
 

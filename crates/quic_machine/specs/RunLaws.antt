@@ -8,7 +8,8 @@ use Rattle.quic_machine.specs.declared.run.Answer.{Answer}
 use Rattle.quic_machine.specs.declared.run.View.{View}
 use Rattle.quic_machine.specs.End.{End}
 use Rattle.quic_machine.specs.Control.{Control, after_told}
-use Rattle.quic_machine.specs.Machine.{IsLeft, IsStep, Follows, World, Policies, policy_at, end_at, given_by, control_at, changed, IsTold, tells, end_left, end_met, gives, fails, view_of}
+use Rattle.quic_machine.specs.Heard.{Heard}
+use Rattle.quic_machine.specs.Machine.{IsLeft, IsStep, Follows, World, Policies, policy_at, end_at, given_by, control_at, heard_at, changed, IsTold, IsHeard, heard_by, tells, end_left, end_met, gives, fails, view_of}
 
 -- the end that a call leaves
 left : (k : Policies) (w : World) (event : RunEvent) (a : Answer) (x : World) → fails a ≡ false → IsStep k w event a x
@@ -22,12 +23,17 @@ left_control : (k : Policies) (w : World) (event : RunEvent) (a : Answer) (x : W
 left_control k w event a x served s =
     subst (λ (b : Bool). IsTold b (policy_at event.side k) (control_at event.side w) (end_at event.side w) (given_by (other_side event.side) w) event.call (control_at event.side x)) served s.control
 
+-- what it leaves counted
+left_heard : (k : Policies) (w : World) (event : RunEvent) (a : Answer) (x : World) → fails a ≡ false → IsStep k w event a x → heard_at event.side x ≡ heard_by (given_by (other_side event.side) w) event.call a (heard_at event.side w)
+left_heard k w event a x served s = subst (λ (b : Bool). IsHeard b (given_by (other_side event.side) w) event.call a (heard_at event.side w) (heard_at event.side x)) served s.heard
+
 -- a step leaves one world
 pub one_world : (k : Policies) (w : World) (event : RunEvent) (a : Answer) (x y : World) → fails a ≡ false → IsStep k w event a x → IsStep k w event a y → x ≡ y
 one_world k w event a x y served s t =
     s.others
-    ∙ ap (λ (e : End). changed event.side w e ds (control_at event.side x)) (left k w event a x served s ∙ sym (left k w event a y served t))
-    ∙ ap (λ (control : Control). changed event.side w (end_at event.side y) ds control) (left_control k w event a x served s ∙ sym (left_control k w event a y served t))
+    ∙ ap (λ (e : End). changed event.side w e ds (control_at event.side x) (heard_at event.side x)) (left k w event a x served s ∙ sym (left k w event a y served t))
+    ∙ ap (λ (control : Control). changed event.side w (end_at event.side y) ds control (heard_at event.side x)) (left_control k w event a x served s ∙ sym (left_control k w event a y served t))
+    ∙ ap (λ (heard : Heard). changed event.side w (end_at event.side y) ds (control_at event.side y) heard) (left_heard k w event a x served s ∙ sym (left_heard k w event a y served t))
     ∙ sym t.others
   where
     ds : List (List ℕ)

@@ -7,6 +7,7 @@ use Rattle.quic_machine.specs.declared.answers.State.{State}
 use Rattle.quic_machine.specs.declared.answers.State.TheVariants as states
 use Rattle.quic_machine.specs.declared.answers.Failed.{Failed}
 use Rattle.quic_machine.specs.Closing.{ticked}
+use Rattle.quic_machine.specs.Policy.{Policy}
 use Rattle.quic_machine.specs.Tracking.{after_loss_timeout}
 use Rattle.quic_machine.specs.End.{End, with_closing, with_acknowledging, with_ack_timer_at, with_tracking, with_loss_timer}
 use Rattle.quic_machine.specs.Control.{with_pacing_timer}
@@ -47,24 +48,28 @@ pub record Expiry : Type 0 where
 abbrev pub expiry_at : ℕ → Timers → Expiry
 expiry_at now t = record { acks = has_come t.max_ack_delay now; loss = has_come t.loss_detection now; pacing = has_come t.pacing now }
 
--- what they leave; the loss timer is set anew
+-- what those beside the loss timer leave; the loss timer is set anew
+abbrev pub after_others : Expiry → End → End
+after_others x e = with_loss_timer (pacing_expired x.pacing (acks_expired x.acks e))
+
+-- what all of them leave
 abbrev pub after_expiry : Expiry → End → End
-after_expiry x e = with_loss_timer (pacing_expired x.pacing (acks_expired x.acks (loss_expired x.loss e)))
+after_expiry x e = after_others x (loss_expired x.loss e)
 
 -- the timers of an open end that expired up to its moment
 abbrev pub expired : End → End
 expired e = after_expiry (expiry_at e.closing.clock e.timers) e
 
 -- an end that isn't open has no timer
-abbrev pub timed_out_in : State → End → ℕ → TimedOut
-timed_out_in states.Open e now = record { answer = Ok tt; end = expired (with_closing e (ticked e.closing now)) }
-timed_out_in states.Closing e now = record { answer = Ok tt; end = e }
-timed_out_in states.Drained e now = record { answer = Ok tt; end = e }
-timed_out_in states.Failed e now = record { answer = Err (record {}); end = e }
+abbrev pub timed_out_in : State → Policy → End → ℕ → TimedOut
+timed_out_in states.Open p e now = record { answer = Ok tt; end = expired (with_closing e (ticked e.closing now)) }
+timed_out_in states.Closing p e now = record { answer = Ok tt; end = e }
+timed_out_in states.Drained p e now = record { answer = Ok tt; end = e }
+timed_out_in states.Failed p e now = record { answer = Err (record {}); end = e }
 
 -- what an end makes of a moment
-abbrev pub timed_out : End → ℕ → TimedOut
-timed_out e now = timed_out_in e.closing.state e now
+abbrev pub timed_out : Policy → End → ℕ → TimedOut
+timed_out p e now = timed_out_in e.closing.state p e now
 
 -- ---- what the controller is told (RFC 9002, section 7)
 

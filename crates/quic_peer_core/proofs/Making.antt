@@ -7,6 +7,7 @@ use Rattle.quic_parameters.specs.ParametersRead.{parameters_at}
 use Rattle.quic_parameters.specs.ParametersWritten.{written_parameters}
 use Rattle.quic_config.specs.Transport.{Settings, parameters_of, transport_of, first_mtu}
 use Rattle.quic_congestion.specs.NewReno.{Reno, RenoSettings, default_reno, reno_made}
+use Rattle.quic_machine.specs.Heard.{nothing_heard}
 use Rattle.quic_machine.specs.declared.answers.ConfigError.{ConfigError}
 use Rattle.quic_machine.specs.Parts.{Windows}
 use Rattle.quic_machine.specs.End.{MadeFrom, refusal_of}
@@ -44,9 +45,9 @@ pub is_new : (options : Options) (new : NewEnd) (config : Configured RenoSetting
     → config ≡ configured options → bytes ≡ new.parameters → keys ≡ keys_of new.side → stream_from random ≡ source_stream options.source
     → IfOk r (λ c. MadeFrom new.side config.settings (shown c.control) bytes new.id new.peer_id new.now true (words_of stream_from random 0) c.end)
     → IfOk r (λ c. c.control ≡ built config new.now) → IfOk r (λ c. c.keys ≡ keys) → IfOk r (λ c. stream_from c.random ≡ after_words 1 (stream_from random))
-    → IfOk r (λ c. IsNew options new c)
-is_new options new config bytes keys random (Err e) is same own from made control kept drawn = tt
-is_new options new config bytes keys random (Ok held) is same own from made control kept drawn =
+    → IfOk r (λ c. c.heard ≡ nothing_heard) → IfOk r (λ c. IsNew options new c)
+is_new options new config bytes keys random (Err e) is same own from made control kept drawn none = tt
+is_new options new config bytes keys random (Ok held) is same own from made control kept drawn none =
     let reno : held.control ≡ reno_made default_reno new.now 1200 = control ∙ ap (λ (c : Configured RenoSettings). built c new.now) is in
     let windows : shown held.control ≡ first_windows = ap shown reno in
     let settings : config.settings ≡ settings_of options = ap (λ (c : Configured RenoSettings). c.settings) is in
@@ -60,6 +61,7 @@ is_new options new config bytes keys random (Ok held) is same own from made cont
       control = reno;
       keys = kept ∙ own;
       random = drawn ∙ ap (λ (s : Stream). after_words 1 s) from;
+      heard = none;
     }
 
 -- why none is made, as its options and these say

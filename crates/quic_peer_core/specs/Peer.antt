@@ -3,10 +3,11 @@ use Rattle.std.specs.Prelude.{ℕ, ◌≡◌, ◌≢◌, true, false, List, [], 
 use Rattle.quic_parameters.specs.ParametersRead.{parameters_at}
 use Rattle.quic_congestion.specs.NewReno.{Reno, default_reno, reno_made, reno_steps, window_after}
 use Rattle.quic_machine.specs.Policy.{Policy}
-use Rattle.quic_machine.specs.End.{ConnectionValue, policy_of, MadeFrom, HasFailed, refusal_of}
+use Rattle.quic_machine.specs.End.{ConnectionValue, hearing, policy_of, MadeFrom, HasFailed, refusal_of}
+use Rattle.quic_machine.specs.Heard.{nothing_heard, heard_datagram}
 use Rattle.quic_machine.specs.Arrival.{Arrival, arriving}
 use Rattle.quic_machine.specs.CallCases.{is_poll}
-use Rattle.quic_machine.specs.Machine.{IsAnswer, IsLeft, IsTold, reads_window, fails, gives}
+use Rattle.quic_machine.specs.Machine.{IsAnswer, IsLeft, IsTold, IsHeard, reads_window, fails, gives}
 use Rattle.quic_machine.specs.Receive.{received, told_received}
 use Rattle.quic_machine.specs.declared.answers.ConfigError.{ConfigError}
 use Rattle.quic_machine.specs.declared.answers.Received.{Received}
@@ -50,12 +51,13 @@ pub record IsNew (options : Options) (new : NewEnd) (held : Held) : Type 0 where
   pub control : held.control ≡ reno_made default_reno new.now 1200
   pub keys : held.keys ≡ keys_of new.side
   pub random : stream_from held.random ≡ after_words 1 (source_stream options.source)
+  pub heard : held.heard ≡ nothing_heard
 
 -- Bytes came to an end, at a moment and with a mark or with none: this is printed of what came of them, and the end is left so.
 pub record Receives (arrival : Arrival) (bytes : List ℕ) (old : Held) (text : List ℕ) (new : Held) : Type 0 where
   pub answer : Received
   pub is_answer : answer ≢ receives_as.Failed → answer ≡ (received (policy_at old) old.end arrival bytes).answer
-  pub left : answer ≢ receives_as.Failed → new ≡ telling reno_steps old (told_received (policy_at old) old.end arrival.now bytes) (received (policy_at old) old.end arrival bytes).end
+  pub left : answer ≢ receives_as.Failed → new ≡ telling reno_steps (hearing old (heard_datagram bytes answer old.heard)) (told_received (policy_at old) old.end arrival.now bytes) (received (policy_at old) old.end arrival bytes).end
   pub failed : answer ≡ receives_as.Failed → HasFailed old new
   pub line : text ≡ line_text (codes "receive") (received_text answer)
 
@@ -67,6 +69,7 @@ pub record IsCall (asked : Asked) (old : Held) (text : List ℕ) (new : Held) : 
   pub is_answer : IsAnswer (policy_at old) (reads_window (window_after old.control) call old.end) [] call answer
   pub left : IsLeft (fails answer) (policy_at old) (window_after old.control) old.end [] call answer new.end
   pub control : IsTold (fails answer) (policy_at old) (window_after old.control) old.end [] call (window_after new.control)
+  pub heard : IsHeard (fails answer) [] call answer old.heard new.heard
   pub keys : is_poll call ≡ false → KeepsKeys old new
   pub polled : is_poll call ≡ true → GoesOn stream_from old new
   pub line : text ≡ line_text (call_text call) (told_text (gives (policy_at old) (reads_window (window_after old.control) call old.end) call answer) answer)

@@ -14,6 +14,7 @@ use Rattle.quic_config.specs.Transport.{Settings, parameters_of, transport_of, f
 use Rattle.quic_machine.specs.declared.answers.ConfigError.TheVariants as config_errors
 use Rattle.quic_congestion.specs.NewReno.{Reno, RenoSettings, default_reno, reno_made, window_after}
 use Rattle.quic_machine.specs.Control.{Control}
+use Rattle.quic_machine.specs.Heard.{Heard, nothing_heard}
 use Rattle.quic_machine.specs.Parts.{Windows}
 use Rattle.quic_machine.specs.Policy.{keys_policy}
 use Rattle.quic_machine.specs.End.{End, ConnectionValue, MadeFrom, are_sizes_wrong, is_window_small, refusal_of, policy_of}
@@ -21,7 +22,7 @@ use Rattle.quic_connection_core.specs.Configured.{Configured}
 use Rattle.quic_connection_core.specs.Drawn.{words_of, after_words}
 use Rattle.quic_connection.specs.Ends.{Serves}
 use Rattle.rand_core.specs.Stream.{Stream, u64_call}
-use Rattle.quic_machine.specs.Machine.{World, Policies, IsStep, given_by, end_at, end_met, control_at, changed, gives, policy_at}
+use Rattle.quic_machine.specs.Machine.{World, Policies, IsStep, given_by, end_at, end_met, control_at, heard_at, changed, gives, policy_at}
 use Rattle.quic_run_core.specs.declared.options.Options.{Options}
 use Rattle.quic_machine.specs.Start.{IsMaking, AreStarted}
 use Rattle.quic_run_core.specs.declared.key.PlainHeaderKey.{PlainHeaderKey}
@@ -56,9 +57,9 @@ pub eight : (side : Side) → length (first_id side) ≡ 8
 eight Client = refl
 eight Server = refl
 
--- these ends, which gave these datagrams, with their controllers
-abbrev pub the_world : End → End → List (List ℕ) → List (List ℕ) → Reno → Reno → World
-the_world a b x y c d = record { client = a; server = b; from_client = x; from_server = y; client_control = window_after c; server_control = window_after d }
+-- these ends, which gave these datagrams, with their controllers and counts
+abbrev pub the_world : End → End → List (List ℕ) → List (List ℕ) → Reno → Reno → Heard → Heard → World
+the_world a b x y c d h l = record { client = a; server = b; from_client = x; from_server = y; client_control = window_after c; server_control = window_after d; client_heard = h; server_heard = l }
 
 -- a stage
 abbrev pub the_stage : Options → Options → Option Made → Stage
@@ -85,10 +86,10 @@ are_started client server client_is server_is = record {
 pub first_control : (own : Options) (config : Configured RenoSettings) (now : ℕ) → config ≡ record { settings = settings_of own; factory = default_reno } → now ≡ 0 → reno_made config.factory now (first_mtu (transport_of config.settings)) ≡ first_controller
 first_control own config now is zero = rw (is, zero) refl
 
--- two such ends that gave nothing are the first ones
-pub first_ends : (client server : Options) (a b : End) (x y : List (List ℕ)) (c d : Reno) → a ≡ first_end Client client server → b ≡ first_end Server server client → x ≡ [] → y ≡ [] → c ≡ first_controller → d ≡ first_controller
-    → the_world a b x y c d ≡ first_world client server
-first_ends client server a b x y c d is_client is_server no_client no_server client_control server_control = rw (is_client, is_server, no_client, no_server, client_control, server_control) refl
+-- two such ends that gave and counted nothing are the first ones
+pub first_ends : (client server : Options) (a b : End) (x y : List (List ℕ)) (c d : Reno) (h l : Heard) → a ≡ first_end Client client server → b ≡ first_end Server server client → x ≡ [] → y ≡ [] → c ≡ first_controller → d ≡ first_controller → h ≡ nothing_heard → l ≡ nothing_heard
+    → the_world a b x y c d h l ≡ first_world client server
+first_ends client server a b x y c d h l is_client is_server no_client no_server client_control server_control client_heard server_heard = rw (is_client, is_server, no_client, no_server, client_control, server_control, client_heard, server_heard) refl
 
 -- an end is never refused
 pub never_refused : {E : Type 0} (side other : Side) (e : ConfigError) (own peer : Options) (settings told : Settings) (window : ℕ) (read : Result ParameterValues E) (own_id peer_id : List ℕ)
@@ -130,14 +131,14 @@ given_more P k w next event (Err e) side is ok err = ([], ap (λ (v : World). gi
 given_more P k w next event (Ok a) side is ok err =
     let e = end_at event.side next in
     let ds = gives (policy_at event.side k) (end_met w event) event.call a in
-    let here = go event.side side e ds (control_at event.side next) in
+    let here = go event.side side e ds (control_at event.side next) (heard_at event.side next) in
     (here.0, ap (λ (v : World). given_by side v) (ok k is).others ∙ here.1)
   where
-    go : (at side : Side) (e : End) (ds : List (List ℕ)) (c : Control) → (more : List (List ℕ)) × (given_by side (changed at w e ds c) ≡ given_by side w ++ more)
-    go Client Client e ds c = (ds, refl)
-    go Client Server e ds c = ([], sym (append-nil w.from_server))
-    go Server Client e ds c = ([], sym (append-nil w.from_client))
-    go Server Server e ds c = (ds, refl)
+    go : (at side : Side) (e : End) (ds : List (List ℕ)) (c : Control) (h : Heard) → (more : List (List ℕ)) × (given_by side (changed at w e ds c h) ≡ given_by side w ++ more)
+    go Client Client e ds c h = (ds, refl)
+    go Client Server e ds c h = ([], sym (append-nil w.from_server))
+    go Server Client e ds c h = ([], sym (append-nil w.from_client))
+    go Server Server e ds c h = (ds, refl)
 
 -- a fact of each success
 pub on_ok_then : {A E : Type 0} {X Y : Type 0} (r : Result A E) → (X → Y) → OnOk r X → OnOk r Y

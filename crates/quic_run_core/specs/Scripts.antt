@@ -11,6 +11,7 @@ use Rattle.quic_parameters.specs.ParametersWritten.{written_parameters}
 use Rattle.quic_congestion.specs.NewReno.{Reno, default_reno, reno_made, window_after}
 use Rattle.quic_machine.specs.Parts.{Windows}
 use Rattle.quic_machine.specs.End.{End, new_end}
+use Rattle.quic_machine.specs.Heard.{nothing_heard}
 use Rattle.quic_machine.specs.Start.{Making}
 use Rattle.quic_connection.specs.Ends.{in_order}
 use Rattle.quic_machine.specs.Machine.{World, Policies, IsStep, given_by}
@@ -86,6 +87,8 @@ first_world client server = record {
   from_server = [];
   client_control = window_after first_controller;
   server_control = window_after first_controller;
+  client_heard = nothing_heard;
+  server_heard = nothing_heard;
 }
 
 -- how an end is made, as the premises of every promise on runs name it (its parameters are written in the order of their ids)

@@ -2,6 +2,7 @@
 ghost use Rattle.std.specs.Prelude.{◌≡◌, ◌++◌, IfOk, IfErr, OnOk, string_bytes};
 ghost use Rattle.quic_wire_core.specs.declared.stream_id.Side.TheVariants.{Client, Server};
 ghost use Rattle.quic_wire_core.specs.StreamId.{other_side};
+ghost use Rattle.quic_machine.specs.Heard.{nothing_heard};
 ghost use Rattle.quic_machine.specs.Machine.{given_by};
 ghost use Rattle.quic_machine.specs.Start.{IsMaking, AreStarted};
 ghost use Rattle.quic_connection_core.specs.Drawn.{after_words};
@@ -60,6 +61,7 @@ impl From<ConfigError> for LineError {
 fn make_end(alloc: Global, side: Side, own: &Options, peer: &Options) -> Result<End, LineError>
     ensures end { IfOk result (λ made. made.end ≡ first_end side own.now peer.now) }
     ensures control { IfOk result (λ made. made.control ≡ first_controller) }
+    ensures heard { IfOk result (λ made. made.heard ≡ nothing_heard) }
     ensures keys { IfOk result (λ made. made.keys ≡ keys_of side) }
     ensures words { IfOk result (λ made. ⟦<Words as Rng>⟧.stream made.random ≡ after_words 1 (source_stream own.now.source)) }
     ensures making { OnOk result (IsMaking (making (other_side side) peer.now)) }

@@ -16,7 +16,7 @@ use quic_connection::{
 use quic_run_core::Words;
 use quic_run_core::key::{PlainHeaderKey, PlainKey, keys_for};
 use quic_run_core::laws::keys_meet_the_premises;
-use quic_wire_core::{ConnectionId, Dir, EcnCodepoint, Side, StreamId, VarInt};
+use quic_wire_core::{ConnectionId, Dir, EcnCodepoint, Side, StreamId};
 use std::alloc::{AllocError, Global};
 use std::test::Fail;
 
@@ -67,18 +67,6 @@ pub(crate) fn new_ends(alloc: Global) -> Result<BothEnds, ConfigError>
     ensures keys { IfOk result (λ ends. AreKeys (policies_of (λ _. plain_protection) (λ k. plain_aead k.mark) stream_from ends)) }
 {
     ends_with(alloc, TransportConfig::default())
-}
-
-/// Small limits: 48 bytes on all streams, 16 on each, 40 that aren't acknowledged, two streams of
-/// either kind at once.
-pub(crate) fn limited() -> TransportConfig {
-    let mut transport = TransportConfig::default();
-    transport.receive_window(VarInt::from_u32(48));
-    transport.stream_receive_window(VarInt::from_u32(16));
-    transport.send_window(40);
-    transport.max_concurrent_bidi_streams(VarInt::from_u32(2));
-    transport.max_concurrent_uni_streams(VarInt::from_u32(2));
-    transport
 }
 
 /// Two ends, and the datagrams that they gave.
@@ -139,7 +127,7 @@ pub(crate) fn event(side: Side, call: Call) -> RunEvent {
 }
 
 /// A read of the stream by these bounds.
-pub(crate) fn read_call(alloc: Global, bounds: &[usize]) -> Result<Call, AllocError> {
+fn read_call(alloc: Global, bounds: &[usize]) -> Result<Call, AllocError> {
     Ok(Call::Read(ReadCall {
         id: stream(),
         ordered: true,
@@ -176,7 +164,7 @@ pub(crate) fn hello(alloc: Global) -> Result<[RunEvent; 7], AllocError> {
 }
 
 /// Whether a read gave `hello`, and then the end.
-pub(crate) fn is_hello(answer: &Answer) -> bool {
+fn is_hello(answer: &Answer) -> bool {
     match answer {
         Answer::Read(Ok(nexts)) => match nexts.as_slice() {
             [Ok(Some(chunk)), Ok(None)] => chunk.bytes.as_slice() == b"hello".as_slice(),

@@ -1,18 +1,12 @@
 //! Tests of `quic_connection` and `quic_run_core`, through their public items: values from outside,
-//! runs by chance, and each call that no script makes where memory lacks (`lacking`). Scripts that
-//! end by themselves are cases of `quic_run`.
+//! a transfer of a mebibyte, and each call that no script makes where memory lacks (`lacking`).
+//! What a script can say is a case of `quic_run`; runs by chance are `./random-scripts`.
 #![tactic(auto)]
 
-#[cfg(test)]
-mod arrivals;
-#[cfg(test)]
-mod chance;
 #[cfg(test)]
 mod config;
 #[cfg(test)]
 mod ends;
-#[cfg(test)]
-mod erasing;
 #[cfg(test)]
 mod frames;
 #[cfg(test)]

@@ -1,13 +1,12 @@
 //! A mebibyte goes over a path that loses, repeats and delays datagrams. Time steps on to whatever
 //! happens next, so nothing waits for it.
-use crate::chance::{Dice, finished_of};
 use crate::ends::{Pair, stream, with_pair};
 use bytes::Bytes;
 use quic_connection::{
-    Answer, Call, Chunk, Delivery, Instant, ReadCall, RunEvent, Timer, TransportConfig, WriteError,
-    settle,
+    Answer, Call, Chunk, Delivery, Event, Instant, ReadCall, RunEvent, StreamEvent, Timer,
+    TransportConfig, WriteError, settle,
 };
-use quic_wire_core::{Dir, Side, VarInt};
+use quic_wire_core::{Dir, Side, StreamId, VarInt};
 use std::alloc::{AllocError, Global};
 use std::mem;
 use std::process::Abort;
@@ -43,6 +42,31 @@ fn bytes_to_go(alloc: Global) -> Result<Vec<u8>, AllocError> {
         bytes.push(((mixed >> 32) % 251) as u8)?;
     }
     Ok(bytes)
+}
+
+/// A source of numbers by chance.
+#[derive(Drop)]
+struct Dice {
+    state: u64,
+}
+
+impl Dice {
+    /// A number below this one.
+    fn below(&mut self, bound: u64) -> u64 {
+        self.state = self
+            .state
+            .wrapping_mul(6364136223846793005)
+            .wrapping_add(1442695040888963407);
+        (self.state >> 33) % bound.max(1)
+    }
+}
+
+/// The stream that was told to be finished, if one was.
+fn finished_of(told: &Answer) -> Option<StreamId> {
+    match told {
+        Answer::Event(Some(Event::Stream(StreamEvent::Finished { id }))) => Some(*id),
+        _ => None,
+    }
 }
 
 /// The datagram of this index of the other end is on its way to an end, until a moment.

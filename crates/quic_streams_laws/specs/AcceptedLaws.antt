@@ -20,6 +20,7 @@ use Rattle.quic_streams_state.specs.State.{Opening, new_streams, after_set_param
 use Rattle.quic_streams_state.specs.Opening.{accept_answer, after_accept, with_remote}
 use Rattle.quic_streams_state.specs.Taking.{joined}
 use Rattle.quic_streams_laws.specs.Keeping.{KeepsAll}
+use Rattle.quic_streams_laws.specs.Keeping as changes
 use Rattle.quic_streams_laws.specs.Kept.{IsKeptStatus, HoldsTaken}
 use Rattle.quic_streams_laws.specs.Accepted.{HoldsAccepted}
 
@@ -50,27 +51,12 @@ module _ (accepted : ℕ → Type 0) where
   remote_accepted Uni d n o = refl
 
   pub accepted_kept : KeepsAll (λ r id old new. Unit {0}) (λ s id old new. Unit {0}) (λ s id n old new. Unit {0}) (λ s dir. ⊥) (λ id. Unit {0}) (HoldsAccepted accepted)
-  accepted_kept = record {
-    finishes = λ s id f i. record { each = i.each };
-    events = λ s e less i. record { each = i.each };
-    opens_own = λ s dir lt i. record { each = i.each };
-    accepts = λ s dir none. absurd none;
-    allows = λ s dir count le lt i. record { each = i.each };
-    opens_theirs = λ s id e within i. record { each = λ dir index lt. i.each dir index (subst (λ n. index < n) (remote_accepted (dir_of id) dir (index_of id + 1) s.opening) lt) };
-    raises = λ s limit le i. record { each = i.each };
-    changes = λ s id old new is on same i. record { each = i.each };
-    queues = λ s id old new b is on same i. record { each = i.each };
-    turns = λ s id old new is on same i. record { each = i.each };
-    writes = λ s id n old new is on same i. record { each = i.each };
-    joins = λ s id h is i. joined_accepted s id h i;
-    passes = λ s id ids is i. record { each = i.each };
-    ends_sending = λ s id h is over i. done_accepted (not (is_own s.side id) && is_done (receiving_status s id)) id _ (record { each = i.each });
-    changes_receiving = λ s id old new is on i. record { each = i.each };
-    ends_receiving = λ s id h is i. done_accepted (not (is_own s.side id) && (not (is_two_way (dir_of id)) || is_done (sending_status s id))) id _ (record { each = i.each });
-    tells = λ s i. record { each = i.each };
-    tells_on = λ s id h is i. record { each = i.each };
-    tells_count = λ s dir i. record { each = i.each };
-  }
+  accepted_kept (changes.accepts dir) s none i = absurd none
+  accepted_kept (changes.opens_theirs id) s may i = record { each = λ dir index lt. i.each dir index (subst (λ n. index < n) (remote_accepted (dir_of id) dir (index_of id + 1) s.opening) lt) }
+  accepted_kept (changes.joins id h) s may i = joined_accepted s id h i
+  accepted_kept (changes.ends_sending id h) s may i = done_accepted (not (is_own s.side id) && is_done (receiving_status s id)) id _ (record { each = i.each })
+  accepted_kept (changes.ends_receiving id h) s may i = done_accepted (not (is_own s.side id) && (not (is_two_way (dir_of id)) || is_done (sending_status s id))) id _ (record { each = i.each })
+  accepted_kept c s may i = record { each = i.each }
 
 -- ---- a stream is accepted
 

@@ -13,6 +13,7 @@ use Rattle.quic_streams_state.specs.State.{is_opened, sends_on, sending_half, wi
 use Rattle.quic_streams_state.specs.Writing.{put_queued}
 use Rattle.quic_streams_state.specs.Telling.{unblocked_at}
 use Rattle.quic_streams_laws.specs.Keeping.{Keeps, unblocked}
+use Rattle.quic_streams_laws.specs.Keeping as changes
 use Rattle.quic_streams_laws.specs.KeepingLaws.{at-half}
 use Rattle.quic_streams_laws.specs.Shape.{IsShaped, AreHalves, ArePlaces}
 use Rattle.quic_streams_laws.specs.ShapeLaws.{shape_kept, place_kept, halves_with, sends_may}
@@ -125,24 +126,12 @@ blocked_sent s id shape i = blocked_done (not (is_own s.side id) && is_done (rec
 })
 
 pub blocked_kept : Keeps IsBlockedRight
-blocked_kept = record {
-  finishes = λ s id f i. record { shape = shape_kept.finishes s id f i.shape; blocked = record { once = i.blocked.once; told = i.blocked.told; used = i.blocked.used } };
-  events = λ s e less i. record { shape = shape_kept.events s e less i.shape; blocked = record { once = i.blocked.once; told = i.blocked.told; used = i.blocked.used } };
-  opens_own = λ s dir lt i. record { shape = shape_kept.opens_own s dir lt i.shape; blocked = record { once = i.blocked.once; told = i.blocked.told; used = i.blocked.used } };
-  accepts = λ s dir lt i. record { shape = shape_kept.accepts s dir lt i.shape; blocked = record { once = i.blocked.once; told = i.blocked.told; used = i.blocked.used } };
-  allows = λ s dir count le lt i. record { shape = shape_kept.allows s dir count le lt i.shape; blocked = record { once = i.blocked.once; told = i.blocked.told; used = i.blocked.used } };
-  opens_theirs = λ s id e within i. record { shape = shape_kept.opens_theirs s id e within i.shape; blocked = record { once = i.blocked.once; told = i.blocked.told; used = i.blocked.used } };
-  raises = λ s limit le i. record { shape = shape_kept.raises s limit le i.shape; blocked = record { once = i.blocked.once; told = i.blocked.told; used = i.blocked.used } };
-  changes = λ s id old new is on same i. record { shape = shape_kept.changes s id old new is on same i.shape; blocked = blocked_same s id old new is on.stands.blocked i.shape i.blocked };
-  queues = λ s id old new b is on has i. record { shape = shape_kept.queues s id old new b is on has i.shape; blocked = blocked_put s id old (requeued_at old.place b s.sending.queue id new) is (requeued_blocked old.place b s.sending.queue id new ∙ on.stands.blocked) i.shape i.blocked };
-  turns = λ s id old new is on has i. record { shape = shape_kept.turns s id old new is on has i.shape; blocked = blocked_put s id old (turned_at old.place s.sending.queue id new) is (turned_blocked old.place s.sending.queue id new ∙ on.stands.blocked) i.shape i.blocked };
-  writes = λ s id n old new is on has i. let w = blocked_put s id old (requeued_at old.place true s.sending.queue id new) is (requeued_blocked old.place true s.sending.queue id new ∙ on.stands.blocked) i.shape i.blocked in record { shape = shape_kept.writes s id n old new is on has i.shape; blocked = record { once = w.once; told = w.told; used = w.used } };
-  joins = λ s id h is i. record { shape = shape_kept.joins s id h is i.shape; blocked = cond_both h.blocked s _ AreBlocked (λ e. i.blocked) (λ e. blocked_joins s id h is e i.shape i.blocked) };
-  passes = λ s id ids is i. record { shape = shape_kept.passes s id ids is i.shape; blocked = blocked_passes s id ids is i.blocked };
-  ends_sending = λ s id h is over i. record { shape = shape_kept.ends_sending s id h is over i.shape; blocked = blocked_sent s id i.shape i.blocked };
-  changes_receiving = λ s id old new is on i. record { shape = shape_kept.changes_receiving s id old new is on i.shape; blocked = record { once = i.blocked.once; told = i.blocked.told; used = i.blocked.used } };
-  ends_receiving = λ s id h is i. record { shape = shape_kept.ends_receiving s id h is i.shape; blocked = blocked_done (not (is_own s.side id) && (not (is_two_way (dir_of id)) || is_done (sending_status s id))) id (record s { receiving = record s.receiving { halves = without_half s.receiving.halves id; gone = s.receiving.gone + seen_at (at s.receiving.halves.live id) } }) (record { once = i.blocked.once; told = i.blocked.told; used = i.blocked.used }) };
-  tells = λ s i. record { shape = shape_kept.tells s i.shape; blocked = record { once = i.blocked.once; told = i.blocked.told; used = i.blocked.used } };
-  tells_on = λ s id h is i. record { shape = shape_kept.tells_on s id h is i.shape; blocked = record { once = i.blocked.once; told = i.blocked.told; used = i.blocked.used } };
-  tells_count = λ s dir i. record { shape = shape_kept.tells_count s dir i.shape; blocked = record { once = i.blocked.once; told = i.blocked.told; used = i.blocked.used } };
-}
+blocked_kept (changes.changes_sending id old new) s (is, on, same) i = record { shape = shape_kept (changes.changes_sending id old new) s (is, on, same) i.shape; blocked = blocked_same s id old new is on.stands.blocked i.shape i.blocked }
+blocked_kept (changes.queues id old new b) s (is, on, has) i = record { shape = shape_kept (changes.queues id old new b) s (is, on, has) i.shape; blocked = blocked_put s id old (requeued_at old.place b s.sending.queue id new) is (requeued_blocked old.place b s.sending.queue id new ∙ on.stands.blocked) i.shape i.blocked }
+blocked_kept (changes.turns id old new) s (is, on, has) i = record { shape = shape_kept (changes.turns id old new) s (is, on, has) i.shape; blocked = blocked_put s id old (turned_at old.place s.sending.queue id new) is (turned_blocked old.place s.sending.queue id new ∙ on.stands.blocked) i.shape i.blocked }
+blocked_kept (changes.writes id n old new) s (is, on, has) i = let w = blocked_put s id old (requeued_at old.place true s.sending.queue id new) is (requeued_blocked old.place true s.sending.queue id new ∙ on.stands.blocked) i.shape i.blocked in record { shape = shape_kept (changes.writes id n old new) s (is, on, has) i.shape; blocked = record { once = w.once; told = w.told; used = w.used } }
+blocked_kept (changes.joins id h) s is i = record { shape = shape_kept (changes.joins id h) s is i.shape; blocked = cond_both h.blocked s _ AreBlocked (λ e. i.blocked) (λ e. blocked_joins s id h is e i.shape i.blocked) }
+blocked_kept (changes.passes id ids) s is i = record { shape = shape_kept (changes.passes id ids) s is i.shape; blocked = blocked_passes s id ids is i.blocked }
+blocked_kept (changes.ends_sending id h) s (is, over) i = record { shape = shape_kept (changes.ends_sending id h) s (is, over) i.shape; blocked = blocked_sent s id i.shape i.blocked }
+blocked_kept (changes.ends_receiving id h) s is i = record { shape = shape_kept (changes.ends_receiving id h) s is i.shape; blocked = blocked_done (not (is_own s.side id) && (not (is_two_way (dir_of id)) || is_done (sending_status s id))) id (record s { receiving = record s.receiving { halves = without_half s.receiving.halves id; gone = s.receiving.gone + seen_at (at s.receiving.halves.live id) } }) (record { once = i.blocked.once; told = i.blocked.told; used = i.blocked.used }) }
+blocked_kept c s may i = record { shape = shape_kept c s may i.shape; blocked = record { once = i.blocked.once; told = i.blocked.told; used = i.blocked.used } }

@@ -18,6 +18,7 @@ use Rattle.quic_streams_state.specs.State.{sending_half, with_send, send_done, w
 use Rattle.quic_streams_state.specs.Taking.{joined}
 use Rattle.quic_streams_state.specs.Telling.{unblocked_at}
 use Rattle.quic_streams_laws.specs.Keeping.{KeepsBy, HasEnded}
+use Rattle.quic_streams_laws.specs.Keeping as changes
 use Rattle.quic_streams_laws.specs.KeepingLaws.{at-half}
 use Rattle.quic_streams_laws.specs.Shape.{IsShaped, ArePlaces}
 use Rattle.quic_streams_laws.specs.ShapeLaws.{shape_kept, shape_any, shape_done, shape_without, shape_received}
@@ -152,25 +153,14 @@ module _ (F : ℕ → ℕ → Type 0) (N : ℕ → Type 0) (Q : ℕ → SendHalf
 
   -- such facts are kept
   pub each_kept : KeepsBy (λ r id old new. Unit {0}) (λ s id old new. Q id old → Q id new) (λ s id n old new. Q id old → Q id new) (EachSends F N Q D)
-  each_kept = record {
-    finishes = λ s id f i. record { shape = shape_kept.finishes s id f i.shape; first = i.first; each = i.each };
-    events = λ s e less i. record { shape = shape_kept.events s e less i.shape; first = i.first; each = i.each };
-    opens_own = λ s dir lt i. record { shape = shape_kept.opens_own s dir lt i.shape; first = i.first; each = i.each };
-    accepts = λ s dir lt i. record { shape = shape_kept.accepts s dir lt i.shape; first = i.first; each = i.each };
-    allows = λ s dir count le lt i. record { shape = shape_kept.allows s dir count le lt i.shape; first = i.first; each = i.each };
-    opens_theirs = λ s id e within i. record { shape = shape_kept.opens_theirs s id e within i.shape; first = i.first; each = i.each };
-    raises = λ s limit le i. record { shape = shape_kept.raises s limit le i.shape; first = i.first; each = i.each };
-    changes = λ s id old new is on same i. record { shape = shape_any.changes s id old new is tt same i.shape; first = i.first; each = each_put s id old new (on (said_of s id old is i)) i };
-    queues = λ s id old new b is on has i. record { shape = shape_any.queues s id old new b is tt has i.shape; first = i.first; each = each_put s id old (requeued_at old.place b s.sending.queue id new).half (requeued_said old.place b s.sending.queue id new (on (said_of s id old is i))) i };
-    turns = λ s id old new is on has i. record { shape = shape_any.turns s id old new is tt has i.shape; first = i.first; each = each_put s id old (turned_at old.place s.sending.queue id new).half (turned_said old.place s.sending.queue id new (on (said_of s id old is i))) i };
-    writes = λ s id n old new is on has i. record { shape = shape_any.writes s id n old new is tt has i.shape; first = i.first; each = each_put s id old (requeued_at old.place true s.sending.queue id new).half (requeued_said old.place true s.sending.queue id new (on (said_of s id old is i))) i };
-    joins = λ s id h is i. each_joined s id h is (shape_kept.joins s id h is i.shape) i;
-    passes = λ s id ids is i. record { shape = shape_kept.passes s id ids is i.shape; first = i.first; each = each_passed s id i };
-    ends_sending = λ s id h is over i. each_ended s id h is over (shape_kept.ends_sending s id h is over i.shape) i;
-    changes_receiving = λ s id old new is on i. record { shape = shape_any.changes_receiving s id old new is tt i.shape; first = i.first; each = i.each };
-    ends_receiving = λ s id h is i. each_done (not (is_own s.side id) && (not (is_two_way (dir_of id)) || is_done (sending_status s id))) id (record s { receiving = record s.receiving { halves = without_half s.receiving.halves id; gone = s.receiving.gone + seen_at (at s.receiving.halves.live id) } })
-        (record { shape = shape_received s id i.shape; first = i.first; each = i.each });
-    tells = λ s i. record { shape = shape_kept.tells s i.shape; first = i.first; each = i.each };
-    tells_on = λ s id h is i. record { shape = shape_kept.tells_on s id h is i.shape; first = i.first; each = i.each };
-    tells_count = λ s dir i. record { shape = shape_kept.tells_count s dir i.shape; first = i.first; each = i.each };
-  }
+  each_kept (changes.changes_sending id old new) s (is, on, same) i = record { shape = shape_any (changes.changes_sending id old new) s (is, tt, same) i.shape; first = i.first; each = each_put s id old new (on (said_of s id old is i)) i }
+  each_kept (changes.queues id old new b) s (is, on, has) i = record { shape = shape_any (changes.queues id old new b) s (is, tt, has) i.shape; first = i.first; each = each_put s id old (requeued_at old.place b s.sending.queue id new).half (requeued_said old.place b s.sending.queue id new (on (said_of s id old is i))) i }
+  each_kept (changes.turns id old new) s (is, on, has) i = record { shape = shape_any (changes.turns id old new) s (is, tt, has) i.shape; first = i.first; each = each_put s id old (turned_at old.place s.sending.queue id new).half (turned_said old.place s.sending.queue id new (on (said_of s id old is i))) i }
+  each_kept (changes.writes id n old new) s (is, on, has) i = record { shape = shape_any (changes.writes id n old new) s (is, tt, has) i.shape; first = i.first; each = each_put s id old (requeued_at old.place true s.sending.queue id new).half (requeued_said old.place true s.sending.queue id new (on (said_of s id old is i))) i }
+  each_kept (changes.joins id h) s is i = each_joined s id h is (shape_kept (changes.joins id h) s is i.shape) i
+  each_kept (changes.passes id ids) s is i = record { shape = shape_kept (changes.passes id ids) s is i.shape; first = i.first; each = each_passed s id i }
+  each_kept (changes.ends_sending id h) s (is, over) i = each_ended s id h is over (shape_kept (changes.ends_sending id h) s (is, over) i.shape) i
+  each_kept (changes.changes_receiving r id old new) s (is, on, same) i = record { shape = shape_any (changes.changes_receiving r id old new) s (is, tt, same) i.shape; first = i.first; each = i.each }
+  each_kept (changes.ends_receiving id h) s may i = each_done (not (is_own s.side id) && (not (is_two_way (dir_of id)) || is_done (sending_status s id))) id (record s { receiving = record s.receiving { halves = without_half s.receiving.halves id; gone = s.receiving.gone + seen_at (at s.receiving.halves.live id) } })
+      (record { shape = shape_received s id i.shape; first = i.first; each = i.each })
+  each_kept c s may i = record { shape = shape_kept c s may i.shape; first = i.first; each = i.each }

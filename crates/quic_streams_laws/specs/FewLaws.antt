@@ -13,7 +13,9 @@ use Rattle.quic_streams_state.specs.declared.state.StreamsState.{StreamsState}
 use Rattle.quic_streams_state.specs.State.{Opening, is_opened_in, done_if, without_send, receiving_status, sending_status, seen_at}
 use Rattle.quic_streams_state.specs.Limits.{most_streams, raised_count}
 use Rattle.quic_streams_state.specs.Opening.{opens, beyond, with_remote}
-use Rattle.quic_streams_laws.specs.Keeping.{Keeps}
+use Rattle.quic_streams_laws.specs.Keeping.{KeepsBy, Keeps}
+use Rattle.quic_streams_laws.specs.Keeping as changes
+use Rattle.quic_streams_laws.specs.KeepingLaws.{keeps_fewer}
 use Rattle.quic_streams_laws.specs.ShapeLaws.{past_remote}
 use Rattle.quic_streams_laws.specs.Few.{AreFew}
 
@@ -69,30 +71,24 @@ few_done : (b : Bool) (id : ℕ) (s : StreamsState) → AreFew s → AreFew (don
 few_done true id s i = record { own = i.own; own_limit = i.own_limit; remote = i.remote; accepted = i.accepted }
 few_done false id s i = i
 
+-- however halves change
+pub few_any : KeepsBy (λ r id old new. Unit {0}) (λ s id old new. Unit {0}) (λ s id n old new. Unit {0}) AreFew
+few_any (changes.opens_own dir) s lt i = record { own = λ d. more_within dir d s.opening.own s.opening.own_limit lt (i.own d); own_limit = i.own_limit; remote = i.remote; accepted = i.accepted }
+few_any (changes.accepts dir) s lt i = record { own = i.own; own_limit = i.own_limit; remote = i.remote; accepted = λ d. more_within dir d s.opening.accepted s.opening.remote lt (i.accepted d) }
+few_any (changes.allows dir count) s (le, lt) i = record { own = λ d. with_above dir d s.opening.own s.opening.own_limit count lt (i.own d); own_limit = λ d. with_below dir d s.opening.own_limit count most_streams le (i.own_limit d); remote = i.remote; accepted = i.accepted }
+few_any (changes.opens_theirs id) s (e, within) i =
+    let below = within_raised s id e within in
+    let past = past_remote s id e in
+    record {
+      own = λ d. (same_own (dir_of id) d (index_of id + 1) s.opening (i.own d) (i.own_limit d)).0;
+      own_limit = λ d. (same_own (dir_of id) d (index_of id + 1) s.opening (i.own d) (i.own_limit d)).1;
+      remote = λ d. remote_within (dir_of id) d (index_of id + 1) s.opening (omega arith) (i.remote d);
+      accepted = λ d. remote_above (dir_of id) d (index_of id + 1) s.opening (omega (arith, past.1)) (i.accepted d);
+    }
+few_any (changes.joins id h) s may i = cond_both h.blocked s _ AreFew (λ e. i) (λ e. record { own = i.own; own_limit = i.own_limit; remote = i.remote; accepted = i.accepted })
+few_any (changes.ends_sending id h) s may i = few_done (not (is_own s.side id) && is_done (receiving_status s id)) id (without_send s id) (record { own = i.own; own_limit = i.own_limit; remote = i.remote; accepted = i.accepted })
+few_any (changes.ends_receiving id h) s may i = few_done (not (is_own s.side id) && (not (is_two_way (dir_of id)) || is_done (sending_status s id))) id (record s { receiving = record s.receiving { halves = without_half s.receiving.halves id; gone = s.receiving.gone + seen_at (at s.receiving.halves.live id) } }) (record { own = i.own; own_limit = i.own_limit; remote = i.remote; accepted = i.accepted })
+few_any c s may i = record { own = i.own; own_limit = i.own_limit; remote = i.remote; accepted = i.accepted }
+
 pub few_kept : Keeps AreFew
-few_kept = record {
-  finishes = λ s id f i. record { own = i.own; own_limit = i.own_limit; remote = i.remote; accepted = i.accepted };
-  events = λ s e less i. record { own = i.own; own_limit = i.own_limit; remote = i.remote; accepted = i.accepted };
-  opens_own = λ s dir lt i. record { own = λ d. more_within dir d s.opening.own s.opening.own_limit lt (i.own d); own_limit = i.own_limit; remote = i.remote; accepted = i.accepted };
-  accepts = λ s dir lt i. record { own = i.own; own_limit = i.own_limit; remote = i.remote; accepted = λ d. more_within dir d s.opening.accepted s.opening.remote lt (i.accepted d) };
-  allows = λ s dir count le lt i. record { own = λ d. with_above dir d s.opening.own s.opening.own_limit count lt (i.own d); own_limit = λ d. with_below dir d s.opening.own_limit count most_streams le (i.own_limit d); remote = i.remote; accepted = i.accepted };
-  opens_theirs = λ s id e within i. let below = within_raised s id e within in let past = past_remote s id e in record {
-    own = λ d. (same_own (dir_of id) d (index_of id + 1) s.opening (i.own d) (i.own_limit d)).0;
-    own_limit = λ d. (same_own (dir_of id) d (index_of id + 1) s.opening (i.own d) (i.own_limit d)).1;
-    remote = λ d. remote_within (dir_of id) d (index_of id + 1) s.opening (omega arith) (i.remote d);
-    accepted = λ d. remote_above (dir_of id) d (index_of id + 1) s.opening (omega (arith, past.1)) (i.accepted d);
-  };
-  raises = λ s limit le i. record { own = i.own; own_limit = i.own_limit; remote = i.remote; accepted = i.accepted };
-  changes = λ s id old new is on same i. record { own = i.own; own_limit = i.own_limit; remote = i.remote; accepted = i.accepted };
-  queues = λ s id old new b is on has i. record { own = i.own; own_limit = i.own_limit; remote = i.remote; accepted = i.accepted };
-  turns = λ s id old new is on has i. record { own = i.own; own_limit = i.own_limit; remote = i.remote; accepted = i.accepted };
-  writes = λ s id n old new is on has i. record { own = i.own; own_limit = i.own_limit; remote = i.remote; accepted = i.accepted };
-  joins = λ s id h is i. cond_both h.blocked s _ AreFew (λ e. i) (λ e. record { own = i.own; own_limit = i.own_limit; remote = i.remote; accepted = i.accepted });
-  passes = λ s id ids is i. record { own = i.own; own_limit = i.own_limit; remote = i.remote; accepted = i.accepted };
-  ends_sending = λ s id h is over i. few_done (not (is_own s.side id) && is_done (receiving_status s id)) id (without_send s id) (record { own = i.own; own_limit = i.own_limit; remote = i.remote; accepted = i.accepted });
-  changes_receiving = λ s id old new is on i. record { own = i.own; own_limit = i.own_limit; remote = i.remote; accepted = i.accepted };
-  ends_receiving = λ s id h is i. few_done (not (is_own s.side id) && (not (is_two_way (dir_of id)) || is_done (sending_status s id))) id (record s { receiving = record s.receiving { halves = without_half s.receiving.halves id; gone = s.receiving.gone + seen_at (at s.receiving.halves.live id) } }) (record { own = i.own; own_limit = i.own_limit; remote = i.remote; accepted = i.accepted });
-  tells = λ s i. record { own = i.own; own_limit = i.own_limit; remote = i.remote; accepted = i.accepted };
-  tells_on = λ s id h is i. record { own = i.own; own_limit = i.own_limit; remote = i.remote; accepted = i.accepted };
-  tells_count = λ s dir i. record { own = i.own; own_limit = i.own_limit; remote = i.remote; accepted = i.accepted };
-}
+few_kept = keeps_fewer (λ r id old new on. tt) (λ s id old new on. tt) (λ s id n old new on. tt) few_any

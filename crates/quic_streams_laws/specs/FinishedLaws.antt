@@ -18,6 +18,7 @@ use Rattle.quic_streams_state.specs.Taking.{joined}
 use Rattle.quic_streams_state.specs.Writing.{write_answer, after_write, write_chunks_answer, after_write_chunks, after_finish, finish_answer, after_reset, reset_answer}
 use Rattle.quic_streams_state.specs.Acked.{after_stream_acked}
 use Rattle.quic_streams_laws.specs.Keeping.{KeepsAll, MayAccept, NoneMoreFinished, finishes_in}
+use Rattle.quic_streams_laws.specs.Keeping as changes
 use Rattle.quic_streams_laws.specs.KeepingLaws.{finishes_append, live_sends, by_stream_acked, by_write, by_write_chunks, by_finish, by_reset}
 use Rattle.quic_streams_laws.specs.Written.{Wrote, Grows, IsSendHalf, wrote_by, wrote_chunks_by, wrote_end_by, wrote_reset_by}
 use Rattle.quic_streams_laws.specs.GrowsLaws.{grows_write, grows_write_chunks, grows_finish, grows_reset}
@@ -50,27 +51,13 @@ module _ (F : ℕ → Type 0) (T : Events → Type 0) (less : (old new : Events)
 
   -- however halves change
   pub told_kept : KeepsAll (λ r id old new. Unit {0}) (λ s id old new. Unit {0}) (λ s id n old new. Unit {0}) (λ s dir. Unit {0}) F (λ s. T s.events)
-  told_kept = record {
-    finishes = λ s id f t. more s.events id f t;
-    events = λ s e none t. less s.events e none t;
-    opens_own = λ s dir lt t. t;
-    accepts = λ s dir may t. t;
-    allows = λ s dir count le lt t. t;
-    opens_theirs = λ s id e within t. less s.events _ (λ q. omega arith) t;
-    raises = λ s limit le t. t;
-    changes = λ s id old new is on has t. t;
-    queues = λ s id old new b is on has t. t;
-    turns = λ s id old new is on has t. t;
-    writes = λ s id n old new is on has t. t;
-    joins = λ s id h is t. same s.events (joined s id h).events (joined_events s id h) t;
-    passes = λ s id ids is t. t;
-    ends_sending = λ s id h is over t. same s.events (send_done s id).events (sent_events s id) t;
-    changes_receiving = λ s id old new is on t. t;
-    ends_receiving = λ s id h is t. same s.events (recv_done s id).events (received_events s id) t;
-    tells = λ s t. t;
-    tells_on = λ s id h is t. t;
-    tells_count = λ s dir t. t;
-  }
+  told_kept (changes.finishes id) s f t = more s.events id f t
+  told_kept (changes.events e) s none t = less s.events e none t
+  told_kept (changes.opens_theirs id) s may t = less s.events _ (λ q. omega arith) t
+  told_kept (changes.joins id h) s may t = same s.events (joined s id h).events (joined_events s id h) t
+  told_kept (changes.ends_sending id h) s may t = same s.events (send_done s id).events (sent_events s id) t
+  told_kept (changes.ends_receiving id h) s may t = same s.events (recv_done s id).events (received_events s id) t
+  told_kept c s may t = t
 
 -- no stream more is to be told finished than before: so it stays with each word, but where one is acknowledged
 pub none_more_kept : (e : Events) → KeepsAll (λ r id old new. Unit {0}) (λ s id old new. Unit {0}) (λ s id n old new. Unit {0}) (λ s dir. Unit {0}) (λ id. ⊥) (λ s. NoneMoreFinished e s.events)
@@ -107,35 +94,22 @@ module _ (arrived : ℕ → ℕ → Type 0) (end_arrived : ℕ → Type 0) where
           let sum = both in
           t q (omega arith)
 
+  -- however halves change, where all arrived of streams that are finished
+  to_tell : (wrote : ℕ → Wrote) → KeepsAll (λ r id old new. Unit {0}) (λ s id old new. Unit {0}) (λ s id n old new. Unit {0}) (λ s dir. Unit {0}) (λ id. AllArrived (arrived id) (end_arrived id) (wrote id)) (λ s. ToldHave wrote s.events)
+  to_tell wrote = told_kept (λ id. AllArrived (arrived id) (end_arrived id) (wrote id)) (λ e. ToldHave wrote e) (fewer_told wrote) (one_told wrote)
+
   -- each word keeps it that changes halves only so that they hold what they held, and what was acknowledged of them arrived
   pub finished_kept : (wrote : ℕ → Wrote) → KeepsAll (λ r id old new. Unit {0})
       (λ s id old new. IsSendHalf (wrote id) old × HalfArrived (arrived id) (end_arrived id) old → IsSendHalf (wrote id) new × HalfArrived (arrived id) (end_arrived id) new)
       (λ s id n old new. IsSendHalf (wrote id) old × HalfArrived (arrived id) (end_arrived id) old → IsSendHalf (wrote id) new × HalfArrived (arrived id) (end_arrived id) new)
       (λ s dir. MayAccept s dir) (λ id. AllArrived (arrived id) (end_arrived id) (wrote id)) (FinishedHave arrived end_arrived wrote)
-  finished_kept wrote =
-      let a = acked_kept arrived end_arrived wrote in
-      let t = told_kept (λ id. AllArrived (arrived id) (end_arrived id) (wrote id)) (λ e. (id : ℕ) → 0 < finishes_in id e.queue → AllArrived (arrived id) (end_arrived id) (wrote id)) (fewer_told wrote) (one_told wrote) in
-      record {
-        finishes = λ s id f i. record { acked = a.finishes s id tt i.acked; told = t.finishes s id f i.told };
-        events = λ s e none i. record { acked = a.events s e none i.acked; told = t.events s e none i.told };
-        opens_own = λ s dir lt i. record { acked = a.opens_own s dir lt i.acked; told = i.told };
-        accepts = λ s dir may i. record { acked = a.accepts s dir may i.acked; told = i.told };
-        allows = λ s dir count le lt i. record { acked = a.allows s dir count le lt i.acked; told = i.told };
-        opens_theirs = λ s id e within i. record { acked = a.opens_theirs s id e within i.acked; told = t.opens_theirs s id e within i.told };
-        raises = λ s limit le i. record { acked = a.raises s limit le i.acked; told = i.told };
-        changes = λ s id old new is on has i. record { acked = a.changes s id old new is on has i.acked; told = i.told };
-        queues = λ s id old new b is on has i. record { acked = a.queues s id old new b is on has i.acked; told = i.told };
-        turns = λ s id old new is on has i. record { acked = a.turns s id old new is on has i.acked; told = i.told };
-        writes = λ s id n old new is on has i. record { acked = a.writes s id n old new is on has i.acked; told = i.told };
-        joins = λ s id h is i. record { acked = a.joins s id h is i.acked; told = t.joins s id h is i.told };
-        passes = λ s id ids is i. record { acked = a.passes s id ids is i.acked; told = i.told };
-        ends_sending = λ s id h is over i. record { acked = a.ends_sending s id h is over i.acked; told = t.ends_sending s id h is over i.told };
-        changes_receiving = λ s id old new is on i. record { acked = a.changes_receiving s id old new is on i.acked; told = i.told };
-        ends_receiving = λ s id h is i. record { acked = a.ends_receiving s id h is i.acked; told = t.ends_receiving s id h is i.told };
-        tells = λ s i. record { acked = a.tells s i.acked; told = i.told };
-        tells_on = λ s id h is i. record { acked = a.tells_on s id h is i.acked; told = i.told };
-        tells_count = λ s dir i. record { acked = a.tells_count s dir i.acked; told = i.told };
-      }
+  finished_kept wrote (changes.finishes id) s all i = record { acked = acked_kept arrived end_arrived wrote (changes.finishes id) s tt i.acked; told = to_tell wrote (changes.finishes id) s all i.told }
+  finished_kept wrote (changes.events e) s none i = record { acked = acked_kept arrived end_arrived wrote (changes.events e) s none i.acked; told = to_tell wrote (changes.events e) s none i.told }
+  finished_kept wrote (changes.opens_theirs id) s may i = record { acked = acked_kept arrived end_arrived wrote (changes.opens_theirs id) s may i.acked; told = to_tell wrote (changes.opens_theirs id) s may i.told }
+  finished_kept wrote (changes.joins id h) s is i = record { acked = acked_kept arrived end_arrived wrote (changes.joins id h) s is i.acked; told = to_tell wrote (changes.joins id h) s is i.told }
+  finished_kept wrote (changes.ends_sending id h) s may i = record { acked = acked_kept arrived end_arrived wrote (changes.ends_sending id h) s may i.acked; told = to_tell wrote (changes.ends_sending id h) s may i.told }
+  finished_kept wrote (changes.ends_receiving id h) s is i = record { acked = acked_kept arrived end_arrived wrote (changes.ends_receiving id h) s is i.acked; told = to_tell wrote (changes.ends_receiving id h) s is i.told }
+  finished_kept wrote c s may i = record { acked = acked_kept arrived end_arrived wrote c s may i.acked; told = i.told }
 
   -- more is done, and no stream more is to be told finished
   pub finished_more : (wrote more : ℕ → Wrote) (s t : StreamsState) → ((q : ℕ) → Grows (wrote q) (more q)) → NoneMoreFinished s.events t.events → AckedHave arrived end_arrived more t → FinishedHave arrived end_arrived wrote s → FinishedHave arrived end_arrived more t

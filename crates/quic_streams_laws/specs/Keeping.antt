@@ -79,39 +79,98 @@ NoneMoreFinished old new = (id : ℕ) → finishes_in id new.queue ≤ finishes_
 abbrev pub HasEnded : SendHalf → Type 0
 HasEnded h = (is_some h.reset ≡ true) ⊎ (is_acked h ≡ true)
 
+-- ---- the small changes
+
+pub data Change : Type 0 where
+  -- what the application is told: that a stream is finished, and all else
+  finishes : ℕ → Change
+  events : Events → Change
+  -- streams that this end opens and accepts, and how many it may open
+  opens_own : Dir → Change
+  accepts : Dir → Change
+  allows : Dir → ℕ → Change
+  -- those that the peer opens
+  opens_theirs : ℕ → Change
+  -- how far all streams may come
+  raises : ℕ → Change
+  -- a sending half, and its place in the queue
+  changes_sending : ℕ → SendHalf → SendHalf → Change
+  queues : ℕ → SendHalf → SendHalf → Bool → Change
+  turns : ℕ → SendHalf → SendHalf → Change
+  writes : ℕ → ℕ → SendHalf → SendHalf → Change
+  -- it is among those that are blocked, or isn't any more
+  joins : ℕ → SendHalf → Change
+  passes : ℕ → List ℕ → Change
+  -- it is done
+  ends_sending : ℕ → SendHalf → Change
+  -- a receiving half, among these, and it is done
+  changes_receiving : Receiving → ℕ → RecvHalf → RecvHalf → Change
+  ends_receiving : ℕ → RecvHalf → Change
+  -- the peer is told how far it may come, on all streams and on one, and how many it may open
+  tells : Change
+  tells_on : ℕ → RecvHalf → Change
+  tells_count : Dir → Change
+
+-- the streams that a change leaves
+abbrev pub after : Change → StreamsState → StreamsState
+after (finishes id) s = record s { events = with_event (stream_events.Finished id) s.events }
+after (events e) s = record s { events = e }
+after (opens_own dir) s = record s { opening = record s.opening { own = more dir s.opening.own; sending = s.opening.sending + 1 } }
+after (accepts dir) s = record s { opening = record s.opening { accepted = more dir s.opening.accepted } }
+after (allows dir count) s = record s { opening = record s.opening { own_limit = with_of dir count s.opening.own_limit } }
+after (opens_theirs id) s = opened_if true id s
+after (raises limit) s = record s { sending = record s.sending { limit = limit } }
+after (changes_sending id old new) s = with_send s id new
+after (queues id old new b) s = put_queued s id (requeued_at old.place b s.sending.queue id new)
+after (turns id old new) s = put_queued s id (turned_at old.place s.sending.queue id new)
+after (writes id n old new) s = let t = put_queued s id (requeued_at old.place true s.sending.queue id new) in record t { sending = record t.sending { accepted = s.sending.accepted + n } }
+after (joins id h) s = joined s id h
+after (passes id ids) s = unblocked s id ids
+after (ends_sending id h) s = send_done s id
+after (changes_receiving r id old new) s = with_recv s id new
+after (ends_receiving id h) s = recv_done s id
+after tells s = record s { receiving = record s.receiving { announced = raised_data s.receiving } }
+after (tells_on id h) s = with_recv s id (record h { announced = raised_on s.receiving.stream_window h })
+after (tells_count dir) s = record s { opening = announced_count dir s.opening }
+
+-- what is asked of changes: of a receiving half, of a sending half, and of one on which bytes are written; of streams that are accepted; of streams that it is told are finished; of sending halves
+-- that are done; and of the limit on all streams
+pub record Asks : Type 1 where
+  pub recv : Receiving → ℕ → RecvHalf → RecvHalf → Type 0
+  pub send : StreamsState → ℕ → SendHalf → SendHalf → Type 0
+  pub write : StreamsState → ℕ → ℕ → SendHalf → SendHalf → Type 0
+  pub accept : StreamsState → Dir → Type 0
+  pub finish : ℕ → Type 0
+  pub end : ℕ → SendHalf → Type 0
+  pub limit : StreamsState → ℕ → Type 0
+
+-- where a change may be made of streams
+abbrev pub May : Asks → Change → StreamsState → Type 0
+May q (finishes id) s = q.finish id
+May q (events e) s = NoneMoreFinished s.events e
+May q (opens_own dir) s = of dir s.opening.own < of dir s.opening.own_limit
+May q (accepts dir) s = q.accept s dir
+May q (allows dir count) s = (count ≤ most_streams) × (of dir s.opening.own_limit < count)
+May q (opens_theirs id) s = (opens s id ≡ true) × (beyond s id ≡ None)
+May q (raises limit) s = q.limit s limit
+May q (changes_sending id old new) s = (sending_half s id ≡ Some old) × q.send s id old new × (has_pending new ≡ has_pending old)
+May q (queues id old new b) s = (sending_half s id ≡ Some old) × q.send s id old new × (has_pending new ≡ b)
+May q (turns id old new) s = (sending_half s id ≡ Some old) × q.send s id old new × (has_pending new ≡ true)
+May q (writes id n old new) s = (sending_half s id ≡ Some old) × q.write s id n old new × (has_pending new ≡ true)
+May q (joins id h) s = sending_half s id ≡ Some h
+May q (passes id ids) s = s.sending.blocked ≡ id ∷ ids
+May q (ends_sending id h) s = (at s.sending.halves.live id ≡ Some h) × q.end id h
+May q (changes_receiving r id old new) s = (receiving_half s id ≡ Some old) × q.recv r id old new × (s.receiving ≡ r)
+May q (ends_receiving id h) s = at s.receiving.halves.live id ≡ Some h
+May q tells s = Unit {0}
+May q (tells_on id h) s = at s.receiving.halves.live id ≡ Some h
+May q (tells_count dir) s = Unit {0}
+
 -- a fact that each small change keeps, where receiving halves change only as R says of them, sending halves as S says, and those on which bytes are written as W says; where streams of
 -- the peer's are accepted as A says; where it is told of streams that they are finished as F says; where sending halves are done as E says; and where the limit on all streams is raised as L says
-pub record KeepsWhere (R : Receiving → ℕ → RecvHalf → RecvHalf → Type 0) (S : StreamsState → ℕ → SendHalf → SendHalf → Type 0) (W : StreamsState → ℕ → ℕ → SendHalf → SendHalf → Type 0) (A : StreamsState → Dir → Type 0) (F : ℕ → Type 0) (E : ℕ → SendHalf → Type 0)
-    (L : StreamsState → ℕ → Type 0) (P : StreamsState → Type 0) : Type 0 where
-  -- what the application is told: that a stream is finished, and all else
-  pub finishes : (s : StreamsState) (id : ℕ) → F id → P s → P (record s { events = with_event (stream_events.Finished id) s.events })
-  pub events : (s : StreamsState) (e : Events) → NoneMoreFinished s.events e → P s → P (record s { events = e })
-  -- streams that this end opens and accepts, and how many it may open
-  pub opens_own : (s : StreamsState) (dir : Dir) → of dir s.opening.own < of dir s.opening.own_limit → P s → P (record s { opening = record s.opening { own = more dir s.opening.own; sending = s.opening.sending + 1 } })
-  pub accepts : (s : StreamsState) (dir : Dir) → A s dir → P s → P (record s { opening = record s.opening { accepted = more dir s.opening.accepted } })
-  pub allows : (s : StreamsState) (dir : Dir) (count : ℕ) → count ≤ most_streams → of dir s.opening.own_limit < count → P s → P (record s { opening = record s.opening { own_limit = with_of dir count s.opening.own_limit } })
-  -- those that the peer opens
-  pub opens_theirs : (s : StreamsState) (id : ℕ) → opens s id ≡ true → beyond s id ≡ None → P s → P (opened_if true id s)
-  -- how far all streams may come
-  pub raises : (s : StreamsState) (limit : ℕ) → L s limit → P s → P (record s { sending = record s.sending { limit = limit } })
-  -- a sending half, and its place in the queue
-  pub changes : (s : StreamsState) (id : ℕ) (old new : SendHalf) → sending_half s id ≡ Some old → S s id old new → has_pending new ≡ has_pending old → P s → P (with_send s id new)
-  pub queues : (s : StreamsState) (id : ℕ) (old new : SendHalf) (b : Bool) → sending_half s id ≡ Some old → S s id old new → has_pending new ≡ b → P s → P (put_queued s id (requeued_at old.place b s.sending.queue id new))
-  pub turns : (s : StreamsState) (id : ℕ) (old new : SendHalf) → sending_half s id ≡ Some old → S s id old new → has_pending new ≡ true → P s → P (put_queued s id (turned_at old.place s.sending.queue id new))
-  pub writes : (s : StreamsState) (id n : ℕ) (old new : SendHalf) → sending_half s id ≡ Some old → W s id n old new → has_pending new ≡ true → P s
-      → P (let t = put_queued s id (requeued_at old.place true s.sending.queue id new) in record t { sending = record t.sending { accepted = s.sending.accepted + n } })
-  -- it is among those that are blocked, or isn't any more
-  pub joins : (s : StreamsState) (id : ℕ) (h : SendHalf) → sending_half s id ≡ Some h → P s → P (joined s id h)
-  pub passes : (s : StreamsState) (id : ℕ) (ids : List ℕ) → s.sending.blocked ≡ id ∷ ids → P s → P (unblocked s id ids)
-  -- it is done
-  pub ends_sending : (s : StreamsState) (id : ℕ) (h : SendHalf) → at s.sending.halves.live id ≡ Some h → E id h → P s → P (send_done s id)
-  -- a receiving half, and it is done
-  pub changes_receiving : (s : StreamsState) (id : ℕ) (old new : RecvHalf) → receiving_half s id ≡ Some old → R s.receiving id old new → P s → P (with_recv s id new)
-  pub ends_receiving : (s : StreamsState) (id : ℕ) (h : RecvHalf) → at s.receiving.halves.live id ≡ Some h → P s → P (recv_done s id)
-  -- the peer is told how far it may come, on all streams and on one, and how many it may open
-  pub tells : (s : StreamsState) → P s → P (record s { receiving = record s.receiving { announced = raised_data s.receiving } })
-  pub tells_on : (s : StreamsState) (id : ℕ) (h : RecvHalf) → at s.receiving.halves.live id ≡ Some h → P s → P (with_recv s id (record h { announced = raised_on s.receiving.stream_window h }))
-  pub tells_count : (s : StreamsState) (dir : Dir) → P s → P (record s { opening = announced_count dir s.opening })
+abbrev pub KeepsWhere : (Receiving → ℕ → RecvHalf → RecvHalf → Type 0) → (StreamsState → ℕ → SendHalf → SendHalf → Type 0) → (StreamsState → ℕ → ℕ → SendHalf → SendHalf → Type 0) → (StreamsState → Dir → Type 0) → (ℕ → Type 0) → (ℕ → SendHalf → Type 0)
+    → (StreamsState → ℕ → Type 0) → (StreamsState → Type 0) → Type 0
+KeepsWhere R S W A F E L P = (c : Change) (s : StreamsState) → May (record { recv = R; send = S; write = W; accept = A; finish = F; end = E; limit = L }) c s → P s → P (after c s)
 
 -- such a fact, whichever of the sending halves are done that were reset or are wholly acknowledged, and wherever the limit on all streams doesn't fall
 abbrev pub KeepsAll : (Receiving → ℕ → RecvHalf → RecvHalf → Type 0) → (StreamsState → ℕ → SendHalf → SendHalf → Type 0) → (StreamsState → ℕ → ℕ → SendHalf → SendHalf → Type 0) → (StreamsState → Dir → Type 0) → (ℕ → Type 0) → (StreamsState → Type 0) → Type 0

@@ -50,6 +50,7 @@ use Rattle.quic_sets.specs.Offsets.{has_any}
 use Rattle.quic_streams_state.specs.Control.{limit_told}
 use Rattle.quic_streams_laws.specs.ControlWalk as walk
 use Rattle.quic_streams_laws.specs.Keeping.{finishes_in, SeesMore, CreditIs, all_of_it, as_before, some_more, EndsThere, ReceivesOn, SendsOn, WritesOn, KeepsBy, KeepsWhere, KeepsAll, MayAccept, unblocked}
+use Rattle.quic_streams_laws.specs.Keeping as changes
 
 -- an option is one of two
 pub by_option : {A : Type 0} (o : Option A) (Q : Option A → Type 0) → (o ≡ None → Q None) → ((a : A) → o ≡ Some a → Q (Some a)) → Q o
@@ -261,52 +262,17 @@ pub keeps_fewer : {R R' : Receiving → ℕ → RecvHalf → RecvHalf → Type 0
     → ((s : StreamsState) (id : ℕ) (old new : SendHalf) → S' s id old new → S s id old new)
     → ((s : StreamsState) (id n : ℕ) (old new : SendHalf) → W' s id n old new → W s id n old new)
     → KeepsBy R S W P → KeepsBy R' S' W' P
-keeps_fewer r t w k = record {
-  finishes = k.finishes;
-  events = k.events;
-  opens_own = k.opens_own;
-  accepts = k.accepts;
-  allows = k.allows;
-  opens_theirs = k.opens_theirs;
-  raises = k.raises;
-  changes = λ s id old new is on. k.changes s id old new is (t s id old new on);
-  queues = λ s id old new b is on. k.queues s id old new b is (t s id old new on);
-  turns = λ s id old new is on. k.turns s id old new is (t s id old new on);
-  writes = λ s id n old new is on. k.writes s id n old new is (w s id n old new on);
-  joins = k.joins;
-  passes = k.passes;
-  ends_sending = k.ends_sending;
-  changes_receiving = λ s id old new is on. k.changes_receiving s id old new is (r s.receiving id old new on);
-  ends_receiving = k.ends_receiving;
-  tells = k.tells;
-  tells_on = k.tells_on;
-  tells_count = k.tells_count;
-}
+keeps_fewer r t w k (changes.changes_sending id old new) s (is, on, same) i = k (changes.changes_sending id old new) s (is, t s id old new on, same) i
+keeps_fewer r t w k (changes.queues id old new b) s (is, on, has) i = k (changes.queues id old new b) s (is, t s id old new on, has) i
+keeps_fewer r t w k (changes.turns id old new) s (is, on, has) i = k (changes.turns id old new) s (is, t s id old new on, has) i
+keeps_fewer r t w k (changes.writes id n old new) s (is, on, has) i = k (changes.writes id n old new) s (is, w s id n old new on, has) i
+keeps_fewer r t w k (changes.changes_receiving q id old new) s (is, on, same) i = k (changes.changes_receiving q id old new) s (is, r q id old new on, same) i
+keeps_fewer r t w k c s may i = k c s may i
 
 -- what says the same is kept too
 pub keeps_same : {R : Receiving → ℕ → RecvHalf → RecvHalf → Type 0} {S : StreamsState → ℕ → SendHalf → SendHalf → Type 0} {W : StreamsState → ℕ → ℕ → SendHalf → SendHalf → Type 0} {P Q : StreamsState → Type 0}
     → ((s : StreamsState) → P s → Q s) → ((s : StreamsState) → Q s → P s) → KeepsBy R S W P → KeepsBy R S W Q
-keeps_same to from k = record {
-  finishes = λ s id f i. to _ (k.finishes s id f (from _ i));
-  events = λ s e less i. to _ (k.events s e less (from _ i));
-  opens_own = λ s dir lt i. to _ (k.opens_own s dir lt (from _ i));
-  accepts = λ s dir lt i. to _ (k.accepts s dir lt (from _ i));
-  allows = λ s dir count le lt i. to _ (k.allows s dir count le lt (from _ i));
-  opens_theirs = λ s id e within i. to _ (k.opens_theirs s id e within (from _ i));
-  raises = λ s limit le i. to _ (k.raises s limit le (from _ i));
-  changes = λ s id old new is on same i. to _ (k.changes s id old new is on same (from _ i));
-  queues = λ s id old new b is on has i. to _ (k.queues s id old new b is on has (from _ i));
-  turns = λ s id old new is on has i. to _ (k.turns s id old new is on has (from _ i));
-  writes = λ s id n old new is on has i. to _ (k.writes s id n old new is on has (from _ i));
-  joins = λ s id h is i. to _ (k.joins s id h is (from _ i));
-  passes = λ s id ids is i. to _ (k.passes s id ids is (from _ i));
-  ends_sending = λ s id h is over i. to _ (k.ends_sending s id h is over (from _ i));
-  changes_receiving = λ s id old new is on i. to _ (k.changes_receiving s id old new is on (from _ i));
-  ends_receiving = λ s id h is i. to _ (k.ends_receiving s id h is (from _ i));
-  tells = λ s i. to _ (k.tells s (from _ i));
-  tells_on = λ s id h is i. to _ (k.tells_on s id h is (from _ i));
-  tells_count = λ s dir i. to _ (k.tells_count s dir (from _ i));
-}
+keeps_same to from k c s may i = to (changes.after c s) (k c s may (from s i))
 
 -- ---- what changes of a sending half
 
@@ -451,20 +417,20 @@ module _ {R : Receiving → ℕ → RecvHalf → RecvHalf → Type 0} {S : Strea
 
   pub by_open : (is_open : Bool) (dir : Dir) (s : StreamsState) → P s → P (after_open is_open dir s)
   by_open false dir s p = p
-  by_open true dir s p = cond_both {A = Option ℕ × Opening} (nat_lt (of dir s.opening.own) (of dir s.opening.own_limit)) _ _ (λ t. P (record s { opening = t.1 })) (λ is. k.opens_own s dir (ltb-true _ _ is) p) (λ is. p)
+  by_open true dir s p = cond_both {A = Option ℕ × Opening} (nat_lt (of dir s.opening.own) (of dir s.opening.own_limit)) _ _ (λ t. P (record s { opening = t.1 })) (λ is. k (changes.opens_own dir) s (ltb-true _ _ is) p) (λ is. p)
 
   pub by_accept : (dir : Dir) (s : StreamsState) → (MayAccept s dir → A s dir) → P s → P (after_accept dir s)
-  by_accept dir s on p = cond_both {A = Option ℕ × Opening} (nat_lt (of dir s.opening.accepted) (of dir s.opening.remote)) _ _ (λ t. P (record s { opening = t.1 })) (λ is. k.accepts s dir (on (ltb-true _ _ is)) p) (λ is. p)
+  by_accept dir s on p = cond_both {A = Option ℕ × Opening} (nat_lt (of dir s.opening.accepted) (of dir s.opening.remote)) _ _ (λ t. P (record s { opening = t.1 })) (λ is. k (changes.accepts dir) s (on (ltb-true _ _ is)) p) (λ is. p)
 
   pub by_opened : (s : StreamsState) (id : ℕ) → beyond s id ≡ None → P s → P (opened_by s id)
   by_opened s id within p = go (opens s id) refl
     where
       go : (b : Bool) → opens s id ≡ b → P (opened_if b id s)
-      go true is = k.opens_theirs s id is within p
+      go true is = k (changes.opens_theirs id) s (is, within) p
       go false is = p
 
   pub by_max_streams : (dir : Dir) (count : ℕ) (s : StreamsState) → P s → P (after_max_streams dir count s)
-  by_max_streams dir count s p = cond_both (nat_le count most_streams && nat_lt (of dir s.opening.own_limit) count) _ _ P (λ is. let both = and_parts _ _ is in k.events (record s { opening = _ }) _ (none_more s.events.queue (stream_events.Available dir) (λ id. refl)) (k.allows s dir count (leb-true _ _ both.0) (ltb-true _ _ both.1) p)) (λ is. p)
+  by_max_streams dir count s p = cond_both (nat_le count most_streams && nat_lt (of dir s.opening.own_limit) count) _ _ P (λ is. let both = and_parts _ _ is in k (changes.events _) (record s { opening = _ }) (none_more s.events.queue (stream_events.Available dir) (λ id. refl)) (k (changes.allows dir count) s ((leb-true _ _ both.0), (ltb-true _ _ both.1)) p)) (λ is. p)
 
   -- ---- writing
 
@@ -481,12 +447,12 @@ module _ {R : Receiving → ℕ → RecvHalf → RecvHalf → Type 0} {S : Strea
       → ((n : ℕ) (old new : SendHalf) → sending_half s id ≡ Some old → WritesOn (room s.sending) n old new → W s id n old new) → P s → P (accepted_at (Some h) s id bytes)
   by_accepted s id h bytes is bounded none fits within on p = cond_both (length bytes == 0) s (grown_by h s id bytes) P (λ e. p) (λ e.
       let some : 0 < length bytes = omega (arith, eqb-false (length bytes) 0 e) in
-      k.writes s id (length bytes) h (grown h bytes) is (on (length bytes) h (grown h bytes) is (record { stands = record { place = refl; blocked = refl }; more = more_written h bytes none; limit = refl; fits = fits; within = within })) (or_left _ _ (grows h.buffer bytes bounded some)) p)
+      k (changes.writes id (length bytes) h (grown h bytes)) s (is, (on (length bytes) h (grown h bytes) is (record { stands = record { place = refl; blocked = refl }; more = more_written h bytes none; limit = refl; fits = fits; within = within })), (or_left _ _ (grows h.buffer bytes bounded some))) p)
 
   -- what was written is at most what is kept
   pub by_blocked : (s : StreamsState) (p : Retransmits) (id : ℕ) (o : Option SendHalf) → sending_half s id ≡ o → P s → P (blocked_at o s p id).state
   by_blocked s p id None is q = q
-  by_blocked s p id (Some h) is q = cond_both {A = Streams} (room s.sending == 0) _ _ (λ t. P t.state) (λ e. k.joins s id h is q) (λ e. q)
+  by_blocked s p id (Some h) is q = cond_both {A = Streams} (room s.sending == 0) _ _ (λ t. P t.state) (λ e. k (changes.joins id h) s is q) (λ e. q)
 
   -- the answer to a write: what the rules say, or want of memory
   pub by_write : (is_open : Bool) (s : StreamsState) (p : Retransmits) (id : ℕ) (bytes : List ℕ) → ((h : SendHalf) → sending_half s id ≡ Some h → h.buffer.unsent ≤ written h.buffer)
@@ -511,21 +477,21 @@ module _ {R : Receiving → ℕ → RecvHalf → RecvHalf → Type 0} {S : Strea
     where
       go : (answer : Result (Unit {0}) FinishError) → finish_answer s id ≡ answer → P (finished_by answer s id)
       go (Err e) is = q
-      go (Ok x) is = by_option (sending_half s id) (λ o. finish_of o ≡ Ok x → P (ended_at o s id)) (λ e f. q) (λ h e f. k.queues s id h (ended h) true e (on h e (finish_ready h x f)) (or_right _ _ refl) q) is
+      go (Ok x) is = by_option (sending_half s id) (λ o. finish_of o ≡ Ok x → P (ended_at o s id)) (λ e f. q) (λ h e f. k (changes.queues id h (ended h) true) s (e, (on h e (finish_ready h x f)), (or_right _ _ refl)) q) is
 
   pub by_reset : (s : StreamsState) (p : Retransmits) (id code : ℕ) → ((h : SendHalf) → sending_half s id ≡ Some h → h.reset ≡ None → S s id h (reset_now h)) → P s → P (after_reset s p id code).state
   by_reset s p id code on q = by_option (sending_half s id) (λ o. P (reset_at o s p id code).state) (λ e. q) (λ h e. cond_both {A = Streams} (is_some h.reset) _ _ (λ t. P t.state) (λ f. q) (λ f.
-      k.queues s id h (reset_now h) false e (on h e (free h.reset f)) refl q))
+      k (changes.queues id h (reset_now h) false) s (e, (on h e (free h.reset f)), refl) q))
 
   pub by_set_priority : (s : StreamsState) (id : ℕ) (priority : ℤ) → ((h : SendHalf) → sending_half s id ≡ Some h → S s id h (record h { priority = priority })) → P s → P (after_set_priority s id priority)
   by_set_priority s id priority on q = by_option (sending_half s id) (λ o. P (priority_at o s id priority)) (λ e. q) (λ h e.
-      k.changes s id h (record h { priority = priority }) e (on h e) refl q)
+      k (changes.changes_sending id h (record h { priority = priority })) s (e, (on h e), refl) q)
 
   -- ---- what comes for a sending half
 
   stops : (s : StreamsState) (id code : ℕ) → ((h : SendHalf) → sending_half s id ≡ Some h → S s id h (stopped_half h code)) → P s → P (stop_at (sending_half s id) s id code)
   stops s id code on q = by_option (sending_half s id) (λ o. P (stop_at o s id code)) (λ e. q) (λ h e. cond_both (is_some h.stopped) _ _ P (λ f. q) (λ f.
-      k.events (with_send s id (stopped_half h code)) _ (none_more s.events.queue (stream_events.Stopped id code) (λ id. refl)) (k.changes s id h (stopped_half h code) e (on h e) refl q)))
+      k (changes.events _) (with_send s id (stopped_half h code)) (none_more s.events.queue (stream_events.Stopped id code) (λ id. refl)) (k (changes.changes_sending id h (stopped_half h code)) s (e, (on h e), refl) q)))
 
   -- a stream that may be named by a frame for a sending half is within what was opened, or may be
   pub sends_within : (s : StreamsState) (id : ℕ) → sending_refusal s id ≡ None → beyond s id ≡ None
@@ -535,14 +501,14 @@ module _ {R : Receiving → ℕ → RecvHalf → RecvHalf → Type 0} {S : Strea
   by_stop_sending s f on q = by_option (sending_refusal s f.id) (λ o. P (stop_unless o s f)) (λ e. stops (opened_by s f.id) f.id f.code on (by_opened s f.id (sends_within s f.id e) q)) (λ b e. q)
 
   pub by_max_data_where : (s : StreamsState) (limit : ℕ) → L s (max s.sending.limit limit) → P s → P (after_max_data s limit)
-  by_max_data_where s limit raised q = k.raises s (max s.sending.limit limit) raised q
+  by_max_data_where s limit raised q = k (changes.raises (max s.sending.limit limit)) s raised q
 
   raises_on : (s : StreamsState) (id : ℕ) (h : SendHalf) (limit : ℕ) → sending_half s id ≡ Some h → S s id h (limited_half h limit) → P s → P (limit_raised s id h limit)
   raises_on s id h limit is on q =
       let t : StreamsState = with_send s id (limited_half h limit) in
       let there : sending_half t id ≡ Some (limited_half h limit) = live_sends t id (limited_half h limit) (at-half s.side s.sending.halves id (limited_half h limit)) in
-      let now : P t = k.changes s id h (limited_half h limit) is on refl q in
-      cond_both (is_used_up h) _ _ P (λ e. cond_both (room t.sending == 0) _ _ P (λ f. k.joins t id (limited_half h limit) there now) (λ f. k.events t _ (none_more t.events.queue (stream_events.Writable id) (λ id. refl)) now)) (λ e. now)
+      let now : P t = k (changes.changes_sending id h (limited_half h limit)) s (is, on, refl) q in
+      cond_both (is_used_up h) _ _ P (λ e. cond_both (room t.sending == 0) _ _ P (λ f. k (changes.joins id (limited_half h limit)) t there now) (λ f. k (changes.events _) t (none_more t.events.queue (stream_events.Writable id) (λ id. refl)) now)) (λ e. now)
 
   pub by_max_stream_data : (s : StreamsState) (id limit : ℕ) → ((h : SendHalf) → sending_half (opened_by s id) id ≡ Some h → h.limit < limit → S (opened_by s id) id h (limited_half h limit)) → P s → P (after_max_stream_data s id limit)
   by_max_stream_data s id limit on q = by_option (sending_refusal s id) (λ o. P (limit_unless o s id limit)) (λ e.
@@ -560,16 +526,16 @@ module _ {R : Receiving → ℕ → RecvHalf → RecvHalf → Type 0} {S : Strea
       tell (ended_if (new.stopped && is_some new.final) id t) (tells && not (old.stopped || opens s id)) done
     where
       go : (t : StreamsState) (b : Bool) → at t.receiving.halves.live id ≡ Some new → P t → P (ended_if b id t)
-      go t true there now = k.ends_receiving t id new there now
+      go t true there now = k (changes.ends_receiving id new) t there now
       go t false there now = now
 
       tell : (t : StreamsState) (b : Bool) → P t → P (readable_if b id t)
-      tell t true now = k.events t _ (none_more t.events.queue (stream_events.Readable id) (λ id. refl)) now
+      tell t true now = k (changes.events _) t (none_more t.events.queue (stream_events.Readable id) (λ id. refl)) now
       tell t false now = now
 
   -- the part of a frame has another value
   by_renewed : (s : StreamsState) (id : ℕ) (old new : RecvHalf) (tells : Bool) → part_for s id ≡ Some old → beyond s id ≡ None → R s.receiving id old new → P s → P (renewed s id old new tells)
-  by_renewed s id old new tells is within on q = by_value s id old new tells (k.changes_receiving (opened_by s id) id old new is (subst (λ r. R r id old new) (sym (opened_receiving (opens s id) id s)) on) (by_opened s id within q))
+  by_renewed s id old new tells is within on q = by_value s id old new tells (k (changes.changes_receiving s.receiving id old new) (opened_by s id) (is, on, opened_receiving (opens s id) id s) (by_opened s id within q))
 
   pub by_stream : (s : StreamsState) (p : Retransmits) (f : StreamValue) → ((h : RecvHalf) → part_for s f.id ≡ Some h → Unbroken s.receiving h (end_of f) f.fin → R s.receiving f.id h (after_frame h f)) → P s → P (after_stream s p f).state
   by_stream s p f on q = stream_cases s p f P (λ b e. q) (λ within e. q) (λ h within e u. by_renewed s f.id h (after_frame h f) true e within (on h e u) q)
@@ -584,7 +550,7 @@ module _ {R : Receiving → ℕ → RecvHalf → RecvHalf → Type 0} {S : Strea
     where
       begins : (b : Bool) → P (begun_at (receiving_half s id) s id b)
       begins true = by_option (receiving_half s id) (λ o. P (begun_at o s id true)) (λ e. q) (λ h e. q)
-      begins false = by_option (receiving_half s id) (λ o. P (begun_at o s id false)) (λ e. q) (λ h e. k.changes_receiving s id h (begun h false) e (on h e) q)
+      begins false = by_option (receiving_half s id) (λ o. P (begun_at o s id false)) (λ e. q) (λ h e. k (changes.changes_receiving s.receiving id h (begun h false)) s (e, (on h e), refl) q)
 
       go : (answer : Result (Unit {0}) ReadableError) → P (begun_unless answer s id ordered)
       go (Ok x) = begins ordered
@@ -607,7 +573,7 @@ module _ {R : Receiving → ℕ → RecvHalf → RecvHalf → Type 0} {S : Strea
 
   ends : (s : StreamsState) (id most : ℕ) (h : RecvHalf) (answer : Result (Option Chunk) ReadError) → receiving_half s id ≡ Some h → next_of h most ≡ answer → (answer ≡ Err read_errors.Blocked → ⊥) → P s → P (recv_done s id)
   ends s id most h answer is e told q = elim (in_use s id h is) [
-    | inl there ↦ k.ends_receiving s id h there q
+    | inl there ↦ k (changes.ends_receiving id h) s there q
     | inr same ↦ absurd (told (not_fresh (first_window s.receiving) most answer (ap (λ x. next_of x most) (sym same) ∙ e)))
   ]
 
@@ -617,7 +583,7 @@ module _ {R : Receiving → ℕ → RecvHalf → RecvHalf → Type 0} {S : Strea
   by_next told_bytes s id most on q = by_option (receiving_half s id) (λ o. P (read_by (next_at told_bytes o most) o s id most)) (λ e. q) (λ h e. go h e (next_of h most) refl)
     where
       go : (h : RecvHalf) → receiving_half s id ≡ Some h → (answer : Result (Option Chunk) ReadError) → next_of h most ≡ answer → P (read_by answer (Some h) s id most)
-      go h is (Ok (Some chunk)) e = k.changes_receiving s id h (read_on h most) is (on h chunk is e) q
+      go h is (Ok (Some chunk)) e = k (changes.changes_receiving s.receiving id h (read_on h most)) s (is, (on h chunk is e), refl) q
       go h is (Ok None) e = ends s id most h (Ok None) is e (λ f. cc) q
       go h is (Err (read_errors.Reset code)) e = ends s id most h (Err (read_errors.Reset code)) is e (λ f. cc) q
       go h is (Err read_errors.Blocked) e = q
@@ -630,10 +596,10 @@ module _ {R : Receiving → ℕ → RecvHalf → RecvHalf → Type 0} {S : Strea
   by_stop s p id code on q = by_option (receiving_half s id) (λ o. P (stopped_at o s p id code).state) (λ e. q) (λ h e. cond_both {A = Streams} h.stopped _ _ (λ t. P t.state) (λ f. q) (λ f.
       let t : StreamsState = with_recv s id (stopped_now h) in
       let there : at t.receiving.halves.live id ≡ Some (stopped_now h) = at-half s.side s.receiving.halves id (stopped_now h) in
-      go h (is_some h.final) there (k.changes_receiving s id h (stopped_now h) e (on h e) q)))
+      go h (is_some h.final) there (k (changes.changes_receiving s.receiving id h (stopped_now h)) s (e, (on h e), refl) q)))
     where
       go : (h : RecvHalf) (b : Bool) → at (with_recv s id (stopped_now h)).receiving.halves.live id ≡ Some (stopped_now h) → P (with_recv s id (stopped_now h)) → P (stopped_if b s id h)
-      go h true there now = k.ends_receiving (with_recv s id (stopped_now h)) id (stopped_now h) there now
+      go h true there now = k (changes.ends_receiving id (stopped_now h)) (with_recv s id (stopped_now h)) there now
       go h false there now = now
 
   pub by_received_reset : (s : StreamsState) (p : Retransmits) (id : ℕ) → P s → P (after_received_reset s p id).state
@@ -642,18 +608,18 @@ module _ {R : Receiving → ℕ → RecvHalf → RecvHalf → Type 0} {S : Strea
       go : (h : RecvHalf) → receiving_half s id ≡ Some h → (o : Option ℕ) → h.reset ≡ o → P (reset_told (Ok o) s p id).state
       go h is None e = q
       go h is (Some code) e = elim (in_use s id h is) [
-        | inl there ↦ k.ends_receiving s id h there q
+        | inl there ↦ k (changes.ends_receiving id h) s there q
         | inr same ↦ absurd (not_reset code (sym (ap (λ x. x.reset) same) ∙ e))
       ]
 
   -- ---- what is acknowledged or lost
 
   pub by_reset_acked_where : (s : StreamsState) (p : Retransmits) (id : ℕ) → ((h : SendHalf) → at s.sending.halves.live id ≡ Some h → is_some h.reset ≡ true → E id h) → P s → P (after_reset_acked s p id).state
-  by_reset_acked_where s p id over q = by_option (at s.sending.halves.live id) (λ o. P (reset_acked_at o s p id).state) (λ e. q) (λ h e. cond_both {A = Streams} (is_some h.reset) _ _ (λ t. P t.state) (λ f. k.ends_sending s id h e (over h e f) q) (λ f. q))
+  by_reset_acked_where s p id over q = by_option (at s.sending.halves.live id) (λ o. P (reset_acked_at o s p id).state) (λ e. q) (λ h e. cond_both {A = Streams} (is_some h.reset) _ _ (λ t. P t.state) (λ f. k (changes.ends_sending id h) s (e, (over h e f)) q) (λ f. q))
 
   pub by_stream_lost : (s : StreamsState) (m : StreamMeta) → ((h : SendHalf) → at s.sending.halves.live m.id ≡ Some h → h.reset ≡ None → S s m.id h (half_lost h m)) → P s → P (after_stream_lost s m)
   by_stream_lost s m on q = by_option (at s.sending.halves.live m.id) (λ o. P (lost_at o s m)) (λ e. q) (λ h e. cond_both (is_some h.reset) _ _ P (λ f. q) (λ f.
-      k.queues s m.id h (half_lost h m) (has_pending (half_lost h m)) (live_sends s m.id h e) (on h e (free h.reset f)) refl q))
+      k (changes.queues m.id h (half_lost h m) (has_pending (half_lost h m))) s ((live_sends s m.id h e), (on h e (free h.reset f)), refl) q))
 
   pub by_stream_acked_where : (s : StreamsState) (p : Retransmits) (m : StreamMeta) → ((h : SendHalf) → at s.sending.halves.live m.id ≡ Some h → h.reset ≡ None → S s m.id h (half_acked h m))
       → ((h : SendHalf) → at s.sending.halves.live m.id ≡ Some h → h.reset ≡ None → is_acked (half_acked h m) ≡ true → F m.id)
@@ -661,24 +627,24 @@ module _ {R : Receiving → ℕ → RecvHalf → RecvHalf → Type 0} {S : Strea
   by_stream_acked_where s p m on over ends q = by_option (at s.sending.halves.live m.id) (λ o. P (acked_at o s p m).state) (λ e. q) (λ h e. cond_both {A = Streams} (is_some h.reset) _ _ (λ t. P t.state) (λ f. q) (λ f.
       let b : Bool = has_pending (half_acked h m) in
       let t : StreamsState = replaced s m.id (half_acked h m) in
-      let now : P t = k.queues s m.id h (half_acked h m) b (live_sends s m.id h e) (on h e (free h.reset f)) refl q in
+      let now : P t = k (changes.queues m.id h (half_acked h m) b) s ((live_sends s m.id h e), (on h e (free h.reset f)), refl) q in
       let there : at t.sending.halves.live m.id ≡ Some (requeued_at h.place b s.sending.queue m.id (half_acked h m)).half = at-half s.side s.sending.halves m.id _ in
-      cond_both {A = Streams} (is_acked (half_acked h m)) _ _ (λ u. P u.state) (λ g. k.finishes (send_done t m.id) m.id (over h e (free h.reset f) g) (k.ends_sending t m.id _ there (ends _ (requeued_acked h.place b s.sending.queue m.id (half_acked h m) ∙ g)) now)) (λ g. now)))
+      cond_both {A = Streams} (is_acked (half_acked h m)) _ _ (λ u. P u.state) (λ g. k (changes.finishes m.id) (send_done t m.id) (over h e (free h.reset f) g) (k (changes.ends_sending m.id _) t (there, (ends _ (requeued_acked h.place b s.sending.queue m.id (half_acked h m) ∙ g))) now)) (λ g. now)))
 
   -- ---- what is told
 
   by_passed : (ids : List ℕ) (s : StreamsState) → s.sending.blocked ≡ ids → P s → P (after_passing s (passed_from ids s.sending.halves.live))
   by_passed [] s is q = subst (λ ids. P (record s { sending = record s.sending { blocked = ids } })) is q
   by_passed (id ∷ ids) s is q =
-      let now : P (unblocked s id ids) = k.passes s id ids is q in
+      let now : P (unblocked s id ids) = k (changes.passes id ids) s is q in
       cond_both {A = Passing} (is_writable (at s.sending.halves.live id)) _ _ (λ t. P (after_passing s t)) (λ e. now) (λ e. by_passed ids (unblocked s id ids) refl now)
 
   told_later : (s : StreamsState) → P s → P (told_next s).state
-  told_later s q = k.events s _ (none_more_left s.events.queue) q
+  told_later s q = k (changes.events _) s (none_more_left s.events.queue) q
 
   pub by_polled : (s : StreamsState) → P s → P (polled s).state
-  by_polled s q = cond_both {A = Telling} s.events.opened.bi _ _ (λ t. P t.state) (λ e. k.events s _ (λ id. omega arith) q) (λ e.
-      cond_both {A = Telling} s.events.opened.uni _ _ (λ t. P t.state) (λ f. k.events s _ (λ id. omega arith) q) (λ f.
+  by_polled s q = cond_both {A = Telling} s.events.opened.bi _ _ (λ t. P t.state) (λ e. k (changes.events _) s (λ id. omega arith) q) (λ e.
+      cond_both {A = Telling} s.events.opened.uni _ _ (λ t. P t.state) (λ f. k (changes.events _) s (λ id. omega arith) q) (λ f.
       cond_both {A = Telling} (room s.sending == 0) _ _ (λ t. P t.state) (λ g. told_later s q) (λ g.
       let p : Passing = passed_from s.sending.blocked s.sending.halves.live in
       go p.found (after_passing s p) (by_passed s.sending.blocked s refl q))))
@@ -692,8 +658,8 @@ module _ {R : Receiving → ℕ → RecvHalf → RecvHalf → Type 0} {S : Strea
   pub by_frame : (fair : Bool) (s : StreamsState) (id room : ℕ) (h : SendHalf) → at s.sending.halves.live id ≡ Some h → S s id h (half_after h room) → P s → P (after_frame_sent fair s id h room)
   by_frame fair s id room h is on q =
       cond_both {A = Queued} (fair && has_pending (half_after h room)) _ _ (λ x. P (put_queued s id x))
-      (λ e. k.turns s id h (half_after h room) (live_sends s id h is) on (and_parts _ _ e).1 q)
-      (λ e. k.queues s id h (half_after h room) (has_pending (half_after h room)) (live_sends s id h is) on refl q)
+      (λ e. k (changes.turns id h (half_after h room)) s ((live_sends s id h is), on, (and_parts _ _ e).1) q)
+      (λ e. k (changes.queues id h (half_after h room) (has_pending (half_after h room))) s ((live_sends s id h is), on, refl) q)
 
   pub by_stream_frames : (fair : Bool) (most : ℕ) (d : Sent) → ((s : StreamsState) (id room : ℕ) (h : SendHalf) → at s.sending.halves.live id ≡ Some h → P s → S s id h (half_after h room)) → P d.state → P (with_stream_frames fair most d).state
   by_stream_frames fair most d on q = walk.by_stream_frames fair most (λ d. P d.state) (λ d id h f first room g q. by_frame fair d.state id (stream_room most d id) h f (on d.state id (stream_room most d id) h f q) q) d q
@@ -705,7 +671,7 @@ module _ {R : Receiving → ℕ → RecvHalf → RecvHalf → Type 0} {S : Strea
   by_limit_told s id q =
       let told : RecvHalf → RecvHalf = λ h. record h { announced = raised_on s.receiving.stream_window h } in
       by_option (at s.receiving.halves.live id) (λ o. P (record s { receiving = record s.receiving { halves = record s.receiving.halves { live = changed_at o told s.receiving.halves.live id } } })) (λ e. q)
-      (λ h e. subst (λ o. P (record s { receiving = record s.receiving { halves = placed o s.side s.receiving.halves id (told h) } })) e (k.tells_on s id h e q))
+      (λ h e. subst (λ o. P (record s { receiving = record s.receiving { halves = placed o s.side s.receiving.halves id (told h) } })) e (k (changes.tells_on id h) s e q))
 
   -- and on several
   pub by_limits_told : (ids : List ℕ) (s : StreamsState) → P s → P (record s { receiving = fold limit_told s.receiving ids })
@@ -721,7 +687,7 @@ module _ {R : Receiving → ℕ → RecvHalf → RecvHalf → Type 0} {S : Strea
   chunks_taken s id h cs (suc n) is bounded none fits within all on q =
       let g : GrownBy h (grown_all h (cut_to (suc n) cs)) (bytes_of (cut_to (suc n) cs)) = grown_all_by h (cut_to (suc n) cs) in
       let count : bytes_of (cut_to (suc n) cs) ≡ suc n = cut_bytes (suc n) cs all in
-      k.writes s id (suc n) h (grown_all h (cut_to (suc n) cs)) is (on (suc n) h (grown_all h (cut_to (suc n) cs)) is (record { stands = record { place = g.place; blocked = g.blocked }; more = grown_more h (grown_all h (cut_to (suc n) cs)) (suc n) (bytes_of (cut_to (suc n) cs)) count none g; limit = g.limit; fits = fits; within = within })) (grown_pending h (grown_all h (cut_to (suc n) cs)) (bytes_of (cut_to (suc n) cs)) g bounded (omega arith)) q
+      k (changes.writes id (suc n) h (grown_all h (cut_to (suc n) cs))) s (is, (on (suc n) h (grown_all h (cut_to (suc n) cs)) is (record { stands = record { place = g.place; blocked = g.blocked }; more = grown_more h (grown_all h (cut_to (suc n) cs)) (suc n) (bytes_of (cut_to (suc n) cs)) count none g; limit = g.limit; fits = fits; within = within })), (grown_pending h (grown_all h (cut_to (suc n) cs)) (bytes_of (cut_to (suc n) cs)) g bounded (omega arith))) q
 
   pub by_write_chunks : (is_open : Bool) (s : StreamsState) (p : Retransmits) (id : ℕ) (cs : List (List ℕ)) → ((h : SendHalf) → sending_half s id ≡ Some h → h.buffer.unsent ≤ written h.buffer)
       → ((n : ℕ) (old new : SendHalf) → sending_half s id ≡ Some old → WritesOn (room s.sending) n old new → W s id n old new) → P s → P (after_write_chunks is_open (write_chunks_answer is_open s id cs) s p id cs).state

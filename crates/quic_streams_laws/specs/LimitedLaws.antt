@@ -27,6 +27,7 @@ use Rattle.quic_streams_state.specs.Opening.{with_remote, announced_count}
 use Rattle.quic_streams_state.specs.Writing.{put_queued}
 use Rattle.quic_streams_state.specs.Telling.{unblocked_at}
 use Rattle.quic_streams_laws.specs.Keeping.{Keeps, SeesMore, CreditIs, all_of_it, as_before, some_more, ReceivesOn, SendsOn, WritesOn, unblocked}
+use Rattle.quic_streams_laws.specs.Keeping as changes
 use Rattle.quic_streams_laws.specs.KeepingLaws.{at-half}
 use Rattle.quic_streams_laws.specs.Shape.{IsShaped}
 use Rattle.quic_streams_laws.specs.ShapeLaws.{shape_kept}
@@ -309,24 +310,18 @@ limits_told s id h is shape i =
     }
 
 pub limits_kept : Keeps IsLimited
-limits_kept = record {
-  finishes = λ s id f i. record { shape = shape_kept.finishes s id f i.shape; limits = record { accepted = i.limits.accepted; written = i.limits.written; announced = i.limits.announced; seen = i.limits.seen; halves = i.limits.halves; window = i.limits.window; counts = i.limits.counts } };
-  events = λ s e less i. record { shape = shape_kept.events s e less i.shape; limits = record { accepted = i.limits.accepted; written = i.limits.written; announced = i.limits.announced; seen = i.limits.seen; halves = i.limits.halves; window = i.limits.window; counts = i.limits.counts } };
-  opens_own = λ s dir lt i. record { shape = shape_kept.opens_own s dir lt i.shape; limits = record { accepted = i.limits.accepted; written = i.limits.written; announced = i.limits.announced; seen = i.limits.seen; halves = i.limits.halves; window = i.limits.window; counts = i.limits.counts } };
-  accepts = λ s dir lt i. record { shape = shape_kept.accepts s dir lt i.shape; limits = record { accepted = i.limits.accepted; written = i.limits.written; announced = i.limits.announced; seen = i.limits.seen; halves = i.limits.halves; window = i.limits.window; counts = i.limits.counts } };
-  allows = λ s dir count le lt i. record { shape = shape_kept.allows s dir count le lt i.shape; limits = record { accepted = i.limits.accepted; written = i.limits.written; announced = i.limits.announced; seen = i.limits.seen; halves = i.limits.halves; window = i.limits.window; counts = i.limits.counts } };
-  opens_theirs = λ s id e within i. record { shape = shape_kept.opens_theirs s id e within i.shape; limits = record { accepted = i.limits.accepted; written = i.limits.written; announced = i.limits.announced; seen = i.limits.seen; halves = i.limits.halves; window = i.limits.window; counts = λ d. opened_counts (dir_of id) d (index_of id + 1) s.opening (i.limits.counts d) } };
-  raises = λ s limit le i. record { shape = shape_kept.raises s limit le i.shape; limits = record { accepted = (let was = i.limits.accepted in omega arith); written = i.limits.written; announced = i.limits.announced; seen = i.limits.seen; halves = i.limits.halves; window = i.limits.window; counts = i.limits.counts } };
-  changes = λ s id old new is on same i. record { shape = shape_kept.changes s id old new is on same i.shape; limits = limits_send s id new (sends_on_within s id old new is on i.limits) i.limits };
-  queues = λ s id old new b is on has i. record { shape = shape_kept.queues s id old new b is on has i.shape; limits = limits_put s id (requeued_at old.place b s.sending.queue id new) (requeued_within old.place b s.sending.queue id new (sends_on_within s id old new is on i.limits)) i.limits };
-  turns = λ s id old new is on has i. record { shape = shape_kept.turns s id old new is on has i.shape; limits = limits_put s id (turned_at old.place s.sending.queue id new) (turned_within old.place s.sending.queue id new (sends_on_within s id old new is on i.limits)) i.limits };
-  writes = λ s id n old new is on has i. record { shape = shape_kept.writes s id n old new is on has i.shape; limits = limits_written s id n old new is on i.limits };
-  joins = λ s id h is i. record { shape = shape_kept.joins s id h is i.shape; limits = cond_both h.blocked s _ AreWithin (λ e. i.limits) (λ e. let w = limits_send s id (record h { blocked = true }) (written_was s id h is i.limits) i.limits in record { accepted = w.accepted; written = w.written; announced = w.announced; seen = w.seen; halves = w.halves; window = w.window; counts = w.counts }) };
-  passes = λ s id ids is i. record { shape = shape_kept.passes s id ids is i.shape; limits = limits_passes s id ids i.limits };
-  ends_sending = λ s id h is over i. record { shape = shape_kept.ends_sending s id h is over i.shape; limits = limits_sent s id i.shape i.limits };
-  changes_receiving = λ s id old new is on i. record { shape = shape_kept.changes_receiving s id old new is on i.shape; limits = limits_receive s id old new is on i.shape i.limits };
-  ends_receiving = λ s id h is i. record { shape = shape_kept.ends_receiving s id h is i.shape; limits = limits_received s id h is i.shape i.limits };
-  tells = λ s i. record { shape = shape_kept.tells s i.shape; limits = record { accepted = i.limits.accepted; written = i.limits.written; announced = omega arith; seen = i.limits.seen; halves = i.limits.halves; window = i.limits.window; counts = i.limits.counts } };
-  tells_on = λ s id h is i. record { shape = shape_kept.tells_on s id h is i.shape; limits = limits_told s id h is i.shape i.limits };
-  tells_count = λ s dir i. record { shape = shape_kept.tells_count s dir i.shape; limits = record { accepted = i.limits.accepted; written = i.limits.written; announced = i.limits.announced; seen = i.limits.seen; halves = i.limits.halves; window = i.limits.window; counts = λ d. told_counts dir d s.opening (i.limits.counts d) } };
-}
+limits_kept (changes.opens_theirs id) s (e, within) i = record { shape = shape_kept (changes.opens_theirs id) s (e, within) i.shape; limits = record { accepted = i.limits.accepted; written = i.limits.written; announced = i.limits.announced; seen = i.limits.seen; halves = i.limits.halves; window = i.limits.window; counts = λ d. opened_counts (dir_of id) d (index_of id + 1) s.opening (i.limits.counts d) } }
+limits_kept (changes.raises limit) s le i = record { shape = shape_kept (changes.raises limit) s le i.shape; limits = record { accepted = (let was = i.limits.accepted in omega arith); written = i.limits.written; announced = i.limits.announced; seen = i.limits.seen; halves = i.limits.halves; window = i.limits.window; counts = i.limits.counts } }
+limits_kept (changes.changes_sending id old new) s (is, on, same) i = record { shape = shape_kept (changes.changes_sending id old new) s (is, on, same) i.shape; limits = limits_send s id new (sends_on_within s id old new is on i.limits) i.limits }
+limits_kept (changes.queues id old new b) s (is, on, has) i = record { shape = shape_kept (changes.queues id old new b) s (is, on, has) i.shape; limits = limits_put s id (requeued_at old.place b s.sending.queue id new) (requeued_within old.place b s.sending.queue id new (sends_on_within s id old new is on i.limits)) i.limits }
+limits_kept (changes.turns id old new) s (is, on, has) i = record { shape = shape_kept (changes.turns id old new) s (is, on, has) i.shape; limits = limits_put s id (turned_at old.place s.sending.queue id new) (turned_within old.place s.sending.queue id new (sends_on_within s id old new is on i.limits)) i.limits }
+limits_kept (changes.writes id n old new) s (is, on, has) i = record { shape = shape_kept (changes.writes id n old new) s (is, on, has) i.shape; limits = limits_written s id n old new is on i.limits }
+limits_kept (changes.joins id h) s is i = record { shape = shape_kept (changes.joins id h) s is i.shape; limits = cond_both h.blocked s _ AreWithin (λ e. i.limits) (λ e. let w = limits_send s id (record h { blocked = true }) (written_was s id h is i.limits) i.limits in record { accepted = w.accepted; written = w.written; announced = w.announced; seen = w.seen; halves = w.halves; window = w.window; counts = w.counts }) }
+limits_kept (changes.passes id ids) s is i = record { shape = shape_kept (changes.passes id ids) s is i.shape; limits = limits_passes s id ids i.limits }
+limits_kept (changes.ends_sending id h) s (is, over) i = record { shape = shape_kept (changes.ends_sending id h) s (is, over) i.shape; limits = limits_sent s id i.shape i.limits }
+limits_kept (changes.changes_receiving r id old new) s (is, on, same) i = record { shape = shape_kept (changes.changes_receiving r id old new) s (is, on, same) i.shape; limits = limits_receive s id old new is (subst (λ q. ReceivesOn q old new) (sym same) on) i.shape i.limits }
+limits_kept (changes.ends_receiving id h) s is i = record { shape = shape_kept (changes.ends_receiving id h) s is i.shape; limits = limits_received s id h is i.shape i.limits }
+limits_kept changes.tells s may i = record { shape = shape_kept changes.tells s tt i.shape; limits = record { accepted = i.limits.accepted; written = i.limits.written; announced = omega arith; seen = i.limits.seen; halves = i.limits.halves; window = i.limits.window; counts = i.limits.counts } }
+limits_kept (changes.tells_on id h) s is i = record { shape = shape_kept (changes.tells_on id h) s is i.shape; limits = limits_told s id h is i.shape i.limits }
+limits_kept (changes.tells_count dir) s may i = record { shape = shape_kept (changes.tells_count dir) s tt i.shape; limits = record { accepted = i.limits.accepted; written = i.limits.written; announced = i.limits.announced; seen = i.limits.seen; halves = i.limits.halves; window = i.limits.window; counts = λ d. told_counts dir d s.opening (i.limits.counts d) } }
+limits_kept c s may i = record { shape = shape_kept c s may i.shape; limits = record { accepted = i.limits.accepted; written = i.limits.written; announced = i.limits.announced; seen = i.limits.seen; halves = i.limits.halves; window = i.limits.window; counts = i.limits.counts } }

@@ -17,6 +17,7 @@ use Rattle.quic_streams_state.specs.Sends.{given_up, unqueued}
 use Rattle.quic_streams_state.specs.Writing.{put_queued}
 use Rattle.quic_streams_state.specs.Telling.{unblocked_at}
 use Rattle.quic_streams_laws.specs.Keeping.{Keeps, unblocked}
+use Rattle.quic_streams_laws.specs.Keeping as changes
 use Rattle.quic_streams_laws.specs.KeepingLaws.{at-half}
 use Rattle.quic_streams_laws.specs.Shape.{IsShaped}
 use Rattle.quic_streams_laws.specs.ShapeLaws.{shape_kept}
@@ -210,24 +211,12 @@ queue_passes s id ids i = go (at s.sending.halves.live id) refl
 
 -- the receiving parts, the counts and what the application is told have no part in it
 pub queue_kept : Keeps IsOrderly
-queue_kept = record {
-  finishes = λ s id f i. record { shape = shape_kept.finishes s id f i.shape; queue = record { stand = i.queue.stand; pending = i.queue.pending } };
-  events = λ s e less i. record { shape = shape_kept.events s e less i.shape; queue = record { stand = i.queue.stand; pending = i.queue.pending } };
-  opens_own = λ s dir lt i. record { shape = shape_kept.opens_own s dir lt i.shape; queue = record { stand = i.queue.stand; pending = i.queue.pending } };
-  accepts = λ s dir lt i. record { shape = shape_kept.accepts s dir lt i.shape; queue = record { stand = i.queue.stand; pending = i.queue.pending } };
-  allows = λ s dir count le lt i. record { shape = shape_kept.allows s dir count le lt i.shape; queue = record { stand = i.queue.stand; pending = i.queue.pending } };
-  opens_theirs = λ s id e within i. record { shape = shape_kept.opens_theirs s id e within i.shape; queue = record { stand = i.queue.stand; pending = i.queue.pending } };
-  raises = λ s limit le i. record { shape = shape_kept.raises s limit le i.shape; queue = record { stand = i.queue.stand; pending = i.queue.pending } };
-  changes = λ s id old new is on same i. record { shape = shape_kept.changes s id old new is on same i.shape; queue = queue_same s id old new is on.stands.place same i.queue };
-  queues = λ s id old new b is on has i. record { shape = shape_kept.queues s id old new b is on has i.shape; queue = queue_put s id old new b is has i.queue };
-  turns = λ s id old new is on has i. record { shape = shape_kept.turns s id old new is on has i.shape; queue = queue_turn s id old new is has i.shape i.queue };
-  writes = λ s id n old new is on has i. let w = queue_put s id old new true is has i.queue in record { shape = shape_kept.writes s id n old new is on has i.shape; queue = record { stand = w.stand; pending = w.pending } };
-  joins = λ s id h is i. record { shape = shape_kept.joins s id h is i.shape; queue = cond_both h.blocked s _ IsQueueOf (λ e. i.queue) (λ e. let w = queue_same s id h (record h { blocked = true }) is refl refl i.queue in record { stand = w.stand; pending = w.pending }) };
-  passes = λ s id ids is i. record { shape = shape_kept.passes s id ids is i.shape; queue = queue_passes s id ids i.queue };
-  ends_sending = λ s id h is over i. record { shape = shape_kept.ends_sending s id h is over i.shape; queue = queue_sent s id h is i.shape i.queue };
-  changes_receiving = λ s id old new is on i. record { shape = shape_kept.changes_receiving s id old new is on i.shape; queue = record { stand = i.queue.stand; pending = i.queue.pending } };
-  ends_receiving = λ s id h is i. record { shape = shape_kept.ends_receiving s id h is i.shape; queue = queue_done (not (is_own s.side id) && (not (is_two_way (dir_of id)) || is_done (sending_status s id))) id (record s { receiving = record s.receiving { halves = without_half s.receiving.halves id; gone = s.receiving.gone + seen_at (at s.receiving.halves.live id) } }) (record { stand = i.queue.stand; pending = i.queue.pending }) };
-  tells = λ s i. record { shape = shape_kept.tells s i.shape; queue = record { stand = i.queue.stand; pending = i.queue.pending } };
-  tells_on = λ s id h is i. record { shape = shape_kept.tells_on s id h is i.shape; queue = record { stand = i.queue.stand; pending = i.queue.pending } };
-  tells_count = λ s dir i. record { shape = shape_kept.tells_count s dir i.shape; queue = record { stand = i.queue.stand; pending = i.queue.pending } };
-}
+queue_kept (changes.changes_sending id old new) s (is, on, same) i = record { shape = shape_kept (changes.changes_sending id old new) s (is, on, same) i.shape; queue = queue_same s id old new is on.stands.place same i.queue }
+queue_kept (changes.queues id old new b) s (is, on, has) i = record { shape = shape_kept (changes.queues id old new b) s (is, on, has) i.shape; queue = queue_put s id old new b is has i.queue }
+queue_kept (changes.turns id old new) s (is, on, has) i = record { shape = shape_kept (changes.turns id old new) s (is, on, has) i.shape; queue = queue_turn s id old new is has i.shape i.queue }
+queue_kept (changes.writes id n old new) s (is, on, has) i = let w = queue_put s id old new true is has i.queue in record { shape = shape_kept (changes.writes id n old new) s (is, on, has) i.shape; queue = record { stand = w.stand; pending = w.pending } }
+queue_kept (changes.joins id h) s is i = record { shape = shape_kept (changes.joins id h) s is i.shape; queue = cond_both h.blocked s _ IsQueueOf (λ e. i.queue) (λ e. let w = queue_same s id h (record h { blocked = true }) is refl refl i.queue in record { stand = w.stand; pending = w.pending }) }
+queue_kept (changes.passes id ids) s is i = record { shape = shape_kept (changes.passes id ids) s is i.shape; queue = queue_passes s id ids i.queue }
+queue_kept (changes.ends_sending id h) s (is, over) i = record { shape = shape_kept (changes.ends_sending id h) s (is, over) i.shape; queue = queue_sent s id h is i.shape i.queue }
+queue_kept (changes.ends_receiving id h) s is i = record { shape = shape_kept (changes.ends_receiving id h) s is i.shape; queue = queue_done (not (is_own s.side id) && (not (is_two_way (dir_of id)) || is_done (sending_status s id))) id (record s { receiving = record s.receiving { halves = without_half s.receiving.halves id; gone = s.receiving.gone + seen_at (at s.receiving.halves.live id) } }) (record { stand = i.queue.stand; pending = i.queue.pending }) }
+queue_kept c s may i = record { shape = shape_kept c s may i.shape; queue = record { stand = i.queue.stand; pending = i.queue.pending } }

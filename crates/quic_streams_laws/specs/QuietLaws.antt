@@ -10,6 +10,7 @@ use Rattle.quic_streams_state.specs.Opening.{announced_count}
 use Rattle.quic_streams_state.specs.Control.{Draft, data_told, limit_told, dir_named, frame_told, with_control_frames}
 use Rattle.quic_streams_laws.specs.ControlWalk.{by_control}
 use Rattle.quic_streams_laws.specs.Keeping.{KeepsWhere, KeepsAll}
+use Rattle.quic_streams_laws.specs.Keeping as changes
 use Rattle.quic_streams_laws.specs.KeepingLaws.{by_open, by_max_streams, by_write, by_write_chunks, by_finish, by_reset, by_set_priority, by_polled, by_stop_sending, by_max_data, by_max_stream_data, by_stream_acked, by_stream_lost, by_reset_acked, by_stream_frames, by_limit_told}
 use Rattle.quic_streams_laws.specs.Quiet.{IsQuiet}
 
@@ -31,7 +32,7 @@ module _ {R : Receiving → ℕ → RecvHalf → RecvHalf → Type 0} {S : Strea
     {L : StreamsState → ℕ → Type 0} (P : StreamsState → Type 0) (k : KeepsWhere R S W A F E L P) where
   -- once a frame of control went
   pub by_told : (f : FrameValue) (s : StreamsState) → P s → P (frame_told f s)
-  by_told f s q = by_tells P s q (k.tells s q) (λ id. by_limit_told P k s id q) (λ dir. k.tells_count s dir q) f
+  by_told f s q = by_tells P s q (k changes.tells s tt q) (λ id. by_limit_told P k s id q) (λ dir. k (changes.tells_count dir) s tt q) f
 
   pub by_control_frames : (most : ℕ) (d : Draft) → P d.state → P (with_control_frames most d).state
   by_control_frames most d q = by_control most (λ d. P d.state) (record {

@@ -17,7 +17,8 @@ use Rattle.quic_streams_halves.specs.Halves.{Halves, has_place, with_half, witho
 use Rattle.quic_streams_state.specs.declared.state.StreamsState.{StreamsState}
 use Rattle.quic_streams_state.specs.State.{Receiving, seen, consumed, is_opened, receives_on, first_window, receiving_half, with_send, with_recv, send_done, without_send, recv_done, done_if, receiving_status, sending_status, seen_at}
 use Rattle.quic_streams_state.specs.Taking.{joined}
-use Rattle.quic_streams_laws.specs.Keeping.{Keeps, SeesMore}
+use Rattle.quic_streams_laws.specs.Keeping.{Keeps, SeesMore, ReceivesOn}
+use Rattle.quic_streams_laws.specs.Keeping as changes
 use Rattle.quic_streams_laws.specs.KeepingLaws.{live_receives}
 use Rattle.quic_streams_laws.specs.Shape.{IsShaped}
 use Rattle.quic_streams_laws.specs.ShapeLaws.{receives_may}
@@ -176,30 +177,18 @@ module _ (n : ℕ) (big : 2 ^ 62 ≤ n) (first_seen first_consumed : ℕ → ℕ
       go false = (refl, refl)
 
   pub seen_kept : Keeps (IsSeen n first_seen first_consumed)
-  seen_kept = record {
-    finishes = λ s id f i. rest s _ (limits_kept.finishes s id f i.limits) (few_kept.finishes s id f i.few) refl refl i;
-    events = λ s e less i. rest s _ (limits_kept.events s e less i.limits) (few_kept.events s e less i.few) refl refl i;
-    opens_own = λ s dir lt i. rest s _ (limits_kept.opens_own s dir lt i.limits) (few_kept.opens_own s dir lt i.few) refl refl i;
-    accepts = λ s dir lt i. rest s _ (limits_kept.accepts s dir lt i.limits) (few_kept.accepts s dir lt i.few) refl refl i;
-    allows = λ s dir count le lt i. rest s _ (limits_kept.allows s dir count le lt i.limits) (few_kept.allows s dir count le lt i.few) refl refl i;
-    opens_theirs = λ s id e within i. rest s _ (limits_kept.opens_theirs s id e within i.limits) (few_kept.opens_theirs s id e within i.few) refl refl i;
-    raises = λ s limit le i. rest s _ (limits_kept.raises s limit le i.limits) (few_kept.raises s limit le i.few) refl refl i;
-    changes = λ s id old new is on same i. rest s _ (limits_kept.changes s id old new is on same i.limits) (few_kept.changes s id old new is on same i.few) refl refl i;
-    queues = λ s id old new b is on has i. rest s _ (limits_kept.queues s id old new b is on has i.limits) (few_kept.queues s id old new b is on has i.few) refl refl i;
-    turns = λ s id old new is on has i. rest s _ (limits_kept.turns s id old new is on has i.limits) (few_kept.turns s id old new is on has i.few) refl refl i;
-    writes = λ s id count old new is on has i. rest s _ (limits_kept.writes s id count old new is on has i.limits) (few_kept.writes s id count old new is on has i.few) refl refl i;
-    joins = λ s id h is i. rest s (joined s id h) (limits_kept.joins s id h is i.limits) (few_kept.joins s id h is i.few) (joined_receiving s id h).0 (joined_receiving s id h).1 i;
-    passes = λ s id ids is i. rest s _ (limits_kept.passes s id ids is i.limits) (few_kept.passes s id ids is i.few) refl refl i;
-    ends_sending = λ s id h is over i.
-        let b : Bool = not (is_own s.side id) && is_done (receiving_status s id) in
-        let t : StreamsState = without_send s id in
-        rest s (send_done s id) (limits_kept.ends_sending s id h is over i.limits) (few_kept.ends_sending s id h is over i.few) (done_receiving b id t) (done_side b id t) i;
-    changes_receiving = λ s id old new is on i. more s id old new is (rises s.receiving old new on.sees) (within_on s.receiving old new on (within_was s id old is i.limits.limits)).1 (limits_kept.changes_receiving s id old new is on i.limits) (few_kept.changes_receiving s id old new is on i.few) i;
-    ends_receiving = λ s id h is i.
-        let b : Bool = not (is_own s.side id) && (not (is_two_way (dir_of id)) || is_done (sending_status s id)) in
-        let t : StreamsState = record s { receiving = record s.receiving { halves = without_half s.receiving.halves id; gone = s.receiving.gone + seen_at (at s.receiving.halves.live id) } } in
-        ends s id h is (recv_done s id) (done_side b id t) (done_receiving b id t) (limits_kept.ends_receiving s id h is i.limits) (few_kept.ends_receiving s id h is i.few) i;
-    tells = λ s i. record { limits = limits_kept.tells s i.limits; few = few_kept.tells s i.few; final = i.final; seen = i.seen; consumed = i.consumed; more_seen = i.more_seen; more_consumed = i.more_consumed };
-    tells_on = λ s id h is i. more s id h (record h { announced = raised_on s.receiving.stream_window h }) (live_receives s id h is) (omega arith) (omega arith) (limits_kept.tells_on s id h is i.limits) (few_kept.tells_on s id h is i.few) i;
-    tells_count = λ s dir i. rest s _ (limits_kept.tells_count s dir i.limits) (few_kept.tells_count s dir i.few) refl refl i;
-  }
+  seen_kept (changes.joins id h) s is i = rest s (joined s id h) (limits_kept (changes.joins id h) s is i.limits) (few_kept (changes.joins id h) s is i.few) (joined_receiving s id h).0 (joined_receiving s id h).1 i
+  seen_kept (changes.ends_sending id h) s (is, over) i =
+      let b : Bool = not (is_own s.side id) && is_done (receiving_status s id) in
+      let t : StreamsState = without_send s id in
+      rest s (send_done s id) (limits_kept (changes.ends_sending id h) s (is, over) i.limits) (few_kept (changes.ends_sending id h) s (is, over) i.few) (done_receiving b id t) (done_side b id t) i
+  seen_kept (changes.changes_receiving r id old new) s (is, on, same) i =
+      let here : ReceivesOn s.receiving old new = subst (λ q. ReceivesOn q old new) (sym same) on in
+      more s id old new is (rises s.receiving old new here.sees) (within_on s.receiving old new here (within_was s id old is i.limits.limits)).1 (limits_kept (changes.changes_receiving r id old new) s (is, on, same) i.limits) (few_kept (changes.changes_receiving r id old new) s (is, on, same) i.few) i
+  seen_kept (changes.ends_receiving id h) s is i =
+      let b : Bool = not (is_own s.side id) && (not (is_two_way (dir_of id)) || is_done (sending_status s id)) in
+      let t : StreamsState = record s { receiving = record s.receiving { halves = without_half s.receiving.halves id; gone = s.receiving.gone + seen_at (at s.receiving.halves.live id) } } in
+      ends s id h is (recv_done s id) (done_side b id t) (done_receiving b id t) (limits_kept (changes.ends_receiving id h) s is i.limits) (few_kept (changes.ends_receiving id h) s is i.few) i
+  seen_kept changes.tells s may i = record { limits = limits_kept changes.tells s tt i.limits; few = few_kept changes.tells s tt i.few; final = i.final; seen = i.seen; consumed = i.consumed; more_seen = i.more_seen; more_consumed = i.more_consumed }
+  seen_kept (changes.tells_on id h) s is i = more s id h (record h { announced = raised_on s.receiving.stream_window h }) (live_receives s id h is) (omega arith) (omega arith) (limits_kept (changes.tells_on id h) s is i.limits) (few_kept (changes.tells_on id h) s is i.few) i
+  seen_kept c s may i = rest s _ (limits_kept c s may i.limits) (few_kept c s may i.few) refl refl i

@@ -25,6 +25,7 @@ use Rattle.quic_streams_state.specs.Telling.{unblocked_at}
 use Rattle.quic_streams_state.specs.Writing.{put_queued}
 use Rattle.quic_streams_parts.specs.SendHalf.{Queued}
 use Rattle.quic_streams_laws.specs.Keeping.{Keeps, KeepsBy, unblocked}
+use Rattle.quic_streams_laws.specs.Keeping as changes
 use Rattle.quic_streams_laws.specs.KeepingLaws.{keeps_fewer, live_receives}
 use Rattle.quic_streams_laws.specs.Shape.{ArePlaces, AreHalves, IsShaped}
 
@@ -288,27 +289,19 @@ shape_received s id i = record { sending = i.sending; receiving = halves_without
 
 -- however halves change
 pub shape_any : KeepsBy (λ r id old new. Unit {0}) (λ s id old new. Unit {0}) (λ s id n old new. Unit {0}) IsShaped
-shape_any = record {
-  finishes = λ s id f i. record { sending = i.sending; receiving = i.receiving };
-  events = λ s e less i. record { sending = i.sending; receiving = i.receiving };
-  opens_own = λ s dir lt i. shape_wider s _ (record { own = λ d. more_own dir d s.opening.own; remote = λ d. omega arith }) i;
-  accepts = λ s dir lt i. record { sending = i.sending; receiving = i.receiving };
-  allows = λ s dir count le lt i. record { sending = i.sending; receiving = i.receiving };
-  opens_theirs = λ s id e within i. let past = past_remote s id e in let w = shape_wider s (with_remote (dir_of id) (index_of id + 1) s.opening) (more_remote (dir_of id) (index_of id + 1) s.opening (omega (arith, past.1))) i in record { sending = w.sending; receiving = w.receiving };
-  raises = λ s limit le i. record { sending = i.sending; receiving = i.receiving };
-  changes = λ s id old new is on same i. send_with s id old new is i;
-  queues = λ s id old new b is on same i. sends_with s id old (requeued_at old.place b s.sending.queue id new) is i;
-  turns = λ s id old new is on same i. sends_with s id old (turned_at old.place s.sending.queue id new) is i;
-  writes = λ s id n old new is on same i. let w = sends_with s id old (requeued_at old.place true s.sending.queue id new) is i in record { sending = w.sending; receiving = w.receiving };
-  joins = λ s id h is i. cond_both h.blocked s _ IsShaped (λ e. i) (λ e. let w = send_with s id h (record h { blocked = true }) is i in record { sending = w.sending; receiving = w.receiving });
-  passes = λ s id ids is i. shape_passes s id ids i;
-  ends_sending = λ s id h is over i. shape_done _ id _ (shape_without s id i);
-  changes_receiving = λ s id old new is on i. receive_with s id old new is i;
-  ends_receiving = λ s id h is i. shape_done _ id _ (shape_received s id i);
-  tells = λ s i. record { sending = i.sending; receiving = i.receiving };
-  tells_on = λ s id h is i. receive_with s id h _ (live_receives s id h is) i;
-  tells_count = λ s dir i. record { sending = i.sending; receiving = i.receiving };
-}
+shape_any (changes.opens_own dir) s may i = shape_wider s _ (record { own = λ d. more_own dir d s.opening.own; remote = λ d. omega arith }) i
+shape_any (changes.opens_theirs id) s (e, within) i = let past = past_remote s id e in let w = shape_wider s (with_remote (dir_of id) (index_of id + 1) s.opening) (more_remote (dir_of id) (index_of id + 1) s.opening (omega (arith, past.1))) i in record { sending = w.sending; receiving = w.receiving }
+shape_any (changes.changes_sending id old new) s (is, on, same) i = send_with s id old new is i
+shape_any (changes.queues id old new b) s (is, on, same) i = sends_with s id old (requeued_at old.place b s.sending.queue id new) is i
+shape_any (changes.turns id old new) s (is, on, same) i = sends_with s id old (turned_at old.place s.sending.queue id new) is i
+shape_any (changes.writes id n old new) s (is, on, same) i = let w = sends_with s id old (requeued_at old.place true s.sending.queue id new) is i in record { sending = w.sending; receiving = w.receiving }
+shape_any (changes.joins id h) s is i = cond_both h.blocked s _ IsShaped (λ e. i) (λ e. let w = send_with s id h (record h { blocked = true }) is i in record { sending = w.sending; receiving = w.receiving })
+shape_any (changes.passes id ids) s may i = shape_passes s id ids i
+shape_any (changes.ends_sending id h) s may i = shape_done _ id _ (shape_without s id i)
+shape_any (changes.changes_receiving r id old new) s (is, on, same) i = receive_with s id old new is i
+shape_any (changes.ends_receiving id h) s may i = shape_done _ id _ (shape_received s id i)
+shape_any (changes.tells_on id h) s is i = receive_with s id h _ (live_receives s id h is) i
+shape_any c s may i = record { sending = i.sending; receiving = i.receiving }
 
 pub shape_kept : Keeps IsShaped
 shape_kept = keeps_fewer (λ r id old new on. tt) (λ s id old new on. tt) (λ s id n old new on. tt) shape_any

@@ -18,6 +18,7 @@ use Rattle.quic_streams_state.specs.State.{Opening, is_opened, is_opened_in, rec
 use Rattle.quic_streams_state.specs.Opening.{with_remote}
 use Rattle.quic_streams_state.specs.Taking.{joined}
 use Rattle.quic_streams_laws.specs.Keeping.{KeepsBy}
+use Rattle.quic_streams_laws.specs.Keeping as changes
 use Rattle.quic_streams_laws.specs.KeepingLaws.{at-half, live_receives}
 use Rattle.quic_streams_laws.specs.Shape.{ArePlaces, AreHalves}
 use Rattle.quic_streams_laws.specs.ShapeLaws.{OpensMore, opened_more, more_own, more_remote, past_remote, shape_any}
@@ -103,7 +104,7 @@ at_half_of Q g s id h e i = go (stood_as s id h e)
 -- one half has another value: what holds of it and of the others then
 pub change_one : (Q Q' : ℕ → Status RecvHalf → Type 0) → GoesOn Q → (s : StreamsState) (id : ℕ) (old new : RecvHalf) → receiving_half s id ≡ Some old → ((q : ℕ) (x : Status RecvHalf) → (q ≡ id → ⊥) → Q q x → Q' q x) → (Q id (live old) → Q' id (live new)) → AllReceiving Q s → AllReceiving Q' (with_recv s id new)
 change_one Q Q' g s id old new e others here i = record {
-  shape = shape_any.changes_receiving s id old new e tt i.shape;
+  shape = shape_any (changes.changes_receiving s.receiving id old new) s (e, tt, refl) i.shape;
   each = λ q. elim (cases_eq q id) [
     | inl same ↦ subst (λ x. Q' x (receiving_status (with_recv s id new) x)) (sym same) (subst (Q' id) (sym (status_here s.side (receives_on s.side id && is_opened s id) s.receiving.halves id new)) (here (at_half_of Q g s id old e i)))
     | inr ne ↦ subst (Q' q) (sym (status_apart s.side (receives_on s.side q && is_opened s q) s.receiving.halves id new q i.shape.receiving.runs ne)) (others q (receiving_status s q) ne (i.each q))
@@ -137,24 +138,11 @@ done_one Q g s id h is i q = elim (cases_eq q id) [
 
 -- a fact that goes on as streams do is kept by every small change that keeps it at the half that changes
 pub each_kept : (Q : ℕ → Status RecvHalf → Type 0) → GoesOn Q → KeepsBy (λ r id old new. Q id (live old) → Q id (live new)) (λ s id old new. Unit {0}) (λ s id n old new. Unit {0}) (AllReceiving Q)
-each_kept Q g = record {
-  finishes = λ s id f i. record { shape = shape_any.finishes s id f i.shape; each = i.each };
-  events = λ s e less i. record { shape = shape_any.events s e less i.shape; each = i.each };
-  opens_own = λ s dir lt i. record { shape = shape_any.opens_own s dir lt i.shape; each = open_more Q g s (record s.opening { own = more dir s.opening.own; sending = s.opening.sending + 1 }) (record { own = λ d. more_own dir d s.opening.own; remote = λ d. omega arith }) i };
-  accepts = λ s dir lt i. record { shape = shape_any.accepts s dir lt i.shape; each = i.each };
-  allows = λ s dir count le lt i. record { shape = shape_any.allows s dir count le lt i.shape; each = i.each };
-  opens_theirs = λ s id e within i. let past = past_remote s id e in record { shape = shape_any.opens_theirs s id e within i.shape; each = open_more Q g s (with_remote (dir_of id) (index_of id + 1) s.opening) (more_remote (dir_of id) (index_of id + 1) s.opening (omega (arith, past.1))) i };
-  raises = λ s limit le i. record { shape = shape_any.raises s limit le i.shape; each = i.each };
-  changes = λ s id old new is on same i. record { shape = shape_any.changes s id old new is tt same i.shape; each = i.each };
-  queues = λ s id old new b is on same i. record { shape = shape_any.queues s id old new b is tt same i.shape; each = i.each };
-  turns = λ s id old new is on same i. record { shape = shape_any.turns s id old new is tt same i.shape; each = i.each };
-  writes = λ s id n old new is on same i. record { shape = shape_any.writes s id n old new is tt same i.shape; each = i.each };
-  joins = λ s id h is i. record { shape = shape_any.joins s id h is i.shape; each = joined_each Q s id h i.each };
-  passes = λ s id ids is i. record { shape = shape_any.passes s id ids is i.shape; each = i.each };
-  ends_sending = λ s id h is over i. record { shape = shape_any.ends_sending s id h is over i.shape; each = done_each Q (not (is_own s.side id) && is_done (receiving_status s id)) id (without_send s id) i.each };
-  changes_receiving = λ s id old new is on i. change_one Q Q g s id old new is (λ q x ne was. was) on i;
-  ends_receiving = λ s id h is i. record { shape = shape_any.ends_receiving s id h is i.shape; each = done_each Q (not (is_own s.side id) && (not (is_two_way (dir_of id)) || is_done (sending_status s id))) id _ (done_one Q g s id h is i) };
-  tells = λ s i. record { shape = shape_any.tells s i.shape; each = i.each };
-  tells_on = λ s id h is i. change_one Q Q g s id h (record h { announced = raised_on s.receiving.stream_window h }) (live_receives s id h is) (λ q x ne was. was) (g.told id h (raised_on s.receiving.stream_window h)) i;
-  tells_count = λ s dir i. record { shape = shape_any.tells_count s dir i.shape; each = i.each };
-}
+each_kept Q g (changes.opens_own dir) s lt i = record { shape = shape_any (changes.opens_own dir) s lt i.shape; each = open_more Q g s (record s.opening { own = more dir s.opening.own; sending = s.opening.sending + 1 }) (record { own = λ d. more_own dir d s.opening.own; remote = λ d. omega arith }) i }
+each_kept Q g (changes.opens_theirs id) s (e, within) i = let past = past_remote s id e in record { shape = shape_any (changes.opens_theirs id) s (e, within) i.shape; each = open_more Q g s (with_remote (dir_of id) (index_of id + 1) s.opening) (more_remote (dir_of id) (index_of id + 1) s.opening (omega (arith, past.1))) i }
+each_kept Q g (changes.joins id h) s is i = record { shape = shape_any (changes.joins id h) s is i.shape; each = joined_each Q s id h i.each }
+each_kept Q g (changes.ends_sending id h) s (is, over) i = record { shape = shape_any (changes.ends_sending id h) s (is, over) i.shape; each = done_each Q (not (is_own s.side id) && is_done (receiving_status s id)) id (without_send s id) i.each }
+each_kept Q g (changes.changes_receiving r id old new) s (is, on, same) i = change_one Q Q g s id old new is (λ q x ne was. was) on i
+each_kept Q g (changes.ends_receiving id h) s is i = record { shape = shape_any (changes.ends_receiving id h) s is i.shape; each = done_each Q (not (is_own s.side id) && (not (is_two_way (dir_of id)) || is_done (sending_status s id))) id _ (done_one Q g s id h is i) }
+each_kept Q g (changes.tells_on id h) s is i = change_one Q Q g s id h (record h { announced = raised_on s.receiving.stream_window h }) (live_receives s id h is) (λ q x ne was. was) (g.told id h (raised_on s.receiving.stream_window h)) i
+each_kept Q g c s may i = record { shape = shape_any c s may i.shape; each = i.each }

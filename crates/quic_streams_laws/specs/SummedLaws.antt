@@ -19,6 +19,7 @@ use Rattle.quic_streams_state.specs.Writing.{put_queued}
 use Rattle.quic_streams_state.specs.Taking.{joined}
 use Rattle.quic_streams_state.specs.Telling.{unblocked_at}
 use Rattle.quic_streams_laws.specs.Keeping.{Keeps, WritesOn, unblocked}
+use Rattle.quic_streams_laws.specs.Keeping as changes
 use Rattle.quic_streams_laws.specs.KeepingLaws.{at-half}
 use Rattle.quic_streams_laws.specs.Shape.{IsShaped, ArePlaces}
 use Rattle.quic_streams_laws.specs.ShapeLaws.{shape_kept, place_one, place_kept, sends_may}
@@ -203,32 +204,20 @@ module _ (n : ℕ) (big : 2 ^ 62 ≤ n) (first : ℕ → ℕ) where
       go false shape few = written_on_each s _ i.final i shape few refl (written_same i.final s id h (record h { blocked = true }) is refl i.shape)
 
   pub written_kept : Keeps (IsWritten n first)
-  written_kept = record {
-    finishes = λ s id f i. written_on_each s _ i.final i (shape_kept.finishes s id f i.shape) (few_kept.finishes s id f i.few) refl (λ j. refl);
-    events = λ s e less i. written_on_each s (record s { events = e }) i.final i (shape_kept.events s e less i.shape) (few_kept.events s e less i.few) refl (λ j. refl);
-    opens_own = λ s dir lt i. written_on_each s _ i.final i (shape_kept.opens_own s dir lt i.shape) (few_kept.opens_own s dir lt i.few) refl (λ j. refl);
-    accepts = λ s dir lt i. written_on_each s _ i.final i (shape_kept.accepts s dir lt i.shape) (few_kept.accepts s dir lt i.few) refl (λ j. refl);
-    allows = λ s dir count le lt i. written_on_each s _ i.final i (shape_kept.allows s dir count le lt i.shape) (few_kept.allows s dir count le lt i.few) refl (λ j. refl);
-    opens_theirs = λ s id e within i. written_on_each s _ i.final i (shape_kept.opens_theirs s id e within i.shape) (few_kept.opens_theirs s id e within i.few) refl (λ j. refl);
-    raises = λ s limit le i. written_on_each s _ i.final i (shape_kept.raises s limit le i.shape) (few_kept.raises s limit le i.few) refl (λ j. refl);
-    changes = λ s id old new is on same i. written_on_each s (with_send s id new) i.final i (shape_kept.changes s id old new is on same i.shape) (few_kept.changes s id old new is on same i.few) refl (written_same i.final s id old new is on.as_many i.shape);
-    queues = λ s id old new b is on has i. written_on_each s (put_queued s id (requeued_at old.place b s.sending.queue id new)) i.final i (shape_kept.queues s id old new b is on has i.shape) (few_kept.queues s id old new b is on has i.few) refl (written_same i.final s id old (requeued_at old.place b s.sending.queue id new).half is (requeued_written old.place b s.sending.queue id new ∙ on.as_many) i.shape);
-    turns = λ s id old new is on has i. written_on_each s (put_queued s id (turned_at old.place s.sending.queue id new)) i.final i (shape_kept.turns s id old new is on has i.shape) (few_kept.turns s id old new is on has i.few) refl (written_same i.final s id old (turned_at old.place s.sending.queue id new).half is (turned_written old.place s.sending.queue id new ∙ on.as_many) i.shape);
-    writes = λ s id count old new is on has i. written_more s id count old new i is on (shape_kept.writes s id count old new is on has i.shape) (few_kept.writes s id count old new is on has i.few);
-    joins = λ s id h is i. joined_written s id h is i (shape_kept.joins s id h is i.shape) (few_kept.joins s id h is i.few);
-    passes = λ s id ids is i. written_on_each s (unblocked s id ids) i.final i (shape_kept.passes s id ids is i.shape) (few_kept.passes s id ids is i.few) refl (passed_written i.final s id ids);
-    ends_sending = λ s id h is over i.
-        let b : Bool = not (is_own s.side id) && is_done (receiving_status s id) in
-        let t : StreamsState = without_send s id in
-        let final : ℕ → ℕ = ended_with written_on i.final id h in
-        written_on_each s (send_done s id) final i (shape_kept.ends_sending s id h is over i.shape) (few_kept.ends_sending s id h is over i.few) (done_accepted b id t)
-        (λ j. done_written final b id t j ∙ amount_done written_on i.final s.side s.sending.halves id h j i.shape.sending.sorted (i.shape.sending.placed id h is) is);
-    changes_receiving = λ s id old new is on i. written_on_each s _ i.final i (shape_kept.changes_receiving s id old new is on i.shape) (few_kept.changes_receiving s id old new is on i.few) refl (λ j. refl);
-    ends_receiving = λ s id h is i.
-        let b : Bool = not (is_own s.side id) && (not (is_two_way (dir_of id)) || is_done (sending_status s id)) in
-        let t : StreamsState = record s { receiving = record s.receiving { halves = without_half s.receiving.halves id; gone = s.receiving.gone + seen_at (at s.receiving.halves.live id) } } in
-        written_on_each s (recv_done s id) i.final i (shape_kept.ends_receiving s id h is i.shape) (few_kept.ends_receiving s id h is i.few) (done_accepted b id t) (λ j. done_written i.final b id t j);
-    tells = λ s i. written_on_each s _ i.final i (shape_kept.tells s i.shape) (few_kept.tells s i.few) refl (λ j. refl);
-    tells_on = λ s id h is i. written_on_each s _ i.final i (shape_kept.tells_on s id h is i.shape) (few_kept.tells_on s id h is i.few) refl (λ j. refl);
-    tells_count = λ s dir i. written_on_each s _ i.final i (shape_kept.tells_count s dir i.shape) (few_kept.tells_count s dir i.few) refl (λ j. refl);
-  }
+  written_kept (changes.changes_sending id old new) s (is, on, same) i = written_on_each s (with_send s id new) i.final i (shape_kept (changes.changes_sending id old new) s (is, on, same) i.shape) (few_kept (changes.changes_sending id old new) s (is, on, same) i.few) refl (written_same i.final s id old new is on.as_many i.shape)
+  written_kept (changes.queues id old new b) s (is, on, has) i = written_on_each s (put_queued s id (requeued_at old.place b s.sending.queue id new)) i.final i (shape_kept (changes.queues id old new b) s (is, on, has) i.shape) (few_kept (changes.queues id old new b) s (is, on, has) i.few) refl (written_same i.final s id old (requeued_at old.place b s.sending.queue id new).half is (requeued_written old.place b s.sending.queue id new ∙ on.as_many) i.shape)
+  written_kept (changes.turns id old new) s (is, on, has) i = written_on_each s (put_queued s id (turned_at old.place s.sending.queue id new)) i.final i (shape_kept (changes.turns id old new) s (is, on, has) i.shape) (few_kept (changes.turns id old new) s (is, on, has) i.few) refl (written_same i.final s id old (turned_at old.place s.sending.queue id new).half is (turned_written old.place s.sending.queue id new ∙ on.as_many) i.shape)
+  written_kept (changes.writes id count old new) s (is, on, has) i = written_more s id count old new i is on (shape_kept (changes.writes id count old new) s (is, on, has) i.shape) (few_kept (changes.writes id count old new) s (is, on, has) i.few)
+  written_kept (changes.joins id h) s is i = joined_written s id h is i (shape_kept (changes.joins id h) s is i.shape) (few_kept (changes.joins id h) s is i.few)
+  written_kept (changes.passes id ids) s is i = written_on_each s (unblocked s id ids) i.final i (shape_kept (changes.passes id ids) s is i.shape) (few_kept (changes.passes id ids) s is i.few) refl (passed_written i.final s id ids)
+  written_kept (changes.ends_sending id h) s (is, over) i =
+      let b : Bool = not (is_own s.side id) && is_done (receiving_status s id) in
+      let t : StreamsState = without_send s id in
+      let final : ℕ → ℕ = ended_with written_on i.final id h in
+      written_on_each s (send_done s id) final i (shape_kept (changes.ends_sending id h) s (is, over) i.shape) (few_kept (changes.ends_sending id h) s (is, over) i.few) (done_accepted b id t)
+      (λ j. done_written final b id t j ∙ amount_done written_on i.final s.side s.sending.halves id h j i.shape.sending.sorted (i.shape.sending.placed id h is) is)
+  written_kept (changes.ends_receiving id h) s is i =
+      let b : Bool = not (is_own s.side id) && (not (is_two_way (dir_of id)) || is_done (sending_status s id)) in
+      let t : StreamsState = record s { receiving = record s.receiving { halves = without_half s.receiving.halves id; gone = s.receiving.gone + seen_at (at s.receiving.halves.live id) } } in
+      written_on_each s (recv_done s id) i.final i (shape_kept (changes.ends_receiving id h) s is i.shape) (few_kept (changes.ends_receiving id h) s is i.few) (done_accepted b id t) (λ j. done_written i.final b id t j)
+  written_kept c s may i = written_on_each s _ i.final i (shape_kept c s may i.shape) (few_kept c s may i.few) refl (λ j. refl)

@@ -34,6 +34,7 @@ use Rattle.quic_worked.proofs.WorkedKeys.{are_keys}
 use Rattle.quic_worked.proofs.WorkedRun.{opens}
 use Rattle.quic_worked.proofs.FaultTimes.{kept_gave, kept_held}
 use Rattle.quic_worked.proofs.RestedRun.{rested_started, until_rested, end_in_hello, word_arrived}
+use Rattle.quic_worked.proofs.Steps.{counts_so}
 
 -- ---- where it is so
 
@@ -50,7 +51,7 @@ twice_reset = refl
 
 late_resets : IsStep worked_policies (once_rested 10) (resets_with 7) reset_closed late_end
 unfolding once_rested
-late_resets = record { answer = inl refl; end = refl; control = refl; others = refl; lacking = λ lacks. cc }
+late_resets = record { answer = inl refl; end = refl; control = refl; heard = counts_so worked_policies (once_rested 10) (resets_with 7) reset_closed; others = refl; lacking = λ lacks. cc }
 
 late_seen : still_view ≡ view_of late_end
 unfolding once_rested
@@ -162,7 +163,7 @@ once_halted = ran worked_policies started (take 2 stopped_again.events) (take 2 
 
 halts : IsStep worked_policies once_opened stops_stream (answers.Stop (Ok tt)) once_halted
 unfolding once_halted
-halts = record { answer = inl refl; end = refl; control = refl; others = refl; lacking = λ lacks. cc }
+halts = record { answer = inl refl; end = refl; control = refl; heard = counts_so worked_policies once_opened stops_stream (answers.Stop (Ok tt)); others = refl; lacking = λ lacks. cc }
 
 again_no : IsRefused once_halted stops_stream (answers.Stop (Ok tt))
 unfolding once_halted

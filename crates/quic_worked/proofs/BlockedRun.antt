@@ -1,6 +1,6 @@
 -- What is left unread at rest, a write that is blocked for that, and writes that are blocked though
 -- nothing is left.
-use Rattle.std.proofs.Common.{◌≡◌, ℕ, ◌+◌, ◌^◌, ◌<◌, ◌≤◌, List, [], ◌∷◌, ◌++◌, length, take, true, false, Some, Ok, Err, refl, inl, inr, sym, subst, eqb, lit<, lit≤, arith}
+use Rattle.std.proofs.Common.{◌≡◌, ℕ, ◌+◌, ◌^◌, ◌<◌, ◌≤◌, List, [], ◌∷◌, ◌++◌, length, take, true, false, Some, Ok, Err, refl, inl, inr, sym, ◌∙◌, subst, eqb, lit<, lit≤, arith}
 use Rattle.std.specs.List.{IsDistinct}
 use Rattle.quic_wire_core.specs.declared.stream_id.Side.{Side}
 use Rattle.quic_wire_core.specs.declared.stream_id.Side.TheVariants.{Client, Server}
@@ -38,6 +38,7 @@ use Rattle.quic_worked.proofs.WorkedKeys.{are_keys}
 use Rattle.quic_worked.proofs.WorkedHonest.{in_range, making}
 use Rattle.quic_worked.proofs.WorkedRun.{parameters_say}
 use Rattle.quic_worked.proofs.RestedRun.{rested_started, still_roomy, have_room}
+use Rattle.quic_worked.proofs.Steps.{counts_so}
 
 -- ---- what is left
 
@@ -162,15 +163,15 @@ once_asked n = ran worked_policies rested_start (take n blocked_run.events) (tak
 
 opens : IsStep worked_policies rested_start opens_stream (answers.Open (Some 0)) (once_asked 1)
 unfolding once_asked
-opens = record { answer = refl; end = refl; control = refl; others = refl; lacking = tt }
+opens = record { answer = refl; end = refl; control = refl; heard = counts_so worked_policies rested_start opens_stream (answers.Open (Some 0)); others = refl; lacking = tt }
 
 client_quiet : IsStep worked_policies (once_asked 1) asks_datagram gives_nothing (once_asked 2)
 unfolding once_asked
-client_quiet = record { answer = inl refl; end = refl; control = refl; others = refl; lacking = tt }
+client_quiet = record { answer = inl refl; end = refl; control = refl; heard = counts_so worked_policies (once_asked 1) asks_datagram gives_nothing; others = refl; lacking = tt }
 
 server_quiet : IsStep worked_policies (once_asked 2) (asks_at Server 0) gives_nothing (once_asked 3)
 unfolding once_asked
-server_quiet = record { answer = inl refl; end = refl; control = refl; others = refl; lacking = tt }
+server_quiet = record { answer = inl refl; end = refl; control = refl; heard = counts_so worked_policies (once_asked 2) (asks_at Server 0) gives_nothing; others = refl; lacking = tt }
 
 blocked_no : IsRefused (once_asked 3) writes_hello (answers.Write (Err write_errors.Blocked))
 unfolding once_asked
@@ -216,43 +217,55 @@ left_is_honest = record { start = left_started; keys = are_keys; ids = own_ids l
 
 left_opens : IsStep worked_policies (small_start 8) opens_stream (answers.Open (Some 0)) (once_left 1)
 unfolding once_left
-left_opens = record { answer = refl; end = refl; control = refl; others = refl; lacking = tt }
+left_opens = record { answer = refl; end = refl; control = refl; heard = counts_so worked_policies (small_start 8) opens_stream (answers.Open (Some 0)); others = refl; lacking = tt }
 
 left_writes : IsStep worked_policies (once_left 1) (writes_on 0 (eight ++ eight)) (answers.Write (Ok 8)) (once_left 2)
 unfolding once_left
-left_writes = record { answer = inl refl; end = refl; control = refl; others = refl; lacking = λ lacks. cc }
+left_writes = record { answer = inl refl; end = refl; control = refl; heard = counts_so worked_policies (once_left 1) (writes_on 0 (eight ++ eight)) (answers.Write (Ok 8)); others = refl; lacking = λ lacks. cc }
 
 left_gives : IsStep worked_policies (once_left 2) asks_datagram (gives_bytes 37) (once_left 3)
 unfolding once_left
-left_gives = record { answer = inl refl; end = refl; control = still_roomy; others = refl; lacking = tt }
+left_gives = record { answer = inl refl; end = refl; control = still_roomy; heard = counts_so worked_policies (once_left 2) asks_datagram (gives_bytes 37); others = refl; lacking = tt }
 
 left_takes : IsStep worked_policies (once_left 3) (comes_at Server 10000000) (answers.Deliver receives.Taken) (once_left 4)
 unfolding once_left
-left_takes = record { answer = inl refl; end = refl; control = still_roomy; others = refl; lacking = tt }
+left_takes = record { answer = inl refl; end = refl; control = still_roomy; heard = counts_so worked_policies (once_left 3) (comes_at Server 10000000) (answers.Deliver receives.Taken); others = refl; lacking = tt }
 
 left_due : IsStep worked_policies (once_left 4) (serves Server 35000000) (answers.Timeout (Ok tt)) (once_left 5)
 unfolding once_left
-left_due = record { answer = inl refl; end = refl; control = still_roomy; others = refl; lacking = tt }
+left_due = record { answer = inl refl; end = refl; control = still_roomy; heard = counts_so worked_policies (once_left 4) (serves Server 35000000) (answers.Timeout (Ok tt)); others = refl; lacking = tt }
 
 left_answers_it : IsStep worked_policies (once_left 5) (asks_at Server 35000000) (gives_bytes 32) (once_left 6)
 unfolding once_left
-left_answers_it = record { answer = inl refl; end = refl; control = still_roomy; others = refl; lacking = tt }
+left_answers_it = record { answer = inl refl; end = refl; control = still_roomy; heard = counts_so worked_policies (once_left 5) (asks_at Server 35000000) (gives_bytes 32); others = refl; lacking = tt }
 
 left_answered : IsStep worked_policies (once_left 6) (comes_at Client 40000000) (answers.Deliver receives.Taken) (once_left 7)
 unfolding once_left
-left_answered = record { answer = inl refl; end = refl; control = still_roomy; others = refl; lacking = tt }
+left_answered = record { answer = inl refl; end = refl; control = still_roomy; heard = counts_so worked_policies (once_left 6) (comes_at Client 40000000) (answers.Deliver receives.Taken); others = refl; lacking = tt }
 
 left_client_rests : IsStep worked_policies (once_left 7) (asks_at Client 40000000) gives_nothing (once_left 8)
 unfolding once_left
-left_client_rests = record { answer = inl refl; end = refl; control = still_roomy; others = refl; lacking = tt }
+left_client_rests = record { answer = inl refl; end = refl; control = still_roomy; heard = counts_so worked_policies (once_left 7) (asks_at Client 40000000) gives_nothing; others = refl; lacking = tt }
 
 left_server_rests : IsStep worked_policies (once_left 8) (asks_at Server 40000000) gives_nothing (once_left 9)
 unfolding once_left
-left_server_rests = record { answer = inl refl; end = refl; control = still_roomy; others = refl; lacking = tt }
+left_server_rests = record { answer = inl refl; end = refl; control = still_roomy; heard = counts_so worked_policies (once_left 8) (asks_at Server 40000000) gives_nothing; others = refl; lacking = tt }
+
+-- what the client has counted before and behind it: its datagram, and the acknowledgement
+left_counted : (once_left 9).client_heard ≡ record { received = 32; sent = 37; failures = 0 }
+unfolding once_left
+left_counted = refl
+
+left_counts : (once_left 10).client_heard ≡ record { received = 32; sent = 37; failures = 0 }
+unfolding once_left
+left_counts = refl
+
+left_heard : (once_left 10).client_heard ≡ (once_left 9).client_heard
+left_heard = left_counts ∙ sym left_counted
 
 left_blocks : IsStep worked_policies (once_left 9) (writes_on 0 eight) (answers.Write (Err write_errors.Blocked)) (once_left 10)
 unfolding once_left
-left_blocks = record { answer = inl refl; end = refl; control = refl; others = refl; lacking = λ lacks. cc }
+left_blocks = record { answer = inl refl; end = refl; control = refl; heard = left_heard; others = refl; lacking = λ lacks. cc }
 
 left_seen_1 : still_view ≡ view_of (once_left 1)
 unfolding once_left

@@ -17,7 +17,7 @@ use Rattle.quic_headline.specs.Runs.{Run, Told, Packet, Next, In, IsNamed, until
 use Rattle.quic_headline.specs.Observer.{Sent, took, acked_until}
 use Rattle.quic_headline.specs.Headline.{OrderedPrefix, Slices, Once, EndAfterAll, NoneToGive, BlockedOnlyWithoutBytes, AcceptsAll, FinishedMeansArrived, AllHeld, IsAcknowledged, ToldOnce, FinishedIsTold, AcknowledgedWereTaken, LossTimerFollows, LossTimersFollow, AckTimerFollows, AckTimersFollow, NumbersRise}
 use Rattle.quic_worked.specs.Acknowledged.{client_acked, server_acked}
-use Rattle.quic_worked.specs.Worked.{NextAnswers, gives_chunk, all_nexts, once_sent, once_taken, hello, hello_frame, run_with}
+use Rattle.quic_worked.specs.Worked.{NextAnswers, gives_chunk, all_nexts, once_sent, once_taken, hello, hello_frame, run_with, server_id}
 use Rattle.quic_worked.specs.Broken.{answers_with, duplicate, hellp, changed_nexts, repeated_nexts, early_nexts, changed_byte, repeated_bytes, unwritten_byte, early_end, unwritten_end, taken_twice, blocked_read, never_accepted, early_finish, told_twice, early_acknowledgement, never_timed, still_timed, empty_datagram, repeated_number, answered_run, asked_run, tells_finished}
 use Rattle.quic_worked.proofs.WorkedNumber.{only_number}
 use Rattle.quic_worked.proofs.WorkedRun.{hello_packet, frame_taken}
@@ -133,7 +133,7 @@ tells_twice h = let most : 2 ≤ 1 = (h Client 0 2 refl).0 in omega (arith, most
 
 -- the client's datagram, as it was sent
 abbrev hello_sent : Sent
-hello_sent = record { number = 0; reference = 0; frames = stream hello_frame ∷ []; moment = 0; size = 34 }
+hello_sent = record { id = server_id; number = 0; reference = 0; frames = stream hello_frame ∷ []; moment = 0; size = 34 }
 
 -- it is acknowledged once the server's datagram came, and not before
 pub acknowledged_last : (read : ReadCall) → acked_until (answered_run read) Client 8 ≡ hello_sent ∷ []

@@ -20,7 +20,7 @@ use Rattle.quic_machine.specs.Machine.{IsAnswer, IsStep, Follows, World, policy_
 use Rattle.quic_headline.specs.Runs.{Next}
 use Rattle.quic_headline.specs.Headline.{AckTimersFollow}
 use Rattle.quic_worked.specs.Acknowledged.{client_acked}
-use Rattle.quic_worked.specs.Worked.{once_opened, once_written, writes_hello, finishes_stream, ReadsAs, ReadsBy, two_chunks, reads_stream, run_with, NextAnswers, gives_chunk, delivers, accepts_stream, sending_events, sending_answers, started, once_sent, once_taken, once_accepted, hello, worked_policies, worked_events}
+use Rattle.quic_worked.specs.Worked.{once_opened, once_written, writes_hello, finishes_stream, ReadsAs, ReadsBy, two_chunks, reads_stream, run_with, NextAnswers, gives_chunk, delivers, accepts_stream, sending_events, sending_answers, started, once_sent, once_taken, once_again, once_accepted, hello, worked_policies, worked_events}
 use Rattle.quic_worked.specs.Broken.{sent_alone, NeverAnswers, IsNoRun, NeverLeads, answers_with, duplicate, hellp, changed_nexts, repeated_nexts, early_nexts, changed_byte, repeated_bytes, unwritten_byte, early_end, unwritten_end, taken_twice, never_taken, blocked_read, never_accepted, early_finish, all_acked, all_told, asks_event, tells_finished, told_twice, never_told, early_acknowledgement, never_timed, still_timed}
 use Rattle.quic_worked.specs.Reordered.{blocked_nexts}
 use Rattle.quic_machine.specs.RunLaws.{one_world}
@@ -29,6 +29,7 @@ use Rattle.quic_headline.proofs.Timers.AckTimers.{ack_timers_follow}
 use Rattle.quic_worked.proofs.BrokenClauses.{never_sets, never_stops}
 use Rattle.quic_worked.proofs.WorkedHonest.{are_started}
 use Rattle.quic_worked.proofs.WorkedRun.{opens, writes, finishes, gives, takes, drops_duplicate, accepts}
+use Rattle.quic_worked.proofs.Steps.{counts_so}
 
 -- ---- where a run goes, and where it stops
 
@@ -127,7 +128,7 @@ blocked_no : IsRead once_accepted.server.streams 0 true two_chunks (answers.Read
 unfolding once_taken
 blocked_no h = elim (h.1.0) [ inl e ↦ cc | inr e ↦ cc ]
 
-pub accept_no : IsRefused once_taken accepts_stream (answers.Accept None)
+pub accept_no : IsRefused once_again accepts_stream (answers.Accept None)
 unfolding once_taken
 accept_no e = cc
 
@@ -197,7 +198,7 @@ nothing_more is = cc
 
 -- the stream is told to be finished once
 tells_first : IsStep worked_policies all_acked asks_event tells_finished all_told
-tells_first = record { answer = told_once; end = refl; control = refl; others = refl; lacking = tt }
+tells_first = record { answer = told_once; end = refl; control = refl; heard = counts_so worked_policies all_acked asks_event tells_finished; others = refl; lacking = tt }
 
 pub never_twice : IsNoRun told_twice
 never_twice = behind refl tells_first (stops _ _ _ _ _ nothing_more)

@@ -15,6 +15,7 @@ use Rattle.quic_worked.specs.Chunked.{writes_buffers, two_buffers, both_written,
 use Rattle.quic_worked.proofs.WorkedRun.{opens}
 use Rattle.quic_worked.proofs.Codes.{no_codes}
 use Rattle.quic_worked.proofs.BrokenRuns.{IsRefused, stops, behind}
+use Rattle.quic_worked.proofs.Steps.{counts_so}
 
 -- what a write of buffers is answered
 abbrev answer_to : List (List ℕ) → Answer
@@ -28,16 +29,17 @@ writes buffers are = record {
   answer = inl (subst (λ (cs : List (List ℕ)). answers.WriteChunks (Ok both_written) ≡ answer_to cs) (sym are) (sym answered));
   end = ap (λ (cs : List (List ℕ)). after_buffers once_opened.client cs) (sym are);
   control = refl;
+  heard = refl;
   others = refl;
   lacking = λ lacks. cc;
 }
 
 finishes : IsStep worked_policies chunks_written finishes_stream (answers.Finish (Ok tt)) chunks_ended
-finishes = record { answer = inl refl; end = refl; control = refl; others = refl; lacking = λ lacks. cc }
+finishes = record { answer = inl refl; end = refl; control = refl; heard = counts_so worked_policies chunks_written finishes_stream (answers.Finish (Ok tt)); others = refl; lacking = λ lacks. cc }
 
 gives : IsStep worked_policies chunks_ended asks_datagram (gives_bytes 34) chunks_sent
 unfolding chunks_sent
-gives = record { answer = inl refl; end = refl; control = refl; others = refl; lacking = tt }
+gives = record { answer = inl refl; end = refl; control = refl; heard = counts_so worked_policies chunks_ended asks_datagram (gives_bytes 34); others = refl; lacking = tt }
 
 sent_seen : record { client = sent_view; server = open_view } ≡ view_of chunks_sent
 unfolding chunks_sent

@@ -8,7 +8,6 @@ use Rattle.quic_wire.specs.Reading.{block_at, sized_at, offset_at, data_at, stre
 use Rattle.quic_wire.specs.Items.{frame_at, items_within, items}
 use Rattle.quic_packet.specs.Datagram.{Opening}
 use Rattle.quic_assembler.specs.declared.assembler.TheConstants.{MOST_PIECES}
-use Rattle.quic_machine.specs.Opens.{opens}
 use Rattle.quic_wire_core.specs.declared.stream_id.Side.TheVariants.{Client, Server}
 use Rattle.quic_machine.specs.declared.answers.State.TheVariants as states
 use Rattle.quic_machine.specs.declared.answers.LostReason.TheVariants as reasons
@@ -17,11 +16,10 @@ use Rattle.quic_machine.specs.declared.run.Call.TheVariants as calls
 use Rattle.quic_machine.specs.declared.run.Answer.{Answer}
 use Rattle.quic_machine.specs.declared.run.Answer.TheVariants as answers
 use Rattle.quic_machine.specs.declared.run.ReadCall.{ReadCall}
-use Rattle.quic_machine.specs.Ids.{known}
 use Rattle.quic_machine.specs.Receive.{plain_error}
-use Rattle.quic_headline.specs.Runs.{Told, Packet, Intake, In, until, handed, expected_behind, frames_of, HasArrived}
+use Rattle.quic_headline.specs.Runs.{Told, Packet, Intake, In, until, handed, opens_by_key, came_open, frames_of, HasArrived}
 use Rattle.quic_headline.specs.Causes.{Shows, NoBlame, AreUsedUp, NumberLimit, came_by, PacketCame, IsCrowded, IsTakenOrCrowded, BeginsRun, HasMoreRuns, IsUnread, TooManyPieces, TakenOrTooMany}
-use Rattle.quic_worked.specs.Worked.{worked_policies, started, worked_run, once_ended, once_sent, once_taken, delivery, delivers, asks_datagram, open_view, sent_view, hello_datagram, hello_opening, hello_frame, hello_payload}
+use Rattle.quic_worked.specs.Worked.{worked_policies, worked_run, once_ended, once_sent, once_taken, delivery, delivers, asks_datagram, open_view, sent_view, hello_datagram, hello_opening, hello_frame, hello_payload}
 use Rattle.quic_worked.specs.Broken.{IsNoRun}
 use Rattle.quic_worked.specs.Closed.{closed_view, below_limits, early_pieces, early_limit}
 use Rattle.quic_worked.proofs.BrokenRuns.{IsRefused, behind, behind_sent, stops}
@@ -39,7 +37,7 @@ below_blames h = h Server 4 (Some (reasons.Transport (plain_error 3))) below_sho
 -- ---- the packet that came
 
 -- the packet of the client comes to the server of the worked run, which takes it
-pub hello_came : (read : ReadCall) → PacketCame worked_policies.server (known started.server.ids) (hello_datagram ∷ []) (until (worked_run read) Server 8)
+pub hello_came : (read : ReadCall) → PacketCame worked_policies.server (hello_datagram ∷ []) (until (worked_run read) Server 8)
 hello_came read = record {
   before = [];
   call = record { call = calls.Deliver delivery; answer = answers.Deliver receives.Taken; state = states.Open };
@@ -58,7 +56,7 @@ unfolding hello_came
 hello_is_taken read = refl
 
 -- it comes to the server that refuses it
-refused_came : PacketCame worked_policies.server (known started.server.ids) (hello_datagram ∷ []) (until below_limits Server 5)
+refused_came : PacketCame worked_policies.server (hello_datagram ∷ []) (until below_limits Server 5)
 refused_came = record {
   before = [];
   call = record { call = calls.Deliver delivery; answer = answers.Deliver (receives.Closed (plain_error 3)); state = states.Open };
@@ -81,7 +79,7 @@ pub below_takes : TakenOrTooMany below_limits → ⊥
 unfolding code_in refused_came
 below_takes h = go (h Server 5 refl refused_came)
   where
-    go : IsTakenOrCrowded worked_policies.server (known started.server.ids) (hello_datagram ∷ []) (until below_limits Server 5) refused_came → ⊥
+    go : IsTakenOrCrowded worked_policies.server (hello_datagram ∷ []) (until below_limits Server 5) refused_came → ⊥
     go (inl taken) = let codes : ◌≡◌ {A = ℕ} 3 0 = ap code_in taken in omega arith
     go (inr crowded) = let codes : ◌≡◌ {A = ℕ} 3 1 = ap code_in crowded.0 in omega arith
 
@@ -184,13 +182,13 @@ abbrev closing_call : Told
 closing_call = record { call = calls.Deliver delivery; answer = answers.Deliver (receives.Closed (plain_error 1)); state = states.Open }
 
 abbrev HasComeEarly : Type 0
-HasComeEarly = PacketCame worked_policies.server (known started.server.ids) (hello_datagram ∷ []) (until early_pieces Server 5)
+HasComeEarly = PacketCame worked_policies.server (hello_datagram ∷ []) (until early_pieces Server 5)
 
 -- what came to it by calls
 abbrev came : List Told → Intake
-came told = came_by worked_policies.server (known started.server.ids) (hello_datagram ∷ []) told
+came told = came_by worked_policies.server (hello_datagram ∷ []) told
 
-opens_hello : opens worked_policies.server (known started.server.ids) 0 hello_datagram ≡ Some hello_opening
+opens_hello : opens_by_key worked_policies.server 0 hello_datagram ≡ Some hello_opening
 opens_hello = refl
 
 hello_frames_are : frames_of (items hello_payload) ≡ hello_frames
@@ -198,14 +196,15 @@ unfolding items items_within frame_at body_at kind_of stream_at offset_at data_a
 hello_frames_are = refl
 
 -- no packet that came to it is crowded
-none_crowded : (c : HasComeEarly) → IsCrowded worked_policies.server (known started.server.ids) (hello_datagram ∷ []) (until early_pieces Server 5) c MOST_PIECES → ⊥
+none_crowded : (c : HasComeEarly) → IsCrowded worked_policies.server (hello_datagram ∷ []) (until early_pieces Server 5) c MOST_PIECES → ⊥
 none_crowded c k =
     let told = one_told c.before c.behind closing_call c.call c.split in
     let datagrams : Some c.datagram ≡ Some hello_datagram = sym c.handed_in ∙ ap (λ (t : Told). handed (hello_datagram ∷ []) t.call t.answer) told.1 in
     let datagram : c.datagram ≡ hello_datagram = cc in
     let openings : Some c.opening ≡ Some hello_opening =
-    sym c.opened ∙ ap (λ (ts : List Told). opens worked_policies.server (came ts).ids (expected_behind (came ts).took) c.datagram) told.0
-    ∙ ap (λ (d : List ℕ). opens worked_policies.server (known started.server.ids) 0 d) datagram ∙ opens_hello in
+    sym c.opened ∙ ap (λ (ts : List Told). came_open worked_policies.server (came ts).took c.call.answer c.datagram) told.0
+    ∙ ap (λ (t : Told). came_open worked_policies.server [] t.answer c.datagram) told.1
+    ∙ ap (λ (d : List ℕ). opens_by_key worked_policies.server 0 d) datagram ∙ opens_hello in
     let opening : c.opening ≡ hello_opening = cc in
     let split = one_frame k.front k.rest k.frame (sym hello_frames_are ∙ ap (λ (o : Opening). frames_of (items o.payload)) (sym opening) ∙ k.frames) in
     let packet : Packet = record { number = c.opening.number; frames = k.front ++ stream k.frame ∷ [] } in

@@ -19,7 +19,6 @@ use Rattle.quic_machine.specs.declared.run.Call.TheVariants as calls
 use Rattle.quic_machine.specs.declared.run.Answer.{Answer}
 use Rattle.quic_machine.specs.declared.run.Answer.TheVariants as answers
 use Rattle.quic_machine.specs.declared.run.ReadCall.{ReadCall}
-use Rattle.quic_machine.specs.Ids.{known}
 use Rattle.quic_machine.specs.End.{IsMade}
 use Rattle.quic_machine.specs.Start.{AreStarted}
 use Rattle.quic_machine.specs.Machine.{IsStep, Follows, view_of}
@@ -29,7 +28,7 @@ use Rattle.quic_headline.specs.Amounts.{taken_of, left_for, WritesTakeWhatLimits
 use Rattle.quic_headline.specs.Causes.{Shows, NoBlame, PacketCame, IsTakenOrCrowded, TakenOrTooMany}
 use Rattle.quic_headline.specs.Headline.{AcceptsAll, IsHonest, IsRun}
 use Rattle.quic_worked.specs.Exchange.{with_uni}
-use Rattle.quic_worked.specs.Worked.{steady, worked_policies, worked_parameters, client_id, server_id, ReadsBy, two_chunks, started, once_opened, once_written, once_ended, once_sent, once_taken, once_accepted, once_read, at_server, hello, hello_datagram, hello_opening, writes_hello, asks_datagram, delivery, delivers, accepts_stream, gives_bytes, sent_view, waiting_view, run_with}
+use Rattle.quic_worked.specs.Worked.{steady, worked_policies, worked_parameters, client_id, server_id, ReadsBy, two_chunks, started, once_opened, once_written, once_ended, once_sent, once_taken, once_accepted, once_read, at_server, hello, hello_datagram, hello_opening, writes_hello, asks_datagram, delivery, delivers, accepts_stream, gives_bytes, sent_view, waiting_view, run_with, once_again}
 use Rattle.quic_worked.specs.Acknowledged.{client_datagram}
 use Rattle.quic_worked.specs.Broken.{IsNoRun, duplicate, injects}
 use Rattle.quic_worked.specs.Machines.{all_dropped}
@@ -38,7 +37,7 @@ use Rattle.quic_worked.specs.Paired.{writes_on}
 use Rattle.quic_worked.specs.Credit.{opens_one_way, accepts_one_way}
 use Rattle.quic_worked.specs.Limited.{limited_start, limited_opened, sixteen}
 use Rattle.quic_worked.specs.Closed.{closed_view}
-use Rattle.quic_worked.specs.Faults.{own_payload, own_limits, ever_blocked, one_way_parameters, one_back, one_way_opened, one_way_written, one_way_sent, one_way_taken, opened_instead, accepted_run, nothing_to_accept, below_dropped, spoilt_datagram, noted_early}
+use Rattle.quic_worked.specs.Faults.{own_payload, own_limits, ever_blocked, one_way_parameters, one_back, one_way_opened, one_way_written, one_way_sent, one_way_taken, opened_instead, accepted_run, nothing_to_accept, below_dropped, spoilt_datagram, noted_early, once_spoilt}
 use Rattle.quic_worked.proofs.WorkedRun as worked
 use Rattle.quic_worked.proofs.WorkedRun.{parameters_say, hello_packet, opens as opens_first}
 use Rattle.quic_worked.proofs.BrokenClauses.{hello_named}
@@ -50,6 +49,7 @@ use Rattle.quic_worked.proofs.BrokenRuns.{IsRefused, stops, behind, behind_sent}
 use Rattle.quic_worked.proofs.LimitedRun.{limited_started, opens as opens_limited}
 use Rattle.quic_worked.proofs.ReorderedRun as reordered
 use Rattle.quic_worked.proofs.ReorderedRun.{writes_abc, gives_abc, writes_def, gives_def, takes_def}
+use Rattle.quic_worked.proofs.Steps.{counts_so}
 
 -- ---- limits that are the end's own
 
@@ -136,18 +136,18 @@ one_back_started = record {
 }
 
 opens_way : IsStep worked_policies one_back opens_one_way (answers.Open (Some 2)) one_way_opened
-opens_way = record { answer = refl; end = refl; control = refl; others = refl; lacking = tt }
+opens_way = record { answer = refl; end = refl; control = refl; heard = counts_so worked_policies one_back opens_one_way (answers.Open (Some 2)); others = refl; lacking = tt }
 
 writes_way : IsStep worked_policies one_way_opened (writes_on 2 hello) (answers.Write (Ok 5)) one_way_written
-writes_way = record { answer = inl refl; end = refl; control = refl; others = refl; lacking = λ lacks. cc }
+writes_way = record { answer = inl refl; end = refl; control = refl; heard = counts_so worked_policies one_way_opened (writes_on 2 hello) (answers.Write (Ok 5)); others = refl; lacking = λ lacks. cc }
 
 gives_way : IsStep worked_policies one_way_written asks_datagram (gives_bytes 34) one_way_sent
 unfolding one_way_sent
-gives_way = record { answer = inl refl; end = refl; control = refl; others = refl; lacking = tt }
+gives_way = record { answer = inl refl; end = refl; control = refl; heard = counts_so worked_policies one_way_written asks_datagram (gives_bytes 34); others = refl; lacking = tt }
 
 takes_way : IsStep worked_policies one_way_sent delivers (answers.Deliver receives.Taken) one_way_taken
 unfolding one_way_taken
-takes_way = record { answer = inl refl; end = refl; control = refl; others = refl; lacking = tt }
+takes_way = record { answer = inl refl; end = refl; control = refl; heard = counts_so worked_policies one_way_sent delivers (answers.Deliver receives.Taken); others = refl; lacking = tt }
 
 -- the stream that an answer accepts
 abbrev accepted_in : Answer → ℕ
@@ -193,7 +193,7 @@ instead_is_honest = record { start = one_back_started; keys = are_keys; ids = ow
 
 accepts_none : IsStep worked_policies once_read accepts_stream (answers.Accept None) nothing_to_accept
 unfolding once_taken
-accepts_none = record { answer = refl; end = refl; control = refl; others = refl; lacking = tt }
+accepts_none = record { answer = refl; end = refl; control = refl; heard = counts_so worked_policies once_read accepts_stream (answers.Accept None); others = refl; lacking = tt }
 
 none_seen : record { client = sent_view; server = waiting_view } ≡ view_of nothing_to_accept
 unfolding once_taken
@@ -229,7 +229,7 @@ accepted_follows read by = (
           worked.takes,
           worked.taken_seen,
           (
-            once_taken,
+            once_again,
             worked.drops_duplicate,
             worked.taken_seen,
             (once_accepted, worked.accepts, worked.accepted_seen, (once_read, worked.reads read by, worked.read_seen, (nothing_to_accept, accepts_none, none_seen, refl))),
@@ -265,10 +265,10 @@ is_drop a = 0
 
 -- what the client's datagrams come to at the server
 abbrev CameTo : List (List ℕ) → List Told → Type 0
-CameTo given told = PacketCame worked_policies.server (known started.server.ids) given told
+CameTo given told = PacketCame worked_policies.server given told
 
 -- a packet that is dropped was neither taken nor crowded
-not_dropped : (given : List (List ℕ)) (told : List Told) (c : CameTo given told) → is_drop c.call.answer ≡ 1 → IsTakenOrCrowded worked_policies.server (known started.server.ids) given told c → ⊥
+not_dropped : (given : List (List ℕ)) (told : List Told) (c : CameTo given told) → is_drop c.call.answer ≡ 1 → IsTakenOrCrowded worked_policies.server given told c → ⊥
 not_dropped given told c drop (inl taken) = let clash : ◌≡◌ {A = ℕ} 1 0 = sym drop ∙ ap is_drop taken in omega (arith, clash)
 not_dropped given told c drop (inr crowded) = let clash : ◌≡◌ {A = ℕ} 1 0 = sym drop ∙ ap is_drop crowded.0 in omega (arith, clash)
 
@@ -355,9 +355,9 @@ noted_came = record {
 pub noted_takes : TakenOrTooMany noted_early → ⊥
 noted_takes h = not_dropped (hello_datagram ∷ []) (until noted_early Server 6) noted_came refl (h Server 6 refl noted_came)
 
-spoilt_drops : IsStep worked_policies once_sent (injects Server spoilt_datagram) (answers.Inject (receives.Dropped drops.NotOpened)) once_sent
+spoilt_drops : IsStep worked_policies once_sent (injects Server spoilt_datagram) (answers.Inject (receives.Dropped drops.NotOpened)) once_spoilt
 unfolding once_sent
-spoilt_drops = record { answer = refl; end = refl; control = refl; others = refl; lacking = tt }
+spoilt_drops = record { answer = refl; end = refl; control = refl; heard = counts_so worked_policies once_sent (injects Server spoilt_datagram) (answers.Inject (receives.Dropped drops.NotOpened)); others = refl; lacking = tt }
 
 noted_no : IsRefused once_sent delivers (answers.Deliver duplicate)
 unfolding once_taken

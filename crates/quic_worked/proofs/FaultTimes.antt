@@ -19,7 +19,7 @@ use Rattle.quic_headline.specs.Observer.{Sent, took, sents_until}
 use Rattle.quic_headline.specs.Moments.{LossMoments, LossTimerQuiet, AllNamed}
 use Rattle.quic_headline.specs.Polls.{GaveNothing, bytes_flying, IsFull, IsHeldBack}
 use Rattle.quic_headline.specs.Headline.{IsHonest, IsRun, NumbersRise, opened_there, NoneAbove, OpensAs, NewestOpens}
-use Rattle.quic_worked.specs.Worked.{worked_policies, started, once_opened, once_written, once_ended, once_sent, once_taken, hello_frame, hello_payload, hello_datagram, hello_opening, asks_datagram, sending_events, sending_answers, open_view, sent_view, view_with, worked_run}
+use Rattle.quic_worked.specs.Worked.{worked_policies, started, once_opened, once_written, once_ended, once_sent, once_taken, hello_frame, hello_payload, hello_datagram, hello_opening, asks_datagram, sending_events, sending_answers, open_view, sent_view, view_with, worked_run, server_id}
 use Rattle.quic_worked.specs.Acknowledged.{client_acked, client_datagram, from_server, ack_payload}
 use Rattle.quic_worked.specs.Broken.{IsNoRun, asks_event, tells_finished}
 use Rattle.quic_worked.specs.Machines.{NeverGives}
@@ -40,6 +40,7 @@ use Rattle.quic_worked.proofs.Named.{ack_of_hello}
 use Rattle.quic_worked.proofs.TimedRun.{moment_in, moment_of}
 use Rattle.quic_worked.proofs.HeldRun as held
 use Rattle.quic_worked.proofs.MessageRuns.{step_0}
+use Rattle.quic_worked.proofs.Steps.{others_so, counts_so}
 
 -- ---- what is dropped moves no clock
 
@@ -54,7 +55,7 @@ pub moved_is_honest : IsHonest clock_moved
 moved_is_honest = honest clock_moved (record { start = refl; keys = refl; client = (tt, (tt, (inl refl, (inl refl, (tt, tt))))); server = (tt, (tt, (tt, (tt, (tt, tt))))) })
 
 drops_late : IsStep worked_policies started injects_late (answers.Inject (receives.Dropped drops.TooShort)) started
-drops_late = record { answer = refl; end = refl; control = refl; others = refl; lacking = tt }
+drops_late = record { answer = refl; end = refl; control = refl; heard = counts_so worked_policies started injects_late (answers.Inject (receives.Dropped drops.TooShort)); others = refl; lacking = tt }
 
 -- the machine shows the moment that is reckoned
 stays : Follows worked_policies started (injected_before 1024000000).events (injected_before 1024000000).answers (injected_before 1024000000).views once_sent
@@ -116,7 +117,7 @@ quiet_is_run read = record { codes = no_codes (quiet_run read).events refl; foll
 
 nothing_told : IsStep worked_policies once_told asks_event (answers.Event None) nothing_to_tell
 unfolding once_acked
-nothing_told = record { answer = refl; end = refl; control = refl; others = refl; lacking = tt }
+nothing_told = record { answer = refl; end = refl; control = refl; heard = counts_so worked_policies once_told asks_event (answers.Event None); others = refl; lacking = tt }
 
 told_seen : both_open ≡ view_of once_told
 unfolding once_acked
@@ -180,7 +181,7 @@ stays_is_honest = acknowledged_is_honest sent_view
 
 -- the one datagram that the client gave, and the packet that it took
 abbrev hello_sent : Sent
-hello_sent = record { number = 0; reference = 0; frames = stream hello_frame ∷ []; moment = 0; size = 34 }
+hello_sent = record { id = server_id; number = 0; reference = 0; frames = stream hello_frame ∷ []; moment = 0; size = 34 }
 
 abbrev ack_packet : Packet
 ack_packet = record { number = 0; frames = ack ack_of_hello ∷ [] }
@@ -223,7 +224,7 @@ hello_is_told read = refl
 
 -- what the observer reads of the client's datagrams: the second alone
 abbrev ping_sent : Sent
-ping_sent = record { number = 1; reference = 0; frames = frames_of (items ping_payload); moment = 0; size = 29 }
+ping_sent = record { id = server_id; number = 1; reference = 0; frames = frames_of (items ping_payload); moment = 0; size = 29 }
 
 never_opens : opened_there cut_short Client 6 (client_datagram 300 250 hello_payload) ≡ None
 never_opens = refl
@@ -265,11 +266,11 @@ never_short views end is = not_short.never views end is.follows is.from_client
 
 waits_behind : IsStep worked_policies (once_held 3) (sends_message ping_message) is_sent held_message
 unfolding held_message
-waits_behind = record { answer = inl refl; end = refl; control = refl; others = refl; lacking = λ lacks. cc }
+waits_behind = record { answer = inl refl; end = refl; control = refl; heard = counts_so worked_policies (once_held 3) (sends_message ping_message) is_sent; others = others_so worked_policies (once_held 3) (sends_message ping_message) is_sent; lacking = λ lacks. cc }
 
 holds_it : IsStep worked_policies held_message (asks_at Client 0) gives_nothing message_held
 unfolding message_held
-holds_it = record { answer = inl refl; end = refl; control = refl; others = refl; lacking = tt }
+holds_it = record { answer = inl refl; end = refl; control = refl; heard = counts_so worked_policies held_message (asks_at Client 0) gives_nothing; others = refl; lacking = tt }
 
 waits_seen : full_view ≡ view_of held_message
 unfolding held_message

@@ -28,6 +28,7 @@ use Rattle.quic_worked.proofs.BrokenRuns.{IsRefused, stops, behind}
 use Rattle.quic_worked.proofs.WorkedKeys.{are_keys}
 use Rattle.quic_worked.proofs.WorkedHonest.{making}
 use Rattle.quic_worked.proofs.WorkedRun.{parameters_say, opens as opens_first, writes as writes_first}
+use Rattle.quic_worked.proofs.Steps.{counts_so}
 
 -- ---- the premises
 
@@ -54,35 +55,35 @@ held_is_honest = record { start = held_started; keys = are_keys; ids = own_ids h
 
 pub opens : IsStep worked_policies held_start opens_stream (answers.Open (Some 0)) (once_held 1)
 unfolding once_held
-opens = record { answer = refl; end = refl; control = refl; others = refl; lacking = tt }
+opens = record { answer = refl; end = refl; control = refl; heard = counts_so worked_policies held_start opens_stream (answers.Open (Some 0)); others = refl; lacking = tt }
 
 pub writes : IsStep worked_policies (once_held 1) (writes_bytes (replicate 4000 0x61)) (answers.Write (Ok 4000)) (once_held 2)
 unfolding once_held
-writes = record { answer = inl refl; end = refl; control = refl; others = refl; lacking = λ lacks. cc }
+writes = record { answer = inl refl; end = refl; control = refl; heard = counts_so worked_policies (once_held 1) (writes_bytes (replicate 4000 0x61)) (answers.Write (Ok 4000)); others = refl; lacking = λ lacks. cc }
 
 pub gives : IsStep worked_policies (once_held 2) (asks_at Client 0) (gives_bytes 1200) (once_held 3)
 unfolding once_held
-gives = record { answer = inl refl; end = refl; control = refl; others = refl; lacking = tt }
+gives = record { answer = inl refl; end = refl; control = refl; heard = counts_so worked_policies (once_held 2) (asks_at Client 0) (gives_bytes 1200); others = refl; lacking = tt }
 
 holds : IsStep worked_policies (once_held 3) (asks_at Client 0) gives_nothing (once_held 4)
 unfolding once_held
-holds = record { answer = inl refl; end = refl; control = refl; others = refl; lacking = tt }
+holds = record { answer = inl refl; end = refl; control = refl; heard = counts_so worked_policies (once_held 3) (asks_at Client 0) gives_nothing; others = refl; lacking = tt }
 
 expires : IsStep worked_policies (once_held 4) (serves Client 1024000000) (answers.Timeout (Ok tt)) (once_held 5)
 unfolding once_held
-expires = record { answer = inl refl; end = refl; control = refl; others = refl; lacking = tt }
+expires = record { answer = inl refl; end = refl; control = refl; heard = counts_so worked_policies (once_held 4) (serves Client 1024000000) (answers.Timeout (Ok tt)); others = refl; lacking = tt }
 
 probes : IsStep worked_policies (once_held 5) (asks_at Client 1024000000) (gives_bytes 1200) (once_held 6)
 unfolding once_held
-probes = record { answer = inl refl; end = refl; control = refl; others = refl; lacking = tt }
+probes = record { answer = inl refl; end = refl; control = refl; heard = counts_so worked_policies (once_held 5) (asks_at Client 1024000000) (gives_bytes 1200); others = refl; lacking = tt }
 
 probes_again : IsStep worked_policies (once_held 6) (asks_at Client 1024000000) (gives_bytes 1200) (once_held 7)
 unfolding once_held
-probes_again = record { answer = inl refl; end = refl; control = refl; others = refl; lacking = tt }
+probes_again = record { answer = inl refl; end = refl; control = refl; heard = counts_so worked_policies (once_held 6) (asks_at Client 1024000000) (gives_bytes 1200); others = refl; lacking = tt }
 
 holds_again : IsStep worked_policies (once_held 7) (asks_at Client 1024000000) gives_nothing (once_held 8)
 unfolding once_held
-holds_again = record { answer = inl refl; end = refl; control = refl; others = refl; lacking = tt }
+holds_again = record { answer = inl refl; end = refl; control = refl; heard = counts_so worked_policies (once_held 7) (asks_at Client 1024000000) gives_nothing; others = refl; lacking = tt }
 
 pub unset_seen : held_view (view_with None None) ≡ view_of (once_held 1)
 unfolding once_held
@@ -172,7 +173,7 @@ abbrev first_frame : StreamValue
 first_frame = record { id = 0; offset = 0; fin = false; bytes = replicate 1172 0x61 }
 
 abbrev first_sent : SentAs
-first_sent = record { number = 0; reference = 0; frames = stream first_frame ∷ []; moment = 0; size = 1200 }
+first_sent = record { id = server_id; number = 0; reference = 0; frames = stream first_frame ∷ []; moment = 0; size = 1200 }
 
 it_flies : flying held_run Client 4 ≡ first_sent ∷ []
 unfolding once_held
@@ -225,7 +226,7 @@ full_asks r i now gave none full other h = elim (h Client i now gave none) [ inl
 
 -- the datagram as it was sent
 abbrev next_sent : SentAs
-next_sent = record { number = 1; reference = 0; frames = stream (record { id = 0; offset = 1172; fin = false; bytes = replicate 1170 0x61 }) ∷ []; moment = 0; size = 1200 }
+next_sent = record { id = server_id; number = 1; reference = 0; frames = stream (record { id = 0; offset = 1172; fin = false; bytes = replicate 1170 0x61 }) ∷ []; moment = 0; size = 1200 }
 
 next_went : sents_until overfull_run Client 4 ≡ sents_until overfull_run Client 3 ++ next_sent ∷ []
 unfolding once_held
@@ -352,6 +353,7 @@ three_fly = refl
 -- the third probe as it was sent
 abbrev third_sent : SentAs
 third_sent = record {
+  id = server_id;
   number = 3;
   reference = 0;
   frames = ping ∷ stream (record { id = 0; offset = 3510; fin = false; bytes = replicate 490 0x61 }) ∷ [];

@@ -7,31 +7,46 @@ use Rattle.quic_machine.specs.declared.run.Answer.TheVariants as answers
 use Rattle.quic_machine.specs.InjectionCases.{injected_leaves}
 use Rattle.quic_machine.specs.Machine.{World, IsStep}
 use Rattle.quic_headline.specs.Headline.{IsRun}
-use Rattle.quic_headline.specs.Isolated.{is_idle, erased, OnlyIdle, Isolated, answered_idle, IsolatedByAnswers, listed_idle, IsolatedByLists}
+use Rattle.quic_headline.specs.Isolated.{is_idle, erased, OnlyIdle, SameButCounts, Isolated, answered_idle, IsolatedByAnswers, listed_idle, IsolatedByLists}
 use Rattle.quic_headline.proofs.Isolated.Erasing.{chosen_idle}
 use Rattle.quic_worked.specs.Worked.{worked_policies, started, once_opened, once_written, once_ended, once_sent, once_taken, hello_datagram, delivers, sending_events, sending_answers}
 use Rattle.quic_worked.specs.Broken.{NeverAnswers, IsNoRun}
-use Rattle.quic_worked.specs.Isolated.{forged_datagram, forges, refused, asks_wait, noisy_run, quiet_run, noted_early, ticked_early}
+use Rattle.quic_worked.specs.Isolated.{forged_datagram, forges, refused, asks_wait, noisy_run, quiet_run, noted_early, ticked_early, came_in, noisy_left, quiet_left}
 use Rattle.quic_worked.proofs.Codes.{no_codes}
 use Rattle.quic_worked.proofs.WorkedHonest.{call_of}
 use Rattle.quic_worked.proofs.WorkedRun as worked
-use Rattle.quic_worked.proofs.WorkedRun.{opens, writes, finishes, gives, takes, drops_duplicate}
+use Rattle.quic_worked.proofs.WorkedRun.{opens, writes, finishes, gives, takes}
 use Rattle.quic_worked.proofs.BrokenRuns.{IsRefused, stops, behind, behind_sent}
+use Rattle.quic_worked.proofs.Steps.{counts_so}
 
 -- ---- the run
 
--- what the key refuses leaves both ends as they are, before the datagram came and behind it
-refused_first : (now : ℕ) → IsStep worked_policies once_sent (forges now) refused once_sent
+-- what the key refuses leaves both ends as they are, before the datagram came and behind it: the server counts it
+refused_first : (now : ℕ) → IsStep worked_policies once_sent (forges now) refused (came_in 1 1 once_sent)
 unfolding once_sent
-refused_first now = record { answer = refl; end = sym (injected_leaves worked_policies.server once_sent.server (record { now = now; ecn = None; bytes = forged_datagram })); control = refl; others = refl; lacking = tt }
+refused_first now = record { answer = refl; end = sym (injected_leaves worked_policies.server once_sent.server (record { now = now; ecn = None; bytes = forged_datagram })); control = refl; heard = counts_so worked_policies once_sent (forges now) refused; others = refl; lacking = tt }
 
-refused_again : (now : ℕ) → IsStep worked_policies once_taken (forges now) refused once_taken
+refused_again : (now : ℕ) → IsStep worked_policies (came_in 3 1 once_taken) (forges now) refused noisy_left
 unfolding once_taken
-refused_again now = record { answer = refl; end = sym (injected_leaves worked_policies.server once_taken.server (record { now = now; ecn = None; bytes = forged_datagram })); control = refl; others = refl; lacking = tt }
+refused_again now = record { answer = refl; end = sym (injected_leaves worked_policies.server once_taken.server (record { now = now; ecn = None; bytes = forged_datagram })); control = refl; heard = counts_so worked_policies (came_in 3 1 once_taken) (forges now) refused; others = refl; lacking = tt }
 
-waits : IsStep worked_policies once_taken asks_wait (answers.Timer (Some 25000000)) once_taken
+-- the datagram comes behind what was refused, and comes again
+takes_behind : IsStep worked_policies (came_in 1 1 once_sent) delivers (answers.Deliver receives.Taken) (came_in 2 1 once_taken)
 unfolding once_taken
-waits = record { answer = refl; end = refl; control = refl; others = refl; lacking = tt }
+takes_behind = record { answer = inl refl; end = refl; control = refl; heard = counts_so worked_policies (came_in 1 1 once_sent) delivers (answers.Deliver receives.Taken); others = refl; lacking = tt }
+
+drops_behind : IsStep worked_policies (came_in 2 1 once_taken) delivers (answers.Deliver (receives.Dropped drops.Duplicate)) (came_in 3 1 once_taken)
+unfolding once_taken
+drops_behind = record { answer = inl refl; end = refl; control = refl; heard = counts_so worked_policies (came_in 2 1 once_taken) delivers (answers.Deliver (receives.Dropped drops.Duplicate)); others = refl; lacking = tt }
+
+waits : (count failures : ℕ) → IsStep worked_policies (came_in count failures once_taken) asks_wait (answers.Timer (Some 25000000)) (came_in count failures once_taken)
+unfolding once_taken
+waits count failures = record { answer = refl; end = refl; control = refl; heard = counts_so worked_policies (came_in count failures once_taken) asks_wait (answers.Timer (Some 25000000)); others = refl; lacking = tt }
+
+-- so many bytes are what it counts of the datagram alone
+pub counted_once : once_taken ≡ quiet_left
+unfolding once_taken
+counted_once = refl
 
 -- the client gave its datagram, and the server none
 gave_hello : hello_datagram ∷ [] ≡ once_taken.from_client
@@ -42,7 +57,7 @@ gave_none : [] ≡ once_taken.from_server
 unfolding once_taken
 gave_none = refl
 
-pub noisy_is_run : IsRun noisy_run once_taken
+pub noisy_is_run : IsRun noisy_run noisy_left
 noisy_is_run = record {
   codes = no_codes noisy_run.events refl;
   follows = (
@@ -62,10 +77,15 @@ noisy_is_run = record {
           gives,
           worked.sent_seen,
           (
-            once_sent,
+            came_in 1 1 once_sent,
             refused_first 1000000000,
             worked.sent_seen,
-            (once_taken, takes, worked.taken_seen, (once_taken, drops_duplicate, worked.taken_seen, (once_taken, refused_again 1000000000, worked.taken_seen, (once_taken, waits, worked.taken_seen, refl)))),
+            (
+              came_in 2 1 once_taken,
+              takes_behind,
+              worked.taken_seen,
+              (came_in 3 1 once_taken, drops_behind, worked.taken_seen, (noisy_left, refused_again 1000000000, worked.taken_seen, (noisy_left, waits 4 2, worked.taken_seen, refl))),
+            ),
           ),
         ),
       ),
@@ -75,13 +95,25 @@ noisy_is_run = record {
   from_server = gave_none;
 }
 
-pub quiet_is_run : IsRun quiet_run once_taken
+-- where nothing else came
+takes_alone : IsStep worked_policies once_sent delivers (answers.Deliver receives.Taken) quiet_left
+takes_alone = subst (λ (w : World). IsStep worked_policies once_sent delivers (answers.Deliver receives.Taken) w) counted_once takes
+
+pub quiet_is_run : IsRun quiet_run quiet_left
 quiet_is_run = record {
   codes = no_codes quiet_run.events refl;
-  follows = (once_opened, opens, refl, (once_written, writes, refl, (once_ended, finishes, refl, (once_sent, gives, worked.sent_seen, (once_taken, takes, worked.taken_seen, (once_taken, waits, worked.taken_seen, refl))))));
+  follows = (once_opened, opens, refl, (once_written, writes, refl, (once_ended, finishes, refl, (once_sent, gives, worked.sent_seen, (quiet_left, takes_alone, worked.taken_seen, (quiet_left, waits 1 0, worked.taken_seen, refl))))));
   from_client = gave_hello;
   from_server = gave_none;
 }
+
+-- what both ends have counted then
+pub noise_same : SameButCounts noisy_left quiet_left
+noise_same = refl
+
+pub noise_sent : noisy_left.client_heard ≡ record { received = 0; sent = 34; failures = 0 }
+unfolding once_taken
+noise_sent = refl
 
 -- less what is chosen it is the quiet run
 pub noise_erased : erased (answered_idle noisy_run) noisy_run ≡ quiet_run
@@ -119,7 +151,7 @@ fifth_idle side (suc (suc (suc (suc zero)))) call a chosen at = let same = call_
 fifth_idle side (suc (suc (suc (suc (suc i))))) call a chosen at = let clash : ◌≡◌ {A = Bool} false true = chosen in absurd cc
 
 pub noted_isolated : (end : World) → Isolated noted_early end → ⊥
-noted_isolated end any = never_noted.never (erased fifth noted_early).views end (any fifth fifth_idle).follows
+noted_isolated end any = let less = any fifth fifth_idle in never_noted.never (erased fifth noted_early).views less.0 less.2.follows
 
 -- by the lists the injection brings nothing, and the datagram is new
 pub noted_by_lists : IsolatedByLists noted_early → ⊥
@@ -133,10 +165,10 @@ never_ticked : NeverAnswers started (sending_events ++ delivers ∷ asks_wait �
 never_ticked = behind_sent (behind refl takes (stops _ _ _ _ _ wait_no))
 
 pub ticked_by_answers : (end : World) → IsolatedByAnswers ticked_early end → ⊥
-ticked_by_answers end run = never_ticked.never (erased (answered_idle ticked_early) ticked_early).views end run.follows
+ticked_by_answers end less = never_ticked.never (erased (answered_idle ticked_early) ticked_early).views less.0 less.2.follows
 
 pub ticked_isolated : (end : World) → Isolated ticked_early end → ⊥
 ticked_isolated end any = ticked_by_answers end (any (answered_idle ticked_early) (chosen_idle ticked_early))
 
 pub no_ticked : IsNoRun ticked_early
-no_ticked = behind_sent (behind refl (refused_first 1000000000) (behind refl takes (stops _ _ _ _ _ wait_no)))
+no_ticked = behind_sent (behind refl (refused_first 1000000000) (behind refl takes_behind (stops _ _ _ _ _ wait_no)))

@@ -14,6 +14,7 @@ pub mod WorkedNumber
 pub mod Named
 mod Injected
 mod ClosedRuns
+mod DestinedRuns
 pub mod WrongRuns
 pub mod LostRuns
 pub mod WrongAcks
@@ -23,7 +24,7 @@ pub mod PairedRun
 mod PairedMachines
 mod PickedRun
 pub mod CreditRuns
-mod RaisedRun
+pub mod RaisedRun
 mod ChunkedRun
 pub mod TimedRun
 mod MeasuredRun
@@ -49,3 +50,5 @@ mod ToldRuns
 mod BoundedRun
 pub mod AllowedRun
 pub mod RepeatedRuns
+pub mod BegunRuns
+mod ResetRun

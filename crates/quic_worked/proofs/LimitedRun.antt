@@ -30,6 +30,7 @@ use Rattle.quic_worked.proofs.WorkedHonest.{are_started}
 use Rattle.quic_worked.proofs.Codes.{no_codes}
 use Rattle.quic_worked.proofs.OwnIds.{AreOwn, BothOwn, own_ids, honest}
 use Rattle.quic_worked.proofs.BrokenRuns.{IsRefused, stops, behind}
+use Rattle.quic_worked.proofs.Steps.{counts_so}
 
 -- ---- the start
 
@@ -67,33 +68,33 @@ abbrev one_heard : View
 one_heard = record { client = waiting_view; server = sent_view }
 
 pub opens : IsStep worked_policies limited_start opens_stream (answers.Open (Some 0)) limited_opened
-opens = record { answer = refl; end = refl; control = refl; others = refl; lacking = tt }
+opens = record { answer = refl; end = refl; control = refl; heard = counts_so worked_policies limited_start opens_stream (answers.Open (Some 0)); others = refl; lacking = tt }
 
 pub opens_both : IsStep worked_policies limited_opened opens_stream (answers.Open (Some 4)) limited_both
-opens_both = record { answer = refl; end = refl; control = refl; others = refl; lacking = tt }
+opens_both = record { answer = refl; end = refl; control = refl; heard = counts_so worked_policies limited_opened opens_stream (answers.Open (Some 4)); others = refl; lacking = tt }
 
 pub writes_first : IsStep worked_policies limited_both (writes_on 0 sixteen) (answers.Write (Ok 5)) limited_first
-writes_first = record { answer = inl refl; end = refl; control = refl; others = refl; lacking = λ lacks. cc }
+writes_first = record { answer = inl refl; end = refl; control = refl; heard = counts_so worked_policies limited_both (writes_on 0 sixteen) (answers.Write (Ok 5)); others = refl; lacking = λ lacks. cc }
 
 pub writes_second : IsStep worked_policies limited_first (writes_on 4 sixteen) (answers.Write (Ok 2)) limited_second
 unfolding with_offsets with_range joining
-writes_second = record { answer = inl refl; end = refl; control = refl; others = refl; lacking = λ lacks. cc }
+writes_second = record { answer = inl refl; end = refl; control = refl; heard = counts_so worked_policies limited_first (writes_on 4 sixteen) (answers.Write (Ok 2)); others = refl; lacking = λ lacks. cc }
 
 pub blocks : IsStep worked_policies limited_second (writes_on 4 sixteen) (answers.Write (Err write_errors.Blocked)) limited_blocked
 unfolding with_offsets with_range joining
-blocks = record { answer = inl refl; end = refl; control = refl; others = refl; lacking = λ lacks. cc }
+blocks = record { answer = inl refl; end = refl; control = refl; heard = counts_so worked_policies limited_second (writes_on 4 sixteen) (answers.Write (Err write_errors.Blocked)); others = refl; lacking = λ lacks. cc }
 
 pub gives : IsStep worked_policies limited_blocked asks_datagram (gives_bytes 39) limited_sent
 unfolding limited_sent
-gives = record { answer = inl refl; end = refl; control = refl; others = refl; lacking = tt }
+gives = record { answer = inl refl; end = refl; control = refl; heard = counts_so worked_policies limited_blocked asks_datagram (gives_bytes 39); others = refl; lacking = tt }
 
 pub takes : IsStep worked_policies limited_sent delivers (answers.Deliver receives.Taken) limited_taken
 unfolding limited_taken
-takes = record { answer = inl refl; end = refl; control = refl; others = refl; lacking = tt }
+takes = record { answer = inl refl; end = refl; control = refl; heard = counts_so worked_policies limited_sent delivers (answers.Deliver receives.Taken); others = refl; lacking = tt }
 
 pub accepts : IsStep worked_policies limited_taken accepts_stream (answers.Accept (Some 0)) limited_accepted
 unfolding limited_taken
-accepts = record { answer = refl; end = refl; control = refl; others = refl; lacking = tt }
+accepts = record { answer = refl; end = refl; control = refl; heard = counts_so worked_policies limited_taken accepts_stream (answers.Accept (Some 0)); others = refl; lacking = tt }
 
 reads_so : ReadsSo limited_accepted 0 true eight_bounds hello_nexts limited_read.server
 unfolding limited_taken
@@ -107,23 +108,23 @@ reads = reads_at limited_accepted limited_read 0 true eight_bounds hello_nexts r
 
 pub raises : IsStep worked_policies limited_read asks_server (gives_bytes 36) limited_given
 unfolding limited_given
-raises = record { answer = inl refl; end = refl; control = refl; others = refl; lacking = tt }
+raises = record { answer = inl refl; end = refl; control = refl; heard = counts_so worked_policies limited_read asks_server (gives_bytes 36); others = refl; lacking = tt }
 
 hears : IsStep worked_policies limited_given client_hears (answers.Deliver receives.Taken) limited_heard
 unfolding limited_heard
-hears = record { answer = inl refl; end = refl; control = refl; others = refl; lacking = tt }
+hears = record { answer = inl refl; end = refl; control = refl; heard = counts_so worked_policies limited_given client_hears (answers.Deliver receives.Taken); others = refl; lacking = tt }
 
 writes_third : IsStep worked_policies limited_heard (writes_on 0 sixteen) (answers.Write (Ok 5)) limited_third
 unfolding limited_heard
-writes_third = record { answer = inl refl; end = refl; control = refl; others = refl; lacking = λ lacks. cc }
+writes_third = record { answer = inl refl; end = refl; control = refl; heard = counts_so worked_policies limited_heard (writes_on 0 sixteen) (answers.Write (Ok 5)); others = refl; lacking = λ lacks. cc }
 
 writes_fourth : IsStep worked_policies limited_third (writes_on 4 sixteen) (answers.Write (Ok 1)) limited_fourth
 unfolding limited_heard
-writes_fourth = record { answer = inl refl; end = refl; control = refl; others = refl; lacking = λ lacks. cc }
+writes_fourth = record { answer = inl refl; end = refl; control = refl; heard = counts_so worked_policies limited_third (writes_on 4 sixteen) (answers.Write (Ok 1)); others = refl; lacking = λ lacks. cc }
 
 blocks_again : IsStep worked_policies limited_fourth (writes_on 4 sixteen) (answers.Write (Err write_errors.Blocked)) limited_end
 unfolding limited_heard
-blocks_again = record { answer = inl refl; end = refl; control = refl; others = refl; lacking = λ lacks. cc }
+blocks_again = record { answer = inl refl; end = refl; control = refl; heard = counts_so worked_policies limited_fourth (writes_on 4 sixteen) (answers.Write (Err write_errors.Blocked)); others = refl; lacking = λ lacks. cc }
 
 sent_seen : one_sent ≡ view_of limited_sent
 unfolding limited_sent

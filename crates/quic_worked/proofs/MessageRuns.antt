@@ -16,16 +16,17 @@ use Rattle.quic_worked.specs.Worked.{worked_policies, started, once_taken, clien
 use Rattle.quic_worked.specs.Broken.{IsNoRun, duplicate}
 use Rattle.quic_worked.specs.Losses.{asks_ping}
 use Rattle.quic_worked.specs.Timed.{asks_at, comes_at, seen_with}
-use Rattle.quic_worked.specs.Messages.{ping_message, message_packet, sends_message, server_asks, server_reads, client_reads, is_sent, gives_message, gives_none, tells_message, once_messaged, message_told, nothing_told, message_read, message_end, message_run, message_twice, message_cut, message_made_up, message_back, long_message, too_large, message_refused, comes_to_server, server_pings, once_late, late_taken, late_read, late_end, both_seen, late_run, message_again}
+use Rattle.quic_worked.specs.Messages.{ping_message, message_packet, sends_message, server_asks, server_reads, client_reads, is_sent, gives_message, gives_none, tells_message, once_messaged, message_repeated, message_told, nothing_told, message_read, message_end, message_run, message_twice, message_cut, message_made_up, message_back, long_message, too_large, message_refused, comes_to_server, server_pings, once_late, late_taken, late_read, late_end, both_seen, late_run, message_again}
 use Rattle.quic_worked.proofs.Codes.{no_codes}
 use Rattle.quic_worked.proofs.OwnIds.{honest}
 use Rattle.quic_worked.proofs.BrokenRuns.{IsRefused, stops, behind}
+use Rattle.quic_worked.proofs.Steps.{counts_so}
 
 -- ---- the events
 
 pub step_0 : IsStep worked_policies started (sends_message ping_message) is_sent (once_messaged 1)
 unfolding once_messaged
-step_0 = record { answer = inl refl; end = refl; control = refl; others = refl; lacking = λ lacks. cc }
+step_0 = record { answer = inl refl; end = refl; control = refl; heard = counts_so worked_policies started (sends_message ping_message) is_sent; others = refl; lacking = λ lacks. cc }
 
 seen_0 : seen_with None None ≡ view_of (once_messaged 1)
 unfolding once_messaged
@@ -33,7 +34,7 @@ seen_0 = refl
 
 pub step_1 : IsStep worked_policies (once_messaged 1) asks_datagram (gives_bytes 32) (once_messaged 2)
 unfolding once_messaged
-step_1 = record { answer = inl refl; end = refl; control = refl; others = refl; lacking = tt }
+step_1 = record { answer = inl refl; end = refl; control = refl; heard = counts_so worked_policies (once_messaged 1) asks_datagram (gives_bytes 32); others = refl; lacking = tt }
 
 seen_1 : seen_with (Some 1024000000) None ≡ view_of (once_messaged 2)
 unfolding once_messaged
@@ -41,17 +42,17 @@ seen_1 = refl
 
 pub step_2 : IsStep worked_policies (once_messaged 2) delivers (answers.Deliver receives.Taken) (once_messaged 3)
 unfolding once_messaged
-step_2 = record { answer = inl refl; end = refl; control = refl; others = refl; lacking = tt }
+step_2 = record { answer = inl refl; end = refl; control = refl; heard = counts_so worked_policies (once_messaged 2) delivers (answers.Deliver receives.Taken); others = refl; lacking = tt }
 
 seen_2 : seen_with (Some 1024000000) (Some 25000000) ≡ view_of (once_messaged 3)
 unfolding once_messaged
 seen_2 = refl
 
-step_3 : IsStep worked_policies (once_messaged 3) delivers (answers.Deliver duplicate) (once_messaged 3)
+step_3 : IsStep worked_policies (once_messaged 3) delivers (answers.Deliver duplicate) message_repeated
 unfolding once_messaged
-step_3 = record { answer = inl refl; end = refl; control = refl; others = refl; lacking = tt }
+step_3 = record { answer = inl refl; end = refl; control = refl; heard = counts_so worked_policies (once_messaged 3) delivers (answers.Deliver duplicate); others = refl; lacking = tt }
 
-seen_3 : seen_with (Some 1024000000) (Some 25000000) ≡ view_of (once_messaged 3)
+seen_3 : seen_with (Some 1024000000) (Some 25000000) ≡ view_of message_repeated
 unfolding once_messaged
 seen_3 = refl
 
@@ -59,8 +60,8 @@ pub answer_message_4 : tells_message ≡ answers.Event (end_tells (once_messaged
 unfolding once_messaged
 answer_message_4 = refl
 
-step_4 : IsStep worked_policies (once_messaged 3) server_asks tells_message message_told
-step_4 = record { answer = answer_message_4; end = refl; control = refl; others = refl; lacking = tt }
+step_4 : IsStep worked_policies message_repeated server_asks tells_message message_told
+step_4 = record { answer = answer_message_4; end = refl; control = refl; heard = counts_so worked_policies message_repeated server_asks tells_message; others = refl; lacking = tt }
 
 seen_4 : seen_with (Some 1024000000) (Some 25000000) ≡ view_of message_told
 unfolding once_messaged
@@ -71,7 +72,7 @@ unfolding once_messaged
 answer_message_5 = refl
 
 step_5 : IsStep worked_policies message_told server_asks (answers.Event None) nothing_told
-step_5 = record { answer = answer_message_5; end = refl; control = refl; others = refl; lacking = tt }
+step_5 = record { answer = answer_message_5; end = refl; control = refl; heard = counts_so worked_policies message_told server_asks (answers.Event None); others = refl; lacking = tt }
 
 seen_5 : seen_with (Some 1024000000) (Some 25000000) ≡ view_of nothing_told
 unfolding once_messaged
@@ -82,7 +83,7 @@ unfolding once_messaged
 answer_message_6 = refl
 
 step_6 : IsStep worked_policies nothing_told server_reads (gives_message ping_message) message_read
-step_6 = record { answer = answer_message_6; end = refl; control = refl; others = refl; lacking = tt }
+step_6 = record { answer = answer_message_6; end = refl; control = refl; heard = counts_so worked_policies nothing_told server_reads (gives_message ping_message); others = refl; lacking = tt }
 
 seen_6 : seen_with (Some 1024000000) (Some 25000000) ≡ view_of message_read
 unfolding once_messaged
@@ -93,14 +94,14 @@ unfolding once_messaged
 answer_message_7 = refl
 
 step_7 : IsStep worked_policies message_read server_reads gives_none message_end
-step_7 = record { answer = answer_message_7; end = refl; control = refl; others = refl; lacking = tt }
+step_7 = record { answer = answer_message_7; end = refl; control = refl; heard = counts_so worked_policies message_read server_reads gives_none; others = refl; lacking = tt }
 
 seen_7 : seen_with (Some 1024000000) (Some 25000000) ≡ view_of message_end
 unfolding once_messaged
 seen_7 = refl
 
 follows : Follows message_run.keys message_run.start message_run.events message_run.answers message_run.views message_end
-follows = (once_messaged 1, step_0, seen_0, (once_messaged 2, step_1, seen_1, (once_messaged 3, step_2, seen_2, (once_messaged 3, step_3, seen_3, (message_told, step_4, seen_4, (nothing_told, step_5, seen_5, (message_read, step_6, seen_6, (message_end, step_7, seen_7, refl))))))))
+follows = (once_messaged 1, step_0, seen_0, (once_messaged 2, step_1, seen_1, (once_messaged 3, step_2, seen_2, (message_repeated, step_3, seen_3, (message_told, step_4, seen_4, (nothing_told, step_5, seen_5, (message_read, step_6, seen_6, (message_end, step_7, seen_7, refl))))))))
 
 gave_message : message_run.from_client ≡ message_end.from_client
 unfolding once_messaged
@@ -242,7 +243,7 @@ pub refused_is_honest : IsHonest message_refused
 refused_is_honest = honest message_refused (record { start = refl; keys = refl; client = (tt, (tt, (tt, (tt, tt)))); server = (tt, (tt, (tt, (tt, tt)))) })
 
 refuses : IsStep worked_policies started (sends_message long_message) too_large started
-refuses = record { answer = inl refl; end = refl; control = refl; others = refl; lacking = λ lacks. cc }
+refuses = record { answer = inl refl; end = refl; control = refl; heard = counts_so worked_policies started (sends_message long_message) too_large; others = refl; lacking = λ lacks. cc }
 
 refused_no : IsRefused started asks_datagram (gives_bytes 1192)
 refused_no (inl e) = cc
@@ -255,7 +256,7 @@ no_refused = behind refl refuses (stops _ _ _ _ _ refused_no)
 
 late_0 : IsStep worked_policies started (sends_message ping_message) is_sent (once_late 1)
 unfolding once_late
-late_0 = record { answer = inl refl; end = refl; control = refl; others = refl; lacking = λ lacks. cc }
+late_0 = record { answer = inl refl; end = refl; control = refl; heard = counts_so worked_policies started (sends_message ping_message) is_sent; others = refl; lacking = λ lacks. cc }
 
 late_seen_0 : both_seen None None None None ≡ view_of (once_late 1)
 unfolding once_late
@@ -263,7 +264,7 @@ late_seen_0 = refl
 
 late_1 : IsStep worked_policies (once_late 1) asks_datagram (gives_bytes 32) (once_late 2)
 unfolding once_late
-late_1 = record { answer = inl refl; end = refl; control = refl; others = refl; lacking = tt }
+late_1 = record { answer = inl refl; end = refl; control = refl; heard = counts_so worked_policies (once_late 1) asks_datagram (gives_bytes 32); others = refl; lacking = tt }
 
 late_seen_1 : both_seen (Some 1024000000) None None None ≡ view_of (once_late 2)
 unfolding once_late
@@ -271,7 +272,7 @@ late_seen_1 = refl
 
 late_2 : IsStep worked_policies (once_late 2) asks_ping answers.Ping (once_late 3)
 unfolding once_late
-late_2 = record { answer = refl; end = refl; control = refl; others = refl; lacking = tt }
+late_2 = record { answer = refl; end = refl; control = refl; heard = counts_so worked_policies (once_late 2) asks_ping answers.Ping; others = refl; lacking = tt }
 
 late_seen_2 : both_seen (Some 1024000000) None None None ≡ view_of (once_late 3)
 unfolding once_late
@@ -279,7 +280,7 @@ late_seen_2 = refl
 
 late_3 : IsStep worked_policies (once_late 3) (asks_at Client 100000000) (gives_bytes 29) (once_late 4)
 unfolding once_late
-late_3 = record { answer = inl refl; end = refl; control = refl; others = refl; lacking = tt }
+late_3 = record { answer = inl refl; end = refl; control = refl; heard = counts_so worked_policies (once_late 3) (asks_at Client 100000000) (gives_bytes 29); others = refl; lacking = tt }
 
 late_seen_3 : both_seen (Some 1124000000) None None None ≡ view_of (once_late 4)
 unfolding once_late
@@ -287,7 +288,7 @@ late_seen_3 = refl
 
 late_4 : IsStep worked_policies (once_late 4) (comes_to_server 105000000 1) (answers.Deliver receives.Taken) (once_late 5)
 unfolding once_late
-late_4 = record { answer = inl refl; end = refl; control = refl; others = refl; lacking = tt }
+late_4 = record { answer = inl refl; end = refl; control = refl; heard = counts_so worked_policies (once_late 4) (comes_to_server 105000000 1) (answers.Deliver receives.Taken); others = refl; lacking = tt }
 
 late_seen_4 : both_seen (Some 1124000000) None None (Some 130000000) ≡ view_of (once_late 5)
 unfolding once_late
@@ -295,7 +296,7 @@ late_seen_4 = refl
 
 late_5 : IsStep worked_policies (once_late 5) server_pings answers.Ping (once_late 6)
 unfolding once_late
-late_5 = record { answer = refl; end = refl; control = refl; others = refl; lacking = tt }
+late_5 = record { answer = refl; end = refl; control = refl; heard = counts_so worked_policies (once_late 5) server_pings answers.Ping; others = refl; lacking = tt }
 
 late_seen_5 : both_seen (Some 1124000000) None None (Some 130000000) ≡ view_of (once_late 6)
 unfolding once_late
@@ -303,7 +304,7 @@ late_seen_5 = refl
 
 late_6 : IsStep worked_policies (once_late 6) (asks_at Server 105000000) (gives_bytes 32) (once_late 7)
 unfolding once_late
-late_6 = record { answer = inl refl; end = refl; control = refl; others = refl; lacking = tt }
+late_6 = record { answer = inl refl; end = refl; control = refl; heard = counts_so worked_policies (once_late 6) (asks_at Server 105000000) (gives_bytes 32); others = refl; lacking = tt }
 
 late_seen_6 : both_seen (Some 1124000000) None (Some 1129000000) None ≡ view_of (once_late 7)
 unfolding once_late
@@ -311,7 +312,7 @@ late_seen_6 = refl
 
 late_7 : IsStep worked_policies (once_late 7) (comes_at Client 110000000) (answers.Deliver receives.Taken) (once_late 8)
 unfolding once_late
-late_7 = record { answer = inl refl; end = refl; control = refl; others = refl; lacking = tt }
+late_7 = record { answer = inl refl; end = refl; control = refl; heard = counts_so worked_policies (once_late 7) (comes_at Client 110000000) (answers.Deliver receives.Taken); others = refl; lacking = tt }
 
 late_seen_7 : both_seen None (Some 135000000) (Some 1129000000) None ≡ view_of (once_late 8)
 unfolding once_late
@@ -319,7 +320,7 @@ late_seen_7 = refl
 
 late_8 : IsStep worked_policies (once_late 8) (comes_to_server 115000000 0) (answers.Deliver receives.Taken) late_taken
 unfolding late_taken
-late_8 = record { answer = inl refl; end = refl; control = refl; others = refl; lacking = tt }
+late_8 = record { answer = inl refl; end = refl; control = refl; heard = counts_so worked_policies (once_late 8) (comes_to_server 115000000 0) (answers.Deliver receives.Taken); others = refl; lacking = tt }
 
 late_seen_8 : both_seen None (Some 135000000) (Some 1129000000) None ≡ view_of late_taken
 unfolding late_taken
@@ -330,7 +331,7 @@ unfolding late_taken
 answer_late_9 = refl
 
 late_9 : IsStep worked_policies late_taken server_reads (gives_message ping_message) late_read
-late_9 = record { answer = answer_late_9; end = refl; control = refl; others = refl; lacking = tt }
+late_9 = record { answer = answer_late_9; end = refl; control = refl; heard = counts_so worked_policies late_taken server_reads (gives_message ping_message); others = refl; lacking = tt }
 
 late_seen_9 : both_seen None (Some 135000000) (Some 1129000000) None ≡ view_of late_read
 unfolding late_taken
@@ -341,7 +342,7 @@ unfolding late_taken
 answer_late_10 = refl
 
 late_10 : IsStep worked_policies late_read server_reads gives_none late_end
-late_10 = record { answer = answer_late_10; end = refl; control = refl; others = refl; lacking = tt }
+late_10 = record { answer = answer_late_10; end = refl; control = refl; heard = counts_so worked_policies late_read server_reads gives_none; others = refl; lacking = tt }
 
 late_seen_10 : both_seen None (Some 135000000) (Some 1129000000) None ≡ view_of late_end
 unfolding late_taken

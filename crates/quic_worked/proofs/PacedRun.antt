@@ -1,37 +1,44 @@
 -- The run in which the pacer holds a datagram back, event by event.
-use Rattle.std.proofs.Common.{◌≡◌, [], ◌∷◌, ◌++◌, Some, None, Ok, false, refl, inl, inr, sym, ◌∙◌, lit<}
+use Rattle.std.proofs.Common.{◌≡◌, ◌⊎◌, ℕ, [], ◌∷◌, ◌++◌, replicate, Option, Some, None, Ok, false, refl, inl, inr, sym, ◌∙◌, lit<}
 use Rattle.quic_wire_core.specs.declared.stream_id.Side.TheVariants.{Client}
 use Rattle.quic_wire_core.specs.declared.shared.EcnCodepoint.TheVariants.{Ect0}
-use Rattle.quic_wire.specs.Value.{stream}
+use Rattle.quic_wire.specs.Value.{ping, padding, stream}
 use Rattle.quic_machine.specs.declared.run.Call.TheVariants as calls
 use Rattle.quic_machine.specs.declared.run.Answer.TheVariants as answers
 use Rattle.quic_machine.specs.Machine.{World, IsStep, view_of}
-use Rattle.quic_headline.specs.Observer.{Sent, sents_until}
+use Rattle.quic_headline.specs.Runs.{Run}
+use Rattle.quic_headline.specs.Observer.{Sent, watch, sents_until}
 use Rattle.quic_headline.specs.Headline.{IsRun}
-use Rattle.quic_headline.specs.Polls.{GaveNothing, GaveAsking, IsByteToGo, IsPaced, PacingBehind, pacer_names, pacing_at}
-use Rattle.quic_worked.specs.Worked.{worked_policies, hello, opens_stream, writes_hello, gives_bytes, open_view, view_with, once_written, once_sent, once_taken}
-use Rattle.quic_worked.specs.Timed.{asks_at}
-use Rattle.quic_worked.specs.Held.{gives_nothing}
-use Rattle.quic_worked.specs.Paced.{full_again, paced_start, once_paced, paced_view, paced_run, needlessly_paced}
+use Rattle.quic_headline.specs.Polls.{GaveNothing, GaveAsking, IsByteToGo, IsPaced, PacingBehind, pacer_names, pacing_at, IsSizeProbe}
+use Rattle.quic_worked.specs.Worked.{worked_policies, hello, opens_stream, writes_hello, gives_bytes, open_view, view_with, once_written, once_sent, once_taken, server_id, sent_view}
+use Rattle.quic_worked.specs.Timed.{asks_at, serves, seen_with}
+use Rattle.quic_worked.specs.Held.{gives_nothing, once_held, held_run}
+use Rattle.quic_worked.specs.Paced.{full_again, paced_start, once_paced, paced_view, paced_run, needlessly_paced, unheld_run, first_expiry, scarce_start, once_scarce, uncharged_run}
+use Rattle.quic_headline.specs.Spread.{pacer_at, named_at, PacerIsOfHistory}
+use Rattle.quic_headline.proofs.Spread.Clause.{pacer_is_of_history}
+use Rattle.quic_worked.specs.Broken.{IsNoRun}
+use Rattle.quic_worked.proofs.BrokenRuns.{IsRefused, stops, behind}
 use Rattle.quic_worked.proofs.Codes.{no_codes}
+use Rattle.quic_worked.proofs.HeldRun.{held_is_honest, held_is_run}
+use Rattle.quic_worked.proofs.Steps.{counts_so}
 
 -- ---- the events
 
 opens : IsStep worked_policies paced_start opens_stream (answers.Open (Some 0)) (once_paced 1)
 unfolding once_paced
-opens = record { answer = refl; end = refl; control = refl; others = refl; lacking = tt }
+opens = record { answer = refl; end = refl; control = refl; heard = counts_so worked_policies paced_start opens_stream (answers.Open (Some 0)); others = refl; lacking = tt }
 
 writes : IsStep worked_policies (once_paced 1) writes_hello (answers.Write (Ok 5)) (once_paced 2)
 unfolding once_paced
-writes = record { answer = inl refl; end = refl; control = refl; others = refl; lacking = λ lacks. cc }
+writes = record { answer = inl refl; end = refl; control = refl; heard = counts_so worked_policies (once_paced 1) writes_hello (answers.Write (Ok 5)); others = refl; lacking = λ lacks. cc }
 
 holds : IsStep worked_policies (once_paced 2) (asks_at Client 0) gives_nothing (once_paced 3)
 unfolding once_paced
-holds = record { answer = inl refl; end = refl; control = refl; others = refl; lacking = tt }
+holds = record { answer = inl refl; end = refl; control = refl; heard = counts_so worked_policies (once_paced 2) (asks_at Client 0) gives_nothing; others = refl; lacking = tt }
 
 gives : IsStep worked_policies (once_paced 3) (asks_at Client full_again) (gives_bytes 34) (once_paced 4)
 unfolding once_paced
-gives = record { answer = inl refl; end = refl; control = refl; others = refl; lacking = tt }
+gives = record { answer = inl refl; end = refl; control = refl; heard = counts_so worked_policies (once_paced 3) (asks_at Client full_again) (gives_bytes 34); others = refl; lacking = tt }
 
 opened_seen : record { client = open_view; server = open_view } ≡ view_of (once_paced 1)
 unfolding once_paced
@@ -97,6 +104,7 @@ is_paced = record { moment = full_again; shown = refl; later = lit< tt }
 -- the datagram as it was sent
 abbrev word_sent : Sent
 word_sent = record {
+  id = server_id;
   number = 0;
   reference = 0;
   frames = stream (record { id = 0; offset = 0; fin = false; bytes = hello }) ∷ [];
@@ -141,3 +149,144 @@ needless_behind (inr e) = (let never : Some full_again ≡ None = sym set_needle
 pub gives_nothing_no : (next : World) → IsStep worked_policies once_written (asks_at Client 0) gives_nothing next → ⊥
 unfolding once_sent
 gives_nothing_no next step = elim (step.answer) [ inl e ↦ cc | inr e ↦ cc ]
+
+-- ---- the pacer by the lists
+
+pub held_tokens : (pacer_at paced_run Client 3).tokens ≡ 0
+unfolding once_taken
+held_tokens = refl
+
+pub lists_name : named_at paced_run Client 2 0 ≡ Some full_again
+unfolding once_taken
+lists_name = refl
+
+pub lists_name_none : named_at paced_run Client 3 full_again ≡ None
+unfolding once_taken
+lists_name_none = refl
+
+pub left_tokens : (pacer_at paced_run Client 4).tokens ≡ 11966
+unfolding once_taken
+left_tokens = refl
+
+pub paid_tokens : (pacer_at held_run Client 3).tokens ≡ 10800
+unfolding once_held
+paid_tokens = refl
+
+pub probe_tokens : (pacer_at held_run Client 8).tokens ≡ 8400
+unfolding once_held
+probe_tokens = refl
+
+pub held_paces : PacerIsOfHistory held_run
+held_paces = pacer_is_of_history held_run (once_held 8) held_is_honest held_is_run
+
+-- ---- a pacer that is never asked
+
+pub unheld_names : named_at unheld_run Client 2 0 ≡ Some full_again
+unfolding once_taken
+unheld_names = refl
+
+-- the datagram as it was sent at once
+abbrev soon_sent : Sent
+soon_sent = record word_sent { moment = 0 }
+
+soon_went : sents_until unheld_run Client 3 ≡ sents_until unheld_run Client 2 ++ soon_sent ∷ []
+unfolding once_taken
+soon_went = refl
+
+abbrev soon_gave : GaveAsking unheld_run Client 2 0
+soon_gave = record { one = record { transmit = record { size = 34; ecn = Some Ect0 }; poll = record { event = refl; answer = refl }; served = refl; sent = soon_sent; went = soon_went }; asks = refl }
+
+soon_probes : (watch unheld_run Client 2).flight.probes ≡ 0
+soon_probes = refl
+
+-- what goes though a later moment is named, goes as no probe of a size
+not_let : (r : Run) (i now moment : ℕ) (gave : GaveAsking r Client i now) → named_at r Client i now ≡ Some moment → ((zeros : ℕ) → gave.one.sent.frames ≡ ping ∷ replicate zeros padding → ⊥) → (named_at r Client i now ≡ None) ⊎ IsSizeProbe r Client i gave.one.sent → ⊥
+not_let r i now moment gave names other (inl none) = (let clash : ◌≡◌ {A = Option ℕ} None (Some moment) = sym none ∙ names in cc)
+not_let r i now moment gave names other (inr probe) = other probe.zeros probe.alone
+
+pub unheld_paces : PacerIsOfHistory unheld_run → ⊥
+unheld_paces h = not_let unheld_run 2 0 full_again soon_gave unheld_names (λ zeros is. cc) ((h Client 2 (calls.Poll 0) (gives_bytes 34) (record { client = sent_view; server = open_view }) refl (record { event = refl; answer = refl }) refl refl).lets soon_gave soon_probes)
+
+unheld_refused : IsRefused (once_paced 2) (asks_at Client 0) (gives_bytes 34)
+unfolding once_paced
+unheld_refused (inl e) = cc
+unheld_refused (inr e) = cc
+
+pub unheld_is_none : IsNoRun unheld_run
+unheld_is_none = behind refl opens (behind refl writes (stops _ _ _ _ _ unheld_refused))
+
+-- ---- probes that take no tokens
+
+pub two_probes : (watch uncharged_run Client 4).flight.probes ≡ 2
+unfolding once_scarce
+two_probes = refl
+
+pub tokens_before : (pacer_at uncharged_run Client 4).tokens ≡ 1200
+unfolding once_scarce
+tokens_before = refl
+
+pub tokens_behind : (pacer_at uncharged_run Client 7).tokens ≡ 1142
+unfolding once_scarce
+tokens_behind = refl
+
+-- when its pacer is full: 10858 tokens more
+abbrev later : ℕ
+later = 1265047600
+
+again_named : named_at uncharged_run Client 7 first_expiry ≡ Some later
+unfolding once_scarce
+again_named = refl
+
+-- the word as it was sent again
+abbrev again_sent : Sent
+again_sent = record { id = server_id; number = 3; reference = 0; frames = stream (record { id = 0; offset = 5; fin = false; bytes = hello }) ∷ []; moment = first_expiry; size = 35 }
+
+again_went : sents_until uncharged_run Client 8 ≡ sents_until uncharged_run Client 7 ++ again_sent ∷ []
+unfolding once_scarce
+again_went = refl
+
+abbrev again_gave : GaveAsking uncharged_run Client 7 first_expiry
+again_gave = record { one = record { transmit = record { size = 35; ecn = Some Ect0 }; poll = record { event = refl; answer = refl }; served = refl; sent = again_sent; went = again_went }; asks = refl }
+
+again_probes : (watch uncharged_run Client 7).flight.probes ≡ 0
+unfolding once_scarce
+again_probes = refl
+
+pub uncharged_paces : PacerIsOfHistory uncharged_run → ⊥
+uncharged_paces h = not_let uncharged_run 7 first_expiry later again_gave again_named (λ zeros is. cc) ((h Client 7 (calls.Poll first_expiry) (gives_bytes 35) (seen_with (Some 3072000000) None) refl (record { event = refl; answer = refl }) refl refl).lets again_gave again_probes)
+
+scarce_opens : IsStep worked_policies scarce_start opens_stream (answers.Open (Some 0)) (once_scarce 1)
+unfolding once_scarce
+scarce_opens = record { answer = refl; end = refl; control = refl; heard = counts_so worked_policies scarce_start opens_stream (answers.Open (Some 0)); others = refl; lacking = tt }
+
+scarce_writes : IsStep worked_policies (once_scarce 1) writes_hello (answers.Write (Ok 5)) (once_scarce 2)
+unfolding once_scarce
+scarce_writes = record { answer = inl refl; end = refl; control = refl; heard = counts_so worked_policies (once_scarce 1) writes_hello (answers.Write (Ok 5)); others = refl; lacking = λ lacks. cc }
+
+scarce_gives : IsStep worked_policies (once_scarce 2) (asks_at Client 0) (gives_bytes 34) (once_scarce 3)
+unfolding once_scarce
+scarce_gives = record { answer = inl refl; end = refl; control = refl; heard = counts_so worked_policies (once_scarce 2) (asks_at Client 0) (gives_bytes 34); others = refl; lacking = tt }
+
+scarce_expires : IsStep worked_policies (once_scarce 3) (serves Client first_expiry) (answers.Timeout (Ok tt)) (once_scarce 4)
+unfolding once_scarce
+scarce_expires = record { answer = inl refl; end = refl; control = refl; heard = counts_so worked_policies (once_scarce 3) (serves Client first_expiry) (answers.Timeout (Ok tt)); others = refl; lacking = tt }
+
+scarce_probes : IsStep worked_policies (once_scarce 4) (asks_at Client first_expiry) (gives_bytes 29) (once_scarce 5)
+unfolding once_scarce
+scarce_probes = record { answer = inl refl; end = refl; control = refl; heard = counts_so worked_policies (once_scarce 4) (asks_at Client first_expiry) (gives_bytes 29); others = refl; lacking = tt }
+
+scarce_probes_again : IsStep worked_policies (once_scarce 5) (asks_at Client first_expiry) (gives_bytes 29) (once_scarce 6)
+unfolding once_scarce
+scarce_probes_again = record { answer = inl refl; end = refl; control = refl; heard = counts_so worked_policies (once_scarce 5) (asks_at Client first_expiry) (gives_bytes 29); others = refl; lacking = tt }
+
+scarce_writes_again : IsStep worked_policies (once_scarce 6) writes_hello (answers.Write (Ok 5)) (once_scarce 7)
+unfolding once_scarce
+scarce_writes_again = record { answer = inl refl; end = refl; control = refl; heard = counts_so worked_policies (once_scarce 6) writes_hello (answers.Write (Ok 5)); others = refl; lacking = λ lacks. cc }
+
+uncharged_refused : IsRefused (once_scarce 7) (asks_at Client first_expiry) (gives_bytes 35)
+unfolding once_scarce
+uncharged_refused (inl e) = cc
+uncharged_refused (inr e) = cc
+
+pub uncharged_is_none : IsNoRun uncharged_run
+uncharged_is_none = behind refl scarce_opens (behind refl scarce_writes (behind refl scarce_gives (behind refl scarce_expires (behind refl scarce_probes (behind refl scarce_probes_again (behind refl scarce_writes_again (stops _ _ _ _ _ uncharged_refused)))))))

@@ -27,6 +27,7 @@ use Rattle.quic_worked.proofs.OwnIds.{honest}
 use Rattle.quic_worked.proofs.WrongRuns.{ends_here, step_on, NotTo}
 use Rattle.quic_worked.proofs.PairedRun as paired
 use Rattle.quic_worked.proofs.TimedRun.{shows}
+use Rattle.quic_worked.proofs.Steps.{counts_so}
 
 pub probed_is_honest : IsHonest probed_run
 probed_is_honest = honest probed_run (record { start = refl; keys = refl; client = (tt, (tt, (inl refl, (inr (inl refl), (inl refl, (tt, (tt, (tt, tt)))))))); server = (tt, (tt, (tt, (tt, (tt, (tt, (tt, (tt, tt)))))))) })
@@ -35,11 +36,11 @@ probed_is_honest = honest probed_run (record { start = refl; keys = refl; client
 
 expires : IsStep worked_policies pair_sent (serves Client 1024000000) (answers.Timeout (Ok tt)) (once_probed 1)
 unfolding once_probed
-expires = record { answer = inl refl; end = refl; control = refl; others = refl; lacking = tt }
+expires = record { answer = inl refl; end = refl; control = refl; heard = counts_so worked_policies pair_sent (serves Client 1024000000) (answers.Timeout (Ok tt)); others = refl; lacking = tt }
 
 probes : IsStep worked_policies (once_probed 1) (asks_at Client 1024000000) (gives_bytes 30) (once_probed 2)
 unfolding once_probed
-probes = record { answer = inl refl; end = refl; control = refl; others = refl; lacking = tt }
+probes = record { answer = inl refl; end = refl; control = refl; heard = counts_so worked_policies (once_probed 1) (asks_at Client 1024000000) (gives_bytes 30); others = refl; lacking = tt }
 
 expired_seen : seen_with (Some 2048000000) None ≡ view_of (once_probed 1)
 unfolding once_probed

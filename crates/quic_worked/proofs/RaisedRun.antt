@@ -3,6 +3,7 @@ use Rattle.std.proofs.Common.{◌≡◌, ℕ, map, List, [], ◌∷◌, ◌++◌
 use Rattle.quic_wire_core.specs.declared.stream_id.Side.TheVariants.{Client, Server}
 use Rattle.quic_wire_core.specs.declared.stream_id.Dir.TheVariants.{Uni}
 use Rattle.quic_wire.specs.Value.{FrameValue, max_data}
+use Rattle.quic_streams_parts.specs.RecvHalf.{greatest_offset}
 use Rattle.quic_streams_parts.specs.Table.{Table}
 use Rattle.quic_machine.specs.declared.answers.Received.TheVariants as receives
 use Rattle.quic_machine.specs.declared.run.ReadCall.{ReadCall}
@@ -14,61 +15,62 @@ use Rattle.quic_headline.specs.Runs.{Packet, In, until}
 use Rattle.quic_headline.specs.Observer.{Sent, took, sents_until}
 use Rattle.quic_headline.specs.Headline.{IsRun}
 use Rattle.quic_headline.proofs.Places.Told.{in_left, in_right, in_append}
-use Rattle.quic_headline.specs.Grown.{DataHasGrown, CountHasGrown, GrownLimitsWaitAt}
+use Rattle.quic_headline.specs.Grown.{HasGrown, DataHasGrown, CountHasGrown, GrownLimitsWaitAt}
 use Rattle.quic_headline.specs.Duties.{AllData, Limit, WasGiven, IsOwed, Waits, IsInFlight, IsUnderWay, LimitHasArrived, HasCome, DutiesAt}
 use Rattle.quic_worked.specs.Worked.{worked_policies, gives_bytes, gives_unmarked}
 use Rattle.quic_worked.specs.Paired.{writes_on, asks_server}
 use Rattle.quic_worked.specs.Losses.{client_polled, server_polled}
 use Rattle.quic_worked.specs.Credit.{narrow_bytes, eight, credit_opened, credit_written, credit_sent, credit_taken, credit_accepted, credit_read, credit_given, credit_events, credit_until, count_taken, count_read, ReadsEight}
-use Rattle.quic_worked.specs.Raised.{server_pings, comes_to_client, client_waits, ack_comes, losing_limit, raised_events, losing_told, raised_told, after_server_ping, first_ping, second_ping, third_ping, third_came, third_due, third_named, limit_lost, limit_again, limit_came, limit_used, raised_views, raised_run, NeverComes, never_noted, limit_forgotten}
+use Rattle.quic_worked.specs.Raised.{server_pings, comes_to_client, client_waits, ack_comes, losing_limit, raised_events, losing_told, raised_told, after_server_ping, first_ping, second_ping, third_ping, third_came, third_due, third_named, limit_lost, limit_again, limit_came, limit_used, raised_views, raised_run, NeverComes, never_noted, limit_forgotten, limit_low}
 use Rattle.quic_worked.proofs.Codes.{no_codes}
 use Rattle.quic_worked.proofs.CreditRuns as credit
 use Rattle.quic_worked.proofs.WrongRuns.{NeverEnds, ends_here, step_on}
+use Rattle.quic_worked.proofs.Steps.{counts_so}
 
 -- ---- the events
 
-pings : (w : World) → IsStep worked_policies w server_pings answers.Ping (after_server_ping w)
-pings w = record { answer = refl; end = refl; control = refl; others = refl; lacking = tt }
+pub pings : (w : World) → IsStep worked_policies w server_pings answers.Ping (after_server_ping w)
+pings w = record { answer = refl; end = refl; control = refl; heard = counts_so worked_policies w server_pings answers.Ping; others = refl; lacking = tt }
 
-gives_first : IsStep worked_policies (after_server_ping credit_given) asks_server (gives_bytes 32) first_ping
+pub gives_first : IsStep worked_policies (after_server_ping credit_given) asks_server (gives_bytes 32) first_ping
 unfolding first_ping
-gives_first = record { answer = inl refl; end = refl; control = refl; others = refl; lacking = tt }
+gives_first = record { answer = inl refl; end = refl; control = refl; heard = counts_so worked_policies (after_server_ping credit_given) asks_server (gives_bytes 32); others = refl; lacking = tt }
 
-gives_second : IsStep worked_policies (after_server_ping first_ping) asks_server (gives_bytes 32) second_ping
+pub gives_second : IsStep worked_policies (after_server_ping first_ping) asks_server (gives_bytes 32) second_ping
 unfolding second_ping
-gives_second = record { answer = inl refl; end = refl; control = refl; others = refl; lacking = tt }
+gives_second = record { answer = inl refl; end = refl; control = refl; heard = counts_so worked_policies (after_server_ping first_ping) asks_server (gives_bytes 32); others = refl; lacking = tt }
 
-gives_third : IsStep worked_policies (after_server_ping second_ping) asks_server (gives_bytes 32) third_ping
+pub gives_third : IsStep worked_policies (after_server_ping second_ping) asks_server (gives_bytes 32) third_ping
 unfolding third_ping
-gives_third = record { answer = inl refl; end = refl; control = refl; others = refl; lacking = tt }
+gives_third = record { answer = inl refl; end = refl; control = refl; heard = counts_so worked_policies (after_server_ping second_ping) asks_server (gives_bytes 32); others = refl; lacking = tt }
 
-comes_third : IsStep worked_policies third_ping (comes_to_client 3) (answers.Deliver receives.Taken) third_came
+pub comes_third : IsStep worked_policies third_ping (comes_to_client 3) (answers.Deliver receives.Taken) third_came
 unfolding third_came
-comes_third = record { answer = inl refl; end = refl; control = refl; others = refl; lacking = tt }
+comes_third = record { answer = inl refl; end = refl; control = refl; heard = counts_so worked_policies third_ping (comes_to_client 3) (answers.Deliver receives.Taken); others = refl; lacking = tt }
 
-waits_third : IsStep worked_policies third_came client_waits (answers.Timeout (Ok tt)) third_due
+pub waits_third : IsStep worked_policies third_came client_waits (answers.Timeout (Ok tt)) third_due
 unfolding third_came
-waits_third = record { answer = inl refl; end = refl; control = refl; others = refl; lacking = tt }
+waits_third = record { answer = inl refl; end = refl; control = refl; heard = counts_so worked_policies third_came client_waits (answers.Timeout (Ok tt)); others = refl; lacking = tt }
 
 names_third : IsStep worked_policies third_due client_polled (gives_unmarked 32) third_named
 unfolding third_named
-names_third = record { answer = inl refl; end = refl; control = refl; others = refl; lacking = tt }
+names_third = record { answer = inl refl; end = refl; control = refl; heard = counts_so worked_policies third_due client_polled (gives_unmarked 32); others = refl; lacking = tt }
 
 loses : IsStep worked_policies third_named ack_comes (answers.Deliver receives.Taken) limit_lost
 unfolding limit_lost
-loses = record { answer = inl refl; end = refl; control = refl; others = refl; lacking = tt }
+loses = record { answer = inl refl; end = refl; control = refl; heard = counts_so worked_policies third_named ack_comes (answers.Deliver receives.Taken); others = refl; lacking = tt }
 
 gives_again : IsStep worked_policies limit_lost server_polled (gives_unmarked 33) limit_again
 unfolding limit_again
-gives_again = record { answer = inl refl; end = refl; control = refl; others = refl; lacking = tt }
+gives_again = record { answer = inl refl; end = refl; control = refl; heard = counts_so worked_policies limit_lost server_polled (gives_unmarked 33); others = refl; lacking = tt }
 
 comes_again : IsStep worked_policies limit_again (comes_to_client 4) (answers.Deliver receives.Taken) limit_came
 unfolding limit_came
-comes_again = record { answer = inl refl; end = refl; control = refl; others = refl; lacking = tt }
+comes_again = record { answer = inl refl; end = refl; control = refl; heard = counts_so worked_policies limit_again (comes_to_client 4) (answers.Deliver receives.Taken); others = refl; lacking = tt }
 
 writes_on_more : IsStep worked_policies limit_came (writes_on 0 eight) (answers.Write (Ok 8)) limit_used
 unfolding limit_came
-writes_on_more = record { answer = inl refl; end = refl; control = refl; others = refl; lacking = λ lacks. cc }
+writes_on_more = record { answer = inl refl; end = refl; control = refl; heard = counts_so worked_policies limit_came (writes_on 0 eight) (answers.Write (Ok 8)); others = refl; lacking = λ lacks. cc }
 
 follows : (read : ReadCall) → ReadsEight read → Follows worked_policies narrow_bytes (raised_events read) raised_told raised_views limit_used
 follows read by = (
@@ -212,6 +214,40 @@ never_to read by = step_on refl credit.opens (step_on refl credit.writes (step_o
 
 pub never_not_noted : (read : ReadCall) → ReadsEight read → NeverComes (take 6 (credit_events read)) credit_until never_noted
 never_not_noted read by views f = (never_to read by).never views never_noted f refl
+
+-- ---- a limit that was told one byte low
+
+window_still : credit_given.server.streams.receiving.window ≡ 8
+unfolding credit_given
+window_still = refl
+
+all_read : consumed limit_low.server.streams.receiving ≡ 8
+unfolding credit_given
+all_read = refl
+
+told_sixteen : credit_given.server.streams.receiving.announced ≡ 16
+unfolding credit_given
+told_sixteen = refl
+
+nothing_noted : limit_low.server.waiting.frames.max_data ≡ false
+unfolding credit_given
+nothing_noted = refl
+
+-- by windows of eight the limit grew by one behind 15
+low_grew : (window used : ℕ) → window ≡ 8 → used ≡ 8 → HasGrown window used greatest_offset 15
+low_grew window used eight_wide eight_used = rw (eight_wide, eight_used) (omega arith)
+
+pub low_shows : (read : ReadCall) → GrownLimitsWaitAt (until (raised_run read) Server 7) limit_low.server → ⊥
+low_shows read h = let clash : false ≡ true = sym nothing_noted ∙ h.bytes (low_grew _ _ window_still all_read) in cc
+
+other_low : limit_low ≡ credit_given → ⊥
+other_low e = let clash : ◌≡◌ {A = ℕ} 15 16 = ap (λ (w : World). w.server.streams.receiving.announced) e ∙ told_sixteen in omega (arith, clash)
+
+low_to : (read : ReadCall) → ReadsEight read → NeverEnds (λ w. limit_low ≡ w) narrow_bytes (take 7 (raised_events read)) (take 7 raised_told)
+low_to read by = step_on refl credit.opens (step_on refl credit.writes (step_on refl credit.gives (step_on refl credit.takes (step_on refl credit.accepts (step_on refl (credit.reads read by) (step_on refl credit.raises (ends_here other_low)))))))
+
+pub never_low : (read : ReadCall) → ReadsEight read → NeverComes (take 7 (raised_events read)) (take 7 raised_told) limit_low
+never_low read by views f = (low_to read by).never views limit_low f refl
 
 -- ---- where the limit is
 

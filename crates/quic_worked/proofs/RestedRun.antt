@@ -1,5 +1,5 @@
 -- The run in which both ends come to rest, event by event, and those of machines that rest too early or not at all.
-use Rattle.std.proofs.Common.{◌≡◌, ℕ, ◌^◌, ◌<◌, List, [], ◌∷◌, ◌++◌, replicate, take, true, Option, Some, None, Ok, refl, inl, inr, sym, ap, ◌∙◌, subst, lit<, lit≤, arith}
+use Rattle.std.proofs.Common.{◌≡◌, ℕ, ◌^◌, ◌<◌, List, [], ◌∷◌, ◌++◌, replicate, take, true, Option, Some, None, Ok, refl, ◌⊎◌, inl, inr, sym, ap, ◌∙◌, subst, lit<, lit≤, arith}
 use Rattle.std.specs.Prelude.{slice_get}
 use Rattle.std.proofs.lemmas.List.Elements.{All-head, All-tail}
 use Rattle.quic_wire_core.specs.declared.stream_id.Side.{Side}
@@ -9,6 +9,7 @@ use Rattle.quic_congestion.specs.Congestion.{Told, Sent, Acked, AcksEnded, Conge
 use Rattle.quic_worked.specs.Settings.{plain_settings}
 use Rattle.quic_machine.specs.declared.answers.Received.TheVariants as receives
 use Rattle.quic_machine.specs.declared.run.RunEvent.{RunEvent}
+use Rattle.quic_machine.specs.declared.run.Call.TheVariants as calls
 use Rattle.quic_machine.specs.declared.run.Answer.{Answer}
 use Rattle.quic_machine.specs.declared.run.Answer.TheVariants as answers
 use Rattle.quic_machine.specs.declared.run.View.{View}
@@ -21,6 +22,7 @@ use Rattle.quic_headline.specs.Observer.{Sent as SentAs, took, sents_until}
 use Rattle.quic_headline.specs.Moments.{loss_timer, ack_timer, AllNamed, LossTimerQuiet}
 use Rattle.quic_headline.specs.Polls.{pacing_timer, IsPaced}
 use Rattle.quic_headline.specs.Headline.{IsHonest, IsRun}
+use Rattle.quic_headline.specs.Spread.{named_at, PacerIsOfHistory}
 use Rattle.quic_headline.specs.Rest.{ShowsStill, Rests, HaveRoom, unanswered, IsUnacknowledged, DeliveredAtRest, NothingOwedAtRest}
 use Rattle.quic_worked.specs.Worked.{ran, worked_policies, client_id, server_id, opens_stream, writes_hello, finishes_stream, asks_datagram, gives_bytes, hello_frame}
 use Rattle.quic_worked.specs.Acknowledged.{client_acked}
@@ -34,6 +36,7 @@ use Rattle.quic_worked.proofs.BrokenRuns.{IsRefused, stops, behind}
 use Rattle.quic_worked.proofs.WorkedKeys.{are_keys}
 use Rattle.quic_worked.proofs.WorkedHonest.{in_range, making}
 use Rattle.quic_worked.proofs.WorkedRun.{parameters_say}
+use Rattle.quic_worked.proofs.Steps.{counts_so}
 
 -- ---- the premises
 
@@ -84,46 +87,46 @@ have_room = record { controlled = record { client = roomy; server = roomy }; cli
 
 opens : IsStep worked_policies rested_start opens_stream (answers.Open (Some 0)) (once_rested 1)
 unfolding once_rested
-opens = record { answer = refl; end = refl; control = refl; others = refl; lacking = tt }
+opens = record { answer = refl; end = refl; control = refl; heard = counts_so worked_policies rested_start opens_stream (answers.Open (Some 0)); others = refl; lacking = tt }
 
 writes : IsStep worked_policies (once_rested 1) writes_hello (answers.Write (Ok 5)) (once_rested 2)
 unfolding once_rested
-writes = record { answer = inl refl; end = refl; control = refl; others = refl; lacking = λ lacks. cc }
+writes = record { answer = inl refl; end = refl; control = refl; heard = counts_so worked_policies (once_rested 1) writes_hello (answers.Write (Ok 5)); others = refl; lacking = λ lacks. cc }
 
 finishes : IsStep worked_policies (once_rested 2) finishes_stream (answers.Finish (Ok tt)) (once_rested 3)
 unfolding once_rested
-finishes = record { answer = inl refl; end = refl; control = refl; others = refl; lacking = λ lacks. cc }
+finishes = record { answer = inl refl; end = refl; control = refl; heard = counts_so worked_policies (once_rested 2) finishes_stream (answers.Finish (Ok tt)); others = refl; lacking = λ lacks. cc }
 
 gives : IsStep worked_policies (once_rested 3) asks_datagram (gives_bytes 34) (once_rested 4)
 unfolding once_rested
-gives = record { answer = inl refl; end = refl; control = refl; others = refl; lacking = tt }
+gives = record { answer = inl refl; end = refl; control = refl; heard = counts_so worked_policies (once_rested 3) asks_datagram (gives_bytes 34); others = refl; lacking = tt }
 
 takes : IsStep worked_policies (once_rested 4) (comes_at Server 10000000) (answers.Deliver receives.Taken) (once_rested 5)
 unfolding once_rested
-takes = record { answer = inl refl; end = refl; control = refl; others = refl; lacking = tt }
+takes = record { answer = inl refl; end = refl; control = refl; heard = counts_so worked_policies (once_rested 4) (comes_at Server 10000000) (answers.Deliver receives.Taken); others = refl; lacking = tt }
 
 is_due : IsStep worked_policies (once_rested 5) (serves Server 35000000) (answers.Timeout (Ok tt)) (once_rested 6)
 unfolding once_rested
-is_due = record { answer = inl refl; end = refl; control = refl; others = refl; lacking = tt }
+is_due = record { answer = inl refl; end = refl; control = refl; heard = counts_so worked_policies (once_rested 5) (serves Server 35000000) (answers.Timeout (Ok tt)); others = refl; lacking = tt }
 
 pub still_roomy : roomy_control ≡ roomy_control
 still_roomy = refl
 
 answers_it : IsStep worked_policies (once_rested 6) (asks_at Server 35000000) (gives_bytes 32) (once_rested 7)
 unfolding once_rested
-answers_it = record { answer = inl refl; end = refl; control = still_roomy; others = refl; lacking = tt }
+answers_it = record { answer = inl refl; end = refl; control = still_roomy; heard = counts_so worked_policies (once_rested 6) (asks_at Server 35000000) (gives_bytes 32); others = refl; lacking = tt }
 
 is_answered : IsStep worked_policies (once_rested 7) (comes_at Client 40000000) (answers.Deliver receives.Taken) (once_rested 8)
 unfolding once_rested
-is_answered = record { answer = inl refl; end = refl; control = refl; others = refl; lacking = tt }
+is_answered = record { answer = inl refl; end = refl; control = refl; heard = counts_so worked_policies (once_rested 7) (comes_at Client 40000000) (answers.Deliver receives.Taken); others = refl; lacking = tt }
 
 client_rests : IsStep worked_policies (once_rested 8) (asks_at Client 40000000) gives_nothing (once_rested 9)
 unfolding once_rested
-client_rests = record { answer = inl refl; end = refl; control = refl; others = refl; lacking = tt }
+client_rests = record { answer = inl refl; end = refl; control = refl; heard = counts_so worked_policies (once_rested 8) (asks_at Client 40000000) gives_nothing; others = refl; lacking = tt }
 
 server_rests : IsStep worked_policies (once_rested 9) (asks_at Server 40000000) gives_nothing (once_rested 10)
 unfolding once_rested
-server_rests = record { answer = inl refl; end = refl; control = still_roomy; others = refl; lacking = tt }
+server_rests = record { answer = inl refl; end = refl; control = still_roomy; heard = counts_so worked_policies (once_rested 9) (asks_at Server 40000000) gives_nothing; others = refl; lacking = tt }
 
 opened_seen : still_view ≡ view_of (once_rested 1)
 unfolding once_rested
@@ -277,9 +280,21 @@ unfoldable once_expired : World
 unfolding once_rested
 once_expired = ran worked_policies (once_rested 4) (serves Client 1024000000 ∷ []) (answers.Timeout (Ok tt) ∷ [])
 
+-- what it has counted before and behind that: its datagram
+sent_before : (once_rested 4).client_heard ≡ record { received = 0; sent = 34; failures = 0 }
+unfolding once_rested
+sent_before = refl
+
+sent_behind : once_expired.client_heard ≡ record { received = 0; sent = 34; failures = 0 }
+unfolding once_expired
+sent_behind = refl
+
+sent_still : once_expired.client_heard ≡ (once_rested 4).client_heard
+sent_still = sent_behind ∙ sym sent_before
+
 expires : IsStep worked_policies (once_rested 4) (serves Client 1024000000) (answers.Timeout (Ok tt)) once_expired
 unfolding once_expired
-expires = record { answer = inl refl; end = refl; control = refl; others = refl; lacking = tt }
+expires = record { answer = inl refl; end = refl; control = refl; heard = sent_still; others = refl; lacking = tt }
 
 forgotten_no : IsRefused once_expired (asks_at Client 1024000000) gives_nothing
 unfolding once_expired
@@ -325,7 +340,7 @@ once_heard = ran worked_policies (once_rested 5) (asks_at Server 10000000 ∷ []
 
 waits : IsStep worked_policies (once_rested 5) (asks_at Server 10000000) gives_nothing once_heard
 unfolding once_heard
-waits = record { answer = inl refl; end = refl; control = refl; others = refl; lacking = tt }
+waits = record { answer = inl refl; end = refl; control = refl; heard = counts_so worked_policies (once_rested 5) (asks_at Server 10000000) gives_nothing; others = refl; lacking = tt }
 
 heard_seen : taken_view ≡ view_of once_heard
 unfolding once_heard
@@ -363,7 +378,7 @@ never_unanswered end f =
 
 -- the client's datagram, as it was sent
 abbrev hello_sent : SentAs
-hello_sent = record { number = 0; reference = 0; frames = stream hello_frame ∷ []; moment = 0; size = 34 }
+hello_sent = record { id = server_id; number = 0; reference = 0; frames = stream hello_frame ∷ []; moment = 0; size = 34 }
 
 sent_one : sents_until timed_on Client 8 ≡ hello_sent ∷ []
 unfolding client_acked
@@ -402,6 +417,17 @@ shows_paced = record { moment = 1000000; shown = refl; later = lit< tt }
 
 pub paced_rests : Rests paced_run Client 3 → ⊥
 paced_rests at = (let shown : paced_view ≡ at.view = cc in set_and_not 1000000 (ap (λ (v : View). pacing_timer v Client) shown ∙ at.still.no_pacing_timer))
+
+-- by the lists the pacer names no later moment
+paced_names : named_at paced_run Client 2 0 ≡ None
+paced_names = refl
+
+set_otherwise : (o : Option ℕ) (moment : ℕ) → o ≡ None → (◌≡◌ {A = Option (Option ℕ)} (Some (Some moment)) (Some None)) ⊎ (◌≡◌ {A = Option (Option ℕ)} (Some (Some moment)) (Some o)) → ⊥
+set_otherwise o moment none (inl is) = set_and_not moment is
+set_otherwise o moment none (inr is) = set_and_not moment (is ∙ ap (λ (x : Option ℕ). Some x) none)
+
+pub paced_paces : PacerIsOfHistory paced_run → ⊥
+paced_paces h = set_otherwise (named_at paced_run Client 2 0) 1000000 paced_names (h Client 2 (calls.Poll 0) gives_nothing paced_view refl (record { event = refl; answer = refl }) refl refl).sets
 
 timed_own : (side : Side) → AreOwn side [] timed_on.events timed_on.answers timed_on.views
 timed_own Client = (tt, (inl refl, (inl refl, (tt, (tt, (tt, (tt, (tt, (tt, (tt, tt))))))))))

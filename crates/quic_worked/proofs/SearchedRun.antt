@@ -23,7 +23,7 @@ use Rattle.quic_worked.specs.Worked.{steady, worked_policies, client_id, server_
 use Rattle.quic_worked.specs.Timed.{serves, asks_at, comes_at, seen_with}
 use Rattle.quic_worked.specs.Searched.{searched_start, once_searched, size_sent, told_of_size, found_view, searched_run}
 use Rattle.quic_worked.proofs.Codes.{no_codes}
-use Rattle.quic_worked.proofs.Steps.{still_steady}
+use Rattle.quic_worked.proofs.Steps.{counts_so, still_steady}
 use Rattle.quic_worked.proofs.OwnIds.{AreOwn, own_ids}
 use Rattle.quic_worked.proofs.WorkedKeys.{are_keys}
 use Rattle.quic_worked.proofs.WorkedHonest.{in_range, making}
@@ -58,23 +58,23 @@ searched_is_honest = record { start = searched_started; keys = are_keys; ids = o
 
 probes : IsStep worked_policies searched_start (asks_at Client 0) (gives_bytes 1326) (once_searched 1)
 unfolding once_searched
-probes = record { answer = inl refl; end = refl; control = still_steady; others = refl; lacking = tt }
+probes = record { answer = inl refl; end = refl; control = still_steady; heard = counts_so worked_policies searched_start (asks_at Client 0) (gives_bytes 1326); others = refl; lacking = tt }
 
 takes : IsStep worked_policies (once_searched 1) (comes_at Server 10000000) (answers.Deliver receives.Taken) (once_searched 2)
 unfolding once_searched
-takes = record { answer = inl refl; end = refl; control = still_steady; others = refl; lacking = tt }
+takes = record { answer = inl refl; end = refl; control = still_steady; heard = counts_so worked_policies (once_searched 1) (comes_at Server 10000000) (answers.Deliver receives.Taken); others = refl; lacking = tt }
 
 is_due : IsStep worked_policies (once_searched 2) (serves Server 35000000) (answers.Timeout (Ok tt)) (once_searched 3)
 unfolding once_searched
-is_due = record { answer = inl refl; end = refl; control = still_steady; others = refl; lacking = tt }
+is_due = record { answer = inl refl; end = refl; control = still_steady; heard = counts_so worked_policies (once_searched 2) (serves Server 35000000) (answers.Timeout (Ok tt)); others = refl; lacking = tt }
 
 answers_it : IsStep worked_policies (once_searched 3) (asks_at Server 35000000) (gives_bytes 32) (once_searched 4)
 unfolding once_searched
-answers_it = record { answer = inl refl; end = refl; control = still_steady; others = refl; lacking = tt }
+answers_it = record { answer = inl refl; end = refl; control = still_steady; heard = counts_so worked_policies (once_searched 3) (asks_at Server 35000000) (gives_bytes 32); others = refl; lacking = tt }
 
 finds : IsStep worked_policies (once_searched 4) (comes_at Client 40000000) (answers.Deliver receives.Taken) (once_searched 5)
 unfolding once_searched
-finds = record { answer = inl refl; end = refl; control = still_steady; others = refl; lacking = tt }
+finds = record { answer = inl refl; end = refl; control = still_steady; heard = counts_so worked_policies (once_searched 4) (comes_at Client 40000000) (answers.Deliver receives.Taken); others = refl; lacking = tt }
 
 probed_seen : seen_with (Some 1024000000) None ≡ view_of (once_searched 1)
 unfolding once_searched
@@ -189,6 +189,7 @@ none_queued = refl
 -- the acknowledgement as it was sent
 abbrev ack_sent : Sent
 ack_sent = record {
+  id = client_id;
   number = 0;
   reference = 0;
   frames = ack (record { largest = 0; delay = 3125; ranges = (0, 0) ∷ []; ecn = None }) ∷ [];

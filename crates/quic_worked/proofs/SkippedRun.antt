@@ -28,6 +28,7 @@ use Rattle.quic_worked.proofs.WorkedHonest.{making}
 use Rattle.quic_worked.proofs.WorkedRun.{parameters_say, server_is_made}
 use Rattle.quic_worked.proofs.BrokenRuns.{IsRefused, stops, behind}
 use Rattle.quic_worked.proofs.WrongRuns.{NeverEnds, ends_here, step_on}
+use Rattle.quic_worked.proofs.Steps.{counts_so}
 
 -- ---- the premises
 
@@ -61,7 +62,7 @@ given_is_honest = record { start = skipping_started; keys = are_keys; ids = own_
 
 step_0 : IsStep worked_policies leaving_out asks_ping answers.Ping (once_skipped 1)
 unfolding once_skipped
-step_0 = record { answer = refl; end = refl; control = refl; others = refl; lacking = tt }
+step_0 = record { answer = refl; end = refl; control = refl; heard = counts_so worked_policies leaving_out asks_ping answers.Ping; others = refl; lacking = tt }
 
 seen_0 : ◌≡◌ {A = View} (record { client = open_view; server = open_view }) (view_of (once_skipped 1))
 unfolding once_skipped
@@ -69,7 +70,7 @@ seen_0 = refl
 
 step_1 : IsStep worked_policies (once_skipped 1) asks_datagram (gives_bytes 29) (once_skipped 2)
 unfolding once_skipped
-step_1 = record { answer = inl refl; end = refl; control = refl; others = refl; lacking = tt }
+step_1 = record { answer = inl refl; end = refl; control = refl; heard = counts_so worked_policies (once_skipped 1) asks_datagram (gives_bytes 29); others = refl; lacking = tt }
 
 seen_1 : ◌≡◌ {A = View} (record { client = sent_view; server = open_view }) (view_of (once_skipped 2))
 unfolding once_skipped
@@ -77,7 +78,7 @@ seen_1 = refl
 
 step_2 : IsStep worked_policies (once_skipped 2) delivers (answers.Deliver receives.Taken) (once_skipped 3)
 unfolding once_skipped
-step_2 = record { answer = inl refl; end = refl; control = refl; others = refl; lacking = tt }
+step_2 = record { answer = inl refl; end = refl; control = refl; heard = counts_so worked_policies (once_skipped 2) delivers (answers.Deliver receives.Taken); others = refl; lacking = tt }
 
 seen_2 : ◌≡◌ {A = View} (record { client = sent_view; server = waiting_view }) (view_of (once_skipped 3))
 unfolding once_skipped
@@ -85,7 +86,7 @@ seen_2 = refl
 
 step_3 : IsStep worked_policies (once_skipped 3) server_waits (answers.Timeout (Ok tt)) (once_skipped 4)
 unfolding once_skipped
-step_3 = record { answer = inl refl; end = refl; control = refl; others = refl; lacking = tt }
+step_3 = record { answer = inl refl; end = refl; control = refl; heard = counts_so worked_policies (once_skipped 3) server_waits (answers.Timeout (Ok tt)); others = refl; lacking = tt }
 
 seen_3 : ◌≡◌ {A = View} (record { client = sent_view; server = open_view }) (view_of (once_skipped 4))
 unfolding once_skipped
@@ -93,7 +94,7 @@ seen_3 = refl
 
 step_4 : IsStep worked_policies (once_skipped 4) server_polled (gives_bytes 32) (once_skipped 5)
 unfolding once_skipped
-step_4 = record { answer = inl refl; end = refl; control = refl; others = refl; lacking = tt }
+step_4 = record { answer = inl refl; end = refl; control = refl; heard = counts_so worked_policies (once_skipped 4) server_polled (gives_bytes 32); others = refl; lacking = tt }
 
 seen_4 : ◌≡◌ {A = View} (record { client = sent_view; server = open_view }) (view_of (once_skipped 5))
 unfolding once_skipped
@@ -101,7 +102,7 @@ seen_4 = refl
 
 step_5 : IsStep worked_policies (once_skipped 5) client_delivered (answers.Deliver receives.Taken) (once_skipped 6)
 unfolding once_skipped
-step_5 = record { answer = inl refl; end = refl; control = refl; others = refl; lacking = tt }
+step_5 = record { answer = inl refl; end = refl; control = refl; heard = counts_so worked_policies (once_skipped 5) client_delivered (answers.Deliver receives.Taken); others = refl; lacking = tt }
 
 seen_5 : ◌≡◌ {A = View} (record { client = open_view; server = open_view }) (view_of (once_skipped 6))
 unfolding once_skipped

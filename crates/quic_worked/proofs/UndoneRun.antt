@@ -33,6 +33,7 @@ use Rattle.quic_worked.proofs.WorkedKeys.{are_keys}
 use Rattle.quic_worked.proofs.WorkedHonest.{in_range, making}
 use Rattle.quic_worked.proofs.WorkedRun.{parameters_say}
 use Rattle.quic_worked.proofs.RestedRun.{have_room}
+use Rattle.quic_worked.proofs.Steps.{counts_so}
 
 -- ---- what is left
 
@@ -103,11 +104,11 @@ once_shut n = ran worked_policies rested_start (take n shut_run.events) (take n 
 
 client_quiet : IsStep worked_policies rested_start asks_datagram gives_nothing (once_shut 1)
 unfolding once_shut
-client_quiet = record { answer = inl refl; end = refl; control = refl; others = refl; lacking = tt }
+client_quiet = record { answer = inl refl; end = refl; control = refl; heard = counts_so worked_policies rested_start asks_datagram gives_nothing; others = refl; lacking = tt }
 
 server_quiet : IsStep worked_policies (once_shut 1) (asks_at Server 0) gives_nothing (once_shut 2)
 unfolding once_shut
-server_quiet = record { answer = inl refl; end = refl; control = refl; others = refl; lacking = tt }
+server_quiet = record { answer = inl refl; end = refl; control = refl; heard = counts_so worked_policies (once_shut 1) (asks_at Server 0) gives_nothing; others = refl; lacking = tt }
 
 shut_no : IsRefused (once_shut 2) opens_stream (answers.Open None)
 unfolding once_shut
@@ -181,11 +182,11 @@ once_lone n read = ran worked_policies lone_start (take n (kept_back_run read).e
 
 lone_opens : (read : ReadCall) → IsStep worked_policies lone_start opens_one_way (answers.Open (Some 2)) (once_lone 1 read)
 unfolding once_lone
-lone_opens read = record { answer = refl; end = refl; control = refl; others = refl; lacking = tt }
+lone_opens read = record { answer = refl; end = refl; control = refl; heard = counts_so worked_policies lone_start opens_one_way (answers.Open (Some 2)); others = refl; lacking = tt }
 
 lone_ends : (read : ReadCall) → IsStep worked_policies (once_lone 1 read) ends_one_way (answers.Finish (Ok tt)) (once_lone 2 read)
 unfolding once_lone
-lone_ends read = record { answer = inl refl; end = refl; control = refl; others = refl; lacking = λ lacks. cc }
+lone_ends read = record { answer = inl refl; end = refl; control = refl; heard = counts_so worked_policies (once_lone 1 read) ends_one_way (answers.Finish (Ok tt)); others = refl; lacking = λ lacks. cc }
 
 lone_no : (read : ReadCall) → IsRefused (once_lone 2 read) accepts_one_way (answers.Accept (Some 2))
 unfolding once_lone

@@ -16,27 +16,28 @@ use Rattle.quic_worked.specs.Worked.{worked_policies, hello_payload, from_client
 use Rattle.quic_worked.specs.Losses.{asks_ping}
 use Rattle.quic_worked.specs.Closed.{closed_view, two_left, last_events, last_answers, last_ended, last_given, last_pinged, last_closed, last_run}
 use Rattle.quic_worked.proofs.Codes.{no_codes}
+use Rattle.quic_worked.proofs.Steps.{counts_so}
 
 opens : IsStep worked_policies two_left opens_stream (answers.Open (Some 0)) (ran worked_policies two_left (take 1 last_events) (take 1 last_answers))
-opens = record { answer = refl; end = refl; control = refl; others = refl; lacking = tt }
+opens = record { answer = refl; end = refl; control = refl; heard = counts_so worked_policies two_left opens_stream (answers.Open (Some 0)); others = refl; lacking = tt }
 
 writes : IsStep worked_policies (ran worked_policies two_left (take 1 last_events) (take 1 last_answers)) writes_hello (answers.Write (Ok 5)) (ran worked_policies two_left (take 2 last_events) (take 2 last_answers))
-writes = record { answer = inl refl; end = refl; control = refl; others = refl; lacking = λ lacks. cc }
+writes = record { answer = inl refl; end = refl; control = refl; heard = counts_so worked_policies (ran worked_policies two_left (take 1 last_events) (take 1 last_answers)) writes_hello (answers.Write (Ok 5)); others = refl; lacking = λ lacks. cc }
 
 finishes : IsStep worked_policies (ran worked_policies two_left (take 2 last_events) (take 2 last_answers)) finishes_stream (answers.Finish (Ok tt)) last_ended
-finishes = record { answer = inl refl; end = refl; control = refl; others = refl; lacking = λ lacks. cc }
+finishes = record { answer = inl refl; end = refl; control = refl; heard = counts_so worked_policies (ran worked_policies two_left (take 2 last_events) (take 2 last_answers)) finishes_stream (answers.Finish (Ok tt)); others = refl; lacking = λ lacks. cc }
 
 gives : IsStep worked_policies last_ended asks_datagram (gives_bytes 37) last_given
 unfolding last_given
-gives = record { answer = inl refl; end = refl; control = refl; others = refl; lacking = tt }
+gives = record { answer = inl refl; end = refl; control = refl; heard = counts_so worked_policies last_ended asks_datagram (gives_bytes 37); others = refl; lacking = tt }
 
 pings : IsStep worked_policies last_given asks_ping answers.Ping last_pinged
 unfolding last_given
-pings = record { answer = refl; end = refl; control = refl; others = refl; lacking = tt }
+pings = record { answer = refl; end = refl; control = refl; heard = counts_so worked_policies last_given asks_ping answers.Ping; others = refl; lacking = tt }
 
 closes : IsStep worked_policies last_pinged asks_datagram (answers.Poll (Ok None)) last_closed
 unfolding last_closed
-closes = record { answer = inl refl; end = refl; control = refl; others = refl; lacking = tt }
+closes = record { answer = inl refl; end = refl; control = refl; heard = counts_so worked_policies last_pinged asks_datagram (answers.Poll (Ok None)); others = refl; lacking = tt }
 
 abbrev one_sent : View
 one_sent = record { client = sent_view; server = open_view }

@@ -69,6 +69,6 @@ by_width n w payload (inr (inl p)) e = absurd (not_two n payload (subst (λ (v :
 by_width n w payload (inr (inr (inl p))) e = absurd (not_three n payload (subst (λ (v : ℕ). IsOfWidth v n payload) p e))
 by_width n w payload (inr (inr (inr p))) e = absurd (not_four n payload (subst (λ (v : ℕ). IsOfWidth v n payload) p e))
 
-pub only_number : (n : ℕ) → IsNumbered worked_policies.client 0 n server_id hello_datagram → n ≡ 0
+pub only_number : (n : ℕ) → IsNumbered worked_policies.client 0 n hello_datagram → n ≡ 0
 only_number n is =
     by_width n (width_for (n - 0)) is.is.payload (widths (nat_lt (2 * (n - 0)) 256) (nat_lt (2 * (n - 0)) 65536) (nat_lt (2 * (n - 0)) 16777216) (width_for (n - 0)) refl) is.is.is

@@ -13,6 +13,7 @@ use Rattle.quic_worked.specs.Settings.{plain_settings}
 use Rattle.quic_streams_state.specs.Reading.{told_bytes, after_read_begun}
 use Rattle.quic_machine.specs.End.{End, MadeFrom, IsMade, streams_at, with_streams}
 use Rattle.quic_machine.specs.Control.{Control}
+use Rattle.quic_machine.specs.Heard.{Heard}
 use Rattle.quic_machine.specs.Machine.{World, IsStep, Follows, changed, view_of}
 use Rattle.quic_machine.specs.StreamCalls.{IsRead}
 use Rattle.quic_machine.specs.Calls.{after_reads}
@@ -20,8 +21,8 @@ use Rattle.quic_machine.specs.Lacking.{NextsLack}
 use Rattle.quic_machine.specs.Poll.{IsDatagram}
 use Rattle.quic_headline.specs.Runs.{Packet, WasTaken, HasArrived, EndHasArrived}
 use Rattle.quic_headline.specs.Observer.{took}
-use Rattle.quic_worked.specs.Worked.{with_server, steady, NextAnswers, ReadsAs, ReadsBy, two_chunks, worked_parameters, client_id, server_id, client_made, server_made, started, once_opened, once_written, once_ended, once_sent, once_taken, once_accepted, once_read, hello_frame, hello_payload, hello_datagram, opens_stream, writes_hello, finishes_stream, asks_datagram, delivers, accepts_stream, reads_stream, all_nexts, gives_bytes, worked_policies, worked_events, worked_answers, open_view, sent_view, waiting_view, worked_views, worked_run}
-use Rattle.quic_worked.proofs.Steps.{server_alone}
+use Rattle.quic_worked.specs.Worked.{with_server, steady, NextAnswers, ReadsAs, ReadsBy, two_chunks, worked_parameters, client_id, server_id, client_made, server_made, started, once_opened, once_written, once_ended, once_sent, once_taken, once_accepted, once_read, hello_frame, hello_payload, hello_datagram, opens_stream, writes_hello, finishes_stream, asks_datagram, delivers, accepts_stream, reads_stream, all_nexts, gives_bytes, worked_policies, worked_events, worked_answers, open_view, sent_view, waiting_view, worked_views, worked_run, once_again}
+use Rattle.quic_worked.proofs.Steps.{server_alone, counts_so}
 
 pub parameters_say : parameters_at worked_parameters ≡ Ok (parameters_of plain_settings)
 unfolding parameters_at judged values_met met_in met_within met_after whole_at entry_at
@@ -40,30 +41,30 @@ server_is_made =
     (sym parameters_say) refl
 
 pub opens : IsStep worked_policies started opens_stream (answers.Open (Some 0)) once_opened
-opens = record { answer = refl; end = refl; control = refl; others = refl; lacking = tt }
+opens = record { answer = refl; end = refl; control = refl; heard = counts_so worked_policies started opens_stream (answers.Open (Some 0)); others = refl; lacking = tt }
 
 pub writes : IsStep worked_policies once_opened writes_hello (answers.Write (Ok 5)) once_written
-writes = record { answer = inl refl; end = refl; control = refl; others = refl; lacking = λ lacks. cc }
+writes = record { answer = inl refl; end = refl; control = refl; heard = counts_so worked_policies once_opened writes_hello (answers.Write (Ok 5)); others = refl; lacking = λ lacks. cc }
 
 pub finishes : IsStep worked_policies once_written finishes_stream (answers.Finish (Ok tt)) once_ended
-finishes = record { answer = inl refl; end = refl; control = refl; others = refl; lacking = λ lacks. cc }
+finishes = record { answer = inl refl; end = refl; control = refl; heard = counts_so worked_policies once_written finishes_stream (answers.Finish (Ok tt)); others = refl; lacking = λ lacks. cc }
 
 pub gives : IsStep worked_policies once_ended asks_datagram (gives_bytes 34) once_sent
 unfolding once_sent
-gives = record { answer = inl refl; end = refl; control = refl; others = refl; lacking = tt }
+gives = record { answer = inl refl; end = refl; control = refl; heard = counts_so worked_policies once_ended asks_datagram (gives_bytes 34); others = refl; lacking = tt }
 
 pub takes : IsStep worked_policies once_sent delivers (answers.Deliver receives.Taken) once_taken
 unfolding once_taken
-takes = record { answer = inl refl; end = refl; control = refl; others = refl; lacking = tt }
+takes = record { answer = inl refl; end = refl; control = refl; heard = counts_so worked_policies once_sent delivers (answers.Deliver receives.Taken); others = refl; lacking = tt }
 
 pub drops_duplicate : IsStep worked_policies once_taken delivers
-    (answers.Deliver (receives.Dropped drops.Duplicate)) once_taken
+    (answers.Deliver (receives.Dropped drops.Duplicate)) once_again
 unfolding once_taken
-drops_duplicate = record { answer = inl refl; end = refl; control = refl; others = refl; lacking = tt }
+drops_duplicate = record { answer = inl refl; end = refl; control = refl; heard = refl; others = refl; lacking = tt }
 
-pub accepts : IsStep worked_policies once_taken accepts_stream (answers.Accept (Some 0)) once_accepted
+pub accepts : IsStep worked_policies once_again accepts_stream (answers.Accept (Some 0)) once_accepted
 unfolding once_taken
-accepts = record { answer = refl; end = refl; control = refl; others = refl; lacking = tt }
+accepts = record { answer = refl; end = refl; control = refl; heard = counts_so worked_policies once_again accepts_stream (answers.Accept (Some 0)); others = refl; lacking = tt }
 
 -- a read of this stream at the server, in order or not, by these bounds, is answered so, and leaves this end
 pub record ReadsSo (w : World) (id : ℕ) (ordered : Bool) (mosts : List ℕ) (nexts : NextAnswers) (next : End) : Type 0 where
@@ -79,17 +80,23 @@ reads_by w id ordered mosts nexts next so read by =
     let by_order : ReadsSo w id read.ordered read.nexts.items nexts next = subst (λ (b : Bool). ReadsSo w id b read.nexts.items nexts next) (sym by.ordered) by_mosts in
     subst (λ (n : ℕ). ReadsSo w n read.ordered read.nexts.items nexts next) (sym by.id) by_order
 
--- it is a step of the server, which gives no datagram, and whose controller is told nothing
+-- it is a step of the server, which gives no datagram, whose controller is told nothing, and which counts nothing
 pub reads_at : (w next : World) (id : ℕ) (ordered : Bool) (mosts : List ℕ) (nexts : NextAnswers) → ReadsSo w id ordered mosts nexts next.server → next ≡ with_server w next.server
     → (read : ReadCall) → ReadsAs id ordered mosts read → IsStep worked_policies w (reads_stream read) (answers.Read (Ok nexts)) next
 reads_at w next id ordered mosts nexts so alone read by =
     let all = reads_by w id ordered mosts nexts next.server so read by in
     let control : next.server_control ≡ w.server_control = ap (λ (x : World). x.server_control) alone in
+    let heard : next.server_heard ≡ w.server_heard = ap (λ (x : World). x.server_heard) alone in
     record {
       answer = all.answer;
       end = all.end;
       control = control;
-      others = alone ∙ server_alone w next.server ∙ ap (λ (c : Control). changed Server w next.server [] c) (sym control);
+      heard = heard;
+      others =
+          alone
+          ∙ server_alone w next.server
+          ∙ ap (λ (c : Control). changed Server w next.server [] c w.server_heard) (sym control)
+          ∙ ap (λ (h : Heard). changed Server w next.server [] next.server_control h) (sym heard);
       lacking = all.lacking;
     }
 
@@ -144,7 +151,7 @@ follows read by = (
           once_taken,
           takes,
           taken_seen,
-          (once_taken, drops_duplicate, taken_seen, (once_accepted, accepts, accepted_seen, (once_read, reads read by, read_seen, refl))),
+          (once_again, drops_duplicate, taken_seen, (once_accepted, accepts, accepted_seen, (once_read, reads read by, read_seen, refl))),
         ),
       ),
     ),

@@ -44,6 +44,7 @@ use Rattle.quic_worked.proofs.WorkedRun.{opens, writes, finishes, gives, takes, 
 use Rattle.quic_worked.proofs.BrokenClauses.{nexts_are, nexts_of, reads_in_order, hello_named, repeats}
 use Rattle.quic_worked.proofs.BrokenRuns.{IsRefused, stops, behind, behind_sent, read_of, not_next, never_reads, twice_no, accept_no, not_opened_no}
 use Rattle.quic_worked.proofs.Named.{ack_of_hello, is_named, early_frames}
+use Rattle.quic_worked.proofs.Steps.{counts_so}
 
 -- ---- a duplicate is taken again
 
@@ -192,7 +193,7 @@ no_skipped = never_reads skipping_nexts skipped_no
 
 pub long_wrongly : OpensExactly long_opens → ⊥
 long_wrongly h =
-    let never : false ≡ true = (h Server 0 _ answers.Opens refl (record { event = refl; answer = refl })).0 refl in
+    let never : false ≡ true = (h Server 0 long_opens.start _ answers.Opens refl refl (record { event = refl; answer = refl })).0 refl in
     cc
 
 pub never_long : IsNoRun long_opens
@@ -431,26 +432,26 @@ no_nothing read views end is = not_nothing.never views end is.follows is.from_cl
 -- ---- two streams
 
 opens_second : IsStep worked_policies once_opened opens_stream (answers.Open (Some 4)) two_opened
-opens_second = record { answer = refl; end = refl; control = refl; others = refl; lacking = tt }
+opens_second = record { answer = refl; end = refl; control = refl; heard = counts_so worked_policies once_opened opens_stream (answers.Open (Some 4)); others = refl; lacking = tt }
 
 writes_it : IsStep worked_policies two_opened writes_second (answers.Write (Ok 5)) two_written
-writes_it = record { answer = inl refl; end = refl; control = refl; others = refl; lacking = λ lacks. cc }
+writes_it = record { answer = inl refl; end = refl; control = refl; heard = counts_so worked_policies two_opened writes_second (answers.Write (Ok 5)); others = refl; lacking = λ lacks. cc }
 
 gives_second : IsStep worked_policies two_written asks_datagram (gives_bytes 34) two_sent
 unfolding two_sent
-gives_second = record { answer = inl refl; end = refl; control = refl; others = refl; lacking = tt }
+gives_second = record { answer = inl refl; end = refl; control = refl; heard = counts_so worked_policies two_written asks_datagram (gives_bytes 34); others = refl; lacking = tt }
 
 takes_second : IsStep worked_policies two_sent delivers (answers.Deliver receives.Taken) two_taken
 unfolding two_taken
-takes_second = record { answer = inl refl; end = refl; control = refl; others = refl; lacking = tt }
+takes_second = record { answer = inl refl; end = refl; control = refl; heard = counts_so worked_policies two_sent delivers (answers.Deliver receives.Taken); others = refl; lacking = tt }
 
 accepts_first : IsStep worked_policies two_taken accepts_stream (answers.Accept (Some 0)) first_accepted
 unfolding two_taken
-accepts_first = record { answer = refl; end = refl; control = refl; others = refl; lacking = tt }
+accepts_first = record { answer = refl; end = refl; control = refl; heard = counts_so worked_policies two_taken accepts_stream (answers.Accept (Some 0)); others = refl; lacking = tt }
 
 accepts_second : IsStep worked_policies first_accepted accepts_stream (answers.Accept (Some 4)) both_accepted
 unfolding two_taken
-accepts_second = record { answer = refl; end = refl; control = refl; others = refl; lacking = tt }
+accepts_second = record { answer = refl; end = refl; control = refl; heard = counts_so worked_policies first_accepted accepts_stream (answers.Accept (Some 4)); others = refl; lacking = tt }
 
 -- behind the datagram that came
 never_second : {events : List RunEvent} {told : List Answer} → NeverAnswers two_taken events told → NeverAnswers started (second_events ++ events) (second_answers ++ told)

@@ -63,11 +63,11 @@ injected p e bytes = injected_if (would_open p e bytes) p e (record { now = 0; e
 
 -- the server, before 25 ms have passed
 abbrev pub server_early : End
-server_early = (timed_out once_taken.server 24999999).end
+server_early = (timed_out worked_policies.server once_taken.server 24999999).end
 
 -- the server, with the acknowledgement due after 25 ms
 abbrev pub server_due : End
-server_due = (timed_out once_taken.server 25000000).end
+server_due = (timed_out worked_policies.server once_taken.server 25000000).end
 
 -- the server, after it gave the acknowledgement
 unfoldable pub server_acked : End
@@ -122,4 +122,4 @@ two_ranges = 0x0a ∷ 0x00 ∷ 0x02 ∷ 0x68 ∷ 0x65 ∷ 0x0e ∷ 0x00 ∷ 0x05
 
 -- the client, after its datagram wasn't acknowledged for 1024 ms
 abbrev pub client_timed_out : End
-client_timed_out = (timed_out once_sent.client 1024000000).end
+client_timed_out = (timed_out worked_policies.client once_sent.client 1024000000).end

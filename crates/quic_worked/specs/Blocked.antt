@@ -11,6 +11,7 @@ use Rattle.quic_machine.specs.declared.run.RunEvent.{RunEvent}
 use Rattle.quic_machine.specs.declared.run.Answer.{Answer}
 use Rattle.quic_machine.specs.declared.run.Answer.TheVariants as answers
 use Rattle.quic_machine.specs.End.{new_end}
+use Rattle.quic_machine.specs.Heard.{nothing_heard}
 use Rattle.quic_machine.specs.Machine.{World}
 use Rattle.quic_headline.specs.Runs.{Run, Packet}
 use Rattle.quic_worked.specs.Settings.{plain_settings}
@@ -66,6 +67,8 @@ small_start window = record {
   from_server = [];
   client_control = roomy_control;
   server_control = roomy_control;
+  client_heard = nothing_heard;
+  server_heard = nothing_heard;
 }
 
 -- the client writes more than the eight bytes that may come, and gives what may; it comes to the

@@ -21,9 +21,10 @@ use Rattle.quic_machine.specs.Tracking.{nothing_tracked}
 use Rattle.quic_machine.specs.End.{with_ack_timer_at, with_tracking}
 use Rattle.quic_machine.specs.Calls.{end_after_event}
 use Rattle.quic_machine.specs.declared.run.View.{View}
+use Rattle.quic_machine.specs.Heard.{nothing_heard, heard_datagram}
 use Rattle.quic_machine.specs.Machine.{World, IsStep, Follows}
 use Rattle.quic_headline.specs.Runs.{Run}
-use Rattle.quic_worked.specs.Worked.{NextAnswers, within, end_after_write, once_opened, failed_end, worked_policies, hello, hello_datagram, started, with_client, with_server, asks_datagram, delivery, delivers, gives_chunk, all_nexts, gives_bytes, sending_events, sending_answers, once_ended, once_sent, open_view, worked_views, worked_run}
+use Rattle.quic_worked.specs.Worked.{NextAnswers, within, end_after_write, once_opened, failed_end, worked_policies, hello, hello_datagram, started, with_client, with_server, asks_datagram, delivery, delivers, gives_chunk, all_nexts, gives_bytes, sending_events, sending_answers, once_ended, once_sent, open_view, worked_views, worked_run, client_counting}
 use Rattle.quic_worked.specs.Acknowledged.{client_acked, server_acked, from_server, ack_payload}
 use Rattle.quic_worked.specs.Reordered.{blocked_nexts}
 
@@ -316,6 +317,10 @@ abbrev pub injected_run : Run
 injected_run =
     injecting (injects Server hello_datagram ∷ injects Client hello_datagram ∷ [])
     (answers.Opens ∷ answers.Inject (receives.Dropped drops.UnknownId) ∷ [])
+
+-- the client counts it
+abbrev pub once_injected : World
+once_injected = client_counting (heard_datagram hello_datagram (receives.Dropped drops.UnknownId) nothing_heard) started
 
 -- no byte at all opens
 abbrev pub always_opens : Run

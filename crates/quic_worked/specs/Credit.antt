@@ -15,6 +15,7 @@ use Rattle.quic_machine.specs.declared.run.Answer.{Answer}
 use Rattle.quic_machine.specs.declared.run.Answer.TheVariants as answers
 use Rattle.quic_machine.specs.declared.run.View.{View}
 use Rattle.quic_machine.specs.End.{new_end}
+use Rattle.quic_machine.specs.Heard.{nothing_heard}
 use Rattle.quic_machine.specs.Machine.{World}
 use Rattle.quic_headline.specs.Runs.{Run}
 use Rattle.quic_worked.specs.Exchange.{with_window, with_uni}
@@ -34,6 +35,8 @@ ends_of narrow = record {
   from_server = [];
   client_control = steady_control;
   server_control = steady_control;
+  client_heard = nothing_heard;
+  server_heard = nothing_heard;
 }
 
 -- the server takes eight bytes at a time

@@ -17,10 +17,11 @@ use Rattle.quic_machine.specs.declared.run.Answer.TheVariants as answers
 use Rattle.quic_machine.specs.declared.run.EndView.{EndView}
 use Rattle.quic_machine.specs.declared.run.View.{View}
 use Rattle.quic_machine.specs.End.{new_end}
+use Rattle.quic_machine.specs.Heard.{nothing_heard, heard_datagram}
 use Rattle.quic_machine.specs.Machine.{World}
 use Rattle.quic_headline.specs.Runs.{Run}
 use Rattle.quic_worked.specs.Exchange.{with_uni}
-use Rattle.quic_worked.specs.Worked.{steady, steady_control, worked_policies, client_id, server_id, started, once_sent, once_taken, once_read, after_event, hello, hello_payload, hello_datagram, opens_stream, asks_datagram, delivers, accepts_stream, gives_bytes, sending_events, sending_answers, open_view, sent_view, waiting_view, view_with, worked_events, worked_answers, worked_views, worked_run}
+use Rattle.quic_worked.specs.Worked.{steady, steady_control, worked_policies, client_id, server_id, started, once_sent, once_taken, once_read, after_event, hello, hello_payload, hello_datagram, opens_stream, asks_datagram, delivers, accepts_stream, gives_bytes, sending_events, sending_answers, open_view, sent_view, waiting_view, view_with, worked_events, worked_answers, worked_views, worked_run, server_counting}
 use Rattle.quic_worked.specs.Acknowledged.{client_datagram}
 use Rattle.quic_worked.specs.Broken.{duplicate, injects, answered_run, asks_event, tells_finished}
 use Rattle.quic_worked.specs.Reordered.{both_events, both_answers, delivers_at, reordered_views}
@@ -94,6 +95,8 @@ one_back = record {
   from_server = [];
   client_control = steady_control;
   server_control = steady_control;
+  client_heard = nothing_heard;
+  server_heard = nothing_heard;
 }
 
 -- the client opens a one-way stream and writes on it, and its datagram comes
@@ -159,6 +162,10 @@ below_dropped = record both_run {
 -- the client's datagram with another last byte, so that it doesn't open
 abbrev pub spoilt_datagram : List ℕ
 spoilt_datagram = take 33 hello_datagram ++ 0x00 ∷ []
+
+-- it came to the server, which counts it
+abbrev pub once_spoilt : World
+once_spoilt = server_counting (heard_datagram spoilt_datagram (receives.Dropped drops.NotOpened) once_sent.server_heard) once_sent
 
 -- a server that notes a number before the packet has opened: it takes the client's datagram for a duplicate of what was injected
 abbrev pub noted_early : Run

@@ -1,7 +1,7 @@
 -- A run in which a window falls as datagrams are lost (RFC 9002, section 7.3.2): that in which a
 -- round trip is measured, with a controller at the client that shows half its window once it was
 -- told of congestion. And a machine whose controller is told of no loss.
-use Rattle.std.specs.Prelude.{ℕ, Bool, true, false, if◌then◌else◌, List, [], ◌∷◌, ◌++◌, replicate, take, Option, Some, None}
+use Rattle.std.specs.Prelude.{ℕ, Bool, true, false, if◌then◌else◌, List, [], ◌∷◌, ◌++◌, replicate, Option, Some, None}
 use Rattle.std.specs.List.{list_any}
 use Rattle.quic_congestion.specs.Congestion.{Told, Sent, Acked, AcksEnded, Congested}
 use Rattle.quic_time.specs.Rtt.{assumed_rtt}
@@ -9,7 +9,7 @@ use Rattle.quic_machine.specs.declared.run.View.{View}
 use Rattle.quic_machine.specs.Control.{Control}
 use Rattle.quic_machine.specs.Machine.{World}
 use Rattle.quic_headline.specs.Runs.{Run}
-use Rattle.quic_worked.specs.Worked.{ran, worked_policies, started}
+use Rattle.quic_worked.specs.Worked.{ran_so_far, worked_policies, started}
 use Rattle.quic_worked.specs.Acknowledged.{client_acked}
 use Rattle.quic_worked.specs.Timed.{seen_with}
 use Rattle.quic_worked.specs.Measured.{measured_events, measured_answers, measured_run}
@@ -30,7 +30,7 @@ halving = record started { client_control = halving_control }
 -- what the first so many events of the run leave
 unfoldable pub once_halving : ℕ → World
 unfolding client_acked
-once_halving n = ran worked_policies halving (take n measured_events) (take n measured_answers)
+once_halving n = ran_so_far worked_policies halving measured_events measured_answers n
 
 -- the client shows half its window, and its loss timer so
 abbrev pub halved_view : Option ℕ → View

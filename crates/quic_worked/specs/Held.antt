@@ -14,6 +14,7 @@ use Rattle.quic_machine.specs.declared.run.View.{View}
 use Rattle.quic_machine.specs.Parts.{Windows}
 use Rattle.quic_machine.specs.End.{new_end}
 use Rattle.quic_machine.specs.Control.{Control}
+use Rattle.quic_machine.specs.Heard.{nothing_heard}
 use Rattle.quic_machine.specs.Machine.{World}
 use Rattle.quic_headline.specs.Runs.{Run}
 use Rattle.quic_worked.specs.Worked.{ran, worked_policies, client_id, server_id, started, opens_stream, writes_hello, asks_datagram, gives_bytes, view_with, open_view, worked_views}
@@ -44,6 +45,8 @@ held_start = record {
   from_server = [];
   client_control = narrow_control;
   server_control = narrow_control;
+  client_heard = nothing_heard;
+  server_heard = nothing_heard;
 }
 
 -- ---- events and answers

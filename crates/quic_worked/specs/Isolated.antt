@@ -1,5 +1,5 @@
 -- Datagrams that don't open, and repeated ones: a run with some and the run that it is without them, and runs of machines on which they leave something.
-use Rattle.std.specs.Prelude.{ℕ, List, [], ◌∷◌, ◌++◌, take, replicate, Some, None}
+use Rattle.std.specs.Prelude.{ℕ, ◌*◌, List, [], ◌∷◌, ◌++◌, take, replicate, Some, None}
 use Rattle.quic_wire_core.specs.declared.stream_id.Side.TheVariants.{Server}
 use Rattle.quic_time.specs.declared.timer.Timer.TheVariants.{MaxAckDelay}
 use Rattle.quic_machine.specs.declared.answers.Received.TheVariants as receives
@@ -9,8 +9,9 @@ use Rattle.quic_machine.specs.declared.run.Call.TheVariants as calls
 use Rattle.quic_machine.specs.declared.run.Answer.{Answer}
 use Rattle.quic_machine.specs.declared.run.Answer.TheVariants as answers
 use Rattle.quic_machine.specs.declared.run.View.{View}
+use Rattle.quic_machine.specs.Machine.{World}
 use Rattle.quic_headline.specs.Runs.{Run}
-use Rattle.quic_worked.specs.Worked.{worked_policies, started, hello_datagram, delivers, sending_events, sending_answers, worked_views, sent_view, open_view, waiting_view}
+use Rattle.quic_worked.specs.Worked.{worked_policies, started, hello_datagram, delivers, sending_events, sending_answers, worked_views, sent_view, open_view, waiting_view, server_counting, once_taken}
 
 -- ---- a run with and without them
 
@@ -63,6 +64,17 @@ quiet_run = record noisy_run {
   answers = sending_answers ++ answers.Deliver receives.Taken ∷ answers.Timer (Some 25000000) ∷ [];
   views = take 4 worked_views ++ replicate 2 taken_seen;
 }
+
+-- the server has counted as received the bytes of so many datagrams as long as the client's, of which so many didn't open
+abbrev pub came_in : ℕ → ℕ → World → World
+came_in count failures w = server_counting (record { received = 34 * count; sent = 0; failures = failures }) w
+
+-- all that the noisy run leaves, and the other one
+abbrev pub noisy_left : World
+noisy_left = came_in 4 2 once_taken
+
+abbrev pub quiet_left : World
+quiet_left = came_in 1 0 once_taken
 
 -- ---- machines on which they leave something
 

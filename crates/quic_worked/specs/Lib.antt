@@ -4,6 +4,7 @@ pub mod Acknowledged
 pub mod Broken
 pub mod Reordered
 pub mod Closed
+pub mod Destined
 pub mod Machines
 pub mod Paired
 pub mod Picked
@@ -31,3 +32,5 @@ pub mod Told
 pub mod Bounded
 pub mod Allowed
 pub mod Repeated
+pub mod Begun
+pub mod Reset

@@ -15,6 +15,7 @@ use Rattle.quic_machine.specs.declared.run.Answer.{Answer}
 use Rattle.quic_machine.specs.declared.run.Answer.TheVariants as answers
 use Rattle.quic_machine.specs.declared.run.View.{View}
 use Rattle.quic_machine.specs.End.{new_end}
+use Rattle.quic_machine.specs.Heard.{nothing_heard}
 use Rattle.quic_machine.specs.Machine.{World}
 use Rattle.quic_machine.specs.Start.{AreStarted}
 use Rattle.quic_headline.specs.Runs.{Run}
@@ -57,6 +58,8 @@ limited_start = record {
   from_server = [];
   client_control = steady_control;
   server_control = steady_control;
+  client_heard = nothing_heard;
+  server_heard = nothing_heard;
 }
 
 -- ---- events and answers

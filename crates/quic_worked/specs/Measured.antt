@@ -16,7 +16,7 @@ use Rattle.quic_time.specs.Timers.{no_timers}
 use Rattle.quic_machine.specs.End.{new_end}
 use Rattle.quic_machine.specs.Machine.{World}
 use Rattle.quic_headline.specs.Runs.{Run}
-use Rattle.quic_worked.specs.Worked.{steady, ran, worked_policies, client_id, server_id, started, with_client, delivers, gives_bytes, open_view, sent_view, waiting_view}
+use Rattle.quic_worked.specs.Worked.{ran_so_far, steady, ran, worked_policies, client_id, server_id, started, with_client, delivers, gives_bytes, open_view, sent_view, waiting_view}
 use Rattle.quic_worked.specs.Acknowledged.{ack_of_third, ack_payload, client_datagram, client_acked, from_server}
 use Rattle.quic_worked.specs.Reordered.{delivers_at}
 use Rattle.quic_worked.specs.Losses.{ping_events, ping_answers, ping_payload, server_waits, server_polled, client_delivered}
@@ -55,7 +55,7 @@ measured_answers =
 -- what the first so many of these leave
 unfoldable pub once_measured : ℕ → World
 unfolding client_acked
-once_measured n = ran worked_policies started (take n measured_events) (take n measured_answers)
+once_measured n = ran_so_far worked_policies started measured_events measured_answers n
 
 -- the views, where the client shows its loss timer so once the acknowledgement came, and once the timers were served
 abbrev pub measured_views : Option ℕ → Option ℕ → List View

@@ -11,9 +11,10 @@ use Rattle.quic_machine.specs.declared.run.Call.TheVariants as calls
 use Rattle.quic_machine.specs.declared.run.Answer.{Answer}
 use Rattle.quic_machine.specs.declared.run.Answer.TheVariants as answers
 use Rattle.quic_machine.specs.declared.run.View.{View}
+use Rattle.quic_machine.specs.Heard.{heard_datagram}
 use Rattle.quic_machine.specs.Machine.{World}
 use Rattle.quic_headline.specs.Runs.{Packet, Run}
-use Rattle.quic_worked.specs.Worked.{after_event, ran, worked_policies, started, once_taken, asks_datagram, delivers, gives_bytes, open_view, view_with}
+use Rattle.quic_worked.specs.Worked.{after_event, ran, server_counting, worked_policies, started, once_taken, asks_datagram, delivers, gives_bytes, open_view, view_with}
 use Rattle.quic_worked.specs.Acknowledged.{client_acked, client_datagram, from_server}
 use Rattle.quic_worked.specs.Broken.{duplicate}
 use Rattle.quic_worked.specs.Losses.{asks_ping, ping_payload}
@@ -91,9 +92,13 @@ unfoldable pub once_messaged : ℕ → World
 unfolding once_taken
 once_messaged n = ran worked_policies started (take n message_events) (take n message_answers)
 
+-- its datagram came again, and was a duplicate: no more than that is counted
+abbrev pub message_repeated : World
+message_repeated = server_counting (heard_datagram message_datagram duplicate (once_messaged 3).server_heard) (once_messaged 3)
+
 -- the application is told that a message came
 abbrev pub message_told : World
-message_told = after_event worked_policies (once_messaged 3) server_asks tells_message
+message_told = after_event worked_policies message_repeated server_asks tells_message
 
 -- and nothing more
 abbrev pub nothing_told : World

@@ -11,18 +11,18 @@ use Rattle.quic_machine.specs.End.{End}
 use Rattle.quic_machine.specs.Control.{with_pacing_timer}
 use Rattle.quic_machine.specs.Machine.{World}
 use Rattle.quic_headline.specs.Runs.{Run}
-use Rattle.quic_worked.specs.Worked.{steady_window, worked_policies, ran, started, with_client, once_written, once_sent, hello, opens_stream, writes_hello, gives_bytes, open_view, view_with}
-use Rattle.quic_worked.specs.Acknowledged.{client_datagram}
-use Rattle.quic_worked.specs.Timed.{asks_at}
+use Rattle.quic_worked.specs.Worked.{steady_window, worked_policies, ran, started, with_client, once_written, once_sent, hello, opens_stream, writes_hello, gives_bytes, open_view, sent_view, view_with}
+use Rattle.quic_worked.specs.Acknowledged.{client_acked, client_datagram}
+use Rattle.quic_worked.specs.Timed.{serves, asks_at, seen_with}
 use Rattle.quic_worked.specs.Held.{gives_nothing}
 
--- an end whose pacer has no token
-abbrev pub without_tokens : End → End
-without_tokens e = record e { path = record e.path { pacing = record e.path.pacing { tokens = 0 } } }
+-- an end whose pacer has so many tokens, of which the last came at a moment
+abbrev pub with_tokens : ℕ → ℕ → End → End
+with_tokens tokens moment e = record e { path = record e.path { pacing = record e.path.pacing { tokens = tokens; refilled = moment } } }
 
 -- both ends, of which the client is so: no new end is, whose pacer is full
 abbrev pub paced_start : World
-paced_start = with_client started (without_tokens started.client)
+paced_start = with_client started (with_tokens 0 0 started.client)
 
 -- when the pacer is full: 12000 tokens take four fifths of 333 ms, since the window of 12000 bytes lets five quarters of itself go in a round trip
 abbrev pub full_again : ℕ
@@ -78,3 +78,70 @@ paced_run = record {
 -- tokens
 abbrev pub needlessly_paced : World
 needlessly_paced = with_client once_written (with_pacing_timer once_written.client (Some full_again))
+
+-- the same client gives its datagram at once
+abbrev pub unheld_run : Run
+unheld_run = record paced_run {
+  events = opens_stream ∷ writes_hello ∷ asks_at Client 0 ∷ [];
+  answers = answers.Open (Some 0) ∷ answers.Write (Ok 5) ∷ gives_bytes 34 ∷ [];
+  views = replicate 2 (record { client = open_view; server = open_view }) ++ record { client = sent_view; server = open_view } ∷ [];
+}
+
+-- ---- probes
+
+-- when the loss timer expires
+abbrev pub first_expiry : ℕ
+first_expiry = 1024000000
+
+-- both ends, of which the client has tokens for one datagram of 1200 bytes and 34 bytes more, and
+-- gets no others before then
+abbrev pub scarce_start : World
+scarce_start = with_client started (with_tokens 1234 first_expiry started.client)
+
+-- The client writes the word, and gives it. Its loss timer expires, and two probes go: PING, and two
+-- bytes of PADDING. It writes the word again, and is asked for a datagram at once.
+abbrev pub scarce_events : List RunEvent
+scarce_events =
+    opens_stream
+    ∷ writes_hello
+    ∷ asks_at Client 0
+    ∷ serves Client first_expiry
+    ∷ asks_at Client first_expiry
+    ∷ asks_at Client first_expiry
+    ∷ writes_hello
+    ∷ asks_at Client first_expiry
+    ∷ []
+
+-- what that is answered up to there
+abbrev pub scarce_answers : List Answer
+scarce_answers =
+    answers.Open (Some 0)
+    ∷ answers.Write (Ok 5)
+    ∷ gives_bytes 34
+    ∷ answers.Timeout (Ok tt)
+    ∷ gives_bytes 29
+    ∷ gives_bytes 29
+    ∷ answers.Write (Ok 5)
+    ∷ []
+
+-- what the first so many of these leave
+unfoldable pub once_scarce : ℕ → World
+unfolding client_acked
+once_scarce n = ran worked_policies scarce_start (take n scarce_events) (take n scarce_answers)
+
+-- a client that gives the word again, though it hasn't tokens for 1200 bytes once the probes took theirs
+abbrev pub uncharged_run : Run
+uncharged_run = record {
+  keys = worked_policies;
+  start = scarce_start;
+  events = scarce_events;
+  answers = scarce_answers ++ gives_bytes 35 ∷ [];
+  views = replicate 2 (seen_with None None) ++ seen_with (Some first_expiry) None ∷ seen_with (Some 2048000000) None ∷ replicate 4 (seen_with (Some 3072000000) None);
+  from_client =
+      client_datagram 0 0 ((0x0a ∷ 0x00 ∷ 0x05 ∷ []) ++ hello)
+      ∷ client_datagram 1 0 (0x01 ∷ 0x00 ∷ 0x00 ∷ [])
+      ∷ client_datagram 2 0 (0x01 ∷ 0x00 ∷ 0x00 ∷ [])
+      ∷ client_datagram 3 0 ((0x0e ∷ 0x00 ∷ 0x05 ∷ 0x05 ∷ []) ++ hello)
+      ∷ [];
+  from_server = [];
+}

@@ -210,6 +210,10 @@ NeverComes events told end = (views : List View) → Follows worked_policies nar
 abbrev pub without_limit : End → End
 without_limit e = record e { waiting = record e.waiting { frames = record e.waiting.frames { max_data = false } } }
 
+-- an end that told its peer that so many bytes may come
+abbrev pub announcing : ℕ → End → End
+announcing limit e = record e { streams = record e.streams { receiving = record e.streams.receiving { announced = limit } } }
+
 -- the server isn't to say that more may come, though all was read
 abbrev pub never_noted : World
 never_noted = with_server credit_read (without_limit credit_read.server)
@@ -217,3 +221,7 @@ never_noted = with_server credit_read (without_limit credit_read.server)
 -- or not again, though the datagram that said it is lost
 abbrev pub limit_forgotten : World
 limit_forgotten = with_server limit_lost (without_limit limit_lost.server)
+
+-- or it said one byte less than may come
+abbrev pub limit_low : World
+limit_low = with_server credit_given (announcing 15 credit_given.server)

@@ -5,7 +5,7 @@ use Rattle.quic_machine.specs.declared.run.ReadCall.{ReadCall}
 use Rattle.quic_machine.specs.declared.run.Answer.TheVariants as answers
 use Rattle.quic_headline.specs.Runs.{Run}
 use Rattle.quic_headline.specs.Observer.{Sent}
-use Rattle.quic_worked.specs.Worked.{worked_policies, started, asks_datagram, gives_bytes}
+use Rattle.quic_worked.specs.Worked.{worked_policies, started, asks_datagram, gives_bytes, client_id, server_id}
 use Rattle.quic_worked.specs.Acknowledged.{from_server}
 use Rattle.quic_worked.specs.Losses.{asks_ping}
 use Rattle.quic_worked.specs.Paired.{asks_server}
@@ -13,9 +13,9 @@ use Rattle.quic_worked.specs.Timed.{seen_with}
 use Rattle.quic_worked.specs.Hasty.{hasty_events, answers_hasty, hasty_views, ack_of_both, pings}
 use Rattle.quic_worked.specs.Limited.{limited_events, limited_answers, limited_views, limited_run, raised_payload}
 
--- a datagram that was given first or second of an end's, at moment 0
-abbrev pub second_sent : List FrameValue → ℕ → Sent
-second_sent frames size = record { number = 1; reference = 0; frames = frames; moment = 0; size = size }
+-- a datagram that was given second of an end's, to this id, at moment 0
+abbrev pub second_sent : List ℕ → List FrameValue → ℕ → Sent
+second_sent to frames size = record { id = to; number = 1; reference = 0; frames = frames; moment = 0; size = size }
 
 -- ---- PING
 
@@ -33,7 +33,7 @@ ping_again = record {
 
 -- the second
 abbrev pub second_ping : Sent
-second_ping = second_sent (ping ∷ padding ∷ padding ∷ []) 29
+second_ping = second_sent server_id (ping ∷ padding ∷ padding ∷ []) 29
 
 -- ---- ACK
 
@@ -51,7 +51,7 @@ ack_again = record {
 
 -- the second
 abbrev pub second_ack : Sent
-second_ack = second_sent (ack (record { largest = 1; delay = 0; ranges = (0, 1) ∷ []; ecn = None }) ∷ []) 31
+second_ack = second_sent client_id (ack (record { largest = 1; delay = 0; ranges = (0, 1) ∷ []; ecn = None }) ∷ []) 31
 
 -- ---- MAX_DATA
 
@@ -66,4 +66,4 @@ limit_again read = record (limited_run read) {
 
 -- the second
 abbrev pub second_limit : Sent
-second_limit = second_sent (max_data 13 ∷ max_stream_data (record { id = 0; limit = 10 }) ∷ ack (record { largest = 0; delay = 0; ranges = (0, 0) ∷ []; ecn = None }) ∷ []) 36
+second_limit = second_sent client_id (max_data 13 ∷ max_stream_data (record { id = 0; limit = 10 }) ∷ ack (record { largest = 0; delay = 0; ranges = (0, 0) ∷ []; ecn = None }) ∷ []) 36

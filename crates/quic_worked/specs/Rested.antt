@@ -15,6 +15,7 @@ use Rattle.quic_machine.specs.declared.run.View.{View}
 use Rattle.quic_machine.specs.Parts.{Windows}
 use Rattle.quic_machine.specs.End.{new_end}
 use Rattle.quic_machine.specs.Control.{Control}
+use Rattle.quic_machine.specs.Heard.{nothing_heard}
 use Rattle.quic_machine.specs.Machine.{World}
 use Rattle.quic_headline.specs.Runs.{Run, Packet}
 use Rattle.quic_worked.specs.Worked.{ran, worked_policies, client_id, server_id, opens_stream, writes_hello, asks_datagram, sending_events, sending_answers, gives_bytes, hello_frame, hello_datagram, view_with}
@@ -45,6 +46,8 @@ rested_start = record {
   from_server = [];
   client_control = roomy_control;
   server_control = roomy_control;
+  client_heard = nothing_heard;
+  server_heard = nothing_heard;
 }
 
 -- ---- the run

@@ -15,7 +15,7 @@ use Rattle.quic_machine.specs.declared.run.View.{View}
 use Rattle.quic_machine.specs.Machine.{World}
 use Rattle.quic_headline.specs.Runs.{Run}
 use Rattle.quic_headline.specs.Observer.{Sent}
-use Rattle.quic_worked.specs.Worked.{ran, worked_policies, started, with_client, searching, gives_bytes, open_view}
+use Rattle.quic_worked.specs.Worked.{ran, worked_policies, started, with_client, searching, gives_bytes, open_view, server_id}
 use Rattle.quic_worked.specs.Acknowledged.{ack_payload, client_acked, client_datagram, from_server}
 use Rattle.quic_worked.specs.Timed.{serves, asks_at, comes_at, seen_with}
 
@@ -45,7 +45,7 @@ size_payload = 0x01 ∷ replicate 1299 0x00
 
 -- the probe as it was sent
 abbrev pub size_sent : Sent
-size_sent = record { number = 0; reference = 0; frames = ping ∷ replicate 1299 padding; moment = 0; size = 1326 }
+size_sent = record { id = server_id; number = 0; reference = 0; frames = ping ∷ replicate 1299 padding; moment = 0; size = 1326 }
 
 -- what the client's controller is told: the probe went, and was acknowledged after 40 ms, before
 -- which a round trip was taken to last 333 ms; the size is that of the probe from then on; and

@@ -8,6 +8,7 @@ use Rattle.quic_worked.specs.Settings.{plain_settings}
 use Rattle.quic_machine.specs.declared.run.ReadCall.{ReadCall}
 use Rattle.quic_machine.specs.declared.run.Answer.TheVariants as answers
 use Rattle.quic_machine.specs.End.{new_end}
+use Rattle.quic_machine.specs.Heard.{nothing_heard}
 use Rattle.quic_machine.specs.Machine.{World}
 use Rattle.quic_headline.specs.Runs.{Run}
 use Rattle.quic_worked.specs.Worked.{worked_policies, client_id, server_id, opens_stream, asks_datagram, reads_stream, ReadsAs}
@@ -57,6 +58,8 @@ lone_start = record {
   from_server = [];
   client_control = roomy_control;
   server_control = roomy_control;
+  client_heard = nothing_heard;
+  server_heard = nothing_heard;
 }
 
 -- one `next` of a read of the one-way stream

@@ -1,7 +1,7 @@
 -- A worked run: the client opens stream 0, writes `hello`, ends it, and gives one datagram; it
 -- comes to the server twice, which takes it once and reads the stream. Events, answers, datagrams
 -- and views are written out; the ends are what the machine makes and leaves.
-use Rattle.std.specs.Prelude.{ℕ, ◌≡◌, ◌-◌, ◌%◌, Bool, true, false, nat_le, nat_eq, ◌&&◌, if◌then◌else◌, List, [], ◌∷◌, ◌++◌, length, take, drop, replicate, slice_index, bit_xor, Option, Some, None, Result, Ok, Err}
+use Rattle.std.specs.Prelude.{ℕ, zero, suc, ◌≡◌, ◌-◌, ◌%◌, Bool, true, false, nat_le, nat_eq, ◌&&◌, if◌then◌else◌, List, [], ◌∷◌, ◌++◌, length, take, drop, replicate, slice_index, bit_xor, Option, Some, None, Result, Ok, Err}
 use Rattle.std.specs.Int.{w64, to_be_bytes}
 use Rattle.std.specs.Cmp.Lexicographic.{pointwise}
 use Rattle.quic_wire_core.specs.StreamId.{other_side}
@@ -45,7 +45,8 @@ use Rattle.quic_machine.specs.Calls.{is_open, after_reads}
 use Rattle.quic_machine.specs.Poll.{Polled, polled}
 use Rattle.quic_machine.specs.Receive.{received}
 use Rattle.quic_machine.specs.Parts.{Windows}
-use Rattle.quic_machine.specs.Machine.{World, Policies, policy_at, given_by, control_at, changed, end_met, after_call, gives, tells}
+use Rattle.quic_machine.specs.Heard.{nothing_heard, Heard, heard_datagram}
+use Rattle.quic_machine.specs.Machine.{World, Policies, policy_at, given_by, control_at, changed, end_met, after_call, gives, tells, heard_at, heard_by}
 use Rattle.quic_headline.specs.Runs.{Run, same_side}
 use Rattle.quic_assembler.specs.declared.assembler.Chunk.{Chunk}
 use Rattle.quic_streams_parts.specs.declared.answers.WriteError.{WriteError}
@@ -62,7 +63,7 @@ use Rattle.quic_streams_state.specs.Reading.{told_bytes, next_answer}
 -- ---- what events leave
 
 -- what one event leaves, by its answer, where memory served: a poll reads the window of its
--- controller first, and the controller is told of the event
+-- controller first, the controller is told of the event, and what comes and goes is counted
 abbrev pub after_event : Policies → World → RunEvent → Answer → World
 after_event k w event a =
     let p = policy_at event.side k in
@@ -70,12 +71,22 @@ after_event k w event a =
     let theirs = given_by (other_side event.side) w in
     let told = tells p met theirs event.call in
     let control = after_told (control_at event.side w) told in
-    changed event.side w (after_call p met theirs event.call a) (gives p met event.call a) control
+    changed event.side w (after_call p met theirs event.call a) (gives p met event.call a) control (heard_by theirs event.call a (heard_at event.side w))
 
 -- what events leave, one behind another
 abbrev pub ran : Policies → World → List RunEvent → List Answer → World
 ran k w (event ∷ events) (a ∷ told) = ran k (after_event k w event a) events told
 ran k w events told = w
+
+-- what the first of these events leaves
+abbrev pub stepped : Policies → World → List RunEvent → List Answer → World
+stepped k w (event ∷ events) (a ∷ told) = after_event k w event a
+stepped k w events told = w
+
+-- what the first so many leave, each behind the world that those before it left
+abbrev pub ran_so_far : Policies → World → List RunEvent → List Answer → ℕ → World
+ran_so_far k w events told zero = w
+ran_so_far k w events told (suc n) = stepped k (ran_so_far k w events told n) (drop n events) (drop n told)
 
 -- what the controller of one of the ends is told of events, one behind another
 abbrev pub told_in : Side → Policies → World → List RunEvent → List Answer → List Told
@@ -197,6 +208,8 @@ started = record {
   from_server = [];
   client_control = steady_control;
   server_control = steady_control;
+  client_heard = nothing_heard;
+  server_heard = nothing_heard;
 }
 
 -- two ends, of which the client is this one
@@ -206,6 +219,14 @@ with_client w e = record w { client = e }
 -- two ends, of which the server is this one
 abbrev pub with_server : World → End → World
 with_server w e = record w { server = e }
+
+-- two ends, of which the client has counted this
+abbrev pub client_counting : Heard → World → World
+client_counting heard w = record w { client_heard = heard }
+
+-- two ends, of which the server has counted this
+abbrev pub server_counting : Heard → World → World
+server_counting heard w = record w { server_heard = heard }
 
 -- what the client gives at a moment
 abbrev pub client_gives : End → ℕ → Polled
@@ -470,9 +491,13 @@ unfoldable pub once_taken : World
 unfolding once_sent items items_within frame_at body_at kind_of stream_at offset_at data_at sized_at block_at
 once_taken = after_event worked_policies once_sent delivers (answers.Deliver receives.Taken)
 
+-- the datagram came again, and was a duplicate: no more than that is counted
+abbrev pub once_again : World
+once_again = server_counting (heard_datagram hello_datagram (receives.Dropped drops.Duplicate) once_taken.server_heard) once_taken
+
 -- it accepted the stream
 abbrev pub once_accepted : World
-once_accepted = after_event worked_policies once_taken accepts_stream (answers.Accept (Some 0))
+once_accepted = after_event worked_policies once_again accepts_stream (answers.Accept (Some 0))
 
 -- it read two chunks of at most 32 bytes: all bytes, and the end
 abbrev pub once_read : World

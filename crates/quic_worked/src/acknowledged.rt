@@ -31,10 +31,10 @@ pub fn hello_is_acknowledged()
     ensures set { timer_at MaxAckDelay once_taken.server.timers ≡ Some 25000000 }
     ensures next { next_timer once_taken.server.timers ≡ Some 25000000 }
     ensures nothing_yet { (server_gives once_taken.server 0).answer ≡ Ok None }
-    ensures early { (timed_out once_taken.server 24999999).answer ≡ Ok tt }
+    ensures early { (timed_out worked_policies.server once_taken.server 24999999).answer ≡ Ok tt }
     ensures still_set { timer_at MaxAckDelay server_early.timers ≡ Some 25000000 }
     ensures nothing_early { (server_gives server_early 24999999).answer ≡ Ok None }
-    ensures due { (timed_out once_taken.server 25000000).answer ≡ Ok tt }
+    ensures due { (timed_out worked_policies.server once_taken.server 25000000).answer ≡ Ok tt }
     ensures stopped { next_timer server_due.timers ≡ None }
     ensures given { (server_gives server_due 25000000).datagram ≡ Some (from_server 0 ack_payload) }
     ensures size { (server_gives server_due 25000000).answer
@@ -83,9 +83,9 @@ pub fn lost_bytes_go_again()
 #[tactic(auto, unfolding(crate::specs::Worked::once_sent))]
 pub fn timeouts_are_probed()
     ensures set { timer_at LossDetection once_sent.client.timers ≡ Some 1024000000 }
-    ensures early { (timed_out once_sent.client 1023999999).end.tracking
+    ensures early { (timed_out worked_policies.client once_sent.client 1023999999).end.tracking
         ≡ once_sent.client.tracking }
-    ensures still_set { timer_at LossDetection (timed_out once_sent.client 1023999999).end.timers
+    ensures still_set { timer_at LossDetection (timed_out worked_policies.client once_sent.client 1023999999).end.timers
         ≡ Some 1024000000 }
     ensures expired { client_timed_out.tracking.probes ≡ 2 }
     ensures again { timer_at LossDetection client_timed_out.timers ≡ Some 2048000000 }

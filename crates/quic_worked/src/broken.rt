@@ -17,7 +17,7 @@ ghost use Rattle.quic_headline.specs.InFlight.{in_flight, TracksAt};
 ghost use Rattle.quic_headline.specs.Headline.{OrderedPrefix, Slices, Once, EndAfterAll, BlockedOnlyWithoutBytes, AcceptsAll, FinishedMeansArrived, ToldOnce, FinishedIsTold, AcknowledgedWereTaken, NamesWereTaken, IsNamedIn, frames_given, OpensExactly, would_open_at, IsHonest, IsRun, LossTimersFollow, AckTimersFollow, NumbersRise};
 ghost use Rattle.quic_worked.specs.Acknowledged.{ack_payload, from_server, client_datagram};
 ghost use Rattle.quic_worked.specs.Worked.{write_lacks, finish_lacks, read_lacks, next_lacks, poll_lacks, ReadsBy, two_chunks, sending_events, sending_answers, hello, hello_frame, hello_payload, hello_datagram, all_nexts, worked_policies, server_made, started, once_opened, once_ended, once_sent, once_taken, once_read, writes_hello, finishes_stream, asks_datagram, delivers, reads_stream, run_with, carrying, acknowledging};
-ghost use Rattle.quic_worked.specs.Broken.{IsNoRun, IsNever, NeverLeads, writes_nothing, once_blocked, once_failed, lets_expire, hellp, changed_byte, repeated_bytes, unwritten_byte, early_end, unwritten_end, taken_twice, never_taken, blocked_read, never_accepted, early_finish, tells_finished, told_twice, never_told, early_acknowledgement, never_timed, still_timed, sending_run, answered_run, asked_run, forgotten, empty_datagram, repeated_number, early_name, injected_run, always_opens, never_opens};
+ghost use Rattle.quic_worked.specs.Broken.{IsNoRun, IsNever, NeverLeads, writes_nothing, once_blocked, once_failed, lets_expire, hellp, changed_byte, repeated_bytes, unwritten_byte, early_end, unwritten_end, taken_twice, never_taken, blocked_read, never_accepted, early_finish, tells_finished, told_twice, never_told, early_acknowledgement, never_timed, still_timed, sending_run, answered_run, asked_run, forgotten, empty_datagram, repeated_number, early_name, injected_run, once_injected, always_opens, never_opens};
 
 /// A read that changes a byte gives no prefix of what was written, and no slice of it.
 pub fn changed_byte_shows()
@@ -123,12 +123,12 @@ pub fn early_name_shows()
 /// too far above those that the server took; the machine answers so. An answer that no byte at all
 /// opens is wrong, and so is one that takes what opens.
 pub fn wrong_openings_show()
-    ensures opens { would_open_at injected_run Server 0 hello_datagram ≡ true }
-    ensures elsewhere { would_open_at injected_run Client 1 hello_datagram ≡ false }
-    ensures far { would_open_at injected_run Server 0 (client_datagram 300 250 hello_payload)
-        ≡ false }
+    ensures opens { would_open_at injected_run started Server 0 hello_datagram ≡ true }
+    ensures elsewhere { would_open_at injected_run started Client 1 hello_datagram ≡ false }
+    ensures far { would_open_at injected_run started Server 0
+        (client_datagram 300 250 hello_payload) ≡ false }
     ensures honest { IsHonest injected_run }
-    ensures run { IsRun injected_run started }
+    ensures run { IsRun injected_run once_injected }
     ensures exactly { OpensExactly injected_run }
     ensures always { OpensExactly always_opens → ⊥ }
     ensures never { OpensExactly never_opens → ⊥ }

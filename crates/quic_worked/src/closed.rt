@@ -6,14 +6,13 @@ ghost use Rattle.quic_wire_core.specs.declared.stream_id.Side.TheVariants.{Clien
 ghost use Rattle.quic_machine.specs.declared.run.ReadCall.{ReadCall};
 ghost use Rattle.quic_machine.specs.declared.run.Answer.TheVariants as answers;
 ghost use Rattle.quic_machine.specs.declared.answers.Received.TheVariants as receives;
-ghost use Rattle.quic_machine.specs.Ids.{known};
 ghost use Rattle.quic_headline.specs.Runs.{until};
 ghost use Rattle.quic_machine.specs.declared.answers.LostReason.TheVariants as reasons;
 ghost use Rattle.quic_headline.specs.Observer.{sents_until, next_number};
 ghost use Rattle.quic_headline.specs.Headline.{IsRun};
 ghost use Rattle.quic_headline.specs.Reasons.{ClosedHasAReason};
 ghost use Rattle.quic_headline.specs.Causes.{Shows, NoBlame, NumberLimit, PacketCame, TooManyPieces, TakenOrTooMany};
-ghost use Rattle.quic_worked.specs.Worked.{worked_policies, started, worked_run, hello_datagram};
+ghost use Rattle.quic_worked.specs.Worked.{worked_policies, worked_run, hello_datagram};
 ghost use Rattle.quic_worked.specs.Broken.{IsNoRun};
 ghost use Rattle.quic_worked.specs.Closed.{below_limits, early_pieces, early_limit, drains_silently, last_run, last_closed};
 ghost use Rattle.quic_worked.specs.Timed.{NeverShows};
@@ -21,7 +20,7 @@ ghost use Rattle.quic_worked.specs.Timed.{NeverShows};
 /// In the worked run the packet of the client comes to the server, which takes it.
 pub fn hello_is_taken()
     ensures { (read : ReadCall)
-        → (c : PacketCame worked_policies.server (known started.server.ids) (hello_datagram ∷ [])
+        → (c : PacketCame worked_policies.server (hello_datagram ∷ [])
         (until (worked_run read) Server 8))
         × (c.call.answer ≡ answers.Deliver receives.Taken) }
 {}

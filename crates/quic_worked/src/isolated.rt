@@ -3,18 +3,22 @@
 ghost use Rattle.std.specs.Prelude.{◌≡◌};
 ghost use Rattle.quic_machine.specs.Machine.{World};
 ghost use Rattle.quic_headline.specs.Headline.{IsRun};
-ghost use Rattle.quic_headline.specs.Isolated.{answered_idle, erased, Isolated, IsolatedByAnswers, IsolatedByLists};
-ghost use Rattle.quic_worked.specs.Worked.{once_taken};
+ghost use Rattle.quic_headline.specs.Isolated.{answered_idle, erased, SameButCounts, Isolated, IsolatedByAnswers, IsolatedByLists};
 ghost use Rattle.quic_worked.specs.Broken.{IsNoRun};
-ghost use Rattle.quic_worked.specs.Isolated.{noisy_run, quiet_run, noted_early, ticked_early};
+ghost use Rattle.quic_worked.specs.Isolated.{noisy_run, quiet_run, noisy_left, quiet_left, noted_early, ticked_early};
 
 /// A forged datagram is refused before and behind the client's own, which comes twice. Less the
 /// forged ones and the second copy it is the run in which the datagram comes once, and both lead to
-/// the same ends.
+/// the same ends, which have counted four datagrams or one: 34 bytes each, of which two didn't
+/// open.
 pub fn noise_changes_nothing()
-    ensures noisy { IsRun noisy_run once_taken }
-    ensures quiet { IsRun quiet_run once_taken }
+    ensures noisy { IsRun noisy_run noisy_left }
+    ensures quiet { IsRun quiet_run quiet_left }
     ensures erased { erased (answered_idle noisy_run) noisy_run ≡ quiet_run }
+    ensures same { SameButCounts noisy_left quiet_left }
+    ensures sent { noisy_left.client_heard ≡ record { received = 0; sent = 34; failures = 0 } }
+    ensures counted { noisy_left.server_heard ≡ record { received = 136; sent = 0; failures = 2 } }
+    ensures fewer { quiet_left.server_heard ≡ record { received = 34; sent = 0; failures = 0 } }
 {}
 
 /// Receiving: the number of a datagram counts as seen before the key opened it, so a forged one

@@ -4,12 +4,14 @@
 
 pub mod acknowledged;
 pub mod allowed;
+pub mod begun;
 pub mod blocked;
 pub mod bounded;
 pub mod broken;
 pub mod chunked;
 pub mod closed;
 pub mod credit;
+pub mod destined;
 pub mod exchange;
 pub mod faults;
 pub mod halved;
@@ -27,6 +29,7 @@ pub mod probed;
 pub mod raised;
 pub mod reordered;
 pub mod repeated;
+pub mod reset;
 pub mod rested;
 pub mod searched;
 pub mod timed;

@@ -10,7 +10,7 @@ ghost use Rattle.quic_headline.specs.Headline.{IsRun};
 ghost use Rattle.quic_headline.specs.Grown.{DataHasGrown, CountHasGrown, GrownLimitsWaitAt};
 ghost use Rattle.quic_headline.specs.Duties.{AllData, Limit, IsOwed, Waits, IsUnderWay, HasCome, DutiesAt};
 ghost use Rattle.quic_worked.specs.Credit.{ReadsEight, credit_read, credit_events, credit_until, count_read};
-ghost use Rattle.quic_worked.specs.Raised.{raised_run, limit_used, limit_lost, limit_again, losing_limit, losing_told, NeverComes, never_noted, limit_forgotten};
+ghost use Rattle.quic_worked.specs.Raised.{raised_run, limit_used, limit_lost, limit_again, losing_limit, losing_told, raised_events, raised_told, NeverComes, never_noted, limit_forgotten, limit_low};
 
 /// With a window of 8 bytes, once 8 are read, the limit on all bytes grew, and MAX_DATA waits. Its
 /// datagram is lost; then the limit of 16 bytes waits again, goes again, and comes (RFC 9000,
@@ -40,6 +40,15 @@ pub fn unnoted_limit_shows()
         → GrownLimitsWaitAt (until (raised_run read) Server 6) never_noted.server → ⊥ }
     ensures machine { (read : ReadCall) → ReadsEight read
         → NeverComes (take 6 (credit_events read)) credit_until never_noted }
+{}
+
+/// A server that said one byte less than may come, and isn't to say more, breaks the clause, and no
+/// run comes to it.
+pub fn low_limit_shows()
+    ensures grown { (read : ReadCall)
+        → GrownLimitsWaitAt (until (raised_run read) Server 7) limit_low.server → ⊥ }
+    ensures machine { (read : ReadCall) → ReadsEight read
+        → NeverComes (take 7 (raised_events read)) (take 7 raised_told) limit_low }
 {}
 
 /// A server that doesn't say its limit again, though the datagram that said it is lost, leaves a

@@ -7,6 +7,7 @@ ghost use Rattle.quic_headline.specs.Observer.{took};
 ghost use Rattle.quic_headline.specs.Moments.{LossTimerQuiet};
 ghost use Rattle.quic_headline.specs.Polls.{IsPaced};
 ghost use Rattle.quic_headline.specs.Headline.{IsHonest, IsRun};
+ghost use Rattle.quic_headline.specs.Spread.{PacerIsOfHistory};
 ghost use Rattle.quic_headline.specs.Rest.{Rests, HaveRoom, unanswered, IsUnacknowledged, DeliveredAtRest, NothingOwedAtRest};
 ghost use Rattle.quic_worked.specs.Broken.{IsNoRun};
 ghost use Rattle.quic_worked.specs.Timed.{NeverShows};
@@ -52,12 +53,13 @@ pub fn unanswered_rest_shows()
 
 /// A client whose loss timer stays set once all that it gave was acknowledged, and one that shows
 /// the timer of its pacer set and gives nothing, don't rest. The machine's loss timer stops, and
-/// its pacer lets the datagram go.
+/// its pacer lets the datagram go: by the lists it names no later moment.
 pub fn restless_shows()
     ensures quiet { LossTimerQuiet timed_on → ⊥ }
     ensures timed { Rests timed_on Client 10 → ⊥ }
     ensures paced { IsPaced paced_run Client 3 paced_view }
     ensures pacing { Rests paced_run Client 3 → ⊥ }
+    ensures pacer { PacerIsOfHistory paced_run → ⊥ }
     ensures timed_honest { IsHonest timed_on }
     ensures paced_honest { IsHonest paced_run }
     ensures machine_timed { NeverShows timed_on }

@@ -85,7 +85,8 @@ pub fn hello_is_opened()
 
 /// The reference machine runs the worked example: each event is answered so and is seen so. Then
 /// the client still waits for one acknowledgement, which the server still has to give, and nothing
-/// is left to read.
+/// is left to read. The client has counted the bytes of its datagram as sent, and the server those
+/// of both copies as received.
 #[tactic(auto, unfolding(crate::specs::Worked::once_taken))]
 pub fn worked_run_follows()
     ensures follows { (read : ReadCall) → ReadsBy two_chunks read
@@ -93,6 +94,8 @@ pub fn worked_run_follows()
     ensures tracked { map (λ p. p.0) once_read.client.tracking.packets ≡ 0 ∷ [] }
     ensures pending { once_read.server.acknowledging.runs ≡ record { start = 0; end = 1 } ∷ [] }
     ensures read { once_read.server.streams.receiving.halves.live ≡ [] }
+    ensures sent { once_read.client_heard ≡ record { received = 0; sent = 34; failures = 0 } }
+    ensures received { once_read.server_heard ≡ record { received = 68; sent = 0; failures = 0 } }
 {}
 
 /// It meets the premises of the headline: what is proved of every run holds of this one.

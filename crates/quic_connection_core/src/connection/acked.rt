@@ -19,7 +19,7 @@ ghost use Rattle.quic_machine.specs.Tracking.{lost_by, acked_by, not_acked_by};
 ghost use Rattle.quic_machine.specs.Acked.{without_known, carried_acked, carried_lost, packets_acked, verdict, losses_detected, told_delay, first_measured, counts_answer, counts_judged, marks_seen, told_grown, told_seen, after_acked, told_detected, told_acked};
 ghost use Rattle.quic_connection_core.specs.Flying.{flying_packets, is_flying, flight_left, less, HasAll};
 ghost use Rattle.quic_connection_core.specs.Losses.{none_lost, all_lost, told_lost};
-ghost use Rattle.quic_connection_core.specs.Telling.{telling, KeepsKeys};
+ghost use Rattle.quic_connection_core.specs.Telling.{telling, KeepsRest};
 ghost use Rattle.quic_connection_core.specs.Tracked.{TakesLost, acked_taken, acked_told, acked_count, sampled_at, after_losses, with_resets_acked, with_frames_acked, with_carried_acked, with_frames_lost, with_carried_lost};
 
 use crate::connection::Connection;
@@ -215,7 +215,7 @@ impl<H: HeaderKey + Drop, K: PacketKey + Drop, R: Rng + Drop, C: Controller> Con
     /// want of memory; the end is of no more use then.
     pub(crate) fn on_ack_received(&mut self, frame: &Ack<'_>, rises: bool) -> Result<(), AllocError>
         ensures ok { OnOk result (self.new ≡ telling C.steps self.old (told_acked rises frame.now self.old.end) (after_acked rises frame.now self.old.end)) }
-        ensures others { KeepsKeys self.old self.new }
+        ensures others { KeepsRest self.old self.new }
     {
         if let Some(acked) = self.take_acked(frame, rises)? {
             let (newly, last) = acked;
@@ -234,7 +234,7 @@ impl<H: HeaderKey + Drop, K: PacketKey + Drop, R: Rng + Drop, C: Controller> Con
         ensures ok { let named = acked_by frame.now self.old.end.tracking.packets in
             OnOk result (self.new ≡ telling C.steps self.old (acked_told named rises frame.now self.old.end) (acked_taken named rises frame.now self.old.end)) }
         ensures count { IfOk result (λ count. count ≡ acked_count (acked_by frame.now self.old.end.tracking.packets)) }
-        ensures others { KeepsKeys self.old self.new }
+        ensures others { KeepsRest self.old self.new }
     {
         let sent = self.sent_at(frame.largest());
         let acked = self.take_named(frame)?;
@@ -315,7 +315,7 @@ impl<H: HeaderKey + Drop, K: PacketKey + Drop, R: Rng + Drop, C: Controller> Con
     /// first.
     fn on_packets_acked(&mut self, mut acked: Vec<(u64, SentPacket)>) -> Result<(), AllocError>
         ensures ok { OnOk result (self.new ≡ telling C.steps self.old (told_packets self.old.end (reverse acked.items)) (packets_acked (reverse acked.items) self.old.end)) }
-        ensures others { KeepsKeys self.old self.new }
+        ensures others { KeepsRest self.old self.new }
     {
         while let Some((number, packet)) = acked.pop() {
             self.tell_acked(&packet);
@@ -427,7 +427,7 @@ impl<H: HeaderKey + Drop, K: PacketKey + Drop, R: Rng + Drop, C: Controller> Con
     /// end is of no more use then.
     pub(crate) fn detect_lost_packets(&mut self, by_ack: bool) -> Result<(), AllocError>
         ensures ok { OnOk result (self.new ≡ telling C.steps self.old (told_detected by_ack self.old.end) (losses_detected self.old.end)) }
-        ensures others { KeepsKeys self.old self.new }
+        ensures others { KeepsRest self.old self.new }
         ensures lacking { OnErr result (lost_by (verdict self.old.end) self.old.end.tracking.packets ≢ []) }
     {
         let verdict = self.verdict();

@@ -15,12 +15,13 @@ ghost use Rattle.quic_machine.specs.End.{with_end, with_number_given, number_of,
 ghost use Rattle.quic_spaces.specs.Acknowledging.{most_ack_bytes};
 ghost use Rattle.quic_spaces.specs.Numbers.{can_number, cut_against};
 ghost use Rattle.quic_machine.specs.Tracking.{carried_in, retransmits_in};
-ghost use Rattle.quic_machine.specs.Poll.{alone, draft_left, draft_as, lazied_as, most_of, composed, frame_room, payload_of, datagram_of, datagram_size, paid_if, told_draft, after_given, asking, tracked, ack_of, after_ack};
+ghost use Rattle.quic_machine.specs.DraftLaws.{MayGo, MayLeave};
+ghost use Rattle.quic_machine.specs.Poll.{draft_left, draft_as, lazied_as, most_of, composed, frame_room, payload_of, datagram_of, datagram_size, paid_if, told_draft, after_given, asking, tracked, ack_of, after_ack};
 ghost use Rattle.quic_connection_core.specs.Leaving.{leaving_of, IsLooked, least_of};
 ghost use Rattle.quic_machine.specs.Parts.{current_mtu};
 ghost use Rattle.quic_connection_core.specs.Frames.{control_part, content, content_at, with_content, asked, ping_bytes, pinged, fits_behind, ack_bytes_if, acked_if, end_after_ack_if};
 ghost use Rattle.quic_connection_core.specs.Drawn.{words_of, after_words};
-ghost use Rattle.quic_connection_core.specs.Telling.{KeepsKeys};
+ghost use Rattle.quic_connection_core.specs.Telling.{KeepsRest};
 ghost use Rattle.quic_congestion.specs.Congestion.{after_calls};
 
 use crate::connection::Connection;
@@ -72,7 +73,7 @@ impl<H: HeaderKey + Drop, K: PacketKey + Drop, R: Rng + Drop, C: Controller> Con
     /// memory lacks, nothing is appended, and the end fails for good.
     pub(crate) fn give(&mut self, leaving: Leaving, out: &mut Vec<u8>) -> Result<usize, Failed>
         requires number { can_number self.old.end.numbers ≡ true }
-        requires due { leaving_of leaving ≡ alone → can_send (lazied_as (leaving_of leaving) self.old.end).acknowledging ≡ true }
+        requires due { MayLeave (leaving_of leaving) self.old.end }
         requires looked { IsLooked leaving self.old.end }
         ensures items { OnOk result (out.new.items ≡ out.old.items ++ datagram_of (policy_of H.protection K.aead (words_of R.stream) self.old) (draft_as (leaving_of leaving) self.old.end)) }
         ensures size { IfOk result (λ size. vec_len out.new ≡ vec_len out.old + size) }
@@ -80,6 +81,7 @@ impl<H: HeaderKey + Drop, K: PacketKey + Drop, R: Rng + Drop, C: Controller> Con
         ensures end { OnOk result (self.new.end ≡ after_given (policy_of H.protection K.aead (words_of R.stream) self.old) (draft_as (leaving_of leaving) self.old.end)) }
         ensures control { OnOk result (self.new.control ≡ after_calls C.steps self.old.control (told_draft (draft_as (leaving_of leaving) self.old.end))) }
         ensures keys { self.new.keys ≡ self.old.keys }
+        ensures heard { OnOk result (self.new.heard ≡ self.old.heard) }
         ensures random { OnOk result (R.stream self.new.random ≡ after_words (self.new.end.filter.drawn - self.old.end.filter.drawn) (R.stream self.old.random)) }
         ensures failed { OnErr result (HasFailed self.old self.new) }
         ensures stopped { OnErr result (self.new.end.timers ≡ no_timers) }
@@ -97,7 +99,7 @@ impl<H: HeaderKey + Drop, K: PacketKey + Drop, R: Rng + Drop, C: Controller> Con
     /// packets came that don't ask.
     fn put_datagram(&mut self, leaving: Leaving, out: &mut Vec<u8>) -> Result<usize, Failed>
         requires number { can_number self.old.end.numbers ≡ true }
-        requires due { leaving_of leaving ≡ alone → can_send self.old.end.acknowledging ≡ true }
+        requires due { MayGo (leaving_of leaving) self.old.end }
         requires looked { IsLooked leaving self.old.end }
         requires room { vec_len out.old + most_of (leaving_of leaving) self.old.end ≤ vec_capacity out.old }
         ensures items { OnOk result (out.new.items ≡ out.old.items ++ datagram_of (policy_of H.protection K.aead (words_of R.stream) self.old) (draft_left (leaving_of leaving) self.old.end)) }
@@ -106,6 +108,7 @@ impl<H: HeaderKey + Drop, K: PacketKey + Drop, R: Rng + Drop, C: Controller> Con
         ensures end { OnOk result (self.new.end ≡ after_given (policy_of H.protection K.aead (words_of R.stream) self.old) (draft_left (leaving_of leaving) self.old.end)) }
         ensures control { OnOk result (self.new.control ≡ after_calls C.steps self.old.control (told_draft (draft_left (leaving_of leaving) self.old.end))) }
         ensures keys { self.new.keys ≡ self.old.keys }
+        ensures heard { OnOk result (self.new.heard ≡ self.old.heard) }
         ensures random { OnOk result (R.stream self.new.random ≡ after_words (self.new.end.filter.drawn - self.old.end.filter.drawn) (R.stream self.old.random)) }
         ensures failed { OnErr result (HasFailed self.old self.new) }
         ensures stopped { OnErr result (self.new.end.timers ≡ no_timers) }
@@ -129,7 +132,7 @@ impl<H: HeaderKey + Drop, K: PacketKey + Drop, R: Rng + Drop, C: Controller> Con
     /// the packet may stand in `out`.
     fn put_tracked(&mut self, leaving: Leaving, out: &mut Vec<u8>) -> Result<(), AllocError>
         requires number { can_number self.old.end.numbers ≡ true }
-        requires due { leaving_of leaving ≡ alone → can_send self.old.end.acknowledging ≡ true }
+        requires due { MayGo (leaving_of leaving) self.old.end }
         requires looked { IsLooked leaving self.old.end }
         requires room { vec_len out.old + most_of (leaving_of leaving) self.old.end ≤ vec_capacity out.old }
         ensures items { OnOk result (out.new.items ≡ out.old.items ++ (header_bytes self.old.end.ids.active.id (truncated (number_of self.old.end) (cut_against self.old.end.numbers)) ++ payload_of (draft_left (leaving_of leaving) self.old.end))) }
@@ -141,9 +144,10 @@ impl<H: HeaderKey + Drop, K: PacketKey + Drop, R: Rng + Drop, C: Controller> Con
         ensures random { OnOk result (R.stream self.new.random ≡ after_words (self.new.end.filter.drawn - self.old.end.filter.drawn) (R.stream self.old.random)) }
         ensures ids { OnOk result (self.new.end.ids ≡ self.old.end.ids) }
         ensures keys { self.new.keys ≡ self.old.keys }
+        ensures heard { OnOk result (self.new.heard ≡ self.old.heard) }
         ensures front { take (vec_len out.old) out.new.items ≡ out.old.items }
         ensures grows { vec_len out.old ≤ vec_len out.new }
-        ensures others { OnErr result (KeepsKeys self.old self.new) }
+        ensures others { OnErr result (KeepsRest self.old self.new) }
     {
         let start = out.len();
         // The proof reads that the size has 16 bits.
@@ -158,7 +162,7 @@ impl<H: HeaderKey + Drop, K: PacketKey + Drop, R: Rng + Drop, C: Controller> Con
     /// packet may stand in `out`.
     fn put_plain(&mut self, leaving: Leaving, out: &mut Vec<u8>) -> Result<SentFrames, AllocError>
         requires number { can_number self.old.end.numbers ≡ true }
-        requires due { leaving_of leaving ≡ alone → can_send self.old.end.acknowledging ≡ true }
+        requires due { MayGo (leaving_of leaving) self.old.end }
         requires looked { IsLooked leaving self.old.end }
         requires room { vec_len out.old + most_of (leaving_of leaving) self.old.end ≤ vec_capacity out.old }
         ensures items { OnOk result (out.new.items ≡ out.old.items ++ (header_bytes self.old.end.ids.active.id (truncated (number_of self.old.end) (cut_against self.old.end.numbers)) ++ payload_of (draft_left (leaving_of leaving) self.old.end))) }
@@ -194,7 +198,7 @@ impl<H: HeaderKey + Drop, K: PacketKey + Drop, R: Rng + Drop, C: Controller> Con
     /// memory; the end is of no more use then, and some of the frames may stand in `out`.
     fn put_leave(&mut self, leaving: Leaving, out: &mut Vec<u8>) -> Result<SentFrames, AllocError>
         requires number { can_number self.old.end.numbers ≡ true }
-        requires due { leaving_of leaving ≡ alone → can_send self.old.end.acknowledging ≡ true }
+        requires due { MayGo (leaving_of leaving) self.old.end }
         requires looked { IsLooked leaving self.old.end }
         requires some { 1159 ≤ frame_room self.old.end }
         requires room { vec_len out.old + frame_room self.old.end ≤ vec_capacity out.old }
@@ -373,9 +377,9 @@ impl<H: HeaderKey + Drop, K: PacketKey + Drop, R: Rng + Drop, C: Controller> Con
     /// Appends PING if it waits, for which there is room.
     fn put_ping(&mut self, out: &mut Vec<u8>)
         requires { vec_len out.old + 1 ≤ vec_capacity out.old }
-        ensures items { out.new.items ≡ out.old.items ++ ping_bytes self.old.end.waiting.ping }
-        ensures len { vec_len out.new ≡ vec_len out.old + length (ping_bytes self.old.end.waiting.ping) }
-        ensures few { length (ping_bytes self.old.end.waiting.ping) ≤ 1 }
+        ensures items { out.new.items ≡ out.old.items ++ ping_bytes self.old.end.waiting.signals.ping }
+        ensures len { vec_len out.new ≡ vec_len out.old + length (ping_bytes self.old.end.waiting.signals.ping) }
+        ensures few { length (ping_bytes self.old.end.waiting.signals.ping) ≤ 1 }
         ensures capacity { vec_capacity out.old ≤ vec_capacity out.new }
         ensures end { self.new ≡ with_end self.old (pinged self.old.end) }
     {

@@ -1,7 +1,8 @@
 //! What goes at a poll, if something does.
 ghost use Rattle.std.specs.Prelude.{◌≡◌, ◌≢◌, ◌+◌, ◌-◌, ◌<◌, ◌≤◌, ◌++◌, IfOk, IfSome, OnOk, OnErr, Ok, None, true, false, max};
 ghost use Rattle.quic_time.specs.Timers.{no_timers};
-ghost use Rattle.quic_machine.specs.End.{with_end, policy_of, HasFailed};
+ghost use Rattle.quic_machine.specs.End.{with_end, hearing, policy_of, HasFailed};
+ghost use Rattle.quic_machine.specs.Heard.{heard_sent, heard_given};
 ghost use Rattle.quic_machine.specs.Poll.{IsSilent, polled, told_polled, is_gated, gated, asks_to_go, waits, leaves, leaves_if, mark_of, probed};
 ghost use Rattle.quic_machine.specs.PollCases.{ready_at};
 ghost use Rattle.quic_connection_core.specs.Leaving.{Leaves, rested};
@@ -39,7 +40,7 @@ impl<H: HeaderKey + Drop, K: PacketKey + Drop, R: Rng + Drop, C: Controller> Con
     /// tracked packet carried of it is told once more, or a PING goes (RFC 9002, section 6.2.4).
     /// The datagram is tracked until it is acknowledged, lost or forgotten, and sets the loss timer
     /// anew. Where its number is the one above one that is left out, a word of the random source
-    /// says which is left out next.
+    /// says which is left out next. Its bytes count as sent (section 8.1).
     ///
     /// What asks for an acknowledgement waits where the congestion window has no room for one more
     /// datagram, or where the pacer names a later moment, to which the timer [`Timer::Pacing`] is
@@ -71,6 +72,7 @@ impl<H: HeaderKey + Drop, K: PacketKey + Drop, R: Rng + Drop, C: Controller> Con
         ensures end { OnOk result (self.new.end ≡ (polled (policy_of H.protection K.aead (words_of R.stream) self.old) (reading C.window_of self.old) now).end) }
         ensures control { OnOk result (self.new.control ≡ after_calls C.steps self.old.control (told_polled (reading C.window_of self.old) now)) }
         ensures keys { self.new.keys ≡ self.old.keys }
+        ensures heard { IfOk result (λ given. self.new.heard ≡ heard_given given self.old.heard) }
         ensures random { OnOk result (R.stream self.new.random ≡ after_words (self.new.end.filter.drawn - self.old.end.filter.drawn) (R.stream self.old.random)) }
         ensures datagram { OnOk result (out.new.items ≡ out.old.items ++ given_bytes (polled (policy_of H.protection K.aead (words_of R.stream) self.old) (reading C.window_of self.old) now).datagram) }
         ensures failed { OnErr result (HasFailed self.old self.new) }
@@ -98,6 +100,7 @@ impl<H: HeaderKey + Drop, K: PacketKey + Drop, R: Rng + Drop, C: Controller> Con
         ensures end { OnOk result (self.new.end ≡ (polled (policy_of H.protection K.aead (words_of R.stream) self.old) self.old.end now).end) }
         ensures control { OnOk result (self.new.control ≡ after_calls C.steps self.old.control (told_polled self.old.end now)) }
         ensures keys { self.new.keys ≡ self.old.keys }
+        ensures heard { IfOk result (λ given. self.new.heard ≡ heard_given given self.old.heard) }
         ensures random { OnOk result (R.stream self.new.random ≡ after_words (self.new.end.filter.drawn - self.old.end.filter.drawn) (R.stream self.old.random)) }
         ensures datagram { OnOk result (out.new.items ≡ out.old.items ++ given_bytes (polled (policy_of H.protection K.aead (words_of R.stream) self.old) self.old.end now).datagram) }
         ensures failed { OnErr result (HasFailed self.old self.new) }
@@ -117,10 +120,18 @@ impl<H: HeaderKey + Drop, K: PacketKey + Drop, R: Rng + Drop, C: Controller> Con
             return Ok(None);
         }
         let size = self.give(leaving, out)?;
+        self.count_bytes(size);
         Ok(Some(Transmit {
             size,
             ecn: self.mark(),
         }))
+    }
+
+    /// A datagram of so many bytes went on the path (RFC 9000, section 8.1).
+    fn count_bytes(&mut self, size: usize)
+        ensures { self.new ≡ hearing self.old (heard_sent size self.old.heard) }
+    {
+        self.path.on_datagram_sent(size as u64);
     }
 
     /// Takes a moment over, stops the timer of the pacer, and sees that something goes with a probe

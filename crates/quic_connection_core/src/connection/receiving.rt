@@ -5,12 +5,13 @@ ghost use Rattle.quic_packet.specs.Destination.{decoded, fixed_length_id};
 ghost use Rattle.quic_machine.specs.Ids.{known};
 ghost use Rattle.quic_time.specs.Timers.{no_timers};
 ghost use Rattle.quic_wire.specs.FrameView.{frame_view, item_view};
-ghost use Rattle.quic_machine.specs.End.{with_end, policy_of, closed_by, HasFailed};
+ghost use Rattle.quic_machine.specs.End.{with_end, hearing, policy_of, closed_by, HasFailed};
+ghost use Rattle.quic_machine.specs.Heard.{heard_datagram, heard_answer, heard_failure};
 ghost use Rattle.quic_machine.specs.Opens.{own_id_length, would_open};
 ghost use Rattle.quic_machine.specs.Arrival.{arriving};
 ghost use Rattle.quic_machine.specs.Receive.{is_above, names_ungiven, received, opened_to, processed, fault_of_breach, plain_error, take_ack, take_frame, take_item, take_items, take_payload, told_received, told_opened, told_processed, told_payload, told_items, told_item, told_ack, item_asks, asks_in, opening, error_of, reason_of, drop_of, violation};
 ghost use Rattle.quic_connection_core.specs.Drawn.{words_of};
-ghost use Rattle.quic_connection_core.specs.Telling.{telling, KeepsKeys};
+ghost use Rattle.quic_connection_core.specs.Telling.{telling, KeepsRest};
 ghost use Rattle.quic_connection_core.specs.Faults.{fault_view, TellsAs, TakesAs, TakesAllAs, TakesPacketAs, HasForm, ItemHasForm};
 ghost use Rattle.quic_machine.specs.Lacking.{TakesFrames};
 
@@ -105,12 +106,14 @@ impl<H: HeaderKey + Drop, K: PacketKey + Drop, R: Rng + Drop, C: Controller> Con
     /// Takes a datagram that came at this moment with this mark, opening it in place (RFC 9000,
     /// sections 5.2 and 12).
     ///
-    /// A datagram that is dropped changes nothing but what [`stats`](Self::stats) counts, and that
-    /// the new number of one that a closing end opened counts as seen. Where it breaks a rule, the
-    /// end closes; the frames before keep their effect, and its number isn't taken. Where memory
-    /// lacks, the end fails for good. Its number is to be acknowledged once all its frames were
-    /// taken, at once where it came with the mark CE, and its mark counts (sections 13.2.1 and
-    /// 13.4.1). The datagram's bytes may be changed; to what isn't said.
+    /// Its bytes count as received, whatever is made of it (section 8.1), and it counts as a
+    /// failure where its packet doesn't open (RFC 9001, section 6.6). A datagram that is dropped
+    /// changes nothing else but what [`stats`](Self::stats) counts, and that the new number of one
+    /// that a closing end opened counts as seen. Where it breaks a rule, the end closes; the frames
+    /// before keep their effect, and its number isn't taken. Where memory lacks, the end fails for
+    /// good. Its number is to be acknowledged once all its frames were taken, at once where it came
+    /// with the mark CE, and its mark counts (sections 13.2.1 and 13.4.1). The datagram's bytes may
+    /// be changed; to what isn't said.
     pub fn receive(
         &mut self,
         now: Instant,
@@ -118,7 +121,7 @@ impl<H: HeaderKey + Drop, K: PacketKey + Drop, R: Rng + Drop, C: Controller> Con
         datagram: &mut [u8],
     ) -> Received
         ensures answer { result ≢ Received.Failed → result ≡ (received (policy_of H.protection K.aead (words_of R.stream) self.old) self.old.end (arriving now ecn) datagram.old).answer }
-        ensures end { result ≢ Received.Failed → self.new ≡ telling C.steps self.old
+        ensures end { result ≢ Received.Failed → self.new ≡ telling C.steps (hearing self.old (heard_datagram datagram.old result self.old.heard))
             (told_received (policy_of H.protection K.aead (words_of R.stream) self.old) self.old.end now datagram.old)
             (received (policy_of H.protection K.aead (words_of R.stream) self.old) self.old.end (arriving now ecn) datagram.old).end }
         ensures failed { result ≡ Received.Failed → HasFailed self.old self.new }
@@ -126,7 +129,9 @@ impl<H: HeaderKey + Drop, K: PacketKey + Drop, R: Rng + Drop, C: Controller> Con
         ensures stopped { result ≡ Received.Failed → self.new.end.timers ≡ no_timers }
         ensures lacking { result ≡ Received.Failed → TakesFrames (received (policy_of H.protection K.aead (words_of R.stream) self.old) self.old.end (arriving now ecn) datagram.old).answer }
     {
-        self.stats.udp_rx.on_datagram(datagram.len());
+        let len = datagram.len();
+        self.stats.udp_rx.on_datagram(len);
+        self.path.on_datagram_received(len as u64);
         self.take_datagram(now, ecn, datagram)
     }
 
@@ -138,7 +143,7 @@ impl<H: HeaderKey + Drop, K: PacketKey + Drop, R: Rng + Drop, C: Controller> Con
         datagram: &mut [u8],
     ) -> Received
         ensures answer { result ≢ Received.Failed → result ≡ (received (policy_of H.protection K.aead (words_of R.stream) self.old) self.old.end (arriving now ecn) datagram.old).answer }
-        ensures end { result ≢ Received.Failed → self.new ≡ telling C.steps self.old
+        ensures end { result ≢ Received.Failed → self.new ≡ telling C.steps (hearing self.old (heard_answer result self.old.heard))
             (told_received (policy_of H.protection K.aead (words_of R.stream) self.old) self.old.end now datagram.old)
             (received (policy_of H.protection K.aead (words_of R.stream) self.old) self.old.end (arriving now ecn) datagram.old).end }
         ensures failed { result ≡ Received.Failed → HasFailed self.old self.new }
@@ -155,10 +160,18 @@ impl<H: HeaderKey + Drop, K: PacketKey + Drop, R: Rng + Drop, C: Controller> Con
             return Received::Dropped(drop_reason(error));
         }
         let Ok(opened) = self.unprotect(datagram) else {
+            self.count_failure();
             return Received::Dropped(DropReason::NotOpened);
         };
         let payload = &datagram[opened.start..opened.end];
         self.take_opened(now, ecn, &opened, payload)
+    }
+
+    /// A packet didn't open (RFC 9001, section 6.6).
+    fn count_failure(&mut self)
+        ensures { self.new ≡ hearing self.old (heard_failure self.old.heard) }
+    {
+        self.authentication_failures = self.authentication_failures.saturating_add(1);
     }
 
     /// The own id that a datagram is for, or why it is for none.
@@ -266,7 +279,7 @@ impl<H: HeaderKey + Drop, K: PacketKey + Drop, R: Rng + Drop, C: Controller> Con
         requires { opened.now.number < 2 ^ 62 }
         ensures takes { TakesPacketAs result (take_payload opened.now.first (items payload.now) self.old.end) (asks_in (items payload.now)) opened.now.number ecn self.new.end }
         ensures told { TellsAs result C.steps self.old (told_payload opened.now.first (items payload.now) self.old.end) self.new }
-        ensures others { KeepsKeys self.old self.new }
+        ensures others { KeepsRest self.old self.new }
     {
         let asks = self.take_payload(opened, payload)?;
         self.take_number(opened.number, asks, ecn)?;
@@ -277,7 +290,7 @@ impl<H: HeaderKey + Drop, K: PacketKey + Drop, R: Rng + Drop, C: Controller> Con
     fn take_payload(&mut self, opened: &Opened, payload: &[u8]) -> Result<bool, Trouble>
         ensures takes { TakesAllAs result (take_payload opened.now.first (items payload.now) self.old.end) (asks_in (items payload.now)) self.new.end }
         ensures told { TellsAs result C.steps self.old (told_payload opened.now.first (items payload.now) self.old.end) self.new }
-        ensures others { KeepsKeys self.old self.new }
+        ensures others { KeepsRest self.old self.new }
     {
         if opened.reserved_bits() != 0 {
             return Err(violation(Reason::ReservedBits));
@@ -292,7 +305,7 @@ impl<H: HeaderKey + Drop, K: PacketKey + Drop, R: Rng + Drop, C: Controller> Con
     fn take_frames(&mut self, payload: &[u8]) -> Result<bool, Trouble>
         ensures takes { TakesAllAs result (take_items (items payload.now) self.old.end) (asks_in (items payload.now)) self.new.end }
         ensures told { TellsAs result C.steps self.old (told_items (items payload.now) self.old.end) self.new }
-        ensures others { KeepsKeys self.old self.new }
+        ensures others { KeepsRest self.old self.new }
     {
         let mut asks = false;
         for item in Iter::new(payload) {
@@ -307,7 +320,7 @@ impl<H: HeaderKey + Drop, K: PacketKey + Drop, R: Rng + Drop, C: Controller> Con
         requires { ItemHasForm (item_view item.now) }
         ensures takes { TakesAs result (take_item (item_view item.now) self.old.end) self.new.end }
         ensures told { TellsAs result C.steps self.old (told_item (item_view item.now) self.old.end) self.new }
-        ensures others { KeepsKeys self.old self.new }
+        ensures others { KeepsRest self.old self.new }
     {
         match item {
             Ok(frame) => {
@@ -323,7 +336,7 @@ impl<H: HeaderKey + Drop, K: PacketKey + Drop, R: Rng + Drop, C: Controller> Con
         requires { HasForm (frame_view frame.now) }
         ensures takes { TakesAs result (take_frame (frame_view frame.now) self.old.end) self.new.end }
         ensures told { TellsAs result C.steps self.old (told_item (Ok (frame_view frame.now)) self.old.end) self.new }
-        ensures others { KeepsKeys self.old self.new }
+        ensures others { KeepsRest self.old self.new }
     {
         match frame {
             Frame::Ack(frame) => self.take_ack(frame),
@@ -338,7 +351,7 @@ impl<H: HeaderKey + Drop, K: PacketKey + Drop, R: Rng + Drop, C: Controller> Con
     fn take_ack(&mut self, frame: &Ack<'_>) -> Result<(), Trouble>
         ensures takes { TakesAs result (take_ack frame.now self.old.end) self.new.end }
         ensures told { TellsAs result C.steps self.old (told_ack frame.now self.old.end) self.new }
-        ensures others { KeepsKeys self.old self.new }
+        ensures others { KeepsRest self.old self.new }
     {
         self.check_ack(frame)?;
         let largest = frame.largest();

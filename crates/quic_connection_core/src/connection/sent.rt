@@ -123,6 +123,7 @@ impl<H: HeaderKey + Drop, K: PacketKey + Drop, R: Rng + Drop, C: Controller> Con
         ensures end { OnOk result (self.new.end ≡ paid_if sent.asks (with_number_given (words_of R.stream self.old.random 0) (tracked_as sent.asks size sent.carried self.old.end)) size) }
         ensures control { OnOk result (self.new.control ≡ after_calls C.steps self.old.control (told_sent sent.asks self.old.end size (number_of self.old.end))) }
         ensures keys { self.new.keys ≡ self.old.keys }
+        ensures heard { OnOk result (self.new.heard ≡ self.old.heard) }
         ensures random { OnOk result (R.stream self.new.random ≡ after_words (self.new.end.filter.drawn - self.old.end.filter.drawn) (R.stream self.old.random)) }
         ensures err { OnErr result (self.new ≡ self.old) }
     {
@@ -155,6 +156,7 @@ impl<H: HeaderKey + Drop, K: PacketKey + Drop, R: Rng + Drop, C: Controller> Con
         ensures end { OnOk result (self.new.end ≡ with_number_given (words_of R.stream self.old.random 0) (with_tracking self.old.end (after_sent self.old.end.tracking (number_of self.old.end) packet))) }
         ensures control { self.new.control ≡ self.old.control }
         ensures keys { self.new.keys ≡ self.old.keys }
+        ensures heard { self.new.heard ≡ self.old.heard }
         ensures random { OnOk result (R.stream self.new.random ≡ after_words (self.new.end.filter.drawn - self.old.end.filter.drawn) (R.stream self.old.random)) }
         ensures err { OnErr result (self.new ≡ self.old) }
     {

@@ -1,11 +1,12 @@
 //! Timers of an end, and what the application is told.
 ghost use Rattle.std.specs.Prelude.{◌≡◌, ◌≢◌, OnOk, OnErr};
 ghost use Rattle.quic_time.specs.Timers.{timer_at, next_timer, has_come, no_timers};
-ghost use Rattle.quic_machine.specs.End.{with_end, HasFailed};
+ghost use Rattle.quic_machine.specs.End.{with_end, policy_of, HasFailed};
 ghost use Rattle.quic_machine.specs.Calls.{end_tells, end_after_event};
 ghost use Rattle.quic_machine.specs.Lacking.{LosesOrHasFailed};
 ghost use Rattle.quic_machine.specs.Timeouts.{timed_out, told_timed_out, expired, loss_expired, told_expired, acks_expired, pacing_expired};
-ghost use Rattle.quic_connection_core.specs.Telling.{telling, KeepsKeys};
+ghost use Rattle.quic_connection_core.specs.Drawn.{words_of};
+ghost use Rattle.quic_connection_core.specs.Telling.{telling, KeepsRest};
 ghost use Rattle.quic_connection_core.specs.Tracked.{LosesByTime};
 
 use crate::connection::Connection;
@@ -33,8 +34,8 @@ impl<H: HeaderKey + Drop, K: PacketKey + Drop, R: Rng + Drop, C: Controller> Con
     /// [`Failed`] where memory lacks now, which it may only where packets are lost, and the end
     /// fails for good and has no timer; or where it had failed before, and nothing changes.
     pub fn handle_timeout(&mut self, now: Instant) -> Result<(), Failed>
-        ensures answer { OnOk result (result ≡ (timed_out self.old.end now).answer) }
-        ensures end { OnOk result (self.new ≡ telling C.steps self.old (told_timed_out self.old.end now) (timed_out self.old.end now).end) }
+        ensures answer { OnOk result (result ≡ (timed_out (policy_of H.protection K.aead (words_of R.stream) self.old) self.old.end now).answer) }
+        ensures end { OnOk result (self.new ≡ telling C.steps self.old (told_timed_out self.old.end now) (timed_out (policy_of H.protection K.aead (words_of R.stream) self.old) self.old.end now).end) }
         ensures failed { OnErr result (HasFailed self.old self.new) }
         ensures stopped { self.old.end.closing.state ≢ State.Failed → OnErr result (self.new.end.timers ≡ no_timers) }
         ensures lacking { OnErr result (LosesOrHasFailed self.old.end now) }
@@ -51,7 +52,7 @@ impl<H: HeaderKey + Drop, K: PacketKey + Drop, R: Rng + Drop, C: Controller> Con
     /// lacks, the end fails for good.
     fn take_timeout(&mut self, now: Instant) -> Result<(), Failed>
         requires { self.old.end.closing.state ≡ State.Open }
-        ensures end { OnOk result (self.new ≡ telling C.steps self.old (told_timed_out self.old.end now) (timed_out self.old.end now).end) }
+        ensures end { OnOk result (self.new ≡ telling C.steps self.old (told_timed_out self.old.end now) (timed_out (policy_of H.protection K.aead (words_of R.stream) self.old) self.old.end now).end) }
         ensures failed { OnErr result (HasFailed self.old self.new) }
         ensures stopped { OnErr result (self.new.end.timers ≡ no_timers) }
         ensures lacking { OnErr result (LosesOrHasFailed self.old.end now) }
@@ -68,7 +69,7 @@ impl<H: HeaderKey + Drop, K: PacketKey + Drop, R: Rng + Drop, C: Controller> Con
     /// then.
     fn expire_timers(&mut self) -> Result<(), AllocError>
         ensures ok { OnOk result (self.new ≡ telling C.steps self.old (told_expired (has_come self.old.end.timers.loss_detection self.old.end.closing.clock) self.old.end) (expired self.old.end)) }
-        ensures others { KeepsKeys self.old self.new }
+        ensures others { KeepsRest self.old self.new }
         ensures lacking { OnErr result (LosesByTime self.old.end) }
     {
         self.expire_loss_timer()?;
@@ -82,7 +83,7 @@ impl<H: HeaderKey + Drop, K: PacketKey + Drop, R: Rng + Drop, C: Controller> Con
     /// probes go. An error is want of memory; the end is of no more use then.
     fn expire_loss_timer(&mut self) -> Result<(), AllocError>
         ensures ok { OnOk result (self.new ≡ telling C.steps self.old (told_expired (has_come self.old.end.timers.loss_detection self.old.end.closing.clock) self.old.end) (loss_expired (has_come self.old.end.timers.loss_detection self.old.end.closing.clock) self.old.end)) }
-        ensures others { KeepsKeys self.old self.new }
+        ensures others { KeepsRest self.old self.new }
         ensures lacking { OnErr result (LosesByTime self.old.end) }
     {
         if !self

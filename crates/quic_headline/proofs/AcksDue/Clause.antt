@@ -1,12 +1,12 @@
 -- Where an ACK frame is due at an open end, and it owes an acknowledgement, a poll that leaves it
 -- open gives one.
-use Rattle.std.proofs.Common.{◌≡◌, ℕ, suc, Bool, true, false, ◌||◌, List, [], ◌∷◌, ◌++◌, None, refl, sym, ap, ◌∙◌, subst, ◌⊎◌, inl, inr}
+use Rattle.std.proofs.Common.{◌≡◌, ℕ, suc, Bool, true, false, ◌||◌, [], ◌∷◌, ◌++◌, None, refl, sym, ap, ◌∙◌, subst, ◌⊎◌, inl, inr}
 use Rattle.std.specs.Prelude.{nat_lt}
 use Rattle.std.specs.List.{list_any}
 use Rattle.std.proofs.lemmas.Bool.{or_left, and_from, and_parts, both_ways}
 use Rattle.std.proofs.lemmas.List.Folds.{list_any-append}
 use Rattle.quic_wire_core.specs.StreamId.{other_side}
-use Rattle.quic_wire.specs.Value.{FrameValue, ack}
+use Rattle.quic_wire.specs.Value.{FrameValue}
 use Rattle.quic_recovery_core.specs.PendingAcks.{lazy_threshold, can_send, is_filled}
 use Rattle.quic_machine.specs.declared.answers.State.{State}
 use Rattle.quic_machine.specs.declared.answers.State.TheVariants as states
@@ -19,22 +19,23 @@ use Rattle.quic_machine.specs.Policy.{Policy}
 use Rattle.quic_machine.specs.Closing.{ticked}
 use Rattle.quic_machine.specs.End.{End, with_closing, with_window}
 use Rattle.quic_machine.specs.Control.{Gated, with_pacing_timer}
-use Rattle.quic_machine.specs.Poll.{Polled, Draft, no_frames, with_asking, ack_of, with_ack, composed_if, probed, waits, asks_to_go, gated, Leaving, whole, alone, Ready, goes_as, goes, lazied, draft_as, draft_of, sends, polled_if, polled_in, polled}
+use Rattle.quic_machine.specs.Poll.{Polled, Draft, no_frames, with_asking, with_ack, composed_if, probed, waits, asks_to_go, gated, Leaving, whole, alone, Ready, goes_as, goes, lazied, draft_as, draft_of, sends, polled_if, polled_in, polled}
 use Rattle.quic_machine.specs.PollCases.{ready_at, frames_at, by_leaves, search_leaves}
-use Rattle.quic_machine.specs.DraftLaws.{by_asking}
+use Rattle.quic_machine.specs.DraftLaws.{Writing, by_asking}
+use Rattle.quic_machine.specs.Puts as puts
 use Rattle.quic_machine.specs.Machine.{World, gave, end_at, control_at, policy_at}
-use Rattle.quic_headline.specs.Runs.{Run, Intake, In, folded, until, given_of}
-use Rattle.quic_headline.specs.Observer.{Watch, first_watch, lens_of, watch, took, sents_until}
+use Rattle.quic_headline.specs.Runs.{Run, Intake, In, folded}
+use Rattle.quic_headline.specs.Observer.{Watch, first_watch, watch, took, sents_until}
 use Rattle.quic_headline.specs.Headline.{IsHonest, IsRun}
 use Rattle.quic_headline.specs.Moments.{is_ack, acknowledges}
 use Rattle.quic_headline.specs.Polls.{IsMade}
 use Rattle.quic_headline.specs.Rest.{unanswered_told, none_unanswered}
-use Rattle.quic_headline.specs.AcksDue.{haste_told, no_haste, AcksAreDue}
+use Rattle.quic_headline.specs.AcksDue.{AcksAreDue}
 use Rattle.quic_headline.proofs.Packets.Watching.{watched_intake}
 use Rattle.quic_headline.proofs.Packets.Probes.{ready_acks}
 use Rattle.quic_headline.proofs.Places.Parties.{sent_by, sent_if, sents_by, Party, came_to, lens}
 use Rattle.quic_headline.proofs.Places.Groups.{Way, Nothing, And, Group, both, over}
-use Rattle.quic_headline.proofs.Places.Placed.{party_at, Placed, placed, known_first}
+use Rattle.quic_headline.proofs.Places.Placed.{party_at, Placed, placed}
 use Rattle.quic_headline.proofs.Places.Steps.{poll_answer}
 use Rattle.quic_headline.proofs.Timers.Watched.{Observed, went_is, open_behind}
 use Rattle.quic_headline.proofs.Timers.Still.{was_open}
@@ -58,15 +59,11 @@ still_acks : (d : Draft) (f : FrameValue) → Acknowledges d → list_any is_ack
 still_acks d f is = list_any-append is_ack d.frames (f ∷ []) ∙ or_left (list_any is_ack d.frames) (list_any is_ack (f ∷ [])) is
 
 asking_acks : (d : Draft) → Acknowledges d → Acknowledges (with_asking d)
-asking_acks = by_asking Acknowledges (record {
-  ack = λ d filled may is. still_acks d (ack (ack_of d.end)) is;
-  ping = λ d is. still_acks d _ is;
-  probes = λ f size is. cc;
-  drops = λ d kind is. is;
-  control = λ d kind f is i. still_acks d f i;
-  message = λ d m ms first fit is. still_acks d _ is;
-  stream = λ d id h room found first left at counts is. still_acks d _ is;
-})
+asking_acks = by_asking Acknowledges keep
+  where
+    keep : Writing Acknowledges
+    keep (puts.drops kind) d may is = is
+    keep p d may is = still_acks d _ is
 
 -- all goes, or an ACK alone
 abbrev pub Acks : Leaving → Type 0
@@ -208,11 +205,10 @@ acks_are_due r end honest run side i now a v q served at there opened due owed =
 
     -- an ACK frame is due, and there is something to acknowledge
     pressed : IsPressed e.acknowledging
-    pressed = h.gives.1.due opened_before
-        (subst (λ (ids : List (List ℕ)). (folded (haste_told (lens_of r side)) (until r side i) (no_haste (first_watch ids (given_of r side) (end_at side r.start).closing.clock (end_at side r.start).transport.initial_rtt))).due ≡ true) (known_first r honest side) due)
+    pressed = h.gives.1.due opened_before due
 
-    since : In q (folded (unanswered_told (lens x y)) x.told (none_unanswered (first_watch (x.id ∷ []) x.final x.began x.initial_rtt))).packets
-    since = subst (λ (ids : List (List ℕ)). In q (folded (unanswered_told (lens_of r side)) (until r side i) (none_unanswered (first_watch ids (given_of r side) (end_at side r.start).closing.clock (end_at side r.start).transport.initial_rtt))).packets) (known_first r honest side) owed.since
+    since : In q (folded (unanswered_told (lens x y)) x.told (none_unanswered (first_watch x.final x.began x.initial_rtt))).packets
+    since = owed.since
 
     owes : Owes x.sents (came_to x y).took x.end q.number
     owes = h.gives.0.0.1.owes opened_before q since
@@ -222,7 +218,7 @@ acks_are_due r end honest run side i now a v q served at there opened due owed =
     sents_are = ap (λ (v : Watch). v.own) h.seen ∙ h.gives.0.0.0.1.own
 
     took_is : took r side i ≡ (came_to x y).took
-    took_is = ap (λ (v : Watch). v.intake.took) h.seen ∙ ap (λ (j : Intake). j.took) (watched_intake (lens x y) x.told (first_watch (x.id ∷ []) x.final x.began x.initial_rtt))
+    took_is = ap (λ (v : Watch). v.intake.took) h.seen ∙ ap (λ (j : Intake). j.took) (watched_intake (lens x y) x.told (first_watch x.final x.began x.initial_rtt))
 
     can : can_send e.acknowledging ≡ true
     can = and_from e.acknowledging.due (is_filled e.acknowledging.runs) pressed.0 (owed_filled r side i q owed e x.sents (came_to x y).took sents_are took_is owes)

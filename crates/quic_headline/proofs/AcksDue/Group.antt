@@ -44,7 +44,7 @@ Waiting = And Observed (And Answers Punctual)
 
 -- what the observer of x finds due
 abbrev pub haste_of : Party → Party → Haste
-haste_of x y = folded (haste_told (lens x y)) x.told (no_haste (first_watch (x.id ∷ []) x.final x.began x.initial_rtt))
+haste_of x y = folded (haste_told (lens x y)) x.told (no_haste (first_watch x.final x.began x.initial_rtt))
 
 -- what isn't answered within it is what isn't
 same_known : (l : Lens) (told : List Told) (h : Haste) → (folded (haste_told l) told h).known ≡ folded (unanswered_told l) told h.known
@@ -88,10 +88,10 @@ module _ (x y : Party) (call : Call) (a : Answer) (c : Calls Waiting x y call a)
   told = told_of call a x.end.closing.state
 
   known_before : (haste_of x y).known ≡ before
-  known_before = same_known (lens x y) x.told (no_haste (first_watch (x.id ∷ []) x.final x.began x.initial_rtt))
+  known_before = same_known (lens x y) x.told (no_haste (first_watch x.final x.began x.initial_rtt))
 
   debt_before : (haste_of x y).debt ≡ debt_of x y
-  debt_before = same_debt (lens x y) x.told (no_haste (first_watch (x.id ∷ []) x.final x.began x.initial_rtt))
+  debt_before = same_debt (lens x y) x.told (no_haste (first_watch x.final x.began x.initial_rtt))
 
   watched : before.watch ≡ watch_of x y
   watched = watch_within x y call a observed
@@ -103,7 +103,7 @@ module _ (x y : Party) (call : Call) (a : Answer) (c : Calls Waiting x y call a)
   -- what is due behind the call
   due_told : (haste_of (called x y.given call a) y).due ≡ due_if told (acknowledges (sents_by x.end call a)) (haste_of x y).due (came_to x y) (came_to (called x y.given call a) y) behind.packets (debt_of (called x y.given call a) y).arrivals after.clock
   due_told =
-      let first : Watch = first_watch (x.id ∷ []) x.final x.began x.initial_rtt in
+      let first : Watch = first_watch x.final x.began x.initial_rtt in
       let due : Bool = (haste_of x y).due in
       let unanswered : Unanswered = unanswered_told (lens x y) told before in
       let debt : Debt = debt_told (lens x y) told (debt_of x y) in

@@ -15,12 +15,14 @@ use Rattle.quic_machine.specs.declared.run.Answer.{Answer}
 use Rattle.quic_machine.specs.Policy.{Policy}
 use Rattle.quic_machine.specs.End.{End}
 use Rattle.quic_machine.specs.Receive.{asks_in, after_taken, Outcome}
-use Rattle.quic_machine.specs.Poll.{Polled, Draft, polled, draft_as, lazied_as, Leaving, whole, alone, probe, nothing, Ready}
+use Rattle.quic_machine.specs.Poll.{Polled, Draft, polled, draft_as, lazied_as, Leaving, whole, nothing, Ready}
 use Rattle.quic_machine.specs.Machine.{after_call}
-use Rattle.quic_machine.specs.CallCases.{is_delivery, by_plain_call}
+use Rattle.quic_machine.specs.CallCases.{Plain, is_delivery, by_plain_call}
+use Rattle.quic_machine.specs.CallCases as cases
 use Rattle.quic_machine.specs.FrameCases.{begun}
 use Rattle.quic_machine.specs.PollCases.{ready_at, draft_at, by_poll_to, may_leave_at}
-use Rattle.quic_machine.specs.DraftLaws.{by_leave, MayLeave}
+use Rattle.quic_machine.specs.DraftLaws.{Writing, by_leave, MayLeave}
+use Rattle.quic_machine.specs.Puts as puts
 use Rattle.quic_headline.specs.Runs.{Packet, Intake}
 use Rattle.quic_headline.specs.AcksDue.{greatest_asking}
 use Rattle.quic_headline.proofs.Packets.Delivered.{Arrivals, arrived}
@@ -41,21 +43,15 @@ Keeps taken e = Ruled e.acknowledging taken
 -- an acknowledgement that became due leaves the rules
 lazied_ruled : (taken : List Packet) (leaving : Leaving) (e : End) → Keeps taken e → Keeps taken (lazied_as leaving e)
 lazied_ruled taken whole e i = i
-lazied_ruled taken alone e i = i
-lazied_ruled taken (probe size) e i = i
-lazied_ruled taken (nothing held) e i = i
+lazied_ruled taken other e i = i
 
 -- an ACK frame that goes leaves the rules too
 draft_ruled : (taken : List Packet) (leaving : Leaving) (e : End) → MayLeave leaving e → Keeps taken e → Keeps taken (draft_as leaving e).end
-draft_ruled taken leaving e due i = by_leave (λ (d : Draft). Keeps taken d.end) (record {
-  ack = λ d filled may i. i;
-  ping = λ d i. i;
-  probes = λ f size i. i;
-  drops = λ d kind i. i;
-  control = λ d kind f is i. i;
-  message = λ d m ms is fit i. i;
-  stream = λ d id h room found first some is counts i. i;
-}) leaving e due (lazied_ruled taken leaving e i)
+draft_ruled taken leaving e due i = by_leave (λ (d : Draft). Keeps taken d.end) keep leaving e due (lazied_ruled taken leaving e i)
+  where
+    keep : Writing (λ (d : Draft). Keeps taken d.end)
+    keep puts.ping d may i = i
+    keep p d may i = i
 
 ready_ruled : (taken : List Packet) (e : End) (now : ℕ) → Keeps taken e → Keeps taken (ready_at e now).end
 ready_ruled taken e now i = subst (λ (p : Pending). Ruled p taken) (sym (ready_acks e now)) i
@@ -65,7 +61,7 @@ polled_ruled taken p e now i = by_poll_to p e now (λ (q : Polled). Keeps taken 
   silent = i;
   failed = i;
   nothing = λ is none. ready_ruled taken e now i;
-  used_up = ready_ruled taken e now i;
+  closes = ready_ruled taken e now i;
   gives = λ is may some.
       let g : Ready = ready_at e now in
       by_going (Keeps taken) p (draft_at e now) (λ pacing. draft_ruled taken g.leaving g.end (may_leave_at e now) (ready_ruled taken e now i));
@@ -77,17 +73,13 @@ expired_ruled taken true p i = i
 expired_ruled taken false p i = i
 
 pub call_ruled : (taken : List Packet) (p : Policy) (e : End) (theirs : List (List ℕ)) (call : Call) (a : Answer) → is_delivery call ≡ false → Ruled e.acknowledging taken → Ruled (after_call p e theirs call a).acknowledging taken
-call_ruled taken p e theirs call a apart i = by_plain_call p e theirs (Keeps taken) call a (record {
-  same = i;
-  on_streams = λ t. i;
-  on_messages = λ m. i;
-  pings = i;
-  heard = λ path same. i;
-  times = λ now expiry is. subst (λ (q : Pending). Ruled q taken) (sym (expired_acks e now expiry)) (expired_ruled taken expiry.acks e.acknowledging i);
-  polls = λ now is. polled_ruled taken p e now i;
-  hears = λ arrival d is. (let clash : true ≡ false = sym is ∙ apart in cc);
-  tells = λ told. i;
-})
+call_ruled taken p e theirs call a apart i = by_plain_call p e theirs (Keeps taken) call a cases_keep
+  where
+    cases_keep : Plain p e call (Keeps taken)
+    cases_keep (cases.times now expiry) may = subst (λ (q : Pending). Ruled q taken) (sym (expired_acks e now expiry)) (expired_ruled taken expiry.acks e.acknowledging i)
+    cases_keep (cases.polls now) may = polled_ruled taken p e now i
+    cases_keep (cases.hears arrival d) is = (let clash : true ≡ false = sym is ∙ apart in cc)
+    cases_keep c may = i
 
 -- ---- a packet that is taken
 

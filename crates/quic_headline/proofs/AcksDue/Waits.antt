@@ -25,11 +25,13 @@ use Rattle.quic_machine.specs.Receive.{asks_in, after_taken, timers_after, Outco
 use Rattle.quic_machine.specs.Poll.{Polled, Draft, polled, draft_as, Leaving, Ready}
 use Rattle.quic_machine.specs.Timeouts.{Expiry, acks_expired, loss_expired, pacing_expired, expiry_at, timed_out_in}
 use Rattle.quic_machine.specs.Machine.{IsAnswer, after_call, fails, gave}
-use Rattle.quic_machine.specs.CallCases.{is_delivery, is_poll, by_plain_call}
+use Rattle.quic_machine.specs.CallCases.{Plain, is_delivery, is_poll, by_plain_call}
+use Rattle.quic_machine.specs.CallCases as cases
 use Rattle.quic_machine.specs.LeaveCases.{at_expiry, by_expired}
 use Rattle.quic_machine.specs.FrameCases.{begun}
 use Rattle.quic_machine.specs.PollCases.{ready_at, ready_leaves, draft_at, frames_at, by_poll_to, may_leave_at}
-use Rattle.quic_machine.specs.DraftLaws.{by_leave, MayLeave}
+use Rattle.quic_machine.specs.DraftLaws.{Writing, by_leave, MayLeave}
+use Rattle.quic_machine.specs.Puts as puts
 use Rattle.quic_headline.specs.Runs.{Packet, Intake, In}
 use Rattle.quic_headline.specs.Observer.{Sent, Watch, first_watch, news}
 use Rattle.quic_headline.specs.Moments.{is_ack, acknowledges, arrivals_of, Debt, debt_told, first_debt}
@@ -71,15 +73,12 @@ Leaves e f = (f.timers.max_ack_delay ≡ e.timers.max_ack_delay) ⊎ (f.acknowle
 
 -- no ACK frame goes: the timer stays
 draft_timer : (leaving : Leaving) (e : End) → MayLeave leaving e → list_any is_ack (draft_as leaving e).frames ≡ false → (draft_as leaving e).end.timers.max_ack_delay ≡ e.timers.max_ack_delay
-draft_timer leaving e due = by_leave (λ (d : Draft). list_any is_ack d.frames ≡ false → d.end.timers.max_ack_delay ≡ e.timers.max_ack_delay) (record {
-  ack = λ d filled may i none. absurd (let some = (parts d.frames _ none).1 in cc);
-  ping = λ d i none. i (parts d.frames _ none).0;
-  probes = λ f size i none. i refl;
-  drops = λ d kind i. i;
-  control = λ d kind f is i none. i (parts d.frames f none).0;
-  message = λ d m ms is fit i none. i (parts d.frames _ none).0;
-  stream = λ d id h room found first some is counts i none. i (parts d.frames _ none).0;
-}) leaving e due (λ none. refl)
+draft_timer leaving e due = by_leave (λ (d : Draft). list_any is_ack d.frames ≡ false → d.end.timers.max_ack_delay ≡ e.timers.max_ack_delay) keep leaving e due (λ none. refl)
+  where
+    keep : Writing (λ (d : Draft). list_any is_ack d.frames ≡ false → d.end.timers.max_ack_delay ≡ e.timers.max_ack_delay)
+    keep puts.ack d may i = λ none. absurd (let some = (parts d.frames _ none).1 in cc)
+    keep (puts.drops kind) d may i = i
+    keep p d may i = λ none. i (parts d.frames _ none).0
 
 ready_timer : (e : End) (now : ℕ) → (ready_at e now).end.timers.max_ack_delay ≡ e.timers.max_ack_delay
 ready_timer e now = ap (λ (x : End). x.timers.max_ack_delay) (ready_leaves e now)
@@ -90,7 +89,7 @@ polled_timer p e now = by_poll_to p e now (λ (q : Polled). acknowledges (sent_i
   silent = λ none opened. refl;
   failed = λ none opened. refl;
   nothing = λ is quiet none opened. ready_timer e now;
-  used_up = λ none opened. cc;
+  closes = λ none opened. cc;
   gives = λ is may some none opened.
       let g : Ready = ready_at e now in
       by_going (λ (x : End). x.timers.max_ack_delay ≡ e.timers.max_ack_delay) p (draft_at e now) (λ pacing.
@@ -119,17 +118,13 @@ expired_leaves e now expiry = go expiry.acks refl
 
 -- a call that is neither a poll nor a delivery
 quiet_leaves : (p : Policy) (e : End) (theirs : List (List ℕ)) (call : Call) (a : Answer) → is_delivery call ≡ false → is_poll call ≡ false → Leaves e (after_call p e theirs call a)
-quiet_leaves p e theirs call a apart silent = by_plain_call p e theirs (Leaves e) call a (record {
-  same = inl refl;
-  on_streams = λ t. inl refl;
-  on_messages = λ m. inl refl;
-  pings = inl refl;
-  heard = λ path same. inl refl;
-  times = λ now expiry is. expired_leaves e now expiry;
-  polls = λ now is. (let clash : true ≡ false = sym is ∙ silent in cc);
-  hears = λ arrival d is. (let clash : true ≡ false = sym is ∙ apart in cc);
-  tells = λ told. inl refl;
-})
+quiet_leaves p e theirs call a apart silent = by_plain_call p e theirs (Leaves e) call a cases_keep
+  where
+    cases_keep : Plain p e call (Leaves e)
+    cases_keep (cases.times now expiry) may = expired_leaves e now expiry
+    cases_keep (cases.polls now) is = (let clash : true ≡ false = sym is ∙ silent in cc)
+    cases_keep (cases.hears arrival d) is = (let clash : true ≡ false = sym is ∙ apart in cc)
+    cases_keep c may = inl refl
 
 call_leaves : (p : Policy) (e : End) (theirs : List (List ℕ)) (call : Call) (a : Answer) → is_delivery call ≡ false → IsAnswer p e theirs call a → fails a ≡ false → acknowledges (sents_by e call a) ≡ false → (after_call p e theirs call a).closing.state ≡ states.Open
     → Leaves e (after_call p e theirs call a)
@@ -155,7 +150,7 @@ expired_clock e now = by_expired e now (λ (x : End). x.closing ≡ ticked e.clo
 -- a timer that is set behind a timeout is set to a later moment
 pub timeout_later : (p : Policy) (e : End) (theirs : List (List ℕ)) (now : ℕ) (a : Answer) (moment : ℕ) → e.closing.state ≡ states.Open → (after_call p e theirs (calls.Timeout now) a).timers.max_ack_delay ≡ Some moment → (after_call p e theirs (calls.Timeout now) a).closing.clock < moment
 timeout_later p e theirs now a moment opened =
-    subst (λ (x : End). x.timers.max_ack_delay ≡ Some moment → x.closing.clock < moment) (sym (ap (λ (s : State). (timed_out_in s e now).end) opened))
+    subst (λ (x : End). x.timers.max_ack_delay ≡ Some moment → x.closing.clock < moment) (sym (ap (λ (s : State). (timed_out_in s p e now).end) opened))
     (λ set. subst (λ (c : Closing). c.clock < moment) (sym (expired_clock e now expiry)) (go (has_come e.timers.max_ack_delay (ticked e.closing now).clock) refl set))
   where
     expiry : Expiry
@@ -291,7 +286,7 @@ module _ (x y : Party) (call : Call) (a : Answer) (c : Calls Observed x y call a
 
   -- the observer within it
   pub debt_watched : before.watch ≡ watch_of x y
-  debt_watched = owed_watch (lens x y) x.told (first_debt (first_watch (x.id ∷ []) x.final x.began x.initial_rtt))
+  debt_watched = owed_watch (lens x y) x.told (first_debt (first_watch x.final x.began x.initial_rtt))
 
   abbrev after : Watch
   after = watch_behind x y call a c before.watch debt_watched
@@ -299,7 +294,7 @@ module _ (x y : Party) (call : Call) (a : Answer) (c : Calls Observed x y call a
   -- what isn't answered behind the call
   arrivals_told : (debt_of (called x y.given call a) y).arrivals ≡ (if acknowledges (sents_by x.end call a) then [] else arrivals_of (news (came_to x y) (came_to (called x y.given call a) y)) after.clock ++ before.arrivals)
   arrivals_told =
-      ap (λ (d : Debt). d.arrivals) (folded_more (debt_told (lens x y)) x.told (told_of call a x.end.closing.state) (first_debt (first_watch (x.id ∷ []) x.final x.began x.initial_rtt)))
+      ap (λ (d : Debt). d.arrivals) (folded_more (debt_told (lens x y)) x.told (told_of call a x.end.closing.state) (first_debt (first_watch x.final x.began x.initial_rtt)))
       ∙ ap (λ (ss : List Sent). if acknowledges ss then [] else arrivals_of (news before.watch.intake after.intake) after.clock ++ before.arrivals) (went_behind x y call a c before.watch debt_watched)
       ∙ ap (λ (i : Intake). if acknowledges (sents_by x.end call a) then [] else arrivals_of (news i after.intake) after.clock ++ before.arrivals) (came_before x y call a c before.watch debt_watched)
       ∙ ap (λ (j : Intake). if acknowledges (sents_by x.end call a) then [] else arrivals_of (news (came_to x y) j) after.clock ++ before.arrivals) (came_behind x y call a c before.watch debt_watched)

@@ -38,6 +38,7 @@ use Rattle.quic_headline.proofs.Unread.Walk.{Of, frame_left, opened_left}
 use Rattle.quic_headline.proofs.Credit.Cases.{begun_to, next_to, stop_to, reset_told_to, renewed_to}
 use Rattle.quic_headline.proofs.Credit.Counted.{live_of}
 use Rattle.quic_headline.proofs.Credit.Drafts.{AreFine, poll_known}
+use Rattle.quic_streams_laws.specs.Keeping as changes
 
 -- ---- what is said of halves
 
@@ -126,10 +127,10 @@ module _ (stop over : ℕ → Type 0) where
       done_on false j = j
 
   with_shut : (s : StreamsState) (id : ℕ) (old new : RecvHalf) → receiving_half s id ≡ Some old → (new.stopped ≡ true → stop id) → Shut s → Shut (with_recv s id new)
-  with_shut s id old new is now i = (shape_any.changes_receiving s id old new is tt i.0, with_fits s id new i.0 now i.1)
+  with_shut s id old new is now i = (shape_any (changes.changes_receiving s.receiving id old new) s (is, tt, refl) i.0, with_fits s id new i.0 now i.1)
 
   done_shut : (s : StreamsState) (id : ℕ) (h : RecvHalf) → at s.receiving.halves.live id ≡ Some h → over id → Shut s → Shut (recv_done s id)
-  done_shut s id h is now i = (shape_any.ends_receiving s id h is i.0, done_fits s id h is i.0 now i.1)
+  done_shut s id h is now i = (shape_any (changes.ends_receiving id h) s is i.0, done_fits s id h is i.0 now i.1)
 
   -- ---- calls
 
@@ -201,6 +202,8 @@ module _ (stop over : ℕ → Type 0) where
     limits = λ p s f i goes. tt;
     pads = tt;
     pings = tt;
+    connection_closes = λ c. tt;
+    application_closes = λ c. tt;
     acks = λ a. tt;
     messages = λ m. tt;
     streams = λ f. tt;

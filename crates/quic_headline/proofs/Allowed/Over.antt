@@ -47,6 +47,7 @@ use Rattle.quic_headline.proofs.Unread.OpeningLasts.{Lasts, lasts_call}
 use Rattle.quic_headline.proofs.Unread.OpeningStatus.{IsDoneStatus, ReceivesNoMore, lasts_each}
 use Rattle.quic_headline.proofs.Unread.OpeningRead.{ends_here, Heard, heard_group}
 use Rattle.quic_headline.proofs.Allowed.Halves.{frame_stopped, reset_stopped}
+use Rattle.quic_streams_laws.specs.Keeping as changes
 
 -- ---- a stream that is stopped or done
 
@@ -101,7 +102,7 @@ stop_over : (s : StreamsState) (p : Retransmits) (id code : ℕ) → IsShaped s 
 stop_over s p id code shape free = go (receiving_half s id) refl free
   where
     by_size : (h : RecvHalf) → receiving_half s id ≡ Some h → (b : Bool) → StaysOver id (stopped_if b s id h)
-    by_size h is true = no_more id _ (ends_here (with_recv s id (stopped_now h)) id (stopped_now h) (shape_any.changes_receiving s id h (stopped_now h) is tt shape) (at-half s.side s.receiving.halves id (stopped_now h)))
+    by_size h is true = no_more id _ (ends_here (with_recv s id (stopped_now h)) id (stopped_now h) (shape_any (changes.changes_receiving s.receiving id h (stopped_now h)) s (is, tt, refl) shape) (at-half s.side s.receiving.halves id (stopped_now h)))
     by_size h is false = halted_half s id h is shape
 
     by_stop : (h : RecvHalf) → receiving_half s id ≡ Some h → h.stopped ≡ false → StaysOver id (stopped_at (Some h) s p id code).state

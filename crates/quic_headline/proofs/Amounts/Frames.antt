@@ -28,6 +28,7 @@ use Rattle.quic_machine.specs.FrameCases.{acked_keeps, named, ack_taken, passed,
 use Rattle.quic_headline.specs.Amounts.{data_limit_in, stream_limit_in, stops_stream, greatest_in}
 use Rattle.quic_headline.proofs.Halves.Opened.{opened_now, side_now}
 use Rattle.quic_headline.proofs.Amounts.Tally.{Tally, IsTallied, IsFresh, HasSums, AreTallied, Tallies, AlikeAt, alike_at, half_tallied, tallied_kept, tallies_kept, tallies_settle, put_tallied, halves_alike, tallies_alike}
+use Rattle.quic_streams_laws.specs.Keeping as changes
 
 -- with what a frame told
 abbrev pub and_frame : FrameValue → Tally → Tally
@@ -42,7 +43,7 @@ module _ (t : Tally) where
 
   data_tallies : (limit : ℕ) (s : StreamsState) → Tallies t s → Tallies (and_frame (max_data limit) t) (after_max_data s limit)
   data_tallies limit s i = record {
-    halves = halves_alike t (and_frame (max_data limit) t) (after_max_data s limit) (λ id. record { first = refl; limit = omega arith; stopped = refl; sizes = refl }) ((tallied_kept t).raises s (max s.sending.limit limit) (omega arith) i.halves);
+    halves = halves_alike t (and_frame (max_data limit) t) (after_max_data s limit) (λ id. record { first = refl; limit = omega arith; stopped = refl; sizes = refl }) (tallied_kept t (changes.raises (max s.sending.limit limit)) s (omega arith) i.halves);
     sums = (let was = i.sums.limit in record { limit = omega arith; accepted = i.sums.accepted; window = i.sums.window });
   }
 
@@ -135,7 +136,7 @@ module _ (t : Tally) where
             let v : StreamsState = with_send s f.id half in
             let put : Tallies raised v = one_changes raised f.id (λ j. refl) others_raised (omega arith) refl refl s h half e (record { limit = omega arith; stopped = was.stopped; pieces = was.pieces }) i in
             let there : sending_half v f.id ≡ Some half = live_sends v f.id half (at-half s.side s.sending.halves f.id half) in
-            cond_both (is_used_up h) _ _ (Tallies raised) (λ x. cond_both (room v.sending == 0) _ _ (Tallies raised) (λ y. (tallies_kept raised).joins v f.id half there put) (λ y. told v put _)) (λ x. put)
+            cond_both (is_used_up h) _ _ (Tallies raised) (λ x. cond_both (room v.sending == 0) _ _ (Tallies raised) (λ y. tallies_kept raised (changes.joins f.id half) v there put) (λ y. told v put _)) (λ x. put)
           where
             told : (v : StreamsState) → Tallies raised v → (es : _) → Tallies raised (record v { events = es })
             told v put es = record { halves = record { shape = record { sending = put.halves.shape.sending; receiving = put.halves.shape.receiving }; first = put.halves.first; each = put.halves.each }; sums = put.sums }

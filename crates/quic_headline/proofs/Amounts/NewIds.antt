@@ -12,6 +12,7 @@ use Rattle.quic_streams_state.specs.declared.state.StreamsState.{StreamsState}
 use Rattle.quic_streams_state.specs.State.{Opening, is_opened_in, receiving_status, sending_status, done_if}
 use Rattle.quic_streams_state.specs.Opening.{open_answer, after_open, accept_answer, after_accept, with_remote}
 use Rattle.quic_streams_laws.specs.Keeping.{KeepsAll}
+use Rattle.quic_streams_laws.specs.Keeping as changes
 use Rattle.quic_streams_laws.specs.ShapeLaws.{OpensMore, opened_more, more_own}
 use Rattle.quic_machine.specs.declared.run.Call.{Call}
 use Rattle.quic_machine.specs.declared.run.Call.TheVariants as calls
@@ -41,33 +42,19 @@ theirs_more : (dir : Dir) (n : ℕ) (o : Opening) → OpensMore (as_got o) (as_g
 theirs_more Bi n o = record { own = λ d. omega arith; remote = λ d. omega arith }
 theirs_more Uni n o = record { own = λ d. omega arith; remote = λ d. omega arith }
 
+through : (side : Side) (q : ℕ) (b : Bool) (id : ℕ) (s : StreamsState) → IsGot side q s → IsGot side q (done_if b id s)
+through side q false id s i = i
+through side q true id s i = record { of_side = i.of_side; got = i.got }
+
 -- whatever changes, it stays so
 got_stays : (side : Side) (id : ℕ) → KeepsAll (λ r id old new. Unit {0}) (λ s id old new. Unit {0}) (λ s id n old new. Unit {0}) (λ s dir. Unit {0}) (λ id. Unit {0}) (IsGot side id)
-got_stays side q = record {
-  finishes = λ s id f i. record { of_side = i.of_side; got = i.got };
-  events = λ s e less i. record { of_side = i.of_side; got = i.got };
-  opens_own = λ s dir lt i. record { of_side = i.of_side; got = opened_more (as_got s.opening) (as_got (record s.opening { own = more dir s.opening.own; sending = s.opening.sending + 1 })) s.side q (record { own = λ d. more_own dir d s.opening.own; remote = λ d. omega arith }) i.got };
-  accepts = λ s dir may i. record { of_side = i.of_side; got = opened_more (as_got s.opening) (as_got (record s.opening { accepted = more dir s.opening.accepted })) s.side q (record { own = λ d. omega arith; remote = λ d. more_own dir d s.opening.accepted }) i.got };
-  allows = λ s dir count le lt i. record { of_side = i.of_side; got = i.got };
-  opens_theirs = λ s id e within i. record { of_side = i.of_side; got = opened_more (as_got s.opening) (as_got (with_remote (dir_of id) (index_of id + 1) s.opening)) s.side q (theirs_more (dir_of id) (index_of id + 1) s.opening) i.got };
-  raises = λ s limit le i. record { of_side = i.of_side; got = i.got };
-  changes = λ s id old new is on same i. record { of_side = i.of_side; got = i.got };
-  queues = λ s id old new b is on same i. record { of_side = i.of_side; got = i.got };
-  turns = λ s id old new is on same i. record { of_side = i.of_side; got = i.got };
-  writes = λ s id n old new is on same i. record { of_side = i.of_side; got = i.got };
-  joins = λ s id h is i. cond_both h.blocked s _ (IsGot side q) (λ e. i) (λ e. record { of_side = i.of_side; got = i.got });
-  passes = λ s id ids is i. record { of_side = i.of_side; got = i.got };
-  ends_sending = λ s id h is over i. through (not (is_own s.side id) && is_done (receiving_status s id)) id _ (record { of_side = i.of_side; got = i.got });
-  changes_receiving = λ s id old new is on i. record { of_side = i.of_side; got = i.got };
-  ends_receiving = λ s id h is i. through (not (is_own s.side id) && (not (is_two_way (dir_of id)) || is_done (sending_status s id))) id _ (record { of_side = i.of_side; got = i.got });
-  tells = λ s i. record { of_side = i.of_side; got = i.got };
-  tells_on = λ s id h is i. record { of_side = i.of_side; got = i.got };
-  tells_count = λ s dir i. record { of_side = i.of_side; got = i.got };
-}
-  where
-    through : (b : Bool) (id : ℕ) (s : StreamsState) → IsGot side q s → IsGot side q (done_if b id s)
-    through false id s i = i
-    through true id s i = record { of_side = i.of_side; got = i.got }
+got_stays side q (changes.opens_own dir) s may i = record { of_side = i.of_side; got = opened_more (as_got s.opening) (as_got (record s.opening { own = more dir s.opening.own; sending = s.opening.sending + 1 })) s.side q (record { own = λ d. more_own dir d s.opening.own; remote = λ d. omega arith }) i.got }
+got_stays side q (changes.accepts dir) s may i = record { of_side = i.of_side; got = opened_more (as_got s.opening) (as_got (record s.opening { accepted = more dir s.opening.accepted })) s.side q (record { own = λ d. omega arith; remote = λ d. more_own dir d s.opening.accepted }) i.got }
+got_stays side q (changes.opens_theirs id) s may i = record { of_side = i.of_side; got = opened_more (as_got s.opening) (as_got (with_remote (dir_of id) (index_of id + 1) s.opening)) s.side q (theirs_more (dir_of id) (index_of id + 1) s.opening) i.got }
+got_stays side q (changes.joins id h) s may i = cond_both h.blocked s _ (IsGot side q) (λ e. i) (λ e. record { of_side = i.of_side; got = i.got })
+got_stays side q (changes.ends_sending id h) s may i = through side q (not (is_own s.side id) && is_done (receiving_status s id)) id _ (record { of_side = i.of_side; got = i.got })
+got_stays side q (changes.ends_receiving id h) s may i = through side q (not (is_own s.side id) && (not (is_two_way (dir_of id)) || is_done (sending_status s id))) id _ (record { of_side = i.of_side; got = i.got })
+got_stays side q c s may i = record { of_side = i.of_side; got = i.got }
 
 -- ---- one that is opened
 

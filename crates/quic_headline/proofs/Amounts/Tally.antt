@@ -18,6 +18,7 @@ use Rattle.quic_streams_laws.specs.Each.{HalfIs, EachSends, AreOfHalves}
 use Rattle.quic_streams_laws.specs.EachLaws.{each_kept, each_with, said_of}
 use Rattle.quic_streams_laws.specs.ShapeLaws.{sends_with}
 use Rattle.quic_streams_laws.specs.Keeping.{KeepsWhere, KeepsBy, HasEnded, MayAccept}
+use Rattle.quic_streams_laws.specs.Keeping as changes
 use Rattle.quic_streams_laws.specs.KeepingLaws.{by_open, by_accept, by_finish, by_reset, by_set_priority, by_read_begun, by_next, by_finalize, by_stop, by_received_reset, by_polled, by_stream_lost, by_stream_acked_where, by_reset_acked_where, by_frame}
 use Rattle.quic_streams_laws.specs.Written.{Wrote}
 use Rattle.quic_machine.specs.declared.run.Call.{Call}
@@ -29,8 +30,10 @@ use Rattle.quic_machine.specs.End.{End, streams_at}
 use Rattle.quic_machine.specs.Tracking.{TrackedPacket}
 use Rattle.quic_machine.specs.Acked.{stream_lost}
 use Rattle.quic_machine.specs.Poll.{Draft, composed, polled}
-use Rattle.quic_machine.specs.DraftLaws.{by_writing}
+use Rattle.quic_machine.specs.DraftLaws.{Writing, by_writing}
+use Rattle.quic_machine.specs.Puts as puts
 use Rattle.quic_machine.specs.FrameCases.{Settling}
+use Rattle.quic_machine.specs.Steps as steps
 use Rattle.quic_machine.specs.LeaveCases.{by_expired, by_event}
 use Rattle.quic_machine.specs.CallCases.{is_delivery, by_call}
 use Rattle.quic_machine.specs.Machine.{IsAnswer, after_call}
@@ -133,30 +136,12 @@ module _ (t : Tally) where
 
   -- each keeps it that changes no half otherwise, where nothing is written and no limit is raised
   pub tallies_kept : KeepsWhere (λ r id old new. Unit {0}) (λ s id old new. IsTallied t id old → IsTallied t id new) (λ s id n old new. ⊥) (λ s dir. MayAccept s dir) (λ id. Unit {0}) (λ id h. HasEnded h) (λ s limit. ⊥) (Tallies t)
-  tallies_kept = record {
-    finishes = λ s id f i. record { halves = k.finishes s id f i.halves; sums = i.sums };
-    events = λ s e less i. record { halves = k.events s e less i.halves; sums = i.sums };
-    opens_own = λ s dir lt i. record { halves = k.opens_own s dir lt i.halves; sums = i.sums };
-    accepts = λ s dir lt i. record { halves = k.accepts s dir lt i.halves; sums = i.sums };
-    allows = λ s dir count le lt i. record { halves = k.allows s dir count le lt i.halves; sums = i.sums };
-    opens_theirs = λ s id e within i. record { halves = k.opens_theirs s id e within i.halves; sums = i.sums };
-    raises = λ s limit never i. absurd never;
-    changes = λ s id old new is on same i. record { halves = k.changes s id old new is on same i.halves; sums = record { limit = i.sums.limit; accepted = i.sums.accepted; window = i.sums.window } };
-    queues = λ s id old new b is on has i. record { halves = k.queues s id old new b is on has i.halves; sums = record { limit = i.sums.limit; accepted = i.sums.accepted; window = i.sums.window } };
-    turns = λ s id old new is on has i. record { halves = k.turns s id old new is on has i.halves; sums = record { limit = i.sums.limit; accepted = i.sums.accepted; window = i.sums.window } };
-    writes = λ s id n old new is never has i. absurd never;
-    joins = λ s id h is i. record { halves = k.joins s id h is i.halves; sums = cond_both h.blocked s _ (λ (u : StreamsState). HasSums t u.sending) (λ e. i.sums) (λ e. record { limit = i.sums.limit; accepted = i.sums.accepted; window = i.sums.window }) };
-    passes = λ s id ids is i. record { halves = k.passes s id ids is i.halves; sums = record { limit = i.sums.limit; accepted = i.sums.accepted; window = i.sums.window } };
-    ends_sending = λ s id h is over i. record { halves = k.ends_sending s id h is over i.halves; sums = sums_done (not (is_own s.side id) && is_done (receiving_status s id)) id _ (record { limit = i.sums.limit; accepted = i.sums.accepted; window = i.sums.window }) };
-    changes_receiving = λ s id old new is on i. record { halves = k.changes_receiving s id old new is on i.halves; sums = i.sums };
-    ends_receiving = λ s id h is i. record { halves = k.ends_receiving s id h is i.halves; sums = sums_done (not (is_own s.side id) && (not (is_two_way (dir_of id)) || is_done (sending_status s id))) id _ i.sums };
-    tells = λ s i. record { halves = k.tells s i.halves; sums = i.sums };
-    tells_on = λ s id h is i. record { halves = k.tells_on s id h is i.halves; sums = i.sums };
-    tells_count = λ s dir i. record { halves = k.tells_count s dir i.halves; sums = i.sums };
-  }
-    where
-      k : KeepsBy (λ r id old new. Unit {0}) (λ s id old new. IsTallied t id old → IsTallied t id new) (λ s id n old new. IsTallied t id old → IsTallied t id new) (AreTallied t)
-      k = tallied_kept
+  tallies_kept (changes.raises limit) s never i = absurd never
+  tallies_kept (changes.writes id n old new) s (is, never, has) i = absurd never
+  tallies_kept (changes.joins id h) s is i = record { halves = tallied_kept (changes.joins id h) s is i.halves; sums = cond_both h.blocked s _ (λ (u : StreamsState). HasSums t u.sending) (λ e. i.sums) (λ e. record { limit = i.sums.limit; accepted = i.sums.accepted; window = i.sums.window }) }
+  tallies_kept (changes.ends_sending id h) s (is, over) i = record { halves = tallied_kept (changes.ends_sending id h) s (is, over) i.halves; sums = sums_done (not (is_own s.side id) && is_done (receiving_status s id)) id _ (record { limit = i.sums.limit; accepted = i.sums.accepted; window = i.sums.window }) }
+  tallies_kept (changes.ends_receiving id h) s is i = record { halves = tallied_kept (changes.ends_receiving id h) s is i.halves; sums = sums_done (not (is_own s.side id) && (not (is_two_way (dir_of id)) || is_done (sending_status s id))) id _ i.sums }
+  tallies_kept c s may i = record { halves = tallied_kept c s may i.halves; sums = record { limit = i.sums.limit; accepted = i.sums.accepted; window = i.sums.window } }
 
   -- ---- calls
 
@@ -192,15 +177,12 @@ module _ (t : Tally) where
   -- ---- what goes
 
   composed_tallies : (e : End) → Tallies t e.streams → Tallies t (composed e).end.streams
-  composed_tallies e i = by_writing (λ (d : Draft). Tallies t d.end.streams) (record {
-    ack = λ d filled may j. j;
-    ping = λ d j. j;
-    probes = λ f size j. j;
-    drops = λ d kind j. j;
-    control = λ d kind f is j. by_told (Tallies t) tallies_kept f d.end.streams j;
-    message = λ d m ms is fit j. j;
-    stream = λ d id h room found first some is counts j. by_frame (Tallies t) tallies_kept d.end.transport.send_fairness d.end.streams id room h found (goes_on id h _ refl refl refl refl refl) j;
-  }) e i
+  composed_tallies e i = by_writing (λ (d : Draft). Tallies t d.end.streams) keep e i
+    where
+      keep : Writing (λ (d : Draft). Tallies t d.end.streams)
+      keep (puts.control kind f) d may j = by_told (Tallies t) tallies_kept f d.end.streams j
+      keep (puts.stream id h room) d (found, first, some, is, counts) j = by_frame (Tallies t) tallies_kept d.end.transport.send_fairness d.end.streams id room h found (goes_on id h _ refl refl refl refl refl) j
+      keep p d may j = j
 
   poll_tallies : (p : Policy) (e : End) (now : ℕ) → Tallies t e.streams → Tallies t (polled p e now).end.streams
   poll_tallies p e now i = poll_state (Tallies t) p e now composed_tallies i
@@ -225,7 +207,6 @@ module _ (t : Tally) where
         on_streams = λ on answer. cc;
         on_messages = λ on answer. i;
         pings = i;
-        heard = λ path same. i;
         times = λ now expiry set. by_expired e now (λ (f : End). Tallies t f.streams) (λ pending tracking timers runs packets. i) (λ pending timers runs. expiry_stays (λ (s : Streams). Tallies t s.state) e now (losing e.tracking.packets) i pending timers) expiry;
         polls = λ now set. poll_tallies p e now i;
         hears = λ arrival d set. cc;
@@ -235,18 +216,10 @@ module _ (t : Tally) where
   -- ---- an ACK frame
 
   pub tallies_settle : Settling (λ (e : End). Tallies t e.streams)
-  tallies_settle = record {
-    known = λ n e i. i;
-    reset = λ id e i. by_reset_acked_where (Tallies t) tallies_kept e.streams e.waiting.frames id (λ h is reset. inl reset) i;
-    acked = λ m e i. by_stream_acked_where (Tallies t) tallies_kept e.streams e.waiting.frames m (λ h is none. acked_goes m.id h m) (λ h is none all. tt) (λ h all. inr all) i;
-    lost = lost_tallies;
-    again = λ carried e i. i;
-    searched = λ discovery e i. i;
-    shortens = λ most e i. i;
-    tracked = λ u e i. i;
-    measured = λ r first e i. i;
-    marked = λ m marking e i. i;
-  }
+  tallies_settle (steps.reset id) e i = by_reset_acked_where (Tallies t) tallies_kept e.streams e.waiting.frames id (λ h is reset. inl reset) i
+  tallies_settle (steps.acked m) e i = by_stream_acked_where (Tallies t) tallies_kept e.streams e.waiting.frames m (λ h is none. acked_goes m.id h m) (λ h is none all. tt) (λ h all. inr all) i
+  tallies_settle (steps.lost m) e i = lost_tallies m e i
+  tallies_settle s e i = i
 
 -- ---- where as much is told
 

@@ -13,10 +13,10 @@ use Rattle.quic_machine.specs.Policy.{Policy}
 use Rattle.quic_machine.specs.End.{End}
 use Rattle.quic_machine.specs.Receive.{Fault, too_many_pieces, error_of, reason_of}
 use Rattle.quic_machine.specs.FrameCases.{begun}
-use Rattle.quic_machine.specs.Machine.{World, policy_at, after_call}
+use Rattle.quic_machine.specs.Machine.{World, after_call}
 use Rattle.quic_machine.specs.CallCases.{is_delivery}
 use Rattle.quic_machine.specs.Poll.{rests}
-use Rattle.quic_headline.specs.Runs.{Run, Told, In, handed, given_of, until, AreServed}
+use Rattle.quic_headline.specs.Runs.{Run, Told, In, handed, AreServed}
 use Rattle.quic_headline.specs.Observer.{Sent}
 use Rattle.quic_headline.specs.Headline.{IsHonest, IsRun}
 use Rattle.quic_headline.specs.Causes.{IsBlameless, NoBlame, PacketCame, IsTakenOrCrowded, TakenOrTooMany}
@@ -25,7 +25,7 @@ use Rattle.quic_headline.proofs.Packets.Intakes.{none_handed}
 use Rattle.quic_headline.proofs.Packets.Group.{PacketsHold, meets}
 use Rattle.quic_headline.proofs.Places.Parties.{told_of, Party, called, came_to}
 use Rattle.quic_headline.proofs.Places.Groups.{Way, Nothing, And, Calls, Group, both}
-use Rattle.quic_headline.proofs.Places.Placed.{known_first, party_at, Placed, placed}
+use Rattle.quic_headline.proofs.Places.Placed.{party_at, Placed, placed}
 use Rattle.quic_headline.proofs.Halves.Wrote.{wrote}
 use Rattle.quic_headline.proofs.Halves.Ghosts.{Saying}
 use Rattle.quic_headline.proofs.Halves.ReadGroup.{ReadsHold}
@@ -38,7 +38,7 @@ use Rattle.quic_headline.proofs.Channel.Passing.{PassesAt}
 -- y takes from x: it is open, or closed for what nobody is to blame for, and each packet that came was taken, or came to too many pieces
 pub record Blameless (x y : Party) : Type 0 where
   pub reason : IsBlameless y.end.closing.reason
-  pub judged : (c : PacketCame y.policy (y.id ∷ []) x.final y.told) → IsTakenOrCrowded y.policy (y.id ∷ []) x.final y.told c
+  pub judged : (c : PacketCame y.policy x.final y.told) → IsTakenOrCrowded y.policy x.final y.told c
 
 -- What that rests on.
 pub record RestsOn (B : Way) : Type 1 where
@@ -69,27 +69,27 @@ last_or_before (u ∷ told) (b ∷ before) behind t call is =
     go first (inl same) = inl (ap (λ (x : Told). x ∷ before) first ∙ ap (λ (xs : List Told). u ∷ xs) same.0, same.1)
     go first (inr old) = inr (old.0, ap (λ (xs : List Told). u ∷ xs) old.1 ∙ ap (λ (x : Told). x ∷ (before ++ call ∷ old.0)) (sym first))
 
-module _ (p : Policy) (ids given : List (List ℕ)) (told : List Told) (t : Told) (were : (c : PacketCame p ids given told) → IsTakenOrCrowded p ids given told c) where
+module _ (p : Policy) (given : List (List ℕ)) (told : List Told) (t : Told) (were : (c : PacketCame p given told) → IsTakenOrCrowded p given told c) where
   -- what came before one call more was judged, and so is what came by it
-  judged_more : ((c : PacketCame p ids given (told ++ t ∷ [])) → c.before ≡ told → c.call ≡ t → IsTakenOrCrowded p ids given (told ++ t ∷ []) c) → (c : PacketCame p ids given (told ++ t ∷ [])) → IsTakenOrCrowded p ids given (told ++ t ∷ []) c
+  judged_more : ((c : PacketCame p given (told ++ t ∷ [])) → c.before ≡ told → c.call ≡ t → IsTakenOrCrowded p given (told ++ t ∷ []) c) → (c : PacketCame p given (told ++ t ∷ [])) → IsTakenOrCrowded p given (told ++ t ∷ []) c
   judged_more now c = go (last_or_before told c.before c.behind t c.call c.split)
     where
-      go : ((c.before ≡ told) × (c.call ≡ t)) ⊎ ((rest : List Told) × (told ≡ c.before ++ c.call ∷ rest)) → IsTakenOrCrowded p ids given (told ++ t ∷ []) c
+      go : ((c.before ≡ told) × (c.call ≡ t)) ⊎ ((rest : List Told) × (told ≡ c.before ++ c.call ∷ rest)) → IsTakenOrCrowded p given (told ++ t ∷ []) c
       go (inl same) = now c same.0 same.1
       go (inr old) = still (were then)
         where
-          then : PacketCame p ids given told
+          then : PacketCame p given told
           then = record { before = c.before; call = c.call; behind = old.0; split = old.1; was_open = c.was_open; datagram = c.datagram; handed_in = c.handed_in; opening = c.opening; opened = c.opened; new = c.new }
 
-          still : IsTakenOrCrowded p ids given told then → IsTakenOrCrowded p ids given (told ++ t ∷ []) c
+          still : IsTakenOrCrowded p given told then → IsTakenOrCrowded p given (told ++ t ∷ []) c
           still (inl whole) = inl whole
           still (inr many) = inr (many.0, record { front = many.1.front; frame = many.1.frame; rest = many.1.rest; frames = many.1.frames; many = many.1.many })
 
   -- nothing comes by a call that hands nothing in
-  judged_quiet : handed given t.call t.answer ≡ None → (c : PacketCame p ids given (told ++ t ∷ [])) → IsTakenOrCrowded p ids given (told ++ t ∷ []) c
+  judged_quiet : handed given t.call t.answer ≡ None → (c : PacketCame p given (told ++ t ∷ [])) → IsTakenOrCrowded p given (told ++ t ∷ []) c
   judged_quiet none = judged_more (λ c same is. absurd (clash c is))
     where
-      clash : (c : PacketCame p ids given (told ++ t ∷ [])) → c.call ≡ t → ⊥
+      clash : (c : PacketCame p given (told ++ t ∷ [])) → c.call ≡ t → ⊥
       clash c is = let both : None ≡ Some c.datagram = sym none ∙ ap (λ (u : Told). handed given u.call u.answer) (sym is) ∙ c.handed_in in cc
 
 -- ---- a call
@@ -110,7 +110,7 @@ module _ (B : Way) (rests : RestsOn B) (x y : Party) (delivery : Delivery) (a : 
 
   -- a packet that was refused came to too many pieces
   many_came : (s : Sent) → In s y.sents → (n : IsNew x y delivery a s) → x.end.closing.state ≡ states.Open → (arrived x.end delivery.now s.number s.frames).fault ≡ Some too_many_pieces
-      → (h : PacketCame x.policy (x.id ∷ []) y.final (x.told ++ t ∷ [])) → h.before ≡ x.told → h.call ≡ t → a ≡ answers.Deliver (Closed (error_of too_many_pieces)) → IsTakenOrCrowded x.policy (x.id ∷ []) y.final (x.told ++ t ∷ []) h
+      → (h : PacketCame x.policy y.final (x.told ++ t ∷ [])) → h.before ≡ x.told → h.call ≡ t → a ≡ answers.Deliver (Closed (error_of too_many_pieces)) → IsTakenOrCrowded x.policy y.final (x.told ++ t ∷ []) h
   many_came s among new still_open many h same call answer =
       let e : End = begun x.end delivery.now s.number in
       let reads = rests.reads y x c.takes in
@@ -122,17 +122,17 @@ module _ (B : Way) (rests : RestsOn B) (x y : Party) (delivery : Delivery) (a : 
   delivered : Judged x y delivery a after → Blameless y (called x y.given (calls.Deliver delivery) a)
   delivered (nothing k none) = record {
     reason = subst IsBlameless (sym k.reason) b.reason;
-    judged = judged_more x.policy (x.id ∷ []) y.final x.told t b.judged (λ h same call. absurd (none h same call));
+    judged = judged_more x.policy y.final x.told t b.judged (λ h same call. absurd (none h same call));
   }
   delivered (taken s among new still_open none answer k) = record {
     reason = subst IsBlameless (sym k.reason) b.reason;
-    judged = judged_more x.policy (x.id ∷ []) y.final x.told t b.judged (λ h same call. inl (ap (λ (u : Told). u.answer) call ∙ answer));
+    judged = judged_more x.policy y.final x.told t b.judged (λ h same call. inl (ap (λ (u : Told). u.answer) call ∙ answer));
   }
   delivered (refused s among new still_open f fault answer reason state) =
       let only : f ≡ too_many_pieces = (rests.passes y x c.takes).passes s among still_open delivery.now f fault in
       record {
         reason = subst IsBlameless (sym (reason ∙ ap (λ (g : Fault). Some (reason_of g)) only)) tt;
-        judged = judged_more x.policy (x.id ∷ []) y.final x.told t b.judged (λ h same call.
+        judged = judged_more x.policy y.final x.told t b.judged (λ h same call.
             many_came s among new still_open (fault ∙ ap (λ (g : Fault). Some g) only) h same call (answer ∙ ap (λ (g : Fault). answers.Deliver (Closed (error_of g))) only));
       }
 
@@ -141,7 +141,7 @@ blameless_behind : (B : Way) (rests : RestsOn B) (x y : Party) (call : Call) (a 
 blameless_behind B rests x y (calls.Deliver delivery) a c b = delivered B rests x y delivery a c b (judged x y delivery a c.joined (meets y x (rests.packets y x c.takes)) c.served c.answer)
 blameless_behind B rests x y call a c b = record {
   reason = apart_blameless x.policy x.end y.given call a refl b.reason;
-  judged = judged_quiet x.policy (x.id ∷ []) y.final x.told (told_of call a x.end.closing.state) b.judged (none_handed y.final call a refl);
+  judged = judged_quiet x.policy y.final x.told (told_of call a x.end.closing.state) b.judged (none_handed y.final call a refl);
 }
 
 pub blameless_group : (B : Way) → RestsOn B → Group B Blameless
@@ -173,9 +173,7 @@ module _ (G : Way) (why : (x y : Party) → G x y → Blameless x y) (r : Run) (
 
   -- each packet that came is judged so
   pub taken_at : TakenOrTooMany r
-  taken_at side i served =
-      subst (λ (ids : List (List ℕ)). (c : PacketCame (policy_at side r.keys) ids (given_of r (other_side side)) (until r side i)) → IsTakenOrCrowded (policy_at side r.keys) ids (given_of r (other_side side)) (until r side i) c) (sym (known_first r honest side))
-      (why y x p.takes).judged
+  taken_at side i served = (why y x p.takes).judged
     where
       p : Placed G r end side i
       p = all side i served

@@ -12,7 +12,8 @@ use Rattle.quic_spaces.specs.Numbers.{Numbers, cut_against, kept_numbers, can_nu
 use Rattle.quic_machine.specs.End.{End, with_closing}
 use Rattle.quic_machine.specs.Poll.{Polled, after_given, goes, draft_of, sends, polled_if, polled_in, polled, Ready}
 use Rattle.quic_machine.specs.Machine.{after_call}
-use Rattle.quic_machine.specs.CallCases.{is_delivery, is_poll, by_plain_call}
+use Rattle.quic_machine.specs.CallCases.{Plain, is_delivery, is_poll, by_plain_call}
+use Rattle.quic_machine.specs.CallCases as cases
 use Rattle.quic_machine.specs.LeaveCases.{at_losses, by_expired}
 use Rattle.quic_machine.specs.PollCases.{composes, ready_at, ready_leaves, may_leave_at}
 use Rattle.quic_recovery_core.specs.PendingAcks.{Pending}
@@ -70,19 +71,15 @@ used_up numbers may = go (nat_lt (numbers.next + kept_numbers) (2 ^ 62)) refl (n
 -- ---- any other call but a delivery
 
 pub other_keeps : (p : Policy) (e : End) (theirs : List (List ℕ)) (call : Call) (a : Answer) → is_poll call ≡ false → is_delivery call ≡ false → Keeps e (after_call p e theirs call a)
-other_keeps p e theirs call a silent apart = by_plain_call p e theirs (Keeps e) call a (record {
-  same = record { reason = refl; state = refl };
-  on_streams = λ t. record { reason = refl; state = refl };
-  on_messages = λ m. record { reason = refl; state = refl };
-  pings = record { reason = refl; state = refl };
-  heard = λ path same. record { reason = refl; state = refl };
-  times = λ now expiry set. by_expired e now (Keeps e) (λ pending tracking timers runs packets. record { reason = refl; state = refl }) (λ pending timers runs. losses now pending timers) expiry;
-  polls = λ now set. cc;
-  hears = λ arrival d set. cc;
-  tells = λ told. record { reason = refl; state = refl };
-})
+other_keeps p e theirs call a silent apart = by_plain_call p e theirs (Keeps e) call a keep
   where
     losses : (now : ℕ) (pending : Pending) (timers : Timers) → Keeps e (at_losses e now pending timers)
     losses now pending timers =
         let s = settles_losses (with_closing e (ticked e.closing now)) in
         record { reason = ap (λ (c : Closing). c.reason) s.closing; state = ap (λ (c : Closing). c.state) s.closing }
+
+    keep : Plain p e call (Keeps e)
+    keep (cases.times now expiry) may = by_expired e now (Keeps e) (λ pending tracking timers runs packets. record { reason = refl; state = refl }) (λ pending timers runs. losses now pending timers) expiry
+    keep (cases.polls now) set = cc
+    keep (cases.hears arrival d) set = cc
+    keep c may = record { reason = refl; state = refl }

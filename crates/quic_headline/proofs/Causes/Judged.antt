@@ -1,12 +1,11 @@
 -- What a delivery comes to: nothing that is new, or a packet that the other end sent, taken or refused; and what came stays so by more calls.
-use Rattle.std.proofs.Common.{◌≡◌, ℕ, suc, ◌&&◌, Bool, true, false, List, [], ◌∷◌, ◌++◌, length, map, Option, Some, None, Ok, refl, sym, ap, ◌∙◌, subst, inl, inr, arith}
+use Rattle.std.proofs.Common.{◌≡◌, ℕ, suc, Bool, true, false, cond, List, [], ◌∷◌, ◌++◌, length, map, Option, Some, None, Ok, refl, sym, ap, ◌∙◌, subst, inl, inr, arith}
 use Rattle.std.specs.Prelude.{slice_get}
 use Rattle.std.proofs.lemmas.List.{append_assoc}
 use Rattle.quic_wire_core.specs.declared.shared.EcnCodepoint.{EcnCodepoint}
 use Rattle.quic_wire.specs.Value.{FrameValue}
 use Rattle.quic_wire.specs.Items.{items}
 use Rattle.quic_packet.specs.Datagram.{Opening}
-use Rattle.quic_packet.specs.Destination.{is_known}
 use Rattle.quic_machine.specs.Arrival.{Arrival, delivered_by}
 use Rattle.quic_machine.specs.declared.answers.State.{State}
 use Rattle.quic_machine.specs.declared.answers.State.TheVariants as states
@@ -17,18 +16,17 @@ use Rattle.quic_machine.specs.declared.run.Answer.{Answer}
 use Rattle.quic_machine.specs.declared.run.Answer.TheVariants as answers
 use Rattle.quic_machine.specs.Policy.{Policy}
 use Rattle.quic_machine.specs.Closing.{Closing}
-use Rattle.quic_machine.specs.Opens.{opens}
 use Rattle.quic_machine.specs.Receive.{Fault, error_of, reason_of, Outcome, asks_in, after_taken, received}
 use Rattle.quic_machine.specs.End.{End}
 use Rattle.quic_machine.specs.Machine.{IsAnswer, IsDelivered, after_delivered, after_call, fails}
 use Rattle.quic_machine.specs.FrameCases.{begun}
-use Rattle.quic_headline.specs.Runs.{Told, Intake, In, frames_of, is_again, expected_behind, handed, and_opened, and_handed}
+use Rattle.quic_headline.specs.Runs.{Told, Intake, In, frames_of, is_again, expected_behind, handed, opens_by_key, is_elsewhere, came_open, and_opened, and_handed}
 use Rattle.quic_headline.specs.Observer.{Sent}
 use Rattle.quic_headline.specs.Causes.{came_by, PacketCame, IsCrowded, CrowdCame, most_runs}
 use Rattle.quic_headline.proofs.Packets.Invariant.{IsSent}
 use Rattle.quic_headline.proofs.Packets.Growth.{get_front, step_at}
 use Rattle.quic_headline.proofs.Packets.Stays.{keeps_frames}
-use Rattle.quic_headline.proofs.Packets.Delivered.{Arrivals, arrived, with_refused, with_taken, shown, shown_if, expands, opens_given, frames_of_payload, by_arrival}
+use Rattle.quic_headline.proofs.Packets.Delivered.{Arrivals, arrived, with_refused, with_taken, shown, shown_if, expands, by_key_given, frames_of_payload, by_arrival}
 use Rattle.quic_headline.proofs.Places.Parties.{told_of, Party, came_to, AreJoined}
 use Rattle.quic_headline.proofs.Places.Coming.{Meets}
 use Rattle.quic_headline.proofs.Causes.Closing.{Keeps}
@@ -36,8 +34,8 @@ use Rattle.quic_headline.proofs.Causes.Crowded.{IsCrowdedBy}
 
 -- ---- what came stays so by more calls
 
-abbrev packet_more : (p : Policy) (ids given : List (List ℕ)) (told : List Told) (t : Told) → PacketCame p ids given told → PacketCame p ids given (told ++ t ∷ [])
-packet_more p ids given told t c = record {
+abbrev packet_more : (p : Policy) (given : List (List ℕ)) (told : List Told) (t : Told) → PacketCame p given told → PacketCame p given (told ++ t ∷ [])
+packet_more p given told t c = record {
   before = c.before;
   call = c.call;
   behind = c.behind ++ t ∷ [];
@@ -50,9 +48,9 @@ packet_more p ids given told t c = record {
   new = c.new;
 }
 
-pub crowd_more : (p : Policy) (ids given : List (List ℕ)) (told : List Told) (t : Told) → CrowdCame p ids given told → CrowdCame p ids given (told ++ t ∷ [])
-crowd_more p ids given told t m = record {
-  packet = packet_more p ids given told t m.packet;
+pub crowd_more : (p : Policy) (given : List (List ℕ)) (told : List Told) (t : Told) → CrowdCame p given told → CrowdCame p given (told ++ t ∷ [])
+crowd_more p given told t m = record {
+  packet = packet_more p given told t m.packet;
   crowded = record { front = m.crowded.front; frame = m.crowded.frame; rest = m.crowded.rest; frames = m.crowded.frames; many = m.crowded.many };
 }
 
@@ -68,7 +66,7 @@ module _ (x y : Party) (delivery : Delivery) (a : Answer) where
 
   -- a packet that came by calls up to this one
   abbrev pub CameThen : Type 0
-  CameThen = PacketCame x.policy (x.id ∷ []) y.final then
+  CameThen = PacketCame x.policy y.final then
 
   -- The packet of what y sent so came by this call, and no other.
   pub record IsNew (s : Sent) : Type 0 where
@@ -90,7 +88,7 @@ module _ (x y : Party) (delivery : Delivery) (a : Answer) where
         → after.closing.reason ≡ Some (reason_of f) → after.closing.state ≡ states.Drained → Judged after
 
   -- where the packet is crowded, it is so by what the lists say
-  pub crowd_is : (s : Sent) → IsCrowdedBy x.told (came_to x y).took s.number s.frames → (n : IsNew s) → (h : CameThen) → h.before ≡ x.told → h.call ≡ now_told → IsCrowded x.policy (x.id ∷ []) y.final then h most_runs
+  pub crowd_is : (s : Sent) → IsCrowdedBy x.told (came_to x y).took s.number s.frames → (n : IsNew s) → (h : CameThen) → h.before ≡ x.told → h.call ≡ now_told → IsCrowded x.policy y.final then h most_runs
   crowd_is s c n h same call = record {
     front = c.front;
     frame = c.frame;
@@ -99,7 +97,7 @@ module _ (x y : Party) (delivery : Delivery) (a : Answer) where
     many = rw (same, n.alone h same call, n.number) c.many;
   }
 
-  module _ (joined : AreJoined x y) (meets : Meets y x) (s : Sent) (among : In s y.sents) (d : List ℕ) (given : IsSent y.policy x.id s d) (at_final : slice_get y.final delivery.index ≡ Some d) (is : a ≡ answers.Deliver (received x.policy x.end (delivered_by delivery) d).answer) where
+  module _ (joined : AreJoined x y) (meets : Meets y x) (s : Sent) (among : In s y.sents) (d : List ℕ) (given : IsSent y.policy s d) (at_final : slice_get y.final delivery.index ≡ Some d) (is : a ≡ answers.Deliver (received x.policy x.end (delivered_by delivery) d).answer) where
     abbrev i : Intake
     i = came_to x y
 
@@ -140,28 +138,41 @@ module _ (x y : Party) (delivery : Delivery) (a : Answer) where
     next = and_handed x.end.closing.state (Some d) x.policy (answers.Deliver (received x.policy x.end arrival d).answer) i
 
     met : Met (received x.policy x.end arrival d) next
-    met = by_arrival y.policy x.policy x.id n s.reference frames d given x.end arrival i Met joined.to_x joined.y_lawful joined.x_long meets.known meets.knows cases
+    met = by_arrival y.policy x.policy s.id n s.reference frames d given x.end arrival i Met joined.to_x joined.y_lawful meets.knows cases
 
     abbrev opening : Opening
     opening = shown n s.reference given.payload
 
+    -- what it opens to, as it is answered
+    abbrev brings : Option Opening
+    brings = came_open x.policy i.took a d
+
+    -- so much came of an open end
+    next_is : (o : Option Opening) → x.end.closing.state ≡ states.Open → brings ≡ o → next ≡ and_opened o (answers.Deliver (received x.policy x.end arrival d).answer) i
+    next_is o still_open opens =
+        ap (λ (state : State). and_handed state (Some d) x.policy (answers.Deliver (received x.policy x.end arrival d).answer) i) still_open
+        ∙ ap (λ (b : Answer). and_opened (came_open x.policy i.took b d) (answers.Deliver (received x.policy x.end arrival d).answer) i) (sym is)
+        ∙ ap (λ (z : Option Opening). and_opened z (answers.Deliver (received x.policy x.end arrival d).answer) i) opens
+
     -- what opened is new where one more opened then
-    opened_is : x.end.closing.state ≡ states.Open → length next.opened ≡ suc (length i.opened) → opens x.policy i.ids (expected_behind i.took) d ≡ Some opening
-    opened_is still_open more = go (is_known x.id i.ids && expands n s.reference (expected_behind i.took)) refl
+    opened_is : x.end.closing.state ≡ states.Open → length next.opened ≡ suc (length i.opened) → brings ≡ Some opening
+    opened_is still_open more = go (is_elsewhere a) (expands n s.reference (expected_behind i.took)) refl refl
       where
-        shows : (b : Bool) → (is_known x.id i.ids && expands n s.reference (expected_behind i.took)) ≡ b → opens x.policy i.ids (expected_behind i.took) d ≡ shown_if b n s.reference given.payload
-        shows b e = opens_given y.policy x.policy x.id n s.reference frames d given joined.to_x joined.y_lawful joined.x_long i.ids (expected_behind i.took) ∙ ap (λ (b : Bool). shown_if b n s.reference given.payload) e
+        shows : (b : Bool) → expands n s.reference (expected_behind i.took) ≡ b → opens_by_key x.policy (expected_behind i.took) d ≡ shown_if b n s.reference given.payload
+        shows b e = by_key_given y.policy x.policy s.id n s.reference frames d given joined.to_x joined.y_lawful (expected_behind i.took) ∙ ap (λ (b : Bool). shown_if b n s.reference given.payload) e
 
-        none_came : opens x.policy i.ids (expected_behind i.took) d ≡ None → next ≡ i
-        none_came none =
-            ap (λ (state : State). and_handed state (Some d) x.policy (answers.Deliver (received x.policy x.end arrival d).answer) i) still_open
-            ∙ ap (λ (o : Option Opening). and_opened o (answers.Deliver (received x.policy x.end arrival d).answer) i) none
+        answered : (b : Bool) → is_elsewhere a ≡ b → brings ≡ cond b None (opens_by_key x.policy (expected_behind i.took) d)
+        answered b e = ap (λ (b : Bool). cond {A = Option Opening} b None (opens_by_key x.policy (expected_behind i.took) d)) e
 
-        go : (b : Bool) → (is_known x.id i.ids && expands n s.reference (expected_behind i.took)) ≡ b → opens x.policy i.ids (expected_behind i.took) d ≡ Some opening
-        go true e = shows true e
-        go false e =
-            let same : length next.opened ≡ length i.opened = ap (λ (j : Intake). length j.opened) (none_came (shows false e)) in
-            absurd (omega arith)
+        none_more : brings ≡ None → ⊥
+        none_more none =
+            let same : length next.opened ≡ length i.opened = ap (λ (j : Intake). length j.opened) (next_is None still_open none) in
+            omega arith
+
+        go : (away b : Bool) → is_elsewhere a ≡ away → expands n s.reference (expected_behind i.took) ≡ b → brings ≡ Some opening
+        go true b e f = absurd (none_more (answered true e))
+        go false false e f = absurd (none_more (answered false e ∙ shows false f))
+        go false true e f = answered false e ∙ shows true f
 
     -- what the call handed in
     handed_now : handed y.final (calls.Deliver delivery) a ≡ Some d
@@ -170,10 +181,11 @@ module _ (x y : Party) (delivery : Delivery) (a : Answer) where
     datagram_is : (h : CameThen) → h.call ≡ now_told → h.datagram ≡ d
     datagram_is h call = let both : Some h.datagram ≡ Some d = sym h.handed_in ∙ ap (λ (t : Told). handed y.final t.call t.answer) call ∙ handed_now in cc
 
-    opens_now : (h : CameThen) → h.before ≡ x.told → h.call ≡ now_told → opens x.policy i.ids (expected_behind i.took) d ≡ Some h.opening
+    opens_now : (h : CameThen) → h.before ≡ x.told → h.call ≡ now_told → brings ≡ Some h.opening
     opens_now h same call =
-        ap (λ (ts : List Told). opens x.policy (came_by x.policy (x.id ∷ []) y.final ts).ids (expected_behind (came_by x.policy (x.id ∷ []) y.final ts).took) d) (sym same)
-        ∙ ap (λ (ds : List ℕ). opens x.policy (came_by x.policy (x.id ∷ []) y.final h.before).ids (expected_behind (came_by x.policy (x.id ∷ []) y.final h.before).took) ds) (sym (datagram_is h call))
+        ap (λ (ts : List Told). came_open x.policy (came_by x.policy y.final ts).took a d) (sym same)
+        ∙ ap (λ (t : Told). came_open x.policy (came_by x.policy y.final h.before).took t.answer d) (sym call)
+        ∙ ap (λ (ds : List ℕ). came_open x.policy (came_by x.policy y.final h.before).took h.call.answer ds) (sym (datagram_is h call))
         ∙ h.opened
 
     -- the packet that came
@@ -205,11 +217,8 @@ module _ (x y : Party) (delivery : Delivery) (a : Answer) where
     none_new : (x.end.closing.state ≡ states.Open → next ≡ i) → (h : CameThen) → h.before ≡ x.told → h.call ≡ now_told → ⊥
     none_new none h same call =
         let still_open : x.end.closing.state ≡ states.Open = ap (λ (t : Told). t.state) (sym call) ∙ h.was_open in
-        let next_is : next ≡ and_opened (Some h.opening) (answers.Deliver (received x.policy x.end arrival d).answer) i =
-        ap (λ (state : State). and_handed state (Some d) x.policy (answers.Deliver (received x.policy x.end arrival d).answer) i) still_open
-        ∙ ap (λ (o : Option Opening). and_opened o (answers.Deliver (received x.policy x.end arrival d).answer) i) (opens_now h same call) in
-        let new : is_again h.opening.number i.opened ≡ false = ap (λ (ts : List Told). is_again h.opening.number (came_by x.policy (x.id ∷ []) y.final ts).opened) (sym same) ∙ h.new in
-        let count : length i.opened ≡ suc (length i.opened) = ap (λ (j : Intake). length j.opened) (sym (none still_open) ∙ next_is) ∙ fresh h.opening (answers.Deliver (received x.policy x.end arrival d).answer) i new in
+        let new : is_again h.opening.number i.opened ≡ false = ap (λ (ts : List Told). is_again h.opening.number (came_by x.policy y.final ts).opened) (sym same) ∙ h.new in
+        let count : length i.opened ≡ suc (length i.opened) = ap (λ (j : Intake). length j.opened) (sym (none still_open) ∙ next_is (Some h.opening) still_open (opens_now h same call)) ∙ fresh h.opening (answers.Deliver (received x.policy x.end arrival d).answer) i new in
         omega arith
       where
         fresh : (o : Opening) (b : Answer) (j : Intake) → is_again o.number j.opened ≡ false → length (and_opened (Some o) b j).opened ≡ suc (length j.opened)
@@ -231,7 +240,7 @@ module _ (x y : Party) (delivery : Delivery) (a : Answer) where
       none h call = let clash : Some h.datagram ≡ None = sym h.handed_in ∙ ap (λ (t : Told). handed y.final t.call t.answer) call ∙ ap (λ (b : Answer). handed y.final (calls.Deliver delivery) b) is in cc
   judged_at joined meets served (Some d) at (inr is) = cc
   judged_at joined meets served (Some d) at (inl is) =
-      let found = step_at (IsSent y.policy x.id) y.sents y.given delivery.index d meets.each at in
+      let found = step_at (IsSent y.policy) y.sents y.given delivery.index d meets.each at in
       let more = joined.y_more in
       let there : slice_get y.final delivery.index ≡ Some d = subst (λ (ds : List (List ℕ)). slice_get ds delivery.index ≡ Some d) more.1 (get_front y.given more.0 delivery.index d at) in
       judged_met joined meets found.0 found.1 d found.2 there is

@@ -12,10 +12,9 @@ use Rattle.quic_machine.specs.declared.run.Call.{Call}
 use Rattle.quic_machine.specs.declared.run.Call.TheVariants as calls
 use Rattle.quic_machine.specs.declared.run.Delivery.{Delivery}
 use Rattle.quic_machine.specs.declared.run.Answer.{Answer}
-use Rattle.quic_machine.specs.Ids.{known}
 use Rattle.quic_machine.specs.End.{End}
 use Rattle.quic_machine.specs.Receive.{Fault, broke, too_many_pieces, reason_of, Outcome}
-use Rattle.quic_machine.specs.Machine.{World, policy_at, end_at, after_call}
+use Rattle.quic_machine.specs.Machine.{World, policy_at, after_call}
 use Rattle.quic_machine.specs.CallCases.{is_delivery}
 use Rattle.quic_machine.specs.FrameCases.{begun}
 use Rattle.quic_machine.specs.Poll.{rests}
@@ -27,7 +26,7 @@ use Rattle.quic_headline.proofs.Packets.Group.{PacketsHold, meets}
 use Rattle.quic_headline.proofs.Places.Parties.{told_of, Party, called, came_to, Beginning, begun_as}
 use Rattle.quic_headline.proofs.Places.Groups.{Way, Nothing, And, Calls, Group, both}
 use Rattle.quic_headline.proofs.Places.Coming.{by_coming}
-use Rattle.quic_headline.proofs.Places.Placed.{known_first, party_at, Placed, placed}
+use Rattle.quic_headline.proofs.Places.Placed.{party_at, Placed, placed}
 use Rattle.quic_headline.proofs.Places.Everything as everything
 use Rattle.quic_headline.proofs.Places.Theorems.{ready}
 use Rattle.quic_headline.proofs.Halves.Ready.{Ready}
@@ -47,7 +46,7 @@ came_in packets id o = HasArrived packets id o
 
 -- y takes from x: why it closed for too many pieces, and while it is open, what waits there came
 pub record WhyPieces (x y : Party) : Type 0 where
-  pub pieces : y.end.closing.reason ≡ Some reasons.Pieces → CrowdCame y.policy (y.id ∷ []) x.final y.told
+  pub pieces : y.end.closing.reason ≡ Some reasons.Pieces → CrowdCame y.policy x.final y.told
   pub come : y.end.closing.state ≡ states.Open → HasCome (came_in (came_to y x).took) y.end.streams
 
 -- What that rests on.
@@ -97,15 +96,15 @@ module _ (B : Way) (rests : RestsOn B) (x y : Party) (call : Call) (a : Answer) 
       ]
 
   -- a crowd that came before came still
-  crowd_before : x.end.closing.reason ≡ Some reasons.Pieces → CrowdCame x.policy (x.id ∷ []) y.final (x.told ++ told_of call a x.end.closing.state ∷ [])
-  crowd_before is = crowd_more x.policy (x.id ∷ []) y.final x.told (told_of call a x.end.closing.state) (p.pieces is)
+  crowd_before : x.end.closing.reason ≡ Some reasons.Pieces → CrowdCame x.policy y.final (x.told ++ told_of call a x.end.closing.state ∷ [])
+  crowd_before is = crowd_more x.policy y.final x.told (told_of call a x.end.closing.state) (p.pieces is)
 
 -- a delivery at which an end closes for too many pieces
 crowd_now : (B : Way) (rests : RestsOn B) (x y : Party) (delivery : Delivery) (a : Answer) (c : Calls B x y (calls.Deliver delivery) a) (p : WhyPieces y x) → (called x y.given (calls.Deliver delivery) a).end.closing.reason ≡ Some reasons.Pieces
-    → CrowdCame x.policy (x.id ∷ []) y.final (x.told ++ told_of (calls.Deliver delivery) a x.end.closing.state ∷ [])
+    → CrowdCame x.policy y.final (x.told ++ told_of (calls.Deliver delivery) a x.end.closing.state ∷ [])
 crowd_now B rests x y delivery a c p is = go (judged x y delivery a c.joined (meets y x (rests.packets y x c.takes)) c.served c.answer)
   where
-    go : Judged x y delivery a (after_call x.policy x.end y.given (calls.Deliver delivery) a) → CrowdCame x.policy (x.id ∷ []) y.final (x.told ++ told_of (calls.Deliver delivery) a x.end.closing.state ∷ [])
+    go : Judged x y delivery a (after_call x.policy x.end y.given (calls.Deliver delivery) a) → CrowdCame x.policy y.final (x.told ++ told_of (calls.Deliver delivery) a x.end.closing.state ∷ [])
     go (nothing k none) = crowd_before B rests x y (calls.Deliver delivery) a c p (sym k.reason ∙ is)
     go (taken s among new still_open none answer k) = crowd_before B rests x y (calls.Deliver delivery) a c p (sym k.reason ∙ is)
     go (refused s among new still_open f fault answer reason state) =
@@ -118,7 +117,7 @@ crowd_now B rests x y delivery a c p is = go (judged x y delivery a c.joined (me
 
 -- any call
 pieces_behind : (B : Way) (rests : RestsOn B) (x y : Party) (call : Call) (a : Answer) (c : Calls B x y call a) (p : WhyPieces y x) → (called x y.given call a).end.closing.reason ≡ Some reasons.Pieces
-    → CrowdCame x.policy (x.id ∷ []) y.final (x.told ++ told_of call a x.end.closing.state ∷ [])
+    → CrowdCame x.policy y.final (x.told ++ told_of call a x.end.closing.state ∷ [])
 pieces_behind B rests x y (calls.Deliver delivery) a c p is = crowd_now B rests x y delivery a c p is
 pieces_behind B rests x y call a c p is = elim (call_closes x.policy x.end y.given call a refl) [
   | inl k ↦ crowd_before B rests x y call a c p (sym k.reason ∙ is)
@@ -141,9 +140,8 @@ pieces_group B rests = record {
 module _ (G : Way) (why : (x y : Party) → G x y → WhyPieces x y) (r : Run) (end : World) (honest : IsHonest r) (all : (side : Side) (i : ℕ) → AreServed r i → Placed G r end side i) where
   pub too_many_at : TooManyPieces r
   too_many_at side place shows =
-      subst (λ (n : ℕ). CrowdCame (policy_at side r.keys) (known (end_at side r.start).ids) (given_of r (other_side side)) (until r side n)) (sym next)
-      (subst (λ (ids : List (List ℕ)). CrowdCame (policy_at side r.keys) ids (given_of r (other_side side)) (until r side (suc place))) (sym (known_first r honest side))
-      ((why y x p.takes).pieces (reason_shown G r end side place (Some reasons.Pieces) shows p)))
+      subst (λ (n : ℕ). CrowdCame (policy_at side r.keys) (given_of r (other_side side)) (until r side n)) (sym next)
+      ((why y x p.takes).pieces (reason_shown G r end side place (Some reasons.Pieces) shows p))
     where
       next : place + 1 ≡ suc place
       next = omega arith

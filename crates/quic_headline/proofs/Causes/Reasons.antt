@@ -1,5 +1,5 @@
 -- An end that isn't open has a reason, or failed: each call keeps that, and so views show it.
-use Rattle.std.proofs.Common.{◌≡◌, ℕ, zero, suc, Bool, true, false, List, [], ◌∷◌, slice_get, Option, Some, None, sym, subst}
+use Rattle.std.proofs.Common.{◌≡◌, ℕ, zero, suc, List, [], ◌∷◌, slice_get, Option, Some, None, sym, subst}
 use Rattle.quic_wire_core.specs.declared.stream_id.Side.{Side}
 use Rattle.quic_wire_core.specs.declared.stream_id.Side.TheVariants.{Client, Server}
 use Rattle.quic_machine.specs.declared.answers.State.{State}
@@ -11,15 +11,18 @@ use Rattle.quic_machine.specs.declared.run.Answer.{Answer}
 use Rattle.quic_machine.specs.declared.run.View.{View}
 use Rattle.quic_machine.specs.Policy.{Policy}
 use Rattle.quic_machine.specs.Closing.{ticked}
-use Rattle.quic_machine.specs.End.{End, with_closing, with_loss_timer}
+use Rattle.quic_machine.specs.End.{End, with_closing}
 use Rattle.quic_machine.specs.Start.{AreStarted}
-use Rattle.quic_machine.specs.Poll.{Polled, Draft, polled, draft_as, lazied_as, Leaving, whole, alone, probe, nothing}
-use Rattle.quic_machine.specs.Timeouts.{Expiry, loss_judged, acks_expired, loss_expired, pacing_expired}
+use Rattle.quic_machine.specs.Poll.{Polled, Draft, polled, draft_as, lazied_as, Leaving, whole, nothing}
+use Rattle.quic_machine.specs.Timeouts.{Expiry, loss_judged}
 use Rattle.quic_machine.specs.Machine.{World, Policies, HasStopped, after_call, view_of, Follows}
-use Rattle.quic_machine.specs.DraftLaws.{by_leave, MayLeave}
-use Rattle.quic_machine.specs.LeaveCases.{at_expiry}
-use Rattle.quic_machine.specs.CallCases.{by_plain_call}
-use Rattle.quic_machine.specs.FrameCases.{Settling, Receives, named, acked_keeps, losses_keep, frame_keeps, frame_leaves, by_received}
+use Rattle.quic_machine.specs.DraftLaws.{Writing, by_leave, MayLeave}
+use Rattle.quic_machine.specs.Puts as puts
+use Rattle.quic_machine.specs.LeaveCases.{at_expiry, Expired, by_timers}
+use Rattle.quic_machine.specs.CallCases.{Plain, by_plain_call}
+use Rattle.quic_machine.specs.CallCases as cases
+use Rattle.quic_machine.specs.FrameCases.{Settling, Receives, named, acked_keeps, losses_keep, frame_keeps, frame_leaves, by_received, apart_leaves}
+use Rattle.quic_machine.specs.Steps as steps
 use Rattle.quic_machine.specs.PollCases.{ready_at, ready_leaves, by_poll_to, draft_at, may_leave_at}
 use Rattle.quic_headline.specs.Runs.{Run, state_in}
 use Rattle.quic_headline.specs.Causes.{reason_in}
@@ -28,6 +31,7 @@ use Rattle.quic_headline.specs.Reasons.{Explains, ClosedHasAReason}
 use Rattle.quic_headline.proofs.Packets.Probes.{by_going}
 use Rattle.quic_headline.proofs.Places.Placed.{start_is}
 use Rattle.quic_headline.proofs.Timers.BothEnds.{AtBoth, IsKept, step_keeps}
+use Rattle.quic_machine.specs.LeaveCases as expiring
 
 -- ---- an end
 
@@ -37,14 +41,15 @@ IsExplained e = Explains e.closing.state e.closing.reason
 
 -- acknowledged and lost packets close nothing
 settling : Settling IsExplained
-settling = record { known = λ n e i. i; reset = λ id e i. i; acked = λ m e i. i; lost = λ m e i. i; again = λ carried e i. i; searched = λ discovery e i. i; shortens = λ most e i. i; tracked = λ t e i. i; measured = λ r first e i. i; marked = λ m marking e i. i }
+settling (steps.known n) e i = i
+settling s e i = i
 
 -- a datagram that closes an end does so for a reason
 receives : Receives IsExplained
 receives = record {
   notes = λ n e i. i;
   begins = λ now n e i. i;
-  frame = frame_keeps IsExplained (record { ack = λ rises a e i. acked_keeps IsExplained settling rises a (named a e) i; on_streams = λ f e on i. frame_leaves IsExplained f e on (λ t. i); message = λ m e i. i });
+  frame = frame_keeps IsExplained (record { ack = λ rises a e i. acked_keeps IsExplained settling rises a (named a e) i; on_streams = λ f e on i. frame_leaves IsExplained f e on (λ t. i); apart = λ f e is i. apart_leaves IsExplained f e is (λ c. i); message = λ m e i. i });
   takes = λ n asks mark e i. i;
   closes = λ reason e i. tt;
 }
@@ -52,21 +57,15 @@ receives = record {
 -- an acknowledgement that became due leaves it
 lazied_keeps : (leaving : Leaving) (e : End) → IsExplained e → IsExplained (lazied_as leaving e)
 lazied_keeps whole e i = i
-lazied_keeps alone e i = i
-lazied_keeps (probe size) e i = i
-lazied_keeps (nothing held) e i = i
+lazied_keeps other e i = i
 
 -- what goes closes nothing
 draft_keeps : (leaving : Leaving) (e : End) → MayLeave leaving e → IsExplained e → IsExplained (draft_as leaving e).end
-draft_keeps leaving e due i = by_leave (λ (d : Draft). IsExplained d.end) (record {
-  ack = λ d filled may i. i;
-  ping = λ d i. i;
-  probes = λ f size i. i;
-  drops = λ d kind i. i;
-  control = λ d kind f is i. i;
-  message = λ d m ms is fit i. i;
-  stream = λ d id h room found first some is counts i. i;
-}) leaving e due (lazied_keeps leaving e i)
+draft_keeps leaving e due i = by_leave (λ (d : Draft). IsExplained d.end) keep leaving e due (lazied_keeps leaving e i)
+  where
+    keep : Writing (λ (d : Draft). IsExplained d.end)
+    keep puts.ping d may i = i
+    keep p d may i = i
 
 ready_keeps : (e : End) (now : ℕ) → IsExplained e → IsExplained (ready_at e now).end
 ready_keeps e now i = subst (λ (x : End). IsExplained x) (sym (ready_leaves e now)) i
@@ -77,7 +76,7 @@ polled_keeps p e now i = by_poll_to p e now (λ (q : Polled). IsExplained q.end)
   silent = i;
   failed = i;
   nothing = λ is none. ready_keeps e now i;
-  used_up = tt;
+  closes = tt;
   gives = λ is may some. by_going IsExplained p (draft_at e now) (λ pacing. draft_keeps (ready_at e now).leaving (ready_at e now).end (may_leave_at e now) (ready_keeps e now i));
 })
 
@@ -86,34 +85,22 @@ judged_keeps : (o : Option ℕ) (e : End) → IsExplained e → IsExplained (los
 judged_keeps None e i = i
 judged_keeps (Some moment) e i = losses_keep IsExplained settling e i
 
-acks_keep : (acks loss : Bool) (e : End) → IsExplained e → IsExplained (acks_expired acks (loss_expired loss e))
-acks_keep true true e i = judged_keeps e.tracking.loss_time e i
-acks_keep true false e i = i
-acks_keep false true e i = judged_keeps e.tracking.loss_time e i
-acks_keep false false e i = i
-
-pacing_keeps : (pacing : Bool) (e : End) → IsExplained e → IsExplained (with_loss_timer (pacing_expired pacing e))
-pacing_keeps true e i = i
-pacing_keeps false e i = i
+expires_keeps : (s : Expired) (e : End) → IsExplained e → IsExplained (expiring.after s e)
+expires_keeps expiring.of_acks e i = i
+expires_keeps s e i = i
 
 expired_keeps : (e : End) (now : ℕ) (expiry : Expiry) → IsExplained e → IsExplained (at_expiry e now expiry)
-expired_keeps e now expiry i =
-    let begun : End = with_closing e (ticked e.closing now) in
-    pacing_keeps expiry.pacing (acks_expired expiry.acks (loss_expired expiry.loss begun)) (acks_keep expiry.acks expiry.loss begun i)
+expired_keeps e now expiry i = by_timers IsExplained IsExplained judged_keeps expires_keeps (λ f j. j) expiry (with_closing e (ticked e.closing now)) i
 
 -- what any call leaves
 call_keeps : (p : Policy) (e : End) (theirs : List (List ℕ)) (call : Call) (a : Answer) → IsExplained e → IsExplained (after_call p e theirs call a)
-call_keeps p e theirs call a i = by_plain_call p e theirs IsExplained call a (record {
-  same = i;
-  on_streams = λ t. i;
-  on_messages = λ m. i;
-  pings = i;
-  heard = λ path same. i;
-  times = λ now expiry is. expired_keeps e now expiry i;
-  polls = λ now is. polled_keeps p e now i;
-  hears = λ arrival d is. by_received IsExplained receives p e arrival d i;
-  tells = λ told. i;
-})
+call_keeps p e theirs call a i = by_plain_call p e theirs IsExplained call a cases_keep
+  where
+    cases_keep : Plain p e call IsExplained
+    cases_keep (cases.times now expiry) may = expired_keeps e now expiry i
+    cases_keep (cases.polls now) may = polled_keeps p e now i
+    cases_keep (cases.hears arrival d) may = by_received IsExplained receives p e arrival d i
+    cases_keep c may = i
 
 -- an end that stops has none
 stopped : (e next : End) → HasStopped e next → IsExplained next

@@ -18,6 +18,7 @@ use Rattle.quic_streams_state.specs.State.{sending_half, room, done_if, receivin
 use Rattle.quic_streams_state.specs.Taking.{joined}
 use Rattle.quic_streams_state.specs.Writing.{write_answer, after_write, written_by, accepted_at, chunks_of, write_chunks_answer, after_write_chunks, chunks_written_by, chunks_accepted_at}
 use Rattle.quic_streams_laws.specs.Keeping.{KeepsAll, WritesOn}
+use Rattle.quic_streams_laws.specs.Keeping as changes
 use Rattle.quic_streams_laws.specs.KeepingLaws.{not_taken, by_open, by_write, by_write_chunks, by_finish, by_reset, by_set_priority, by_polled, by_stop_sending, by_max_data, by_max_stream_data, by_max_streams, by_stream_acked, by_stream_lost, by_reset_acked, by_stream_frames, by_accept, by_read_begun, by_next, by_stop, by_received_reset, by_stream, by_reset_frame}
 use Rattle.quic_streams_laws.specs.QuietLaws.{by_control_frames}
 use Rattle.quic_streams_laws.specs.ContentLaws.{by_next_answer}
@@ -51,27 +52,12 @@ module _ (c : ℕ) where
 
   -- each small change keeps it, where what is written is within what is left
   accepts_kept : KeepsAll (λ r id old new. Unit {0}) (λ s id old new. Unit {0}) (λ s id n old new. WritesOn (room s.sending) n old new) (λ s dir. Unit {0}) (λ id. Unit {0}) (Accepts c)
-  accepts_kept = record {
-    finishes = λ s id f i. i;
-    events = λ s e less i. i;
-    opens_own = λ s dir lt i. i;
-    accepts = λ s dir may i. i;
-    allows = λ s dir count le lt i. i;
-    opens_theirs = λ s id e within i. i;
-    raises = λ s limit le i. (i.0, (let before = i.1 in omega arith));
-    changes = λ s id old new is on same i. i;
-    queues = λ s id old new b is on has i. i;
-    turns = λ s id old new is on has i. i;
-    writes = λ s id n old new is on has i. (let fits = on.within in let low = i.0 in let high = i.1 in ((omega arith), (omega arith)));
-    joins = λ s id h is i. accepts_joined s id h i;
-    passes = λ s id ids is i. i;
-    ends_sending = λ s id h is over i. accepts_done (not (is_own s.side id) && is_done (receiving_status s id)) id (without_send s id) i;
-    changes_receiving = λ s id old new is on i. i;
-    ends_receiving = λ s id h is i. accepts_done (not (is_own s.side id) && (not (is_two_way (dir_of id)) || is_done (sending_status s id))) id (record s { receiving = record s.receiving { halves = without_half s.receiving.halves id; gone = s.receiving.gone + seen_at (at s.receiving.halves.live id) } }) i;
-    tells = λ s i. i;
-    tells_on = λ s id h is i. i;
-    tells_count = λ s dir i. i;
-  }
+  accepts_kept (changes.raises limit) s may i = (i.0, (let before = i.1 in omega arith))
+  accepts_kept (changes.writes id n old new) s (is, on, has) i = (let fits = on.within in let low = i.0 in let high = i.1 in ((omega arith), (omega arith)))
+  accepts_kept (changes.joins id h) s may i = accepts_joined s id h i
+  accepts_kept (changes.ends_sending id h) s may i = accepts_done (not (is_own s.side id) && is_done (receiving_status s id)) id (without_send s id) i
+  accepts_kept (changes.ends_receiving id h) s may i = accepts_done (not (is_own s.side id) && (not (is_two_way (dir_of id)) || is_done (sending_status s id))) id (record s { receiving = record s.receiving { halves = without_half s.receiving.halves id; gone = s.receiving.gone + seen_at (at s.receiving.halves.live id) } }) i
+  accepts_kept c s may i = i
 
   -- so does each word about what an end sends
   accepts_quiet : IsQuiet (Accepts c)

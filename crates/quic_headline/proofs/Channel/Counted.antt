@@ -47,12 +47,14 @@ use Rattle.quic_machine.specs.StreamCalls.{is_on_streams}
 use Rattle.quic_machine.specs.End.{End, with_closing, streams_at}
 use Rattle.quic_machine.specs.Closing.{ticked}
 use Rattle.quic_machine.specs.Receive.{is_above, names_ungiven, take_frame}
-use Rattle.quic_machine.specs.Poll.{Draft, composed, tracked}
+use Rattle.quic_machine.specs.Poll.{Draft, composed}
 use Rattle.quic_machine.specs.Poll as poll
-use Rattle.quic_machine.specs.DraftLaws.{by_writing}
+use Rattle.quic_machine.specs.DraftLaws.{Writing, by_writing}
+use Rattle.quic_machine.specs.Puts as puts
 use Rattle.quic_machine.specs.LeaveCases.{by_expired, by_event}
 use Rattle.quic_machine.specs.CallCases.{is_delivery, asks_event, by_call}
 use Rattle.quic_machine.specs.FrameCases.{Settling, named, ack_taken, acked_keeps, losses_keep, message_leaves}
+use Rattle.quic_machine.specs.Steps as steps
 use Rattle.quic_machine.specs.Machine.{IsAnswer, after_call}
 use Rattle.quic_headline.specs.Runs.{OpensStream}
 use Rattle.quic_streams_laws.specs.QuietLaws.{by_tells}
@@ -213,15 +215,11 @@ module _ (K : Side → Counts → Counts → Events → Type 0) (more : (side : 
       (λ is. cond_both (room s.sending == 0) _ _ (λ (t : Telling). Flagged t.state) (λ is. next) (λ is. behind_counts (passed s.sending.blocked s.sending.halves.live).found (after_passing s (passed s.sending.blocked s.sending.halves.live)) next i)))
 
   composed_counts : (e : End) → Flagged e.streams → Flagged (composed e).end.streams
-  composed_counts e i = by_writing (λ (d : Draft). Flagged d.end.streams) (record {
-    ack = λ d filled may j. j;
-    ping = λ d j. j;
-    probes = λ f size j. j;
-    drops = λ d kind j. j;
-    control = λ d kind f is j. by_tells Flagged d.end.streams j j (λ id. j) (λ dir. j) f;
-    message = λ d m ms is fit j. j;
-    stream = λ d id h room found first some is counts j. j;
-  }) e i
+  composed_counts e i = by_writing (λ (d : Draft). Flagged d.end.streams) keep e i
+    where
+      keep : Writing (λ (d : Draft). Flagged d.end.streams)
+      keep (puts.control kind f) d may j = by_tells Flagged d.end.streams j j (λ id. j) (λ dir. j) f
+      keep p d may j = j
 
   poll_counts : (p : Policy) (e : End) (now : ℕ) → Flagged e.streams → Flagged (poll.polled p e now).end.streams
   poll_counts p e now i = poll_state Flagged p e now composed_counts i
@@ -242,18 +240,10 @@ module _ (K : Side → Counts → Counts → Events → Type 0) (more : (side : 
   reset_acked_counts (Some h) s p id i = either_streams (is_some h.reset) (settled (send_done s id) p) (streams_of s p) (sent_counts s id i) i
 
   settling : Settling (λ (e : End). Flagged e.streams)
-  settling = record {
-    known = λ n e i. i;
-    reset = λ id e i. reset_acked_counts (sent_half e.streams id) e.streams e.waiting.frames id i;
-    acked = λ m e i. acked_counts (sent_half e.streams m.id) e.streams e.waiting.frames m i;
-    lost = λ m e i. lost_counts (sent_half e.streams m.id) e.streams m i;
-    again = λ carried e i. i;
-    searched = λ discovery e i. i;
-    shortens = λ most e i. i;
-    tracked = λ t e i. i;
-    measured = λ r first e i. i;
-    marked = λ m marking e i. i;
-  }
+  settling (steps.reset id) e i = reset_acked_counts (sent_half e.streams id) e.streams e.waiting.frames id i
+  settling (steps.acked m) e i = acked_counts (sent_half e.streams m.id) e.streams e.waiting.frames m i
+  settling (steps.lost m) e i = lost_counts (sent_half e.streams m.id) e.streams m i
+  settling s e i = i
 
   -- any call but a delivery
   pub flagged_call : (p : Policy) (e : End) (theirs : List (List ℕ)) (call : Call) (a : Answer) → is_delivery call ≡ false → IsAnswer p e theirs call a → (asks_event call ≡ true → Flagged (polled e.streams).state) → Flagged e.streams → Flagged (after_call p e theirs call a).streams
@@ -271,7 +261,6 @@ module _ (K : Side → Counts → Counts → Events → Type 0) (more : (side : 
         on_streams = λ on answer. cc;
         on_messages = λ on answer. i;
         pings = i;
-        heard = λ path same. i;
         times = λ now expiry set. by_expired e now (λ (f : End). Flagged f.streams) (λ pending tracking timers runs packets. i) (λ pending timers runs. losses_keep (λ (x : End). Flagged x.streams) settling (with_closing e (ticked e.closing now)) i) expiry;
         polls = λ now set. poll_counts p e now i;
         hears = λ arrival d set. cc;

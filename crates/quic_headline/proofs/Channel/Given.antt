@@ -6,7 +6,7 @@ use Rattle.quic_wire_core.specs.declared.stream_id.Dir.{Dir}
 use Rattle.quic_wire_core.specs.declared.stream_id.Dir.TheVariants.{Bi, Uni}
 use Rattle.quic_wire_core.specs.declared.stream_id.Side.{Side}
 use Rattle.quic_wire_core.specs.StreamId.{dir_of, index_of}
-use Rattle.quic_wire.specs.Value.{FrameValue, StopSendingValue, padding, ping, stream, datagram, reset_stream, stop_sending, max_stream_data, max_streams, stream_data_blocked, streams_blocked, new_token, handshake_done}
+use Rattle.quic_wire.specs.Value.{FrameValue, StopSendingValue, padding, stream, reset_stream, stop_sending, max_stream_data, max_streams, stream_data_blocked, streams_blocked, new_token, handshake_done}
 use Rattle.quic_streams_parts.specs.Dirs.{of, is_own, is_two_way}
 use Rattle.quic_streams_parts.specs.Table.{at}
 use Rattle.quic_streams_parts.specs.SendHalf.{SendHalf, frame_of}
@@ -28,6 +28,7 @@ use Rattle.quic_streams_laws.specs.Giving.{Sends, Receives, MayGiveBy}
 use Rattle.quic_streams_laws.specs.Quiet.{IsSentWithin}
 use Rattle.quic_streams_laws.specs.QuietLaws.{is_quiet, by_tells}
 use Rattle.quic_streams_laws.specs.Keeping.{KeepsAll}
+use Rattle.quic_streams_laws.specs.Keeping as changes
 use Rattle.quic_streams_laws.specs.KeepingLaws.{by_accept, by_stream, by_reset_frame, by_frame, by_limit_told}
 use Rattle.quic_streams_laws.specs.Shape.{IsShaped}
 use Rattle.quic_streams_laws.specs.ShapeLaws.{OpensMore, opened_more, more_own, more_remote, past_remote, shape_any, sends_may}
@@ -38,9 +39,10 @@ use Rattle.quic_machine.specs.Tracking.{TrackedPacket, dir_named}
 use Rattle.quic_headline.proofs.Packets.Probes.{ready_streams, ready_state}
 use Rattle.quic_machine.specs.End.{End}
 use Rattle.quic_machine.specs.Receive.{take_frame}
-use Rattle.quic_machine.specs.Poll.{zeros_behind, Draft, lazied, draft_as, with_ack, no_frames, probe, alone, whole, Leaving, nothing}
-use Rattle.quic_machine.specs.DraftLaws.{Writing, by_writing}
-use Rattle.quic_machine.specs.PollCases.{ready_at, draft_at, frames_at}
+use Rattle.quic_machine.specs.Poll.{zeros_behind, Draft, draft_as, with_ack, no_frames, Leaving}
+use Rattle.quic_machine.specs.DraftLaws.{Writing, MayLeave, by_leave}
+use Rattle.quic_machine.specs.Puts as puts
+use Rattle.quic_machine.specs.PollCases.{ready_at, draft_at, frames_at, may_leave_at}
 use Rattle.quic_machine.specs.FrameCases.{passed, frames_keep}
 use Rattle.quic_machine.specs.CallCases.{is_delivery}
 use Rattle.quic_machine.specs.Machine.{IsAnswer, after_call}
@@ -81,30 +83,15 @@ remote_room Uni d n o = refl
 
 -- each small change lets them grow
 pub grown_kept : (s : StreamsState) → KeepsAll (λ r id old new. Unit {0}) (λ t id old new. Unit {0}) (λ t id n old new. Unit {0}) (λ t dir. Unit {0}) (λ id. Unit {0}) (Grown s)
-grown_kept s = record {
-  finishes = λ t id f i. i;
-  events = λ t e less i. i;
-  opens_own = λ t dir lt i. (i.0, λ d. (let before = i.1 d in let now = more_own dir d t.opening.own in omega arith), i.2, i.3);
-  accepts = λ t dir may i. i;
-  allows = λ t dir count le lt i. i;
-  opens_theirs = λ t id e within i. (
-      let past = past_remote t id e in
-      let more : OpensMore t.opening (with_remote (dir_of id) (index_of id + 1) t.opening) = more_remote (dir_of id) (index_of id + 1) t.opening (omega (arith, past.1)) in
-      (i.0, λ d. (let before = i.1 d in let now = more.own d in omega arith), λ d. (let before = i.2 d in let now = more.remote d in omega arith), λ d. (let before = i.3 d in let now = remote_room (dir_of id) d (index_of id + 1) t.opening in omega arith)));
-  raises = λ t limit le i. i;
-  changes = λ t id old new is on same i. i;
-  queues = λ t id old new b is on same i. i;
-  turns = λ t id old new is on same i. i;
-  writes = λ t id n old new is on same i. i;
-  joins = λ t id h is i. cond_both h.blocked t _ (Grown s) (λ e. i) (λ e. i);
-  passes = λ t id ids is i. i;
-  ends_sending = λ t id h is over i. grown_done s (not (is_own t.side id) && is_done (receiving_status t id)) id _ i;
-  changes_receiving = λ t id old new is on i. i;
-  ends_receiving = λ t id h is i. grown_done s (not (is_own t.side id) && (not (is_two_way (dir_of id)) || is_done (sending_status t id))) id _ i;
-  tells = λ t i. i;
-  tells_on = λ t id h is i. i;
-  tells_count = λ t dir i. i;
-}
+grown_kept s (changes.opens_own dir) t may i = (i.0, λ d. (let before = i.1 d in let now = more_own dir d t.opening.own in omega arith), i.2, i.3)
+grown_kept s (changes.opens_theirs id) t (e, within) i =
+    let past = past_remote t id e in
+    let more : OpensMore t.opening (with_remote (dir_of id) (index_of id + 1) t.opening) = more_remote (dir_of id) (index_of id + 1) t.opening (omega (arith, past.1)) in
+    (i.0, λ d. (let before = i.1 d in let now = more.own d in omega arith), λ d. (let before = i.2 d in let now = more.remote d in omega arith), λ d. (let before = i.3 d in let now = remote_room (dir_of id) d (index_of id + 1) t.opening in omega arith))
+grown_kept s (changes.joins id h) t may i = cond_both h.blocked t _ (Grown s) (λ e. i) (λ e. i)
+grown_kept s (changes.ends_sending id h) t may i = grown_done s (not (is_own t.side id) && is_done (receiving_status t id)) id _ i
+grown_kept s (changes.ends_receiving id h) t may i = grown_done s (not (is_own t.side id) && (not (is_two_way (dir_of id)) || is_done (sending_status t id))) id _ i
+grown_kept s c t may i = i
 
 -- so does any call but a delivery
 pub call_grows : (p : Policy) (e : End) (theirs : List (List ℕ)) (call : Call) (a : Answer) → ((id : ℕ) → IsSentWithin e.streams id) → IsAnswer p e theirs call a → is_delivery call ≡ false → Grown e.streams (after_call p e theirs call a).streams
@@ -215,42 +202,35 @@ module _ (s : StreamsState) where
 
   told_goes : (d : Draft) (f : FrameValue) → Goes s d → IsShaped (frame_told f d.end.streams) × Grown (frame_told f d.end.streams) s × StopsHold (frame_told f d.end.streams) d.end.waiting.frames
   told_goes d f g = by_tells (λ (t : StreamsState). IsShaped t × Grown t s × StopsHold t d.end.waiting.frames) d.end.streams (g.shape, g.back, g.stops)
-      (shape_any.tells d.end.streams g.shape, g.back, g.stops)
+      (shape_any changes.tells d.end.streams tt g.shape, g.back, g.stops)
       (λ id. (by_limit_told IsShaped shape_any d.end.streams id g.shape, g.back, g.stops))
-      (λ dir. (shape_any.tells_count d.end.streams dir g.shape, g.back, g.stops))
+      (λ dir. (shape_any (changes.tells_count dir) d.end.streams tt g.shape, g.back, g.stops))
       f
 
   acked_goes : (d : Draft) → Goes s d → Goes s (with_ack d)
   acked_goes d g = record { shape = g.shape; back = g.back; stops = g.stops; frames = more_given d.frames _ g.frames tt }
 
   goes_on : Writing (Goes s)
-  goes_on = record {
-    ack = λ d filled may g. acked_goes d g;
-    ping = λ d g. record { shape = g.shape; back = g.back; stops = g.stops; frames = more_given d.frames ping g.frames tt };
-    probes = λ f size g. record { shape = g.shape; back = g.back; stops = g.stops; frames = more_given [] ping g.frames tt };
-    drops = λ d kind g. record { shape = g.shape; back = g.back; stops = fewer_stops d.end.streams kind d.end.waiting.frames g.stops; frames = g.frames };
-    control = λ d kind f is g. (
-        let t = told_goes d f g in
-        record {
-          shape = t.0;
-          back = t.1;
-          stops = fewer_stops (frame_told f d.end.streams) kind d.end.waiting.frames t.2;
-          frames = more_given d.frames f g.frames (given_grows d.end.streams s g.back f (goes_given d.end.streams g.shape d.end.waiting.frames g.stops f is.says));
-        });
-    message = λ d m ms is fit g. record { shape = g.shape; back = g.back; stops = g.stops; frames = more_given d.frames (datagram m) g.frames tt };
-    stream = λ d id h room found first some is counts g. record {
-      shape = by_frame IsShaped shape_any d.end.transport.send_fairness d.end.streams id room h found tt g.shape;
-      back = g.back;
-      stops = g.stops;
-      frames = more_given d.frames (stream (frame_of id h room)) g.frames (given_grows d.end.streams s g.back (stream (frame_of id h room)) (live_sends d.end.streams g.shape id h found));
-    };
+  goes_on puts.ack d may g = acked_goes d g
+  goes_on (puts.drops kind) d may g = record { shape = g.shape; back = g.back; stops = fewer_stops d.end.streams kind d.end.waiting.frames g.stops; frames = g.frames }
+  goes_on (puts.control kind f) d is g =
+      let t = told_goes d f g in
+      record {
+        shape = t.0;
+        back = t.1;
+        stops = fewer_stops (frame_told f d.end.streams) kind d.end.waiting.frames t.2;
+        frames = more_given d.frames f g.frames (given_grows d.end.streams s g.back f (goes_given d.end.streams g.shape d.end.waiting.frames g.stops f is.says));
+      }
+  goes_on (puts.stream id h room) d (found, first, some, is, counts) g = record {
+    shape = by_frame IsShaped shape_any d.end.transport.send_fairness d.end.streams id room h found tt g.shape;
+    back = g.back;
+    stops = g.stops;
+    frames = more_given d.frames (stream (frame_of id h room)) g.frames (given_grows d.end.streams s g.back (stream (frame_of id h room)) (live_sends d.end.streams g.shape id h found));
   }
+  goes_on p d may g = record { shape = g.shape; back = g.back; stops = g.stops; frames = more_given d.frames _ g.frames tt }
 
-  draft_goes : (leaving : Leaving) (e : End) → Goes s (no_frames e) → Goes s (draft_as leaving e)
-  draft_goes whole e first = by_writing (Goes s) goes_on (lazied e) (record { shape = first.shape; back = first.back; stops = first.stops; frames = first.frames })
-  draft_goes alone e first = acked_goes (no_frames (lazied e)) (record { shape = first.shape; back = first.back; stops = first.stops; frames = first.frames })
-  draft_goes (probe size) e first = goes_on.probes e size first
-  draft_goes (nothing held) e first = first
+  draft_goes : (leaving : Leaving) (e : End) → MayLeave leaving e → Goes s (no_frames e) → Goes s (draft_as leaving e)
+  draft_goes leaving e may first = by_leave (Goes s) goes_on leaving e may (record { shape = first.shape; back = first.back; stops = first.stops; frames = first.frames })
 
   padded_given : (fs : List FrameValue) (count : ℕ) → ((f : FrameValue) → In f fs → Given s f) → (f : FrameValue) → In f (fs ++ replicate count padding) → Given s f
   padded_given fs count all f i = elim (in_append f fs (replicate count padding) i) [ inl here ↦ all f here | inr behind ↦ zeros count behind ]
@@ -264,7 +244,7 @@ module _ (s : StreamsState) where
 pub polled_given : (e : End) (now : ℕ) → IsShaped e.streams → StopsHold e.streams e.waiting.frames → ((n : ℕ) (t : TrackedPacket) → In (n, t) e.tracking.packets → StopsHold e.streams t.carried.retransmits) → (f : FrameValue) → In f (frames_at e now) → Given e.streams f
 polled_given e now shape stops carried =
     let d : Draft = draft_at e now in
-    padded_given e.streams d.frames (zeros_behind d) (draft_goes e.streams (ready_at e now).leaving (ready_at e now).end ready).frames
+    padded_given e.streams d.frames (zeros_behind d) (draft_goes e.streams (ready_at e now).leaving (ready_at e now).end (may_leave_at e now) ready).frames
   where
     -- what waits, with what a packet carried
     more : (n : ℕ) (t : TrackedPacket) → In (n, t) e.tracking.packets → StopsHold e.streams (merged e.waiting.frames t.carried.retransmits)

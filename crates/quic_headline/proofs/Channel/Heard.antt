@@ -16,6 +16,7 @@ use Rattle.quic_streams_state.specs.State.{sending_half, sending_status, receivi
 use Rattle.quic_streams_laws.specs.Each.{StatusIs, EachSends, AreOfHalves}
 use Rattle.quic_streams_laws.specs.EachLaws.{each_kept, said_of, half_follows}
 use Rattle.quic_streams_laws.specs.Keeping.{KeepsWhere, KeepsBy, HasEnded, MayAccept}
+use Rattle.quic_streams_laws.specs.Keeping as changes
 use Rattle.quic_streams_laws.specs.KeepingLaws.{by_open, by_accept, by_write, by_write_chunks, by_finish, by_reset, by_set_priority, by_read_begun, by_next, by_finalize, by_stop, by_received_reset, by_polled, by_stop_sending, by_max_data_where, by_max_stream_data, by_max_streams, by_stream, by_reset_frame, by_stream_lost, by_stream_acked_where, by_reset_acked_where, by_frame}
 use Rattle.quic_streams_laws.specs.Written.{Wrote, Grows, IsOver, IsSendHalf, HoldsWritten, nothing_done}
 use Rattle.quic_streams_laws.specs.WrittenLaws.{half_holds, holds_kept, holds_set_priority, holds_write, holds_write_chunks, holds_finish, holds_reset}
@@ -30,8 +31,10 @@ use Rattle.quic_machine.specs.End.{End, with_closing, streams_at}
 use Rattle.quic_machine.specs.Closing.{ticked}
 use Rattle.quic_machine.specs.Receive.{is_above, names_ungiven, take_frame}
 use Rattle.quic_machine.specs.Poll.{Draft, composed, polled}
-use Rattle.quic_machine.specs.DraftLaws.{by_writing}
+use Rattle.quic_machine.specs.DraftLaws.{Writing, by_writing}
+use Rattle.quic_machine.specs.Puts as puts
 use Rattle.quic_machine.specs.FrameCases.{Settling, acked_keeps, losses_keep, named, ack_taken, message_leaves, passed, frames_leave}
+use Rattle.quic_machine.specs.Steps as steps
 use Rattle.quic_machine.specs.LeaveCases.{by_expired, by_event}
 use Rattle.quic_machine.specs.CallCases.{is_delivery, by_call}
 use Rattle.quic_machine.specs.Machine.{IsAnswer, after_call}
@@ -72,30 +75,11 @@ module _ (t : StreamsState) where
   -- each small change keeps it that raises no limit above those that the other holds
   heard_kept : KeepsWhere (λ r id old new. Unit {0}) (λ s id old new. Allows t id old.limit → Allows t id new.limit) (λ s id n old new. Allows t id old.limit → Allows t id new.limit) (λ s dir. MayAccept s dir) (λ id. Unit {0}) (λ id h. HasEnded h)
       (λ s limit. (s.sending.limit ≤ limit) × (limit ≤ t.receiving.announced)) (Heard t)
-  heard_kept = record {
-    finishes = λ s id f i. record { halves = k.finishes s id f i.halves; all = i.all };
-    events = λ s e less i. record { halves = k.events s e less i.halves; all = i.all };
-    opens_own = λ s dir lt i. record { halves = k.opens_own s dir lt i.halves; all = i.all };
-    accepts = λ s dir lt i. record { halves = k.accepts s dir lt i.halves; all = i.all };
-    allows = λ s dir count le lt i. record { halves = k.allows s dir count le lt i.halves; all = i.all };
-    opens_theirs = λ s id e within i. record { halves = k.opens_theirs s id e within i.halves; all = i.all };
-    raises = λ s limit raised i. record { halves = k.raises s limit raised.0 i.halves; all = raised.1 };
-    changes = λ s id old new is on same i. record { halves = k.changes s id old new is on same i.halves; all = i.all };
-    queues = λ s id old new b is on has i. record { halves = k.queues s id old new b is on has i.halves; all = i.all };
-    turns = λ s id old new is on has i. record { halves = k.turns s id old new is on has i.halves; all = i.all };
-    writes = λ s id n old new is on has i. record { halves = k.writes s id n old new is on has i.halves; all = i.all };
-    joins = λ s id h is i. record { halves = k.joins s id h is i.halves; all = cond_both h.blocked s _ (λ (u : StreamsState). u.sending.limit ≤ t.receiving.announced) (λ e. i.all) (λ e. i.all) };
-    passes = λ s id ids is i. record { halves = k.passes s id ids is i.halves; all = i.all };
-    ends_sending = λ s id h is over i. record { halves = k.ends_sending s id h is over i.halves; all = done_all (not (is_own s.side id) && is_done (receiving_status s id)) id _ i.all };
-    changes_receiving = λ s id old new is on i. record { halves = k.changes_receiving s id old new is on i.halves; all = i.all };
-    ends_receiving = λ s id h is i. record { halves = k.ends_receiving s id h is i.halves; all = done_all (not (is_own s.side id) && (not (is_two_way (dir_of id)) || is_done (sending_status s id))) id _ i.all };
-    tells = λ s i. record { halves = k.tells s i.halves; all = i.all };
-    tells_on = λ s id h is i. record { halves = k.tells_on s id h is i.halves; all = i.all };
-    tells_count = λ s dir i. record { halves = k.tells_count s dir i.halves; all = i.all };
-  }
-    where
-      k : KeepsBy (λ r id old new. Unit {0}) (λ s id old new. Allows t id old.limit → Allows t id new.limit) (λ s id n old new. Allows t id old.limit → Allows t id new.limit) (Limits t)
-      k = halves_kept
+  heard_kept (changes.raises limit) s raised i = record { halves = halves_kept (changes.raises limit) s raised.0 i.halves; all = raised.1 }
+  heard_kept (changes.joins id h) s is i = record { halves = halves_kept (changes.joins id h) s is i.halves; all = cond_both h.blocked s _ (λ (u : StreamsState). u.sending.limit ≤ t.receiving.announced) (λ e. i.all) (λ e. i.all) }
+  heard_kept (changes.ends_sending id h) s (is, over) i = record { halves = halves_kept (changes.ends_sending id h) s (is, over) i.halves; all = done_all (not (is_own s.side id) && is_done (receiving_status s id)) id _ i.all }
+  heard_kept (changes.ends_receiving id h) s is i = record { halves = halves_kept (changes.ends_receiving id h) s is i.halves; all = done_all (not (is_own s.side id) && (not (is_two_way (dir_of id)) || is_done (sending_status s id))) id _ i.all }
+  heard_kept c s may i = record { halves = halves_kept c s may i.halves; all = i.all }
 
   -- ---- calls
 
@@ -125,33 +109,22 @@ module _ (t : StreamsState) where
 
   -- whichever frames go
   composed_heard : (e : End) → Heard t e.streams → Heard t (composed e).end.streams
-  composed_heard e i = by_writing (λ (d : Draft). Heard t d.end.streams) (record {
-    ack = λ d filled may j. j;
-    ping = λ d j. j;
-    probes = λ f size j. j;
-    drops = λ d kind j. j;
-    control = λ d kind f is j. by_told (Heard t) heard_kept f d.end.streams j;
-    message = λ d m ms is fit j. j;
-    stream = λ d id h room found first some is counts j. by_frame (Heard t) heard_kept d.end.transport.send_fairness d.end.streams id room h found (λ a. a) j;
-  }) e i
+  composed_heard e i = by_writing (λ (d : Draft). Heard t d.end.streams) keep e i
+    where
+      keep : Writing (λ (d : Draft). Heard t d.end.streams)
+      keep (puts.control kind f) d may j = by_told (Heard t) heard_kept f d.end.streams j
+      keep (puts.stream id h room) d (found, first, some, is, counts) j = by_frame (Heard t) heard_kept d.end.transport.send_fairness d.end.streams id room h found (λ a. a) j
+      keep p d may j = j
 
   poll_heard : (p : Policy) (e : End) (now : ℕ) → Heard t e.streams → Heard t (polled p e now).end.streams
   poll_heard p e now i = poll_state (Heard t) p e now composed_heard i
 
   -- packets that are acknowledged or lost
   settles : Settling (λ (e : End). Heard t e.streams)
-  settles = record {
-    known = λ n e i. i;
-    reset = λ id e i. by_reset_acked_where (Heard t) heard_kept e.streams e.waiting.frames id (λ h is reset. inl reset) i;
-    acked = λ m e i. by_stream_acked_where (Heard t) heard_kept e.streams e.waiting.frames m (λ h is none a. a) (λ h is none all. tt) (λ h all. inr all) i;
-    lost = λ m e i. by_stream_lost (Heard t) heard_kept e.streams m (λ h is none a. a) i;
-    again = λ carried e i. i;
-    searched = λ discovery e i. i;
-    shortens = λ most e i. i;
-    tracked = λ u e i. i;
-    measured = λ r first e i. i;
-    marked = λ m marking e i. i;
-  }
+  settles (steps.reset id) e i = by_reset_acked_where (Heard t) heard_kept e.streams e.waiting.frames id (λ h is reset. inl reset) i
+  settles (steps.acked m) e i = by_stream_acked_where (Heard t) heard_kept e.streams e.waiting.frames m (λ h is none a. a) (λ h is none all. tt) (λ h all. inr all) i
+  settles (steps.lost m) e i = by_stream_lost (Heard t) heard_kept e.streams m (λ h is none a. a) i
+  settles s e i = i
 
   -- any call but a delivery
   pub call_heard : (p : Policy) (wrote : ℕ → Wrote) (e : End) (theirs : List (List ℕ)) (call : Call) (a : Answer) → is_delivery call ≡ false → IsAnswer p e theirs call a → HoldsWritten wrote e.streams → Heard t e.streams → Heard t (after_call p e theirs call a).streams
@@ -166,7 +139,6 @@ module _ (t : StreamsState) where
         on_streams = λ on answer. cc;
         on_messages = λ on answer. i;
         pings = i;
-        heard = λ path same. i;
         times = λ now expiry set. by_expired e now (λ (f : End). Heard t f.streams) (λ pending tracking timers runs packets. i) (λ pending timers runs. losses_keep (λ (x : End). Heard t x.streams) settles (with_closing e (ticked e.closing now)) i) expiry;
         polls = λ now set. poll_heard p e now i;
         hears = λ arrival d set. cc;

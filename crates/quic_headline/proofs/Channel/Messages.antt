@@ -3,10 +3,9 @@ use Rattle.std.proofs.Common.{cond, ◌≡◌, ℕ, ◌-◌, min, Bool, true, fa
 use Rattle.std.specs.Prelude.{if◌then◌else◌, nat_le, nat_lt, ◌||◌, is_none, is_ok, ◌+◌}
 use Rattle.std.specs.List.{filter, AllByRecursion}
 use Rattle.std.proofs.lemmas.Bool.{ltb-false, le-leb}
-use Rattle.quic_wire.specs.Value.{FrameValue, ack, padding, ping, stream, datagram}
+use Rattle.quic_wire.specs.Value.{FrameValue, ack, padding, datagram}
 use Rattle.quic_config.specs.Transport.{TransportSettings, told_frame_size}
 use Rattle.quic_parameters.specs.Parameters.{ParameterValues}
-use Rattle.quic_streams_parts.specs.SendHalf.{frame_of}
 use Rattle.quic_streams_laws.specs.WrittenFrames.{all_append}
 use Rattle.quic_messages.specs.declared.errors.ReceivedError.{ReceivedError}
 use Rattle.quic_messages.specs.declared.errors.SendDatagramError.{SendDatagramError}
@@ -22,11 +21,13 @@ use Rattle.quic_machine.specs.Closing.{ticked}
 use Rattle.quic_machine.specs.End.{End, with_closing}
 use Rattle.quic_machine.specs.Receive.{is_above, names_ungiven, message_judged, take_frame}
 use Rattle.quic_machine.specs.Parts.{current_mtu}
-use Rattle.quic_machine.specs.Poll.{zeros_behind, Draft, Polled, ack_of, polled, draft_as, draft_of, Leaving, Ready}
-use Rattle.quic_machine.specs.DraftLaws.{by_leave, MayLeave}
+use Rattle.quic_machine.specs.Poll.{zeros_behind, Draft, Polled, polled, draft_as, draft_of, Leaving, Ready}
+use Rattle.quic_machine.specs.DraftLaws.{Writing, by_leave, MayLeave}
+use Rattle.quic_machine.specs.Puts as puts
 use Rattle.quic_machine.specs.PollCases.{frames_padded, frames_at, by_poll, at_poll}
 use Rattle.quic_machine.specs.MessageCalls.{limits_of, after_on_messages}
 use Rattle.quic_machine.specs.FrameCases.{Settling, named, ack_taken, acked_keeps, losses_keep, by_received}
+use Rattle.quic_machine.specs.Steps as steps
 use Rattle.quic_machine.specs.LeaveCases.{by_expired, by_event}
 use Rattle.quic_machine.specs.CallCases.{by_call}
 use Rattle.quic_machine.specs.Machine.{IsAnswer, after_call, gave}
@@ -144,20 +145,18 @@ no_message : (f : FrameValue) (m : List ℕ) → IsControl f → datagram m ≡ 
 no_message f m is same = subst IsControl (sym same) is
 
 draft_draws : (window : Option ℕ) (leaving : Leaving) (e : End) → MayLeave leaving e → Waits window e → Draws window (draft_as leaving e)
-draft_draws window leaving e due i = by_leave (Draws window) (record {
-  ack = λ d filled may g. record { waiting = g.waiting; frames = one_more window d.frames (ack (ack_of d.end)) g.frames (λ m is. cc) };
-  ping = λ d g. record { waiting = g.waiting; frames = one_more window d.frames ping g.frames (λ m is. cc) };
-  probes = λ f size g. record { waiting = g.waiting; frames = one_more window [] ping g.frames (λ m is. cc) };
-  drops = λ d kind g. record { waiting = g.waiting; frames = g.frames };
-  control = λ d kind f is g. record {
-    waiting = g.waiting;
-    frames = one_more window d.frames f g.frames (λ m same. absurd (no_message f m (control_of f kind is.of_kind) same));
-  };
-  message = λ d m ms is fit g. (
-      let all : AreTaken window (m ∷ ms) = subst (AreTaken window) is g.waiting in
-      record { waiting = all.1; frames = one_more window d.frames (datagram m) g.frames (λ n same. (let alike : n ≡ m = cc in rw alike all.0)) });
-  stream = λ d id h room found first some is counts g. record { waiting = g.waiting; frames = one_more window d.frames (stream (frame_of id h room)) g.frames (λ m is. cc) };
-}) leaving e due (record { waiting = i; frames = λ m j. absurd j })
+draft_draws window leaving e due i = by_leave (Draws window) put_keeps leaving e due (record { waiting = i; frames = λ m j. absurd j })
+  where
+    put_keeps : Writing (Draws window)
+    put_keeps (puts.drops kind) d may g = record { waiting = g.waiting; frames = g.frames }
+    put_keeps (puts.control kind f) d is g = record {
+      waiting = g.waiting;
+      frames = one_more window d.frames f g.frames (λ m same. absurd (no_message f m (control_of f kind is.of_kind) same));
+    }
+    put_keeps (puts.message m ms) d (is, fit) g =
+        let all : AreTaken window (m ∷ ms) = subst (AreTaken window) is g.waiting in
+        record { waiting = all.1; frames = one_more window d.frames (datagram m) g.frames (λ n same. (let alike : n ≡ m = cc in rw alike all.0)) }
+    put_keeps p d may g = record { waiting = g.waiting; frames = one_more window d.frames _ g.frames (λ m is. cc) }
 
 -- PADDING has none
 padded_taken : (window : Option ℕ) (fs : List FrameValue) (count : ℕ) → FramesTaken window fs → FramesTaken window (fs ++ replicate count padding)
@@ -178,7 +177,7 @@ poll_takes window p e now i = by_poll p e now (λ (q : Polled). Waits window q.e
   silent = (i, λ s j. absurd j);
   failed = (i, λ s j. absurd j);
   nothing = λ c. (i, λ s j. absurd j);
-  used_up = λ c. (i, λ s j. absurd j);
+  closes = λ c. (i, λ s j. absurd j);
   gives = λ leaving c left is may ready some. (
       let there : End = at_poll e now c in
       let d : Draft = draft_as leaving there in
@@ -205,18 +204,8 @@ received_leaves (Some window) m s = go (nat_le (length m) window)
 module _ (window : Option ℕ) where
   -- what is acknowledged or lost is no message
   settling : Settling (Waits window)
-  settling = record {
-    known = λ n e i. i;
-    reset = λ id e i. i;
-    acked = λ m e i. i;
-    lost = λ m e i. i;
-    again = λ carried e i. i;
-    searched = λ discovery e i. i;
-    shortens = λ most e i. some_taken window (is_within most) e.messages.queues.outgoing i;
-    tracked = λ t e i. i;
-    measured = λ r first e i. i;
-    marked = λ m marking e i. i;
-  }
+  settling (steps.shortens most) e i = some_taken window (is_within most) e.messages.queues.outgoing i
+  settling s e i = i
 
   frame_leaves : (f : FrameValue) (e : End) → Waits window e → Waits window (take_frame f e).end
   frame_leaves (ack a) e i = go (names_ungiven a e)
@@ -238,7 +227,6 @@ module _ (window : Option ℕ) where
     on_streams = λ on answer. i;
     on_messages = λ on answer. message_call_leaves window e sized i call a;
     pings = i;
-    heard = λ path same. i;
     times = λ now expiry set. by_expired e now (Waits window) (λ pending tracking timers runs packets. i) (λ pending timers runs. losses_keep (Waits window) settling (with_closing e (ticked e.closing now)) i) expiry;
     polls = λ now set. (poll_takes window p e now i).0;
     hears = λ arrival d set. by_received (Waits window) (record {

@@ -14,7 +14,7 @@ use Rattle.quic_machine.specs.declared.run.Answer.{Answer}
 use Rattle.quic_machine.specs.End.{End}
 use Rattle.quic_machine.specs.Receive.{Outcome}
 use Rattle.quic_machine.specs.Machine.{gave}
-use Rattle.quic_machine.specs.FrameCases.{begun}
+use Rattle.quic_machine.specs.FrameCases.{begun, apart_leaves}
 use Rattle.quic_machine.specs.Poll.{rests}
 use Rattle.quic_headline.specs.Runs.{Packet, Intake, In}
 use Rattle.quic_headline.specs.Observer.{Sent}
@@ -100,7 +100,7 @@ module _ (B : Way) (rests : RestsOn B) (x y : Party) (call : Call) (a : Answer) 
         back = rests.packets y x c.takes
 
         takes_on : TakesOn took x.sents s.frames (λ (e : End). StopsOf Known e.waiting.frames)
-        takes_on = record { settles = settles_stops Known took x.sents sent_known; names = λ a e i j. j; on_streams = λ f e i on j. frame_stops Known f e on j; message = λ m e j. j }
+        takes_on = record { settles = settles_stops Known took x.sents sent_known; names = λ a e i j. j; on_streams = λ f e i on j. frame_stops Known f e on j; message = λ m e j. j; apart = λ f e i apart j. apart_leaves (λ (g : End). StopsOf Known g.waiting.frames) f e apart (λ c. j) }
 
         passed_stops : StopsOf Known (arrived x.end now s.number s.frames).end.waiting.frames
         passed_stops = frames_settle took x.sents (record { taken = p.taken; rising = p.gives.rising }) s.frames (λ (e : End). StopsOf Known e.waiting.frames) takes_on (begun x.end now s.number)

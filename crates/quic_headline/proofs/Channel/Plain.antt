@@ -27,7 +27,7 @@ use Rattle.quic_headline.proofs.Channel.Messages.{MessagesFit}
 -- the greatest number of an ACK frame was given by the end to which the frame comes
 ack_given : (x y : Party) → PacketsHold x y → PacketsHold y x → (s : Sent) → In s x.sents → (a : AckValue) → In (ack a) s.frames → a.largest < y.end.numbers.next
 ack_given x y p back s among a i =
-    let spelled = (step_of (IsSent x.policy y.id) x.sents x.given s p.gives.each among).1 in
+    let spelled = (step_of (IsSent x.policy) x.sents x.given s p.gives.each among).1 in
     let was = p.named s a a.largest among i (greatest_named s.frames spelled.payload a spelled.spells i) in
     let found = back.taken was.packet was.was_taken in
     let below = back.gives.below found.sent found.is.0 in

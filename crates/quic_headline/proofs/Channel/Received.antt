@@ -6,7 +6,7 @@ use Rattle.std.specs.Map.{values_of}
 use Rattle.std.proofs.lemmas.Bool.{cases_eq}
 use Rattle.quic_wire_core.specs.declared.stream_id.Side.{Side}
 use Rattle.quic_wire_core.specs.StreamId.{dir_of}
-use Rattle.quic_streams_parts.specs.Dirs.{of, is_own, is_two_way}
+use Rattle.quic_streams_parts.specs.Dirs.{is_own, is_two_way}
 use Rattle.quic_streams_parts.specs.Table.{at, without}
 use Rattle.quic_streams_parts.specs.TableLaws.{at-without, at-without-apart}
 use Rattle.quic_streams_parts.specs.SendHalf.{SendHalf}
@@ -14,16 +14,17 @@ use Rattle.quic_streams_parts.specs.RecvHalf.{RecvHalf, credit, raised_on, great
 use Rattle.quic_streams_halves.specs.Halves.{Status, unknown, fresh, live, done, has_place, with_half, without_half, is_done}
 use Rattle.quic_streams_state.specs.declared.state.StreamsState.{StreamsState}
 use Rattle.quic_streams_state.specs.State.{Receiving, receiving_half, with_send, with_recv, send_done, without_send, recv_done, done_if, receiving_status, sending_status, seen_at}
-use Rattle.quic_streams_state.specs.Limits.{raised_data, most_streams}
+use Rattle.quic_streams_state.specs.Limits.{raised_data}
 use Rattle.quic_streams_state.specs.Taking.{joined}
 use Rattle.quic_streams_laws.specs.Keeping.{KeepsBy, EndsThere, ReceivesOn}
+use Rattle.quic_streams_laws.specs.Keeping as changes
 use Rattle.quic_streams_laws.specs.Content.{AllReceiving}
 use Rattle.quic_streams_laws.specs.StatusLaws.{GoesOn, at_half_of, each_kept}
 use Rattle.quic_streams_laws.specs.KeepingLaws.{at-half, live_receives}
 use Rattle.quic_streams_laws.specs.Each.{HalfIs}
 use Rattle.quic_streams_laws.specs.EachLaws.{half_follows, half_place-apart}
 use Rattle.quic_streams_laws.specs.Few.{AreFew}
-use Rattle.quic_streams_laws.specs.FewLaws.{few_kept}
+use Rattle.quic_streams_laws.specs.FewLaws.{few_any}
 use Rattle.quic_streams_laws.specs.Limited.{IsWithin}
 use Rattle.quic_streams_laws.specs.LimitedLaws.{WasReceiving, in_use, unused, was_receiving, within_on, counted, sum_with, sum_without}
 use Rattle.quic_streams_laws.specs.QueuedLaws.{half-apart}
@@ -202,64 +203,45 @@ module _ (before : StreamsState) where
 
   -- each small change keeps it, where on receiving halves something comes, is read or is stopped
   pub stays_kept : KeepsBy Comes (λ s id old new. Unit {0}) (λ s id n old new. Unit {0}) (Stays before)
-  stays_kept = record {
-    finishes = λ s id f i. rest s _ (below_kept.finishes s id f i.below) (few_kept.finishes s id f i.few) refl refl i;
-    events = λ s e less i. rest s _ (below_kept.events s e less i.below) (few_kept.events s e less i.few) refl refl i;
-    opens_own = λ s dir lt i. rest s _ (below_kept.opens_own s dir lt i.below) (few_kept.opens_own s dir lt i.few) refl refl i;
-    accepts = λ s dir lt i. rest s _ (below_kept.accepts s dir lt i.below) (few_kept.accepts s dir lt i.few) refl refl i;
-    allows = λ s dir count le lt i. rest s _ (below_kept.allows s dir count le lt i.below) (few_kept.allows s dir count le lt i.few) refl refl i;
-    opens_theirs = λ s id e within i. rest s _ (below_kept.opens_theirs s id e within i.below) (few_kept.opens_theirs s id e within i.few) refl refl i;
-    raises = λ s limit le i. rest s _ (below_kept.raises s limit le i.below) (few_kept.raises s limit le i.few) refl refl i;
-    changes = λ s id old new is on same i. rest s _ (below_kept.changes s id old new is tt same i.below) (same_few s _ refl i.few) refl refl i;
-    queues = λ s id old new b is on has i. rest s _ (below_kept.queues s id old new b is tt has i.below) (same_few s _ refl i.few) refl refl i;
-    turns = λ s id old new is on has i. rest s _ (below_kept.turns s id old new is tt has i.below) (same_few s _ refl i.few) refl refl i;
-    writes = λ s id n old new is on has i. rest s _ (below_kept.writes s id n old new is tt has i.below) (same_few s _ refl i.few) refl refl i;
-    joins = λ s id h is i. rest s (joined s id h) (below_kept.joins s id h is i.below) (few_kept.joins s id h is i.few) (joined_receiving s id h).0 (joined_receiving s id h).1 i;
-    passes = λ s id ids is i. rest s _ (below_kept.passes s id ids is i.below) (few_kept.passes s id ids is i.few) refl refl i;
-    ends_sending = λ s id h is over i.
-        let b : Bool = not (is_own s.side id) && is_done (receiving_status s id) in
-        let t : StreamsState = without_send s id in
-        rest s (send_done s id) (below_kept.ends_sending s id h is over i.below) (few_kept.ends_sending s id h is over i.few) (done_receiving b id t).0 (done_receiving b id t).1 i;
-    changes_receiving = λ s id old new is on i.
-        let was : IsWithin s.receiving.stream_window old = half_within before s id old is i.receives in
-        let under : IsBelow old = at_half_of StatusBelow goes_on_below s id old is i.below in
-        let comes = on under was.ended in
-        let both = within_on s.receiving old new comes.0 was in
-        let same : new.announced ≡ old.announced = comes.0.announced in
-        let behind = below_kept.changes_receiving s id old new is (λ j. comes.1) i.below in
-        record { shape = behind.shape; below = behind; few = same_few s _ refl i.few; receives = one s id old new is both.0 both.1 (omega arith) i };
-    ends_receiving = λ s id h is i.
-        let b : Bool = not (is_own s.side id) && (not (is_two_way (dir_of id)) || is_done (sending_status s id)) in
-        let t : StreamsState = record s { receiving = record s.receiving { halves = without_half s.receiving.halves id; gone = s.receiving.gone + seen_at (at s.receiving.halves.live id) } } in
-        let below = below_kept.ends_receiving s id h is i.below in
-        record {
-          shape = below.shape;
-          below = below;
-          few = few_kept.ends_receiving s id h is i.few;
-          receives = subst (λ r. Receives before (recv_done s id).side r) (sym (done_receiving b id t).0) (subst (λ d. Receives before d t.receiving) (sym (done_receiving b id t).1) (ends s id h is i));
-        };
-    tells = λ s i. let k = i.receives in let below = below_kept.tells s i.below in record {
-      shape = below.shape;
-      below = below;
-      few = few_kept.tells s i.few;
-      receives = record { announced = omega arith; more = (let a = k.more in let b = k.announced in omega arith); window = k.window; as_wide = k.as_wide; halves = k.halves; allows = k.allows };
-    };
-    tells_on = λ s id h is i.
-        let new : RecvHalf = record h { announced = raised_on s.receiving.stream_window h } in
-        let k = i.receives in
-        let w : IsWithin s.receiving.stream_window h = k.halves id h is in
-        let below : h.announced ≤ raised_on s.receiving.stream_window h = w.announced in
-        let seen : h.seen ≤ h.announced = w.seen in
-        let within : IsWithin s.receiving.stream_window new = record { consumed = w.consumed; seen = omega arith; announced = omega arith; ended = w.ended } in
-        let behind = below_kept.tells_on s id h is i.below in
-        record { shape = behind.shape; below = behind; few = few_kept.tells_on s id h is i.few; receives = one s id h new (live_receives s id h is) within (omega arith) below i };
-    tells_count = λ s dir i. rest s _ (below_kept.tells_count s dir i.below) (few_kept.tells_count s dir i.few) refl refl i;
-  }
-    where
-      same_few : (s t : StreamsState) → t.opening ≡ s.opening → AreFew s → AreFew t
-      same_few s t same i = record {
-        own = λ d. subst (λ o. of d o.own ≤ of d o.own_limit) (sym same) (i.own d);
-        own_limit = λ d. subst (λ o. of d o.own_limit ≤ most_streams) (sym same) (i.own_limit d);
-        remote = λ d. subst (λ o. of d o.remote ≤ most_streams) (sym same) (i.remote d);
-        accepted = λ d. subst (λ o. of d o.accepted ≤ of d o.remote) (sym same) (i.accepted d);
+  stays_kept (changes.joins id h) s is i = rest s (joined s id h) (below_kept (changes.joins id h) s is i.below) (few_any (changes.joins id h) s is i.few) (joined_receiving s id h).0 (joined_receiving s id h).1 i
+  stays_kept (changes.ends_sending id h) s (is, over) i =
+      let b : Bool = not (is_own s.side id) && is_done (receiving_status s id) in
+      let t : StreamsState = without_send s id in
+      rest s (send_done s id) (below_kept (changes.ends_sending id h) s (is, over) i.below) (few_any (changes.ends_sending id h) s (is, over) i.few) (done_receiving b id t).0 (done_receiving b id t).1 i
+  stays_kept (changes.changes_receiving r id old new) s (is, on, there) i =
+      let was : IsWithin s.receiving.stream_window old = half_within before s id old is i.receives in
+      let under : IsBelow old = at_half_of StatusBelow goes_on_below s id old is i.below in
+      let comes = (subst (λ q. Comes q id old new) (sym there) on) under was.ended in
+      let both = within_on s.receiving old new comes.0 was in
+      let same : new.announced ≡ old.announced = comes.0.announced in
+      let behind = below_kept (changes.changes_receiving r id old new) s (is, (λ j. comes.1), there) i.below in
+      record { shape = behind.shape; below = behind; few = few_any (changes.changes_receiving r id old new) s (is, tt, there) i.few; receives = one s id old new is both.0 both.1 (omega arith) i }
+  stays_kept (changes.ends_receiving id h) s is i =
+      let b : Bool = not (is_own s.side id) && (not (is_two_way (dir_of id)) || is_done (sending_status s id)) in
+      let t : StreamsState = record s { receiving = record s.receiving { halves = without_half s.receiving.halves id; gone = s.receiving.gone + seen_at (at s.receiving.halves.live id) } } in
+      let below = below_kept (changes.ends_receiving id h) s is i.below in
+      record {
+        shape = below.shape;
+        below = below;
+        few = few_any (changes.ends_receiving id h) s is i.few;
+        receives = subst (λ r. Receives before (recv_done s id).side r) (sym (done_receiving b id t).0) (subst (λ d. Receives before d t.receiving) (sym (done_receiving b id t).1) (ends s id h is i));
       }
+  stays_kept changes.tells s may i =
+      let k = i.receives in
+      let below = below_kept changes.tells s tt i.below in
+      record {
+        shape = below.shape;
+        below = below;
+        few = few_any changes.tells s tt i.few;
+        receives = record { announced = omega arith; more = (let a = k.more in let b = k.announced in omega arith); window = k.window; as_wide = k.as_wide; halves = k.halves; allows = k.allows };
+      }
+  stays_kept (changes.tells_on id h) s is i =
+      let new : RecvHalf = record h { announced = raised_on s.receiving.stream_window h } in
+      let k = i.receives in
+      let w : IsWithin s.receiving.stream_window h = k.halves id h is in
+      let below : h.announced ≤ raised_on s.receiving.stream_window h = w.announced in
+      let seen : h.seen ≤ h.announced = w.seen in
+      let within : IsWithin s.receiving.stream_window new = record { consumed = w.consumed; seen = omega arith; announced = omega arith; ended = w.ended } in
+      let behind = below_kept (changes.tells_on id h) s is i.below in
+      record { shape = behind.shape; below = behind; few = few_any (changes.tells_on id h) s is i.few; receives = one s id h new (live_receives s id h is) within (omega arith) below i }
+  stays_kept c s may i = rest s _ (below_kept c s may i.below) (few_any c s may i.few) refl refl i

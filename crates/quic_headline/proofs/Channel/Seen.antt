@@ -14,15 +14,15 @@ use Rattle.quic_wire.specs.Value.{FrameValue, StreamValue, ResetStreamValue, str
 use Rattle.quic_streams_parts.specs.declared.answers.Breach.{Breach}
 use Rattle.quic_streams_parts.specs.Dirs.{of, is_own, is_two_way}
 use Rattle.quic_streams_parts.specs.Table.{at}
-use Rattle.quic_streams_parts.specs.SendHalf.{SendHalf, requeued_at, turned_at}
+use Rattle.quic_streams_parts.specs.SendHalf.{SendHalf}
 use Rattle.quic_streams_parts.specs.RecvHalf.{RecvHalf, end_of, after_frame, after_reset_stream, raised_on}
 use Rattle.quic_streams_halves.specs.Halves.{has_place, no_places, with_half, without_half, is_done}
 use Rattle.quic_streams_state.specs.declared.state.StreamsState.{StreamsState}
-use Rattle.quic_streams_state.specs.State.{Opening, Receiving, seen, is_opened, receives_on, receiving_half, with_recv, with_send, send_done, without_send, recv_done, done_if, receiving_status, sending_status, seen_at, new_streams, after_set_params}
+use Rattle.quic_streams_state.specs.State.{Receiving, seen, is_opened, receives_on, receiving_half, with_recv, send_done, without_send, recv_done, done_if, receiving_status, sending_status, seen_at, new_streams, after_set_params}
 use Rattle.quic_streams_state.specs.Opening.{opens, opened_by, opened_if, beyond, receiving_refusal}
 use Rattle.quic_streams_state.specs.Taking.{joined, part_for}
-use Rattle.quic_streams_state.specs.Writing.{put_queued}
-use Rattle.quic_streams_laws.specs.Keeping.{KeepsBy, unblocked}
+use Rattle.quic_streams_laws.specs.Keeping.{KeepsBy}
+use Rattle.quic_streams_laws.specs.Keeping as changes
 use Rattle.quic_streams_laws.specs.KeepingLaws.{live_receives, by_opened, by_read_begun, by_next, by_stop, by_received_reset, by_stream, by_reset_frame}
 use Rattle.quic_streams_laws.specs.QuietLaws.{is_quiet}
 use Rattle.quic_streams_laws.specs.ContentLaws.{by_next_answer}
@@ -30,7 +30,7 @@ use Rattle.quic_streams_laws.specs.Shape.{IsShaped}
 use Rattle.quic_streams_laws.specs.ShapeLaws.{shape_any, receives_may}
 use Rattle.quic_streams_laws.specs.StartLaws.{shape_new, shape_set_params, few_new, few_set_params}
 use Rattle.quic_streams_laws.specs.Few.{AreFew}
-use Rattle.quic_streams_laws.specs.FewLaws.{few_kept}
+use Rattle.quic_streams_laws.specs.FewLaws.{few_any}
 use Rattle.quic_streams_laws.specs.LimitedLaws.{sum_with, sum_without, WasReceiving, in_use, unused, was_receiving, counted}
 use Rattle.quic_streams_laws.specs.Summed.{sum_below, amount_of, on_stream, seen_in}
 use Rattle.quic_streams_laws.specs.SummedLaws.{sum_same, sum_one, opened_below, amount_here, amount_apart, amount_done, ended_with}
@@ -62,15 +62,6 @@ done_side false id s = refl
 
 joined_same : (s : StreamsState) (id : ℕ) (h : SendHalf) → ((joined s id h).receiving ≡ s.receiving) × ((joined s id h).side ≡ s.side)
 joined_same s id h = cond_both h.blocked s _ (λ (t : StreamsState). (t.receiving ≡ s.receiving) × (t.side ≡ s.side)) (λ e. (refl, refl)) (λ e. (refl, refl))
-
--- as many streams, where the counts are the same
-few_as : (s t : StreamsState) → t.opening ≡ s.opening → AreFew s → AreFew t
-few_as s t same i = record {
-  own = subst (λ (o : Opening). (dir : Dir) → of dir o.own ≤ of dir o.own_limit) (sym same) i.own;
-  own_limit = subst (λ (o : Opening). (dir : Dir) → of dir o.own_limit ≤ 2 ^ 60) (sym same) i.own_limit;
-  remote = subst (λ (o : Opening). (dir : Dir) → of dir o.remote ≤ 2 ^ 60) (sym same) i.remote;
-  accepted = subst (λ (o : Opening). (dir : Dir) → of dir o.accepted ≤ of dir o.remote) (sym same) i.accepted;
-}
 
 -- a stream whose frames aren't refused by its id is opened, or may be
 pub receives_within : (s : StreamsState) (id : ℕ) → receiving_refusal s id ≡ None → beyond s id ≡ None
@@ -154,36 +145,19 @@ module _ (n : ℕ) (big : 2 ^ 62 ≤ n) (w : ℕ → ℕ) where
 
   -- each small change keeps it
   pub below_kept : KeepsBy (λ r id old new. old.seen ≤ w id → new.seen ≤ w id) (λ s id old new. Unit {0}) (λ s id count old new. Unit {0}) SeenBelow
-  below_kept = record {
-    finishes = λ s id f i. rest s _ (shape_any.finishes s id f i.shape) (few_kept.finishes s id f i.few) refl refl i;
-    events = λ s e less i. rest s _ (shape_any.events s e less i.shape) (few_kept.events s e less i.few) refl refl i;
-    opens_own = λ s dir lt i. rest s _ (shape_any.opens_own s dir lt i.shape) (few_kept.opens_own s dir lt i.few) refl refl i;
-    accepts = λ s dir lt i. rest s _ (shape_any.accepts s dir lt i.shape) (few_kept.accepts s dir lt i.few) refl refl i;
-    allows = λ s dir count le lt i. rest s _ (shape_any.allows s dir count le lt i.shape) (few_kept.allows s dir count le lt i.few) refl refl i;
-    opens_theirs = λ s id e within i. rest s _ (shape_any.opens_theirs s id e within i.shape) (few_kept.opens_theirs s id e within i.few) refl refl i;
-    raises = λ s limit le i. rest s _ (shape_any.raises s limit le i.shape) (few_kept.raises s limit le i.few) refl refl i;
-    changes = λ s id old new is on same i. rest s (with_send s id new) (shape_any.changes s id old new is on same i.shape) (few_as s (with_send s id new) refl i.few) refl refl i;
-    queues = λ s id old new b is on has i. (let t : StreamsState = put_queued s id (requeued_at old.place b s.sending.queue id new) in rest s t (shape_any.queues s id old new b is on has i.shape) (few_as s t refl i.few) refl refl i);
-    turns = λ s id old new is on has i. (let t : StreamsState = put_queued s id (turned_at old.place s.sending.queue id new) in rest s t (shape_any.turns s id old new is on has i.shape) (few_as s t refl i.few) refl refl i);
-    writes = λ s id count old new is on has i.
-        (let u : StreamsState = put_queued s id (requeued_at old.place true s.sending.queue id new) in
-        let t : StreamsState = record u { sending = record u.sending { accepted = s.sending.accepted + count } } in
-        rest s t (shape_any.writes s id count old new is on has i.shape) (few_as s t refl i.few) refl refl i);
-    joins = λ s id h is i. rest s (joined s id h) (shape_any.joins s id h is i.shape) (few_kept.joins s id h is i.few) (joined_same s id h).0 (joined_same s id h).1 i;
-    passes = λ s id ids is i. rest s (unblocked s id ids) (shape_any.passes s id ids is i.shape) (few_kept.passes s id ids is i.few) refl refl i;
-    ends_sending = λ s id h is over i.
-        (let b : Bool = not (is_own s.side id) && is_done (receiving_status s id) in
-        let t : StreamsState = without_send s id in
-        rest s (send_done s id) (shape_any.ends_sending s id h is over i.shape) (few_kept.ends_sending s id h is over i.few) (done_receiving b id t) (done_side b id t) i);
-    changes_receiving = λ s id old new is on i. more s id old new is on (shape_any.changes_receiving s id old new is tt i.shape) (few_as s (with_recv s id new) refl i.few) i;
-    ends_receiving = λ s id h is i.
-        (let b : Bool = not (is_own s.side id) && (not (is_two_way (dir_of id)) || is_done (sending_status s id)) in
-        let t : StreamsState = record s { receiving = record s.receiving { halves = without_half s.receiving.halves id; gone = s.receiving.gone + seen_at (at s.receiving.halves.live id) } } in
-        ends s id h is (recv_done s id) (done_side b id t) (done_receiving b id t) (shape_any.ends_receiving s id h is i.shape) (few_kept.ends_receiving s id h is i.few) i);
-    tells = λ s i. record { shape = shape_any.tells s i.shape; few = few_kept.tells s i.few; final = i.final; sum = i.sum; below = i.below };
-    tells_on = λ s id h is i. more s id h (record h { announced = raised_on s.receiving.stream_window h }) (live_receives s id h is) (λ x. x) (shape_any.tells_on s id h is i.shape) (few_kept.tells_on s id h is i.few) i;
-    tells_count = λ s dir i. rest s _ (shape_any.tells_count s dir i.shape) (few_kept.tells_count s dir i.few) refl refl i;
-  }
+  below_kept (changes.joins id h) s is i = rest s (joined s id h) (shape_any (changes.joins id h) s is i.shape) (few_any (changes.joins id h) s is i.few) (joined_same s id h).0 (joined_same s id h).1 i
+  below_kept (changes.ends_sending id h) s (is, over) i =
+      let b : Bool = not (is_own s.side id) && is_done (receiving_status s id) in
+      let t : StreamsState = without_send s id in
+      rest s (send_done s id) (shape_any (changes.ends_sending id h) s (is, over) i.shape) (few_any (changes.ends_sending id h) s (is, over) i.few) (done_receiving b id t) (done_side b id t) i
+  below_kept (changes.changes_receiving r id old new) s (is, on, same) i = more s id old new is on (shape_any (changes.changes_receiving r id old new) s (is, tt, same) i.shape) (few_any (changes.changes_receiving r id old new) s (is, tt, same) i.few) i
+  below_kept (changes.ends_receiving id h) s is i =
+      let b : Bool = not (is_own s.side id) && (not (is_two_way (dir_of id)) || is_done (sending_status s id)) in
+      let t : StreamsState = record s { receiving = record s.receiving { halves = without_half s.receiving.halves id; gone = s.receiving.gone + seen_at (at s.receiving.halves.live id) } } in
+      ends s id h is (recv_done s id) (done_side b id t) (done_receiving b id t) (shape_any (changes.ends_receiving id h) s is i.shape) (few_any (changes.ends_receiving id h) s is i.few) i
+  below_kept changes.tells s may i = record { shape = shape_any changes.tells s tt i.shape; few = few_any changes.tells s tt i.few; final = i.final; sum = i.sum; below = i.below }
+  below_kept (changes.tells_on id h) s is i = more s id h (record h { announced = raised_on s.receiving.stream_window h }) (live_receives s id h is) (λ x. x) (shape_any (changes.tells_on id h) s is i.shape) (few_any (changes.tells_on id h) s is i.few) i
+  below_kept c s may i = rest s _ (shape_any c s may i.shape) (few_any c s may i.few) refl refl i
 
   -- so does each call that reads
   pub below_calls : IsKept SeenBelow

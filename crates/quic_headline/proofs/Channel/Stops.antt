@@ -35,7 +35,8 @@ use Rattle.quic_machine.specs.StreamCalls.{if_ok, after_on_streams}
 use Rattle.quic_machine.specs.End.{End, streams_at}
 use Rattle.quic_machine.specs.Receive.{take_frame}
 use Rattle.quic_machine.specs.Poll.{Draft, composed}
-use Rattle.quic_machine.specs.DraftLaws.{by_writing}
+use Rattle.quic_machine.specs.DraftLaws.{Writing, by_writing}
+use Rattle.quic_machine.specs.Puts as puts
 use Rattle.quic_headline.proofs.Packets.Invariant.{IsCarriedFrom}
 use Rattle.quic_headline.proofs.Packets.Losses.{Losing, expiry_stays, ready_stays}
 use Rattle.quic_headline.proofs.Packets.Probes.{poll_streams}
@@ -43,6 +44,7 @@ use Rattle.quic_machine.specs.LeaveCases.{by_expired, by_event}
 use Rattle.quic_machine.specs.CallCases.{is_delivery, by_call}
 use Rattle.quic_machine.specs.Machine.{after_call}
 use Rattle.quic_machine.specs.FrameCases.{OnStreams}
+use Rattle.quic_machine.specs.Steps as steps
 use Rattle.quic_headline.specs.Runs.{Packet, In}
 use Rattle.quic_headline.specs.Observer.{Sent}
 use Rattle.quic_headline.proofs.Packets.Growth.{in_more}
@@ -156,15 +158,12 @@ module _ (Q : ℕ → Type 0) where
   fewer_stops kind p i = i
 
   composed_stops : (e : End) → StopsOf Q e.waiting.frames → StopsOf Q (composed e).end.waiting.frames
-  composed_stops e i = by_writing (λ (d : Draft). StopsOf Q d.end.waiting.frames) (record {
-    ack = λ d filled may j. j;
-    ping = λ d j. j;
-    probes = λ f size j. j;
-    drops = λ d kind j. fewer_stops kind d.end.waiting.frames j;
-    control = λ d kind f is j. fewer_stops kind d.end.waiting.frames j;
-    message = λ d m ms is fit j. j;
-    stream = λ d id h room found first some is counts j. j;
-  }) e i
+  composed_stops e i = by_writing (λ (d : Draft). StopsOf Q d.end.waiting.frames) keep e i
+    where
+      keep : Writing (λ (d : Draft). StopsOf Q d.end.waiting.frames)
+      keep (puts.drops kind) d may j = fewer_stops kind d.end.waiting.frames j
+      keep (puts.control kind f) d may j = fewer_stops kind d.end.waiting.frames j
+      keep p d may j = j
 
   -- what tracked packets carried stops only such streams
   abbrev pub TrackedStops : Table TrackedPacket → Type 0
@@ -185,7 +184,6 @@ module _ (Q : ℕ → Type 0) where
     on_streams = λ on answer. calls_stops (is_open e.closing.state) (streams_at e) call a known i;
     on_messages = λ on answer. i;
     pings = i;
-    heard = λ path same. i;
     times = λ now expiry set. by_expired e now (λ (f : End). StopsOf Q f.waiting.frames) (λ pending tracking timers runs packets. i) (λ pending timers runs. expiry_stays (λ (t : Streams). StopsOf Q t.pending) e now (losing e.tracking.packets carried) i pending timers) expiry;
     polls = λ now set. poll_streams (λ (t : Streams). StopsOf Q t.pending) p e now composed_stops i (ready_stays (λ (t : Streams). StopsOf Q t.pending) e now (losing e.tracking.packets carried) i);
     hears = λ arrival d set. cc;
@@ -238,15 +236,7 @@ module _ (Q : ℕ → Type 0) where
 
   -- where each STOP_SENDING that was sent is for such a stream
   pub settles_stops : (took : List Packet) (sents : List Sent) → ((s : Sent) → In s sents → (g : StopSendingValue) → In (stop_sending g) s.frames → Q g.id) → SettlesOn took sents (λ (e : End). StopsOf Q e.waiting.frames)
-  settles_stops took sents sent = record {
-    known = λ n e i. i;
-    reset = λ c r e was among i. reset_acked_stops (sent_half e.streams r.0) e.streams e.waiting.frames r.0 i;
-    acked = λ c m e was among i. acked_stops (sent_half e.streams m.id) e.streams e.waiting.frames m i;
-    lost = λ c m e was among i. i;
-    again = λ c e was i. again_holds e.waiting.frames c.retransmits i (from_stops Q c was.sent.frames was.is (sent was.sent was.among));
-    searched = λ discovery e i. i;
-    shortens = λ most e i. i;
-    tracked = λ t e i. i;
-    measured = λ r first e i. i;
-    marked = λ m marking e i. i;
-  }
+  settles_stops took sents sent (steps.reset id) e may i = reset_acked_stops (sent_half e.streams id) e.streams e.waiting.frames id i
+  settles_stops took sents sent (steps.acked m) e may i = acked_stops (sent_half e.streams m.id) e.streams e.waiting.frames m i
+  settles_stops took sents sent (steps.again c) e was i = again_holds e.waiting.frames c.retransmits i (from_stops Q c was.sent.frames was.is (sent was.sent was.among))
+  settles_stops took sents sent s e may i = i

@@ -1,6 +1,6 @@
 -- How far an end told its peer that it may come, on all streams and on each, the peer may come at it, whatever it does later (RFC 9000, sections 4.1, 19.9 and 19.10).
 use Rattle.std.proofs.Common.{◌≡◌, ℕ, zero, suc, ◌≤◌, List, [], ◌∷◌, ◌++◌, replicate, Option, Some, sym, ap, subst, inl, inr, arith}
-use Rattle.quic_wire.specs.Value.{FrameValue, padding, ping, stream, datagram, max_data, max_stream_data}
+use Rattle.quic_wire.specs.Value.{FrameValue, padding, stream, max_data, max_stream_data}
 use Rattle.quic_streams_parts.specs.Table.{at}
 use Rattle.quic_streams_parts.specs.TableLaws.{at-put}
 use Rattle.quic_streams_parts.specs.SendHalf.{frame_of}
@@ -21,7 +21,8 @@ use Rattle.quic_machine.specs.Policy.{Policy}
 use Rattle.quic_machine.specs.End.{End}
 use Rattle.quic_machine.specs.Receive.{Outcome, take_frame}
 use Rattle.quic_machine.specs.Poll.{zeros_behind, Draft, Polled, polled, draft_as, draft_of, Leaving, Ready}
-use Rattle.quic_machine.specs.DraftLaws.{by_leave, MayLeave}
+use Rattle.quic_machine.specs.DraftLaws.{Writing, by_leave, MayLeave}
+use Rattle.quic_machine.specs.Puts as puts
 use Rattle.quic_machine.specs.PollCases.{frames_padded, frames_at, by_poll, at_poll}
 use Rattle.quic_machine.specs.FrameCases.{begun, passed, frames_keep}
 use Rattle.quic_machine.specs.Machine.{IsAnswer, after_call, gave}
@@ -113,21 +114,19 @@ more_told : (s t : StreamsState) (fs : List FrameValue) (g : FrameValue) → Sta
 more_told s t fs g stays all one f i = elim (in_more f g fs i) [ inl old ↦ told_stays s t f stays (all f old) | inr new ↦ subst (IsTold t) (sym new) one ]
 
 draft_tells : (before : StreamsState) (leaving : Leaving) (e : End) → MayLeave leaving e → Stays before e.streams → Tells before (draft_as leaving e)
-draft_tells before leaving e alone i = by_leave (Tells before) (record {
-  ack = λ d filled may t. record { stays = t.stays; frames = more_told d.end.streams d.end.streams d.frames _ (stays_self before d.end.streams t.stays) t.frames tt };
-  ping = λ d t. record { stays = t.stays; frames = more_told d.end.streams d.end.streams d.frames ping (stays_self before d.end.streams t.stays) t.frames tt };
-  probes = λ f size t. record { stays = t.stays; frames = more_told f.streams f.streams [] ping (stays_self before f.streams t.stays) t.frames tt };
-  drops = λ d kind t. record { stays = t.stays; frames = t.frames };
-  control = λ d kind f is t. (
-      let s : StreamsState = d.end.streams in
-      let on : Stays s (frame_told f s) = by_told (Stays s) (stays_kept s) f s (stays_self before s t.stays) in
-      record { stays = stays_then before s (frame_told f s) t.stays on; frames = more_told s (frame_told f s) d.frames f on t.frames (goes_told d.end.waiting.frames s f is.says) });
-  message = λ d m ms is fit t. record { stays = t.stays; frames = more_told d.end.streams d.end.streams d.frames (datagram m) (stays_self before d.end.streams t.stays) t.frames tt };
-  stream = λ d id h room found first some is counts t. (
-      let s : StreamsState = d.end.streams in
-      let on = by_frame (Stays s) (stays_kept s) d.end.transport.send_fairness s id room h found tt (stays_self before s t.stays) in
-      record { stays = stays_then before s _ t.stays on; frames = more_told s _ d.frames (stream (frame_of id h room)) on t.frames tt });
-}) leaving e alone (record { stays = i; frames = λ f j. absurd j })
+draft_tells before leaving e alone i = by_leave (Tells before) keep leaving e alone (record { stays = i; frames = λ f j. absurd j })
+  where
+    keep : Writing (Tells before)
+    keep (puts.drops kind) d may t = record { stays = t.stays; frames = t.frames }
+    keep (puts.control kind f) d is t =
+        let s : StreamsState = d.end.streams in
+        let on : Stays s (frame_told f s) = by_told (Stays s) (stays_kept s) f s (stays_self before s t.stays) in
+        record { stays = stays_then before s (frame_told f s) t.stays on; frames = more_told s (frame_told f s) d.frames f on t.frames (goes_told d.end.waiting.frames s f is.says) }
+    keep (puts.stream id h room) d (found, first, some, is, counts) t =
+        let s : StreamsState = d.end.streams in
+        let on = by_frame (Stays s) (stays_kept s) d.end.transport.send_fairness s id room h found tt (stays_self before s t.stays) in
+        record { stays = stays_then before s _ t.stays on; frames = more_told s _ d.frames (stream (frame_of id h room)) on t.frames tt }
+    keep p d may t = record { stays = t.stays; frames = more_told d.end.streams d.end.streams d.frames _ (stays_self before d.end.streams t.stays) t.frames tt }
 
 -- PADDING tells nothing
 padded_told : (s : StreamsState) (fs : List FrameValue) (count : ℕ) → ((f : FrameValue) → In f fs → IsTold s f) → (f : FrameValue) → In f (fs ++ replicate count padding) → IsTold s f
@@ -148,7 +147,7 @@ poll_told p e now i = by_poll p e now (λ (q : Polled). AllTold q.end.streams (s
   silent = λ t j. absurd j;
   failed = λ t j. absurd j;
   nothing = λ c t j. absurd j;
-  used_up = λ c t j. absurd j;
+  closes = λ c t j. absurd j;
   gives = λ leaving c left is may ready some t j f k. (
       let there : End = at_poll e now c in
       let d : Draft = draft_as leaving there in

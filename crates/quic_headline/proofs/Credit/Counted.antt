@@ -165,7 +165,7 @@ module _ (wide each_wide : ℕ) where
     abbrev K : Side → Receiving → Counts → Counts → Type 0
     K = Uses wide each_wide u
 
-    half_counts : (s : StreamsState) (id : ℕ) (h : RecvHalf) → receiving_half s id ≡ Some h → Of K s → IsCounted u id h
+    pub half_counts : (s : StreamsState) (id : ℕ) (h : RecvHalf) → receiving_half s id ≡ Some h → Of K s → IsCounted u id h
     half_counts s id h is i = half_sums IsAny (IsCounted u) (IsSpent u) (new_counted u) s id h is i.sums
 
     -- one half has another value
@@ -194,7 +194,7 @@ module _ (wide each_wide : ℕ) where
         let later : Stays before (with_recv t id new) = known_with before Any t id old new part on there in
         renewed_to K s id old new tells now (λ halted known_size. uses_done (with_recv t id new) id new (at-half t.side t.receiving.halves id new) (cut_spent u id new counted (inl halted) (inl known_size)) later now)
 
-    frame_counts : (f : FrameValue) (e : End) → SaysFrame u f → Stays before e.streams → Of K e.streams → Of K (take_frame f e).end.streams
+    pub frame_counts : (f : FrameValue) (e : End) → SaysFrame u f → Stays before e.streams → Of K e.streams → Of K (take_frame f e).end.streams
     frame_counts f e says known i = frame_left K f e
         (λ g is. stream_cases e.streams e.waiting.frames g (Of K) (λ b broken. i) (λ within none. i)
         (λ h within part kept. value_counts e.streams g.id h (after_frame h g) true within part (takes g tt refl kept refl) (λ c. (let said = says.brings g is in frame_counted u g.id h g said.0 said.1 c)) known i))

@@ -252,6 +252,8 @@ module _ (w : IsWriting N) (x y : Party) (call : Call) (a : Answer) (c : Calls N
     limits = goes_within;
     pads = tt;
     pings = tt;
+    connection_closes = λ c. tt;
+    application_closes = λ c. tt;
     acks = λ a. tt;
     messages = λ m. tt;
     streams = λ f. tt;

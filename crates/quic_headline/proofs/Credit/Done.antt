@@ -23,6 +23,7 @@ use Rattle.quic_streams_laws.specs.EachLaws as sends_laws
 use Rattle.quic_streams_laws.specs.Few.{AreFew}
 use Rattle.quic_streams_laws.specs.FewLaws.{few_kept}
 use Rattle.quic_streams_laws.specs.Keeping.{KeepsBy, HasEnded}
+use Rattle.quic_streams_laws.specs.Keeping as changes
 use Rattle.quic_streams_laws.specs.KeepingLaws.{live_sends, live_receives}
 use Rattle.quic_streams_laws.specs.Shape.{IsShaped}
 use Rattle.quic_streams_laws.specs.ShapeLaws.{sends_may, receives_may}
@@ -158,7 +159,7 @@ again s t i few receives sends same side = record {
 
 -- a half that receives is done
 ends_receiving : (s : StreamsState) (id : ℕ) (h : RecvHalf) → at s.receiving.halves.live id ≡ Some h → CountsDone s → CountsDone (recv_done s id)
-ends_receiving s id h is i = go (not (is_own s.side id) && (not (is_two_way (dir_of id)) || is_done (sending_status s id))) refl (few_kept.ends_receiving s id h is i.few) ((left_kept i.both).ends_receiving s id h is i.receives) ((none_kept i.both).ends_receiving s id h is i.sends)
+ends_receiving s id h is i = go (not (is_own s.side id) && (not (is_two_way (dir_of id)) || is_done (sending_status s id))) refl (few_kept (changes.ends_receiving id h) s is i.few) (left_kept i.both (changes.ends_receiving id h) s is i.receives) (none_kept i.both (changes.ends_receiving id h) s is i.sends)
   where
     after : StreamsState
     after = record s { receiving = record s.receiving { halves = without_half s.receiving.halves id; gone = s.receiving.gone + seen_at (at s.receiving.halves.live id) } }
@@ -223,7 +224,7 @@ ends_receiving s id h is i = go (not (is_own s.side id) && (not (is_two_way (dir
 
 -- a half that sends is
 ends_sending : (s : StreamsState) (id : ℕ) (h : SendHalf) → at s.sending.halves.live id ≡ Some h → HasEnded h → CountsDone s → CountsDone (send_done s id)
-ends_sending s id h is over i = go (not (is_own s.side id) && is_done (receiving_status s id)) refl (few_kept.ends_sending s id h is over i.few) ((left_kept i.both).ends_sending s id h is over i.receives) ((none_kept i.both).ends_sending s id h is over i.sends)
+ends_sending s id h is over i = go (not (is_own s.side id) && is_done (receiving_status s id)) refl (few_kept (changes.ends_sending id h) s (is, over) i.few) (left_kept i.both (changes.ends_sending id h) s (is, over) i.receives) (none_kept i.both (changes.ends_sending id h) s (is, over) i.sends)
   where
     after : StreamsState
     after = without_send s id
@@ -294,24 +295,13 @@ ends_sending s id h is over i = go (not (is_own s.side id) && is_done (receiving
         })
 
 pub done_kept : KeepsBy (λ r id old new. Unit {0}) (λ s id old new. Unit {0}) (λ s id n old new. Unit {0}) CountsDone
-done_kept = record {
-  finishes = λ s id f i. again s _ i (few_kept.finishes s id f i.few) ((left_kept i.both).finishes s id f i.receives) ((none_kept i.both).finishes s id f i.sends) refl refl;
-  events = λ s e less i. again s _ i (few_kept.events s e less i.few) ((left_kept i.both).events s e less i.receives) ((none_kept i.both).events s e less i.sends) refl refl;
-  opens_own = λ s dir lt i. again s _ i (few_kept.opens_own s dir lt i.few) ((left_kept i.both).opens_own s dir lt i.receives) ((none_kept i.both).opens_own s dir lt i.sends) refl refl;
-  accepts = λ s dir may i. again s _ i (few_kept.accepts s dir may i.few) ((left_kept i.both).accepts s dir may i.receives) ((none_kept i.both).accepts s dir may i.sends) refl refl;
-  allows = λ s dir count le lt i. again s _ i (few_kept.allows s dir count le lt i.few) ((left_kept i.both).allows s dir count le lt i.receives) ((none_kept i.both).allows s dir count le lt i.sends) refl refl;
-  opens_theirs = λ s id e within i. again s _ i (few_kept.opens_theirs s id e within i.few) ((left_kept i.both).opens_theirs s id e within i.receives) ((none_kept i.both).opens_theirs s id e within i.sends) (remote_done (dir_of id) (index_of id + 1) s.opening) refl;
-  raises = λ s limit le i. again s _ i (few_kept.raises s limit le i.few) ((left_kept i.both).raises s limit le i.receives) ((none_kept i.both).raises s limit le i.sends) refl refl;
-  changes = λ s id old new is on same i. again s _ i (record { own = i.few.own; own_limit = i.few.own_limit; remote = i.few.remote; accepted = i.few.accepted }) ((left_kept i.both).changes s id old new is tt same i.receives) ((none_kept i.both).changes s id old new is (λ q. q) same i.sends) refl refl;
-  queues = λ s id old new b is on has i. again s _ i (record { own = i.few.own; own_limit = i.few.own_limit; remote = i.few.remote; accepted = i.few.accepted }) ((left_kept i.both).queues s id old new b is tt has i.receives) ((none_kept i.both).queues s id old new b is (λ q. q) has i.sends) refl refl;
-  turns = λ s id old new is on has i. again s _ i (record { own = i.few.own; own_limit = i.few.own_limit; remote = i.few.remote; accepted = i.few.accepted }) ((left_kept i.both).turns s id old new is tt has i.receives) ((none_kept i.both).turns s id old new is (λ q. q) has i.sends) refl refl;
-  writes = λ s id n old new is on has i. again s _ i (record { own = i.few.own; own_limit = i.few.own_limit; remote = i.few.remote; accepted = i.few.accepted }) ((left_kept i.both).writes s id n old new is tt has i.receives) ((none_kept i.both).writes s id n old new is (λ q. q) has i.sends) refl refl;
-  joins = λ s id h is i. (let same = joined_same s id h in again s (joined s id h) i (few_kept.joins s id h is i.few) ((left_kept i.both).joins s id h is i.receives) ((none_kept i.both).joins s id h is i.sends) (ap (λ (o : Opening). o.done) same.0) same.1);
-  passes = λ s id waits is i. again s _ i (few_kept.passes s id waits is i.few) ((left_kept i.both).passes s id waits is i.receives) ((none_kept i.both).passes s id waits is i.sends) refl refl;
-  ends_sending = λ s id h is over i. ends_sending s id h is over i;
-  changes_receiving = λ s id old new is on i. again s _ i (record { own = i.few.own; own_limit = i.few.own_limit; remote = i.few.remote; accepted = i.few.accepted }) ((left_kept i.both).changes_receiving s id old new is (λ q. q) i.receives) ((none_kept i.both).changes_receiving s id old new is tt i.sends) refl refl;
-  ends_receiving = λ s id h is i. ends_receiving s id h is i;
-  tells = λ s i. again s _ i (few_kept.tells s i.few) ((left_kept i.both).tells s i.receives) ((none_kept i.both).tells s i.sends) refl refl;
-  tells_on = λ s id h is i. again s _ i (few_kept.tells_on s id h is i.few) ((left_kept i.both).tells_on s id h is i.receives) ((none_kept i.both).tells_on s id h is i.sends) refl refl;
-  tells_count = λ s dir i. again s _ i (few_kept.tells_count s dir i.few) ((left_kept i.both).tells_count s dir i.receives) ((none_kept i.both).tells_count s dir i.sends) refl refl;
-}
+done_kept (changes.opens_theirs id) s (e, within) i = again s _ i (few_kept (changes.opens_theirs id) s (e, within) i.few) (left_kept i.both (changes.opens_theirs id) s (e, within) i.receives) (none_kept i.both (changes.opens_theirs id) s (e, within) i.sends) (remote_done (dir_of id) (index_of id + 1) s.opening) refl
+done_kept (changes.changes_sending id old new) s (is, on, same) i = again s _ i (record { own = i.few.own; own_limit = i.few.own_limit; remote = i.few.remote; accepted = i.few.accepted }) (left_kept i.both (changes.changes_sending id old new) s (is, tt, same) i.receives) (none_kept i.both (changes.changes_sending id old new) s (is, (λ q. q), same) i.sends) refl refl
+done_kept (changes.queues id old new b) s (is, on, has) i = again s _ i (record { own = i.few.own; own_limit = i.few.own_limit; remote = i.few.remote; accepted = i.few.accepted }) (left_kept i.both (changes.queues id old new b) s (is, tt, has) i.receives) (none_kept i.both (changes.queues id old new b) s (is, (λ q. q), has) i.sends) refl refl
+done_kept (changes.turns id old new) s (is, on, has) i = again s _ i (record { own = i.few.own; own_limit = i.few.own_limit; remote = i.few.remote; accepted = i.few.accepted }) (left_kept i.both (changes.turns id old new) s (is, tt, has) i.receives) (none_kept i.both (changes.turns id old new) s (is, (λ q. q), has) i.sends) refl refl
+done_kept (changes.writes id n old new) s (is, on, has) i = again s _ i (record { own = i.few.own; own_limit = i.few.own_limit; remote = i.few.remote; accepted = i.few.accepted }) (left_kept i.both (changes.writes id n old new) s (is, tt, has) i.receives) (none_kept i.both (changes.writes id n old new) s (is, (λ q. q), has) i.sends) refl refl
+done_kept (changes.joins id h) s is i = (let same = joined_same s id h in again s (joined s id h) i (few_kept (changes.joins id h) s is i.few) (left_kept i.both (changes.joins id h) s is i.receives) (none_kept i.both (changes.joins id h) s is i.sends) (ap (λ (o : Opening). o.done) same.0) same.1)
+done_kept (changes.ends_sending id h) s (is, over) i = ends_sending s id h is over i
+done_kept (changes.changes_receiving r id old new) s (is, on, same) i = again s _ i (record { own = i.few.own; own_limit = i.few.own_limit; remote = i.few.remote; accepted = i.few.accepted }) (left_kept i.both (changes.changes_receiving r id old new) s (is, (λ q. q), same) i.receives) (none_kept i.both (changes.changes_receiving r id old new) s (is, tt, same) i.sends) refl refl
+done_kept (changes.ends_receiving id h) s is i = ends_receiving s id h is i
+done_kept c s may i = again s _ i (few_kept c s may i.few) (left_kept i.both c s may i.receives) (none_kept i.both c s may i.sends) refl refl

@@ -1,6 +1,6 @@
 -- What holds of the frames that go into a datagram, where something is known of the streams that each of them leaves known, and from which it follows of each limit.
 use Rattle.std.proofs.Common.{◌≡◌, ℕ, zero, suc, Bool, List, [], ◌∷◌, ◌++◌, replicate, Some, sym, subst, inl, inr}
-use Rattle.quic_wire.specs.Value.{FrameValue, AckValue, StreamValue, padding, ack, ping, stream, datagram}
+use Rattle.quic_wire.specs.Value.{FrameValue, AckValue, StreamValue, padding, ack, ping, stream, datagram, ConnectionCloseValue, ApplicationCloseValue, connection_close, application_close}
 use Rattle.quic_streams_parts.specs.Table.{at}
 use Rattle.quic_streams_parts.specs.SendHalf.{SendHalf, frame_of}
 use Rattle.quic_retransmits.specs.Retransmits.{Retransmits}
@@ -14,6 +14,7 @@ use Rattle.quic_machine.specs.End.{End}
 use Rattle.quic_machine.specs.Poll.{Polled, Draft, ack_of, zeros_behind, composed, polled, draft_as, Leaving}
 use Rattle.quic_machine.specs.PollCases.{ready_at, draft_at, frames_padded, by_poll_to, may_leave_at}
 use Rattle.quic_machine.specs.DraftLaws.{Writing, by_writing, by_leave, MayLeave}
+use Rattle.quic_machine.specs.Puts as puts
 use Rattle.quic_machine.specs.Machine.{gave}
 use Rattle.quic_headline.specs.Runs.{In}
 use Rattle.quic_headline.specs.Observer.{Sent}
@@ -28,6 +29,8 @@ pub record AreFine (Known : StreamsState → Type 0) (Fine : FrameValue → Type
   pub limits : (p : Retransmits) (s : StreamsState) (f : FrameValue) → Known s → Goes p s f → Fine f
   pub pads : Fine padding
   pub pings : Fine ping
+  pub connection_closes : (c : ConnectionCloseValue) → Fine (connection_close c)
+  pub application_closes : (c : ApplicationCloseValue) → Fine (application_close c)
   pub acks : (a : AckValue) → Fine (ack a)
   pub messages : (m : List ℕ) → Fine (datagram m)
   pub streams : (f : StreamValue) → Fine (stream f)
@@ -55,15 +58,14 @@ module _ (Known : StreamsState → Type 0) (Fine : FrameValue → Type 0) (k : A
   DraftIs d = Known d.end.streams × AllFine d.frames
 
   writing : Writing DraftIs
-  writing = record {
-    ack = λ d filled may j. (j.0, and_fine d.frames (ack (ack_of d.end)) j.1 (k.acks (ack_of d.end)));
-    ping = λ d j. (j.0, and_fine d.frames ping j.1 k.pings);
-    probes = λ f size j. (j.0, and_fine [] ping j.1 k.pings);
-    drops = λ d kind j. j;
-    control = λ d kind f is j. (k.told f d.end.streams j.0, and_fine d.frames f j.1 (k.limits d.end.waiting.frames d.end.streams f j.0 is.says));
-    message = λ d m ms is fit j. (j.0, and_fine d.frames (datagram m) j.1 (k.messages m));
-    stream = λ d id h room found first some is counts j. (k.sent d.end.transport.send_fairness d.end.streams id room h found j.0, and_fine d.frames (stream (frame_of id h room)) j.1 (k.streams (frame_of id h room)));
-  }
+  writing puts.ack d may j = (j.0, and_fine d.frames (ack (ack_of d.end)) j.1 (k.acks (ack_of d.end)))
+  writing (puts.drops kind) d may j = j
+  writing (puts.control kind f) d is j = (k.told f d.end.streams j.0, and_fine d.frames f j.1 (k.limits d.end.waiting.frames d.end.streams f j.0 is.says))
+  writing (puts.message m ms) d may j = (j.0, and_fine d.frames (datagram m) j.1 (k.messages m))
+  writing (puts.stream id h room) d (found, first, some, is, counts) j = (k.sent d.end.transport.send_fairness d.end.streams id room h found j.0, and_fine d.frames (stream (frame_of id h room)) j.1 (k.streams (frame_of id h room)))
+  writing (puts.connection_close c) d may j = (j.0, and_fine d.frames (connection_close c) j.1 (k.connection_closes c))
+  writing (puts.application_close c) d may j = (j.0, and_fine d.frames (application_close c) j.1 (k.application_closes c))
+  writing p d may j = (j.0, and_fine d.frames _ j.1 k.pings)
 
   draft_is : (leaving : Leaving) (e : End) → MayLeave leaving e → Known e.streams → DraftIs (draft_as leaving e)
   draft_is leaving e due known = by_leave DraftIs writing leaving e due (known, λ f i. absurd i)
@@ -74,7 +76,7 @@ module _ (Known : StreamsState → Type 0) (Fine : FrameValue → Type 0) (k : A
     silent = λ t i. absurd i;
     failed = λ t i. absurd i;
     nothing = λ is none t i. absurd i;
-    used_up = λ t i. absurd i;
+    closes = λ t i. absurd i;
     gives = λ is numbered some t i f j. (
         let d : Draft = draft_at e now in
         let ready : Known (ready_at e now).end.streams = subst Known (sym (ready_state e now)) (known is) in

@@ -137,6 +137,8 @@ module _ (wide each_wide : ℕ) (packets : List Packet) (ts : List Told) (before
     limits = goes_within;
     pads = tt;
     pings = tt;
+    connection_closes = λ c. tt;
+    application_closes = λ c. tt;
     acks = λ a. tt;
     messages = λ m. tt;
     streams = λ f. tt;

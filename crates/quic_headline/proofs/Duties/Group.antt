@@ -1,6 +1,6 @@
 -- What has to reach the peer is somewhere, as a group: what is in flight of streams stands in
 -- tracked packets, and a reset, and STOP_SENDING while it matters, waits, stands in one, or came.
-use Rattle.std.proofs.Common.{◌≡◌, ℕ, Bool, true, false, List, [], ◌∷◌, ◌++◌, Option, Some, None, refl, sym, ap, ◌∙◌, subst, inl, inr}
+use Rattle.std.proofs.Common.{◌≡◌, ℕ, Bool, true, false, List, [], ◌++◌, Option, Some, None, refl, sym, ap, ◌∙◌, subst, inl, inr}
 use Rattle.std.specs.Option.{IsSome, is_some}
 use Rattle.quic_config.specs.Transport.{Settings, parameters_of}
 use Rattle.quic_streams_state.specs.State.{new_streams}
@@ -119,7 +119,7 @@ module _ (B : Way) (b : IsReadied B) (x y : Party) (call : Call) (a : Answer) (c
         apart = λ apart. call_fly done x.sents x.policy x.end y.given call a apart c.answer gives.ascends gives.tracked i.asked new ends i.fly;
         none = λ delivery is. subst (λ (k : Call). Fly (done_by k a done) x.end) (sym is) i.fly;
         comes = λ delivery is s among. (
-            let spelled = step_of (IsSent y.policy x.id) y.sents y.given s takes.gives.each among in
+            let spelled = step_of (IsSent y.policy) y.sents y.given s takes.gives.each among in
             subst (λ (k : Call). Arrivals x.end delivery.now s.number s.frames (came_to x y) (λ (o : Outcome) (j : Intake). Fly (done_by k a done) o.end)) (sym is)
             (arrivals_fly done x.end delivery.now s.number s.frames (came_to x y) (payload_small s.frames spelled.1.payload spelled.1.spells) ends i.fly));
       }))
@@ -275,11 +275,11 @@ flying_group B b = record {
     asked = i.asked;
     halts = record { halted = i.halts.halted };
     stops = asked_more (λ id. ListedStands (came_to x y).took (StopOf id) y.end) (λ id. ListedStands (came_to (called x y.given call a) y).took (StopOf id) y.end) y.end.streams
-        (λ id. came_on (came_to x y).took (came_to (called x y.given call a) y).took (StopOf id) y.end (took_more x.policy y.final x.told (told_of call a x.end.closing.state) (nothing_came (x.id ∷ [])))) i.stops;
-    resets = λ id some. came_on (came_to x y).took (came_to (called x y.given call a) y).took (ResetOf id) y.end (took_more x.policy y.final x.told (told_of call a x.end.closing.state) (nothing_came (x.id ∷ []))) (i.resets id some);
+        (λ id. came_on (came_to x y).took (came_to (called x y.given call a) y).took (StopOf id) y.end (took_more x.policy y.final x.told (told_of call a x.end.closing.state) nothing_came)) i.stops;
+    resets = λ id some. came_on (came_to x y).took (came_to (called x y.given call a) y).took (ResetOf id) y.end (took_more x.policy y.final x.told (told_of call a x.end.closing.state) nothing_came) (i.resets id some);
     limits = λ what value said. (let was = i.limits what value said in record {
       knows = was.knows;
-      stand = limit_came_on (came_to x y).took (came_to (called x y.given call a) y).took y.sents what value y.end (took_more x.policy y.final x.told (told_of call a x.end.closing.state) (nothing_came (x.id ∷ []))) was.stand;
+      stand = limit_came_on (came_to x y).took (came_to (called x y.given call a) y).took y.sents what value y.end (took_more x.policy y.final x.told (told_of call a x.end.closing.state) nothing_came) was.stand;
     });
   };
   shows = λ x y here there above below i j. record {

@@ -16,6 +16,7 @@ use Rattle.quic_streams_state.specs.Reading.{stop_answer, is_closed_at, stopped_
 use Rattle.quic_streams_laws.specs.Content.{AllReceiving}
 use Rattle.quic_streams_laws.specs.ContentLaws.{by_next_answer}
 use Rattle.quic_streams_laws.specs.Keeping.{KeepsBy}
+use Rattle.quic_streams_laws.specs.Keeping as changes
 use Rattle.quic_streams_laws.specs.KeepingLaws.{at-half, by_accept, by_read_begun, by_next, by_stop, by_received_reset, by_stream, by_reset_frame}
 use Rattle.quic_streams_laws.specs.QuietLaws.{is_quiet}
 use Rattle.quic_streams_laws.specs.StartLaws.{shape_new, shape_set_params}
@@ -141,7 +142,7 @@ module _ (ts : List Told) (state : State) (s : StreamsState) (p : Retransmits) (
       halted h is = change_one (λ q x. IsHalted (stopped q ts) x) (λ q x. IsHalted (stopped q (ts ++ t (Ok tt) ∷ [])) x) (halted_goes (λ q. stopped q ts)) s id h (stopped_now h) is (λ q x ne j. other_stopped q ne x j) (λ j was. refl) i
 
       ends : (h : RecvHalf) (known : Bool) → Then (Ok tt) (with_recv s id (stopped_now h)) → Then (Ok tt) (stopped_if known s id h)
-      ends h true j = (halted_kept (λ q. stopped q (ts ++ t (Ok tt) ∷ []))).ends_receiving (with_recv s id (stopped_now h)) id (stopped_now h) (at-half s.side s.receiving.halves id (stopped_now h)) j
+      ends h true j = halted_kept (λ q. stopped q (ts ++ t (Ok tt) ∷ [])) (changes.ends_receiving id (stopped_now h)) (with_recv s id (stopped_now h)) (at-half s.side s.receiving.halves id (stopped_now h)) j
       ends h false j = j
 
       by_half : (h : RecvHalf) (stopped : Bool) → h.stopped ≡ stopped → receiving_half s id ≡ Some h

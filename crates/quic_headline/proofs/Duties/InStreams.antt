@@ -13,6 +13,7 @@ use Rattle.quic_streams_state.specs.Writing.{replaced}
 use Rattle.quic_streams_state.specs.Acked.{after_stream_acked, after_stream_lost, acked_at, lost_at}
 use Rattle.quic_streams_laws.specs.Each.{HalfIs}
 use Rattle.quic_streams_laws.specs.Keeping.{KeepsBy}
+use Rattle.quic_streams_laws.specs.Keeping as changes
 use Rattle.quic_streams_laws.specs.EachLaws.{each_with, half_follows}
 use Rattle.quic_streams_laws.specs.ShapeLaws.{sends_with}
 use Rattle.quic_streams_laws.specs.KeepingLaws.{by_option, free, at-half, live_sends, by_open, by_accept, by_set_priority, by_read_begun, by_next, by_finalize, by_stop, by_received_reset}
@@ -152,7 +153,7 @@ module _ (F : Duty → Type 0) (done : ℕ → Wrote) (m : StreamMeta) where
         let k = fly_kept F done in
         let here : at t.sending.halves.live m.id ≡ Some (requeued_at h.place (has_pending (half_acked h m)) s.sending.queue m.id (half_acked h m)).half = at-half s.side s.sending.halves m.id _ in
         cond_both {A = Streams} (is_acked (half_acked h m)) _ _ (λ u. AllFly F done u.state)
-        (λ g. k.finishes (send_done t m.id) m.id tt (k.ends_sending t m.id _ here (inr (again_acked h.place (has_pending (half_acked h m)) s.sending.queue (half_acked h m) ∙ g)) now)) (λ g. now)))
+        (λ g. k (changes.finishes m.id) (send_done t m.id) tt (k (changes.ends_sending m.id _) t (here, (inr (again_acked h.place (has_pending (half_acked h m)) s.sending.queue (half_acked h m) ∙ g))) now)) (λ g. now)))
       where
         again_acked : (o : Option (ℕ × ℕ)) (b : Bool) (q : _) (h : SendHalf) → is_acked (requeued_at o b q m.id h).half ≡ is_acked h
         again_acked None true q h = refl

@@ -60,6 +60,7 @@ use Rattle.quic_headline.proofs.Duties.Listed.{Listed, ResetOf, StopOf, listed_i
 use Rattle.quic_headline.proofs.Duties.Halts.{IsHalted}
 use Rattle.quic_headline.proofs.Duties.Stopped.{IsAsked}
 use Rattle.quic_headline.proofs.Duties.Group.{Flying}
+use Rattle.quic_machine.specs.Parts.{signals_wait}
 
 -- ---- what waits is queued
 
@@ -80,7 +81,7 @@ pending_queued s id h orderly found pending = go h.place refl (orderly.queue.pen
 pub half_queued : (e : End) → can_send_stream_data e.streams ≡ true → waits e ≡ true
 half_queued e queued =
     or_right (can_send e.acknowledging) (asks_to_go e)
-    (or_right e.waiting.ping (not (is_empty e.waiting.frames e.streams) || (message_waits e || can_send_stream_data e.streams))
+    (or_right (signals_wait e.waiting.signals) (not (is_empty e.waiting.frames e.streams) || (message_waits e || can_send_stream_data e.streams))
     (or_right (not (is_empty e.waiting.frames e.streams)) (message_waits e || can_send_stream_data e.streams) (or_right (message_waits e) (can_send_stream_data e.streams) queued)))
 
 -- where one waits in a list, something does
@@ -95,7 +96,7 @@ not_empty (StopOf id) p s is = ap not (fills StopSending p s (any_listed (λ (x 
 pub listed_queued : (e : End) (what : Listed) → listed_in what e.waiting.frames ≡ true → waits e ≡ true
 listed_queued e what is =
     or_right (can_send e.acknowledging) (asks_to_go e)
-    (or_right e.waiting.ping (not (is_empty e.waiting.frames e.streams) || (message_waits e || can_send_stream_data e.streams))
+    (or_right (signals_wait e.waiting.signals) (not (is_empty e.waiting.frames e.streams) || (message_waits e || can_send_stream_data e.streams))
     (or_left (not (is_empty e.waiting.frames e.streams)) (message_waits e || can_send_stream_data e.streams) (not_empty what e.waiting.frames e.streams is)))
 
 -- a limit that matters, and waits, is something that waits
@@ -114,7 +115,7 @@ limit_any (StreamCount dir) e matters waits = ap not (fills (MaxStreams dir) e.w
 pub limit_queued : (e : End) (what : Limited) → Matters e what → limit_waits e.waiting.frames what ≡ true → waits e ≡ true
 limit_queued e what matters waits =
     or_right (can_send e.acknowledging) (asks_to_go e)
-    (or_right e.waiting.ping (not (is_empty e.waiting.frames e.streams) || (message_waits e || can_send_stream_data e.streams))
+    (or_right (signals_wait e.waiting.signals) (not (is_empty e.waiting.frames e.streams) || (message_waits e || can_send_stream_data e.streams))
     (or_left (not (is_empty e.waiting.frames e.streams)) (message_waits e || can_send_stream_data e.streams) (limit_any what e matters waits)))
 
 -- a limit that matters isn't one that matters no more

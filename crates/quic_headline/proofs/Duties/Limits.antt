@@ -27,8 +27,9 @@ use Rattle.quic_machine.specs.Calls.{after_nexts}
 use Rattle.quic_machine.specs.StreamCalls.{after_on_streams}
 use Rattle.quic_machine.specs.Acked.{stream_lost, streams_lost, carried_lost, packets_lost, verdict, losses_detected, measured, sampled, without_acked, after_named, losses_taken}
 use Rattle.quic_machine.specs.Receive.{is_above, names_ungiven, take_frame, Outcome}
-use Rattle.quic_machine.specs.FrameCases.{OnStreams, Settling, named, ack_taken, acked_keeps, begun, passed, frames_leave, by_marks}
+use Rattle.quic_machine.specs.FrameCases.{OnStreams, Settling, named, ack_taken, acked_keeps, begun, passed, frames_leave, by_marks, apart_same}
 use Rattle.quic_machine.specs.FrameCases as cases
+use Rattle.quic_machine.specs.Steps as steps
 use Rattle.quic_headline.specs.Runs.{Packet, Intake, In}
 use Rattle.quic_headline.specs.Observer.{Sent}
 use Rattle.quic_headline.specs.InFlight.{is_max_data, is_max_streams, limits_in, again_in}
@@ -108,24 +109,18 @@ module _ (what : Limited) where
 
   -- nor do frames that come
   settles : Settling (λ (e : End). Waits what (streams_at e))
-  settles = record {
-    known = λ n e w. w;
-    reset = λ id e w. reset_acked_keeps (WaitsIn what) (decides what) e.streams e.waiting.frames id w;
-    acked = λ m e w. acked_flags (WaitsIn what) (decides what) e.streams e.waiting.frames m w;
-    lost = λ m e w. lost_keeps (WaitsIn what) (decides what) e.streams e.waiting.frames m w;
-    again = λ c e w. waits_in what (streams_of e.streams (merged e.waiting.frames c.retransmits)) (merged_left what e.waiting.frames c.retransmits (waits_of what (streams_at e) w));
-    searched = λ discovery e w. w;
-    shortens = λ most e w. w;
-    tracked = λ t e w. w;
-    measured = λ r first e w. w;
-    marked = λ m marking e w. w;
-  }
+  settles (steps.reset id) e w = reset_acked_keeps (WaitsIn what) (decides what) e.streams e.waiting.frames id w
+  settles (steps.acked m) e w = acked_flags (WaitsIn what) (decides what) e.streams e.waiting.frames m w
+  settles (steps.lost m) e w = lost_keeps (WaitsIn what) (decides what) e.streams e.waiting.frames m w
+  settles (steps.again c) e w = waits_in what (streams_of e.streams (merged e.waiting.frames c.retransmits)) (merged_left what e.waiting.frames c.retransmits (waits_of what (streams_at e) w))
+  settles s e w = w
 
   pub frame_waits : (f : FrameValue) (e : End) → IsWaiting what (streams_at e) → IsWaiting what (streams_at (take_frame f e).end)
   frame_waits f e is = waits_of what (streams_at (take_frame f e).end) (cases.frame_keeps (λ (x : End). Waits what (streams_at x)) (record {
     ack = λ rises a x v. acked_keeps (λ (y : End). Waits what (streams_at y)) settles rises a (named a x) v;
     on_streams = λ g x on v. frame_keeps (WaitsIn what) (decides what) g x on v;
     message = λ m x v. v;
+    apart = λ g x is v. subst (λ (y : End). Waits what (streams_at y)) (sym (cases.apart_same g x is)) v;
   }) f e (waits_in what (streams_at e) is))
 
 -- ---- what a datagram carries
@@ -302,6 +297,7 @@ module _ (took : List Packet) (own : List Sent) (what : Limited) (value : ℕ) (
       go (inr (inr (inl flies))) = by_frame f e (λ h p. LimitStands took own what value p.end) (λ a is. ack_flies (names_ungiven a e) a e (g.takes a (inl is)) flies)
           (λ other on. inr (inr (inl (subst (λ (t : Tracking). FliesFrom own t.packets what value) (sym (frame_tracks f e on)) flies))))
           (λ other m same. subst (LimitStands took own what value) (sym same) (inr (inr (inl flies))))
+          (λ other apart. subst (LimitStands took own what value) (sym (apart_same f e apart)) (inr (inr (inl flies))))
       go (inr (inr (inr came))) = inr (inr (inr came))
 
   frames_stand : (fs : List FrameValue) (e : End) → Going fs e → (over : List FrameValue) × Going over (passed fs e).end

@@ -6,7 +6,7 @@ use Rattle.std.specs.BTreeMap.{is_at}
 use Rattle.std.proofs.lemmas.Bool.{or_parts, or_cases, cases_eq}
 use Rattle.quic_wire_core.specs.declared.stream_id.Dir.{Dir}
 use Rattle.quic_wire_core.specs.declared.stream_id.Dir.TheVariants.{Bi, Uni}
-use Rattle.quic_wire.specs.Value.{FrameValue, padding, ack, ping, stream, max_data, max_stream_data, max_streams, asks, datagram}
+use Rattle.quic_wire.specs.Value.{FrameValue, padding, ack, stream, max_data, max_stream_data, max_streams, asks, datagram}
 use Rattle.quic_wire.specs.FrameView.{is_one_way}
 use Rattle.quic_streams_parts.specs.Table.{Table, at, put}
 use Rattle.quic_streams_parts.specs.Dirs.{Flags, of, with_of}
@@ -41,8 +41,10 @@ use Rattle.quic_machine.specs.Closing.{ticked}
 use Rattle.quic_machine.specs.Tracking.{Tracking, TrackedPacket, is_behind, after_sent, without_record}
 use Rattle.quic_machine.specs.End.{End, with_closing, streams_at, number_of}
 use Rattle.quic_machine.specs.Calls.{is_open}
-use Rattle.quic_machine.specs.Poll.{zeros_behind, Polled, Draft, no_frames, ack_of, with_ping_frame, ping_if, with_control_frames, with_asking, with_ack, ack_fits, ack_if, composed_if, composed, asking, frame_room, lazied, packet_of, tracked, record_moved, polled, with_message_frames, goes, draft_as, whole, alone, probe, Leaving, nothing}
-use Rattle.quic_machine.specs.DraftLaws.{with_half_frame, by_streams, by_messages, by_leave, MayLeave}
+use Rattle.quic_machine.specs.Poll.{zeros_behind, Polled, Draft, no_frames, ack_of, with_signal_frames, with_control_frames, with_asking, with_ack, ack_fits, ack_if, composed_if, composed, asking, frame_room, lazied, packet_of, tracked, record_moved, polled, with_message_frames, goes, draft_as, whole, Leaving, nothing}
+use Rattle.quic_machine.specs.DraftLaws.{Writing, by_streams, by_messages, by_leave, MayLeave, by_signals}
+use Rattle.quic_machine.specs.Puts.{with_half_frame}
+use Rattle.quic_machine.specs.Puts as puts
 use Rattle.quic_machine.specs.PollCases.{ready_at, ready_leaves, draft_at, frames_padded, by_poll_to, composes, may_leave_at}
 use Rattle.quic_machine.specs.CallCases.{is_delivery, is_poll, by_call}
 use Rattle.quic_machine.specs.LeaveCases.{by_expired, by_event}
@@ -212,24 +214,20 @@ moved_more what value d f (inr (inr said)) = inr (inr (says_left what value d.fr
 
 module _ (e : End) (what : Limited) (value : ℕ) (told : IsTold e.streams (limit_frame what value)) (may : Given e.streams (limit_frame what value)) (stays : Stays e.streams e.streams) (knows : AllReceiving (Knows what) e.streams)
     (was : limit_waits e.waiting.frames what ≡ true) where
-  -- no frame went but ACK and PING
+  -- no frame went but ACK and signals
   record Untouched (d : Draft) : Type 0 where
     streams : e.streams ≡ d.end.streams
     waits : e.waiting.frames ≡ d.end.waiting.frames
 
   -- what asks goes
   asking_moved : (d : Draft) → Untouched d → IsMoved what value (with_asking d)
-  asking_moved d u = by_streams (IsMoved what value) (λ x i h room found first left is counts m. stream_goes x i h room found m) (with_message_frames (with_control_frames (with_ping_frame d)))
-      (by_messages (IsMoved what value) (λ x m ms is fit moved. moved_more what value x (datagram m) moved) (with_control_frames (with_ping_frame d)) (controls (with_ping_frame d) (pinged d.end.waiting.ping)))
+  asking_moved d u = by_streams (IsMoved what value) (λ x i h room found first left is counts m. stream_goes x i h room found m) (with_message_frames (with_control_frames (with_signal_frames d)))
+      (by_messages (IsMoved what value) (λ x m ms is fit moved. moved_more what value x (datagram m) moved) (with_control_frames (with_signal_frames d)) (controls (with_signal_frames d) (by_signals Untouched (λ x f left is v. record { streams = v.streams; waits = v.waits }) d u)))
     where
       stream_goes : (x : Draft) (i : ℕ) (h : SendHalf) (room : ℕ) → at x.end.streams.sending.halves.live i ≡ Some h → IsMoved what value x → IsMoved what value (with_half_frame x i h room)
       stream_goes x i h room found (inl waits) = inl waits
       stream_goes x i h room found (inr (inl ends)) = inr (inl (by_frame (AllReceiving (Ends what)) (lasting (Ends what) (ends_lasts what)) x.end.transport.send_fairness x.end.streams i room h found tt ends))
       stream_goes x i h room found (inr (inr said)) = inr (inr (says_left what value x.frames (stream (frame_of i h room) ∷ []) said))
-
-      pinged : (b : Bool) → Untouched (ping_if b d)
-      pinged true = record { streams = u.streams; waits = u.waits }
-      pinged false = u
 
       controls : (x : Draft) → Untouched x → IsMoved what value (with_control_frames x)
       controls x v =
@@ -254,13 +252,11 @@ module _ (e : End) (what : Limited) (value : ℕ) (told : IsTold e.streams (limi
       go true = asking_moved (with_ack (no_frames e)) (record { streams = refl; waits = refl })
       go false = late (ack_fits (with_asking (no_frames e))) (with_asking (no_frames e)) (asking_moved (no_frames e) (record { streams = refl; waits = refl }))
 
--- so it is of what goes, where that is composed, or is a due ACK or a probe of a size alone, and where nothing goes
+-- so it is of what goes, where that is composed, or is a due ACK, a probe of a size or a close alone, and where nothing goes
 draft_moved : (e : End) (what : Limited) (value : ℕ) → IsTold e.streams (limit_frame what value) → Given e.streams (limit_frame what value) → Stays e.streams e.streams → AllReceiving (Knows what) e.streams
     → limit_waits e.waiting.frames what ≡ true → (leaving : Leaving) → IsMoved what value (draft_as leaving e)
 draft_moved e what value told may stays knows was whole = composed_moved (lazied e) what value told may stays knows was
-draft_moved e what value told may stays knows was alone = inl was
-draft_moved e what value told may stays knows was (probe size) = inl was
-draft_moved e what value told may stays knows was (nothing held) = inl was
+draft_moved e what value told may stays knows was other = inl was
 
 -- ---- what goes is said of a half in use
 
@@ -270,27 +266,25 @@ record Sees (d : Draft) : Type 0 where
   frames : (id limit : ℕ) → In (limit_frame (StreamData id) limit) d.frames → AllReceiving (Knows (StreamData id)) d.end.streams
 
 draft_sees : (leaving : Leaving) (e : End) → MayLeave leaving e → IsShaped e.streams → Sees (draft_as leaving e)
-draft_sees leaving e may shape = by_leave Sees (record {
-  ack = λ d filled may b. record { shape = b.shape; frames = λ id limit i. elim (in_more (limit_frame (StreamData id) limit) (ack (ack_of d.end)) d.frames i) [ inl old ↦ b.frames id limit old | inr new ↦ cc ] };
-  ping = λ d b. record { shape = b.shape; frames = λ id limit i. elim (in_more (limit_frame (StreamData id) limit) ping d.frames i) [ inl old ↦ b.frames id limit old | inr new ↦ cc ] };
-  probes = λ f size b. record { shape = b.shape; frames = λ id limit i. elim (in_more (limit_frame (StreamData id) limit) ping [] i) [ inl old ↦ b.frames id limit old | inr new ↦ cc ] };
-  drops = λ d kind b. record { shape = b.shape; frames = b.frames };
-  control = λ d kind f is b. record {
-    shape = by_told IsShaped shape_any f d.end.streams b.shape;
-    frames = λ id limit i. told_lasts (Knows (StreamData id)) (knows_lasts (StreamData id)) f d.end.streams (elim (in_more (limit_frame (StreamData id) limit) f d.frames i) [
-      | inl old ↦ b.frames id limit old
-      | inr new ↦ (let goes = subst (λ (g : FrameValue). control.Goes d.end.waiting.frames d.end.streams g) (sym new) is.says in knows_at id d.end.streams goes.0 b.shape goes.2)
-    ]);
-  };
-  message = λ d m ms waits fit b. record { shape = b.shape; frames = λ id limit i. elim (in_more (limit_frame (StreamData id) limit) (datagram m) d.frames i) [ inl old ↦ b.frames id limit old | inr new ↦ cc ] };
-  stream = λ d i h room found first some is counts b. record {
-    shape = by_frame IsShaped shape_any d.end.transport.send_fairness d.end.streams i room h found tt b.shape;
-    frames = λ id limit among. elim (in_more (limit_frame (StreamData id) limit) (stream (frame_of i h room)) d.frames among) [
-      | inl old ↦ by_frame (AllReceiving (Knows (StreamData id))) (lasting (Knows (StreamData id)) (knows_lasts (StreamData id))) d.end.transport.send_fairness d.end.streams i room h found tt (b.frames id limit old)
-      | inr new ↦ cc
-    ];
-  };
-}) leaving e may (record { shape = shape; frames = λ id limit i. absurd i })
+draft_sees leaving e may shape = by_leave Sees keep leaving e may (record { shape = shape; frames = λ id limit i. absurd i })
+  where
+    keep : Writing Sees
+    keep (puts.drops kind) d may b = record { shape = b.shape; frames = b.frames }
+    keep (puts.control kind f) d is b = record {
+      shape = by_told IsShaped shape_any f d.end.streams b.shape;
+      frames = λ id limit i. told_lasts (Knows (StreamData id)) (knows_lasts (StreamData id)) f d.end.streams (elim (in_more (limit_frame (StreamData id) limit) f d.frames i) [
+        | inl old ↦ b.frames id limit old
+        | inr new ↦ (let goes = subst (λ (g : FrameValue). control.Goes d.end.waiting.frames d.end.streams g) (sym new) is.says in knows_at id d.end.streams goes.0 b.shape goes.2)
+      ]);
+    }
+    keep (puts.stream i h room) d (found, first, some, is, counts) b = record {
+      shape = by_frame IsShaped shape_any d.end.transport.send_fairness d.end.streams i room h found tt b.shape;
+      frames = λ id limit among. elim (in_more (limit_frame (StreamData id) limit) (stream (frame_of i h room)) d.frames among) [
+        | inl old ↦ by_frame (AllReceiving (Knows (StreamData id))) (lasting (Knows (StreamData id)) (knows_lasts (StreamData id))) d.end.transport.send_fairness d.end.streams i room h found tt (b.frames id limit old)
+        | inr new ↦ cc
+      ];
+    }
+    keep p d may b = record { shape = b.shape; frames = λ id limit i. elim (in_more (limit_frame (StreamData id) limit) _ d.frames i) [ inl old ↦ b.frames id limit old | inr new ↦ cc ] }
 
 -- what is said of a limit in a draft is known
 said_known : (what : Limited) (value : ℕ) (d : Draft) → Sees d → In (limit_frame what value) d.frames → AllReceiving (Knows what) d.end.streams
@@ -432,7 +426,7 @@ module _ (took : List Packet) (own : List Sent) (what : Limited) (value : ℕ) w
       silent = stands_more took own [] what value e i;
       failed = stands_more took own [] what value e i;
       nothing = λ is none. stands_more took own [] what value (ready_at e now).end (ready_stands i);
-      used_up = stands_more took own [] what value (ready_at e now).end (ready_stands i);
+      closes = stands_more took own [] what value (ready_at e now).end (ready_stands i);
       gives = λ is_open numbered some. by_going (LimitStands took (own ++ sent_by e now ∷ []) what value) p d (λ pacing. given_stands d (sent_by e now) (number some) refl (asked some) (fresh_number some) (draft some (ready_stands i)));
     })
       where
@@ -451,7 +445,7 @@ module _ (took : List Packet) (own : List Sent) (what : Limited) (value : ℕ) w
           silent = λ i said. absurd i;
           failed = λ i said. absurd i;
           nothing = λ is none i said. absurd i;
-          used_up = λ i said. absurd i;
+          closes = λ i said. absurd i;
           gives = λ is_open numbered some i said. by_going (λ (x : End). AllReceiving (Knows what) x.streams × LimitStands took (own ++ sent_by e now ∷ []) what value x) p d (λ pacing. sends some (among i said));
         })
       where
@@ -484,7 +478,6 @@ call_stated took own what value p e theirs call a within apart other is i = go i
       on_streams = λ on answer. elim more [ inl waits ↦ inr (inl (call_waits what (is_open e.closing.state) (streams_at e) call a waits)) | inr far ↦ inr (inr far) ];
       on_messages = λ on answer. inr more;
       pings = inr more;
-      heard = λ path same. inr more;
       times = λ now expiry set. by_expired e now (λ (f : End). LimitStands took own what value f) (λ pending tracking timers runs packets.
           inr (subst (λ (t : Table TrackedPacket). (limit_waits e.waiting.frames what ≡ true) ⊎ FliesFrom own t what value ⊎ LimitHasArrived took what value) (sym packets) more)) (λ pending timers runs. detected_more took own what value (with_closing e (ticked e.closing now)) more) expiry;
       polls = λ now set. cc;

@@ -42,10 +42,11 @@ use Rattle.quic_machine.specs.Calls.{after_nexts, is_open}
 use Rattle.quic_machine.specs.StreamCalls.{IsStreamAnswer, if_ok, after_on_streams}
 use Rattle.quic_machine.specs.Acked.{without_known, reset_acked, resets_acked, stream_acked, streams_acked, packet_acked, packets_acked, stream_lost, streams_lost, carried_lost, packets_lost, verdict, losses_detected, measured, sampled, without_acked, after_named, losses_taken}
 use Rattle.quic_machine.specs.Receive.{is_above, names_ungiven, take_frame, Outcome}
-use Rattle.quic_machine.specs.Poll.{Polled, Draft, no_frames, ack_of, with_ping_frame, ping_if, with_control_frames, with_asking, with_ack, ack_fits, ack_if, composed_if, composed, asking, frame_room, lazied, packet_of, tracked, record_moved, polled, with_message, with_message_frames, goes, draft_as, whole, alone, probe, Leaving, nothing}
-use Rattle.quic_machine.specs.DraftLaws.{with_half_frame, by_streams, by_messages, MayLeave}
+use Rattle.quic_machine.specs.Poll.{Polled, Draft, no_frames, ack_of, with_signal_frames, with_control_frames, with_asking, with_ack, ack_fits, ack_if, composed_if, composed, asking, frame_room, lazied, packet_of, tracked, record_moved, polled, with_message, with_message_frames, goes, draft_as, whole, Leaving, nothing}
+use Rattle.quic_machine.specs.DraftLaws.{by_streams, by_messages, MayLeave, by_signals}
+use Rattle.quic_machine.specs.Puts.{with_half_frame}
 use Rattle.quic_machine.specs.PollCases.{ready_at, ready_leaves, draft_at, by_poll_to, composes, may_leave_at}
-use Rattle.quic_machine.specs.FrameCases.{OnStreams, named, ack_taken, begun, passed, frames_leave, by_marks}
+use Rattle.quic_machine.specs.FrameCases.{OnStreams, named, ack_taken, begun, passed, frames_leave, by_marks, apart_same}
 use Rattle.quic_machine.specs.CallCases.{is_delivery, by_call}
 use Rattle.quic_machine.specs.LeaveCases.{by_expired, by_event}
 use Rattle.quic_machine.specs.Machine.{after_call}
@@ -335,6 +336,7 @@ module _ (took : List Packet) (what : Listed) where
     frame_stands : (f : FrameValue) (left : List FrameValue) (e : End) → Going (f ∷ left) e → ListedStands took what (take_frame f e).end
     frame_stands f left e g = by_frame f e (λ h p. ListedStands took what p.end) (λ a is. ack_stands (names_ungiven a e) a e (g.takes a (inl is)) g.tracked g.stand)
         (λ other on. frame_waits f e on g.stand) (λ other m same. subst (ListedStands took what) (sym same) g.stand)
+        (λ other apart. subst (ListedStands took what) (sym (apart_same f e apart)) g.stand)
 
     frames_stand : (fs : List FrameValue) (e : End) → ((a : AckValue) → In (ack a) fs → NamesTaken took a) → AreTracked sents e.tracking.packets → ListedStands took what e → ListedStands took what (passed fs e).end
     frames_stand fs e takes tracked i = (frames_leave Going (λ f left x g. record {
@@ -423,7 +425,7 @@ module _ (e : End) (ready : AreReady e.streams.sending.halves.live e.waiting.fra
   abbrev IsMoved : Draft → Type 0
   IsMoved d = (listed_in what d.end.waiting.frames ≡ true) ⊎ (said what d.frames ≡ true)
 
-  -- no frame went but ACK and PING
+  -- no frame went but ACK and signals
   record Untouched (d : Draft) : Type 0 where
     streams : d.end.streams ≡ e.streams
     waits : d.end.waiting.frames ≡ e.waiting.frames
@@ -435,13 +437,9 @@ module _ (e : End) (ready : AreReady e.streams.sending.halves.live e.waiting.fra
 
   -- what asks goes
   asking_moved : (d : Draft) → Untouched d → IsMoved (with_asking d)
-  asking_moved d u = by_streams IsMoved (λ x i h room found first left is counts m. moved_more x (stream (frame_of i h room)) (with_half_frame x i h room).end refl m) (with_message_frames (with_control_frames (with_ping_frame d)))
-      (by_messages IsMoved (λ x m ms is fit moved. moved_more x (datagram m) (with_message x m ms).end refl moved) (with_control_frames (with_ping_frame d)) (controls (with_ping_frame d) (pinged d.end.waiting.ping)))
+  asking_moved d u = by_streams IsMoved (λ x i h room found first left is counts m. moved_more x (stream (frame_of i h room)) (with_half_frame x i h room).end refl m) (with_message_frames (with_control_frames (with_signal_frames d)))
+      (by_messages IsMoved (λ x m ms is fit moved. moved_more x (datagram m) (with_message x m ms).end refl moved) (with_control_frames (with_signal_frames d)) (controls (with_signal_frames d) (by_signals Untouched (λ x f left is v. record { streams = v.streams; waits = v.waits }) d u)))
     where
-      pinged : (b : Bool) → Untouched (ping_if b d)
-      pinged true = record { streams = u.streams; waits = u.waits }
-      pinged false = u
-
       controls : (x : Draft) → Untouched x → IsMoved (with_control_frames x)
       controls x v =
           let c = control_frames (frame_room x.end) (length_of x) x.end.streams x.end.waiting.frames nothing_waits in
@@ -466,12 +464,10 @@ module _ (e : End) (ready : AreReady e.streams.sending.halves.live e.waiting.fra
       go true = asking_moved (with_ack (no_frames e)) (record { streams = refl; waits = refl })
       go false = late (ack_fits (with_asking (no_frames e))) (with_asking (no_frames e)) (asking_moved (no_frames e) (record { streams = refl; waits = refl }))
 
--- so it is of what goes, where that is composed, or is a due ACK or a probe of a size alone, and where nothing goes
+-- so it is of what goes, where that is composed, or is a due ACK, a probe of a size or a close alone, and where nothing goes
 draft_moved : (e : End) (ready : AreReady e.streams.sending.halves.live e.waiting.frames) (what : Listed) (was : listed_in what e.waiting.frames ≡ true) → (leaving : Leaving) → IsMoved e ready what was (draft_as leaving e)
 draft_moved e ready what was whole = composed_moved (lazied e) ready what was
-draft_moved e ready what was alone = inl was
-draft_moved e ready what was (probe size) = inl was
-draft_moved e ready what was (nothing held) = inl was
+draft_moved e ready what was other = inl was
 
 module _ (took : List Packet) (sents : List Sent) (what : Listed) where
   -- a packet of the tail has nothing of it
@@ -515,7 +511,7 @@ module _ (took : List Packet) (sents : List Sent) (what : Listed) where
       silent = i;
       failed = i;
       nothing = λ is none. ready_stands i;
-      used_up = ready_stands i;
+      closes = ready_stands i;
       gives = λ is may some. by_going (ListedStands took what) p (draft_at e now) (λ pacing. gives some);
     })
       where
@@ -639,7 +635,6 @@ module _ (took : List Packet) (sents : List Sent) (what : Listed) where
     on_streams = λ on answer. elim i [ inl waits ↦ inl (call_waits what (is_open e.closing.state) (streams_at e) call a waits) | inr more ↦ inr more ];
     on_messages = λ on answer. i;
     pings = i;
-    heard = λ path same. i;
     times = λ now expiry set. by_expired e now (ListedStands took what) (λ pending tracking timers runs packets. rw packets i) (λ pending timers runs. detected_stands took what (with_closing e (ticked e.closing now)) i) expiry;
     polls = λ now set. polled_stands took sents what e now ascends were before new p (ready now) i;
     hears = λ arrival d set. cc;

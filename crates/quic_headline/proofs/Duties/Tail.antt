@@ -11,15 +11,16 @@ use Rattle.quic_machine.specs.declared.run.Answer.TheVariants as answers
 use Rattle.quic_machine.specs.Policy.{Policy}
 use Rattle.quic_machine.specs.Closing.{ticked}
 use Rattle.quic_machine.specs.Tracking.{Tracking, TrackedPacket, is_behind, asking_sent, acked_by}
-use Rattle.quic_machine.specs.End.{End, with_closing, with_loss_timer, number_of}
+use Rattle.quic_machine.specs.End.{End, with_closing, number_of}
 use Rattle.quic_machine.specs.Acked.{sampled, measured, without_acked, after_named, losses_taken}
 use Rattle.quic_machine.specs.Receive.{received}
 use Rattle.quic_machine.specs.Poll.{Polled, Draft, asking, polled, goes, tracked, Ready}
 use Rattle.quic_machine.specs.PollCases.{ready_at, ready_leaves, draft_at, by_poll_to, composes, may_leave_at}
-use Rattle.quic_machine.specs.Timeouts.{Expiry, acks_expired, loss_judged, loss_expired, pacing_expired}
-use Rattle.quic_machine.specs.LeaveCases.{at_expiry}
-use Rattle.quic_machine.specs.FrameCases.{named, frame_keeps, frame_leaves, by_received, by_marks}
-use Rattle.quic_machine.specs.CallCases.{is_poll, by_plain_call}
+use Rattle.quic_machine.specs.Timeouts.{Expiry, loss_judged}
+use Rattle.quic_machine.specs.LeaveCases.{at_expiry, Expired, by_timers}
+use Rattle.quic_machine.specs.FrameCases.{named, frame_keeps, frame_leaves, by_received, by_marks, apart_leaves}
+use Rattle.quic_machine.specs.CallCases.{Plain, is_poll, by_plain_call}
+use Rattle.quic_machine.specs.CallCases as cases
 use Rattle.quic_machine.specs.Machine.{IsAnswer, after_call, fails, gave}
 use Rattle.quic_headline.specs.Runs.{In}
 use Rattle.quic_headline.specs.Observer.{Sent, asks_of}
@@ -33,6 +34,7 @@ use Rattle.quic_headline.proofs.Places.Told.{in_append}
 use Rattle.quic_headline.proofs.Places.Parties.{sent_by, sent_if, sents_by}
 use Rattle.quic_headline.proofs.Places.Steps.{poll_answer}
 use Rattle.quic_headline.proofs.Duties.Carrier.{IsNew, number_new}
+use Rattle.quic_machine.specs.LeaveCases as expiring
 
 -- those that ask aren't above the greatest that asks
 abbrev pub AskBefore : List Sent → Option ℕ → Type 0
@@ -84,6 +86,7 @@ received_stays greatest = by_received (Stays greatest) (record {
   frame = frame_keeps (Stays greatest) (record {
     ack = λ rises a x i. named_stays greatest (acked_by a x.tracking.packets) rises a (named a x) i;
     on_streams = λ f x on i. frame_leaves (Stays greatest) f x on (λ streams. i);
+    apart = λ f x is i. apart_leaves (Stays greatest) f x is (λ c. i);
     message = λ m x i. i;
   });
   takes = λ n asks mark x i. i;
@@ -92,38 +95,28 @@ received_stays greatest = by_received (Stays greatest) (record {
 
 -- and timers that expire
 expired_stays : (e : End) (now : ℕ) (expiry : Expiry) → Stays e.tracking.greatest_asking (at_expiry e now expiry)
-expired_stays e now expiry = after expiry.acks expiry.pacing (loss_expired expiry.loss begins) (expires expiry.loss)
+expired_stays e now expiry = by_timers Here Here judges each (λ f i. i) expiry (with_closing e (ticked e.closing now)) refl
   where
-    begins : End
-    begins = with_closing e (ticked e.closing now)
+    Here : End → Type 0
+    Here = Stays e.tracking.greatest_asking
 
-    judges : (o : Option ℕ) → Stays e.tracking.greatest_asking (loss_judged o begins)
-    judges None = refl
-    judges (Some moment) = by_losses (Stays e.tracking.greatest_asking) begins (λ discovery queues. refl)
+    judges : (o : Option ℕ) (f : End) → Here f → Here (loss_judged o f)
+    judges None f i = i
+    judges (Some moment) f i = by_losses Here f (λ discovery queues. i)
 
-    expires : (loss : Bool) → Stays e.tracking.greatest_asking (loss_expired loss begins)
-    expires true = judges e.tracking.loss_time
-    expires false = refl
-
-    after : (acks pacing : Bool) (f : End) → Stays e.tracking.greatest_asking f → Stays e.tracking.greatest_asking (with_loss_timer (pacing_expired pacing (acks_expired acks f)))
-    after true true f i = i
-    after true false f i = i
-    after false true f i = i
-    after false false f i = i
+    each : (s : Expired) (f : End) → Here f → Here (expiring.after s f)
+    each expiring.of_acks f i = i
+    each s f i = i
 
 -- another call than a poll
 other_stays : (p : Policy) (e : End) (theirs : List (List ℕ)) (call : Call) (a : Answer) → is_poll call ≡ false → Stays e.tracking.greatest_asking (after_call p e theirs call a)
-other_stays p e theirs call a apart = by_plain_call p e theirs (Stays e.tracking.greatest_asking) call a (record {
-  same = refl;
-  on_streams = λ t. refl;
-  on_messages = λ m. refl;
-  pings = refl;
-  heard = λ path same. refl;
-  times = λ now expiry is. expired_stays e now expiry;
-  polls = λ now is. cc;
-  hears = λ arrival d is. received_stays e.tracking.greatest_asking p e arrival d refl;
-  tells = λ told. refl;
-})
+other_stays p e theirs call a apart = by_plain_call p e theirs (Stays e.tracking.greatest_asking) call a keep
+  where
+    keep : Plain p e call (Stays e.tracking.greatest_asking)
+    keep (cases.times now expiry) may = expired_stays e now expiry
+    keep (cases.polls now) is = cc
+    keep (cases.hears arrival d) may = received_stays e.tracking.greatest_asking p e arrival d refl
+    keep c may = refl
 
 -- ---- a datagram goes
 
@@ -161,7 +154,7 @@ before_polled p e now sents below before =
       silent = before_none sents e.tracking.greatest_asking before;
       failed = before_none sents e.tracking.greatest_asking before;
       nothing = λ is none. before_none sents (ready_at e now).end.tracking.greatest_asking ready;
-      used_up = before_none sents (ready_at e now).end.tracking.greatest_asking ready;
+      closes = before_none sents (ready_at e now).end.tracking.greatest_asking ready;
       gives = λ is may some. by_going (λ (x : End). AskBefore (sents ++ sent_by e now ∷ []) x.tracking.greatest_asking) p (draft_at e now) (λ pacing. gives some);
     })
   where

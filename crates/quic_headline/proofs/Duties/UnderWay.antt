@@ -1,7 +1,7 @@
 -- What of an end's streams is in flight stands in a packet that it tracks: each call keeps that.
 use Rattle.std.proofs.Common.{◌≡◌, ℕ, Bool, true, false, not, List, [], ◌∷◌, ◌++◌, Option, Some, None, refl, sym, ap, ◌∙◌, subst, ◌⊎◌, inl, inr, length}
 use Rattle.std.proofs.lemmas.Bool.{or_parts}
-use Rattle.quic_wire.specs.Value.{FrameValue, AckValue, ack, ping, stream, reset_stream, stop_sending, max_data, max_stream_data, max_streams, asks, datagram}
+use Rattle.quic_wire.specs.Value.{FrameValue, AckValue, stream, reset_stream, stop_sending, max_data, max_stream_data, max_streams, asks}
 use Rattle.quic_send_buffer.specs.declared.stream_meta.StreamMeta.{StreamMeta}
 use Rattle.quic_streams_parts.specs.Table.{Table, at, put}
 use Rattle.quic_streams_parts.specs.SendHalf.{SendHalf, frame_of, meta_of, half_after}
@@ -21,10 +21,11 @@ use Rattle.quic_machine.specs.Calls.{is_open}
 use Rattle.quic_machine.specs.StreamCalls.{is_on_streams}
 use Rattle.quic_machine.specs.Acked.{without_known, resets_acked, stream_acked, streams_acked, packet_acked, packets_acked, stream_lost, streams_lost, carried_lost, packets_lost, verdict, losses_detected, measured, sampled, without_acked, after_named, losses_taken}
 use Rattle.quic_machine.specs.Receive.{is_above, names_ungiven, take_frame, Outcome}
-use Rattle.quic_machine.specs.Poll.{Polled, Draft, ack_of, asking, packet_of, tracked, polled, goes, draft_as, Leaving, with_least, no_frames}
-use Rattle.quic_machine.specs.DraftLaws.{by_leave, MayLeave}
+use Rattle.quic_machine.specs.Poll.{Polled, Draft, asking, packet_of, tracked, polled, goes, draft_as, Leaving}
+use Rattle.quic_machine.specs.DraftLaws.{Writing, by_leave, MayLeave}
+use Rattle.quic_machine.specs.Puts as puts
 use Rattle.quic_machine.specs.PollCases.{ready_at, ready_leaves, draft_at, by_poll_to, composes, may_leave_at}
-use Rattle.quic_machine.specs.FrameCases.{OnStreams, named, ack_taken, begun, passed, resets_acked_keep, frames_leave, by_marks}
+use Rattle.quic_machine.specs.FrameCases.{OnStreams, named, ack_taken, begun, passed, resets_acked_keep, frames_leave, by_marks, apart_leaves}
 use Rattle.quic_machine.specs.CallCases.{is_delivery, by_call}
 use Rattle.quic_machine.specs.LeaveCases.{by_expired, by_event}
 use Rattle.quic_machine.specs.Machine.{IsAnswer, after_call}
@@ -196,6 +197,7 @@ module _ (done : ℕ → Wrote) where
   frame_fly f e small ends i = by_frame f e (λ g p. Fly done p.end) (λ a is. ack_fly (names_ungiven a e) a e ends i)
       (λ other on. subst (λ (t : Tracking). AllFly (InPackets t.packets) done (take_frame f e).end.streams) (sym (frame_tracks f e on)) (frame_stands (InPackets e.tracking.packets) f e on small i))
       (λ other m same. subst (Fly done) (sym same) i)
+      (λ other apart. apart_leaves (Fly done) f e apart (λ c. i))
 
   -- over the frames of a packet
   record Going (left : List FrameValue) (e : End) : Type 0 where
@@ -257,17 +259,15 @@ module _ (done : ℕ → Wrote) (F : Duty → Type 0) where
 
   -- whichever frames go
   draft_drafted : (leaving : Leaving) (e : End) → MayLeave leaving e → AllFly F done e.streams → Drafted (draft_as leaving e)
-  draft_drafted leaving e alone i = by_leave Drafted (record {
-    ack = λ d filled may b. more_drafted d (ack (ack_of d.end) ∷ []) d.end.streams b;
-    ping = λ d b. more_drafted d (ping ∷ []) d.end.streams b;
-    probes = λ f size b. more_drafted (with_least (no_frames f) size) (ping ∷ []) f.streams b;
-    drops = λ d kind b. b;
-    control = λ d kind f is b. (
-        let G : Duty → Type 0 = InDraft F (d.frames ++ f ∷ []) in
-        by_told (AllFly G done) (fly_kept G done) f d.end.streams (more_drafted d (f ∷ []) d.end.streams b));
-    message = λ d m ms is fit b. more_drafted d (datagram m ∷ []) d.end.streams b;
-    stream = λ d id h room found first some is counts b. half_drafted d d.end.transport.send_fairness id room h found b;
-  }) leaving e alone (all_more F (InDraft F []) done e.streams (λ u f. inr f) i)
+  draft_drafted leaving e alone i = by_leave Drafted keep leaving e alone (all_more F (InDraft F []) done e.streams (λ u f. inr f) i)
+    where
+      keep : Writing Drafted
+      keep (puts.drops kind) d may b = b
+      keep (puts.control kind f) d may b =
+          let G : Duty → Type 0 = InDraft F (d.frames ++ f ∷ []) in
+          by_told (AllFly G done) (fly_kept G done) f d.end.streams (more_drafted d (f ∷ []) d.end.streams b)
+      keep (puts.stream id h room) d (found, first, some, is, counts) b = half_drafted d d.end.transport.send_fairness id room h found b
+      keep p d may b = more_drafted d (_ ∷ []) d.end.streams b
 
 -- frames that don't ask have no STREAM frame among them
 none_asks : (fs : List FrameValue) (u : Duty) → asking fs ≡ false → InMetas (streams_in fs) u → ⊥
@@ -298,7 +298,7 @@ module _ (done : ℕ → Wrote) (sents : List Sent) (e : End) (now : ℕ) (ascen
     silent = i;
     failed = i;
     nothing = λ is none. ready_fly i;
-    used_up = ready_fly i;
+    closes = ready_fly i;
     gives = λ is may some. by_going (Fly done) p (draft_at e now) (λ pacing. gives some);
   })
     where
@@ -336,7 +336,6 @@ call_fly done sents p e theirs call a apart is ascends were before new ends i = 
       on_streams = λ on answer. cc;
       on_messages = λ on answer. i;
       pings = i;
-      heard = λ path same. i;
       times = λ now expiry set. by_expired e now (Fly done) (λ pending tracking timers runs packets. subst (λ (t : Table TrackedPacket). AllFly (InPackets t) done e.streams) (sym packets) i) (λ pending timers runs. detected_fly done (with_closing e (ticked e.closing now)) ends i) expiry;
       polls = λ now set. polled_fly done sents e now ascends were before new p i;
       hears = λ arrival d set. cc;

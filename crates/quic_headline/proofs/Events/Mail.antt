@@ -18,8 +18,8 @@ use Rattle.quic_machine.specs.Receive.{Outcome}
 use Rattle.quic_machine.specs.FrameCases.{begun, passed}
 use Rattle.quic_machine.specs.LeaveCases.{by_others}
 use Rattle.quic_machine.specs.CallCases.{is_delivery, asks_event}
-use Rattle.quic_machine.specs.Machine.{World, after_call, policy_at}
-use Rattle.quic_headline.specs.Runs.{Run, Told, Intake, and_told, folded, until, given_of}
+use Rattle.quic_machine.specs.Machine.{World, after_call}
+use Rattle.quic_headline.specs.Runs.{Run, Told, Intake, and_told, folded}
 use Rattle.quic_headline.specs.Observer.{Sent, news}
 use Rattle.quic_headline.specs.Headline.{IsHonest, IsRun}
 use Rattle.quic_headline.specs.Events.{messages_brought, tells_messages, unread_behind, told_behind, Mail, no_mail, mail_behind, mail_told, mail, MessagesAreTold}
@@ -30,7 +30,7 @@ use Rattle.quic_headline.proofs.Packets.Watching.{none_new, one_new}
 use Rattle.quic_headline.proofs.Places.Parties.{told_of, Party, called, came_to}
 use Rattle.quic_headline.proofs.Places.Groups.{Way, Nothing, And, Calls, Group, both}
 use Rattle.quic_headline.proofs.Places.Coming.{came_more, came_same, by_coming}
-use Rattle.quic_headline.proofs.Places.Placed.{party_at, Placed, placed, answered, known_first}
+use Rattle.quic_headline.proofs.Places.Placed.{party_at, Placed, placed, answered}
 use Rattle.quic_headline.proofs.Places.Everything as everything
 use Rattle.quic_headline.proofs.Places.Theorems.{ready}
 use Rattle.quic_headline.proofs.Halves.Ready.{Ready}
@@ -124,7 +124,7 @@ module _ (e : End) (i : Intake) (n : ℕ) (told : Bool) (h : MailHolds n told e)
 
 -- what waits at x to be received
 abbrev pub mail_of : Party → Party → Mail
-mail_of x y = folded (mail_told x.policy y.final) x.told (no_mail (x.id ∷ []))
+mail_of x y = folded (mail_told x.policy y.final) x.told no_mail
 
 -- what came is what came
 same_intake : (p : Policy) (given : List (List ℕ)) (told : List Told) (m : Mail) → (folded (mail_told p given) told m).intake ≡ folded (and_told p given) told m.intake
@@ -143,8 +143,8 @@ module _ (B : Way) (packets : (x y : Party) → B x y → PacketsHold x y) (x y 
   mail_more call a =
       let m : Mail = mail_of x y in
       let t : Told = told_of call a x.end.closing.state in
-      folded_more (mail_told x.policy y.final) x.told t (no_mail (x.id ∷ []))
-      ∙ ap (λ (i : Intake). mail_told x.policy y.final t (record { intake = i; unread = m.unread; told = m.told })) (same_intake x.policy y.final x.told (no_mail (x.id ∷ [])))
+      folded_more (mail_told x.policy y.final) x.told t no_mail
+      ∙ ap (λ (i : Intake). mail_told x.policy y.final t (record { intake = i; unread = m.unread; told = m.told })) (same_intake x.policy y.final x.told no_mail)
       ∙ ap (λ (j : Intake). mail_behind t (record { intake = came_to x y; unread = m.unread; told = m.told }) j) (sym (came_more x y call a))
 
   -- where nothing comes
@@ -206,7 +206,7 @@ messages_are_told r end honest run side i served at some = told_so (mail r side 
     y = party_at r i p.world (other_side side) p.theirs
 
     same : mail r side i ≡ mail_of x y
-    same = ap (λ (ids : List (List ℕ)). folded (mail_told (policy_at side r.keys) (given_of r (other_side side))) (until r side i) (no_mail ids)) (known_first r honest side)
+    same = refl
 
     holds : MailHolds (mail r side i).unread (mail r side i).told x.end
     holds = subst (λ (m : Mail). MailHolds m.unread m.told x.end) (sym same) p.gives.1.holds

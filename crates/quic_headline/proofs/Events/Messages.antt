@@ -16,8 +16,10 @@ use Rattle.quic_machine.specs.Receive.{is_above, names_ungiven, told_of_message,
 use Rattle.quic_machine.specs.Poll.{Polled, Draft, polled, draft_as, Leaving}
 use Rattle.quic_machine.specs.MessageCalls.{is_on_messages, limits_of}
 use Rattle.quic_machine.specs.Machine.{after_call}
-use Rattle.quic_machine.specs.DraftLaws.{by_leave, MayLeave}
+use Rattle.quic_machine.specs.DraftLaws.{Writing, by_leave, MayLeave}
+use Rattle.quic_machine.specs.Puts as puts
 use Rattle.quic_machine.specs.FrameCases.{Settling, losses_keep, named, ack_taken, acked_keeps, passed, frames_keep, frames_taken}
+use Rattle.quic_machine.specs.Steps as steps
 use Rattle.quic_machine.specs.LeaveCases.{by_expired}
 use Rattle.quic_machine.specs.PollCases.{by_poll, at_poll}
 use Rattle.quic_machine.specs.CallCases.{is_delivery, asks_event, by_call}
@@ -38,26 +40,23 @@ module _ (P : List (List ℕ) → ℕ → Type 0) where
   Of e = P e.messages.queues.incoming e.messages.to_tell
 
   settles : Settling (λ (e : End). Of e)
-  settles = record { known = λ n x p. p; reset = λ id x p. p; acked = λ m x p. p; lost = λ m x p. p; again = λ c x p. p; searched = λ discovery x p. p; shortens = λ most x p. p; tracked = λ t x p. p; measured = λ r first x p. p; marked = λ m marking x p. p }
+  settles (steps.known n) x p = p
+  settles s x p = p
 
   -- whichever frames go
   drafted : (leaving : Leaving) (e : End) → MayLeave leaving e → Of e → Of (draft_as leaving e).end
-  drafted leaving e due here = by_leave (λ (d : Draft). Of d.end) (record {
-    ack = λ d filled may i. i;
-    ping = λ d i. i;
-    probes = λ f size i. i;
-    drops = λ d kind i. i;
-    control = λ d kind f is i. i;
-    message = λ d x xs is fit i. i;
-    stream = λ d id h room found first some is counts i. i;
-  }) leaving e due here
+  drafted leaving e due here = by_leave (λ (d : Draft). Of d.end) keep leaving e due here
+    where
+      keep : Writing (λ (d : Draft). Of d.end)
+      keep puts.ping d may i = i
+      keep p d may i = i
 
   polled_leaves : (p : Policy) (e : End) (now : ℕ) → Of e → Of (polled p e now).end
   polled_leaves p e now here = by_poll p e now (λ (q : Polled). Of q.end) (record {
     silent = here;
     failed = here;
     nothing = λ c. here;
-    used_up = λ c. here;
+    closes = λ c. here;
     gives = λ leaving c left is may ready some.
         let x : End = at_poll e now c in
         drafted leaving x (may_leave e now leaving x ready) here;
@@ -70,7 +69,6 @@ module _ (P : List (List ℕ) → ℕ → Type 0) where
     on_streams = λ on answer. here;
     on_messages = λ on answer. cc;
     pings = here;
-    heard = λ path is. here;
     times = λ now expiry set. by_expired e now (λ (f : End). Of f) (λ pending tracking timers runs packets. here) (λ pending timers runs. losses_keep (λ (f : End). Of f) settles (with_closing e (ticked e.closing now)) here) expiry;
     polls = λ now set. polled_leaves p e now here;
     hears = λ arrival d set. cc;

@@ -30,8 +30,8 @@ use Rattle.quic_machine.specs.Receive.{Outcome, take_frame}
 use Rattle.quic_machine.specs.FrameCases as frame_cases
 use Rattle.quic_machine.specs.FrameCases.{begun, frames_keep}
 use Rattle.quic_machine.specs.CallCases.{asks_event}
-use Rattle.quic_machine.specs.Machine.{World, after_call, policy_at}
-use Rattle.quic_headline.specs.Runs.{Run, Told, Packet, Intake, In, and_told, folded, until, given_of}
+use Rattle.quic_machine.specs.Machine.{World, after_call}
+use Rattle.quic_headline.specs.Runs.{Run, Told, Packet, Intake, In, and_told, folded}
 use Rattle.quic_headline.specs.Observer.{Sent, took}
 use Rattle.quic_headline.specs.Headline.{IsHonest, IsRun}
 use Rattle.quic_headline.specs.Ids.{and_packet, WasOpened}
@@ -43,7 +43,7 @@ use Rattle.quic_headline.proofs.Places.Parties.{told_of, Party, called, came_to}
 use Rattle.quic_headline.proofs.Places.Groups.{Way, Nothing, And, Calls, Group, both}
 use Rattle.quic_headline.proofs.Places.Coming.{came_same, by_coming}
 use Rattle.quic_headline.proofs.Places.Openings.{took_is}
-use Rattle.quic_headline.proofs.Places.Placed.{party_at, Placed, placed, answered, known_first}
+use Rattle.quic_headline.proofs.Places.Placed.{party_at, Placed, placed, answered}
 use Rattle.quic_headline.proofs.Places.Everything as everything
 use Rattle.quic_headline.proofs.Places.Theorems.{ready}
 use Rattle.quic_headline.proofs.Halves.Ready.{Ready}
@@ -133,7 +133,7 @@ event_stays dir e = go (tells_message e)
 
 -- what x has heard of that the peer opened
 abbrev pub openings_of : Dir → Party → Party → Openings
-openings_of dir x y = folded (openings_told x.policy y.final dir) x.told (no_openings (x.id ∷ []))
+openings_of dir x y = folded (openings_told x.policy y.final dir) x.told no_openings
 
 same_intake : (p : _) (given : List (List ℕ)) (dir : Dir) (told : List Told) (o : Openings) → (folded (openings_told p given dir) told o).intake ≡ folded (and_told p given) told o.intake
 same_intake p given dir [] o = refl
@@ -153,8 +153,8 @@ module _ (B : Way) (b : IsHearing B) (dir : Dir) (x y : Party) where
   -- what is heard behind a call
   heard_more : (call : Call) (a : Answer) → (openings_of dir (called x y.given call a) y).heard ≡ (if tells_opened dir call a then (came_to x y).took else (openings_of dir x y).heard)
   heard_more call a =
-      ap (λ (o : Openings). o.heard) (folded_more (openings_told x.policy y.final dir) x.told (told_of call a x.end.closing.state) (no_openings (x.id ∷ [])))
-      ∙ ap (λ (j : Intake). if tells_opened dir call a then j.took else (openings_of dir x y).heard) (same_intake x.policy y.final dir x.told (no_openings (x.id ∷ [])))
+      ap (λ (o : Openings). o.heard) (folded_more (openings_told x.policy y.final dir) x.told (told_of call a x.end.closing.state) no_openings)
+      ∙ ap (λ (j : Intake). if tells_opened dir call a then j.took else (openings_of dir x y).heard) (same_intake x.policy y.final dir x.told no_openings)
 
   -- what a call leaves that tells none
   abbrev Leaves : End → Intake → Type 0
@@ -306,7 +306,7 @@ openings_are_told r end honest run side i id dir served at opened = subst (λ (p
     y = party_at r i p.world (other_side side) p.theirs
 
     same : heard_of r side dir i ≡ (openings_of dir x y).heard
-    same = ap (λ (ids : List (List ℕ)). (folded (openings_told (policy_at side r.keys) (given_of r (other_side side)) dir) (until r side i) (no_openings ids)).heard) (known_first r honest side)
+    same = refl
 
     came : took r side i ≡ (came_to x y).took
     came = ap (λ (j : Intake). j.took) (took_is r honest p.world i side p.sents p.theirs)

@@ -4,13 +4,13 @@ use Rattle.std.proofs.Common.{◌≡◌, ℕ, ◌⊎◌, inl, inr, Bool, true, f
 use Rattle.std.specs.Prelude.{nat_lt, nat_le, if◌then◌else◌}
 use Rattle.std.specs.List.{list_any}
 use Rattle.std.specs.Option.{is_some}
-use Rattle.std.proofs.lemmas.Bool.{cond_both, or_cases, or_from, or_left, or_right, and_parts, not-true, eqb-true, eq-eqb, false_from_ne_true, both_ways}
+use Rattle.std.proofs.lemmas.Bool.{cond_both, cond-true, cond-false, or_cases, or_from, or_left, or_right, and_parts, not-true, eqb-true, eq-eqb, false_from_ne_true, both_ways}
 use Rattle.std.proofs.lemmas.List.{append-nil, append_assoc}
 use Rattle.std.proofs.lemmas.List.Folds.{list_any-append}
 use Rattle.quic_wire_core.specs.declared.stream_id.Side.{Side}
 use Rattle.quic_wire_core.specs.declared.stream_id.Dir.{Dir}
 use Rattle.quic_wire_core.specs.StreamId.{other_side}
-use Rattle.quic_wire.specs.Value.{FrameValue, StreamValue, stream}
+use Rattle.quic_wire.specs.Value.{FrameValue, StreamValue, ResetStreamValue, stream, reset_stream}
 use Rattle.quic_streams_parts.specs.declared.answers.StreamEvent.{StreamEvent}
 use Rattle.quic_streams_parts.specs.declared.answers.StreamEvent.TheVariants as stream_events
 use Rattle.quic_streams_parts.specs.Dirs.{Counts, of, is_own}
@@ -22,11 +22,11 @@ use Rattle.quic_streams_state.specs.declared.state.StreamsState.{StreamsState}
 use Rattle.quic_streams_state.specs.State.{is_opened, receives_on, receiving_half, receiving_status, first_window, room}
 use Rattle.quic_streams_state.specs.Limits.{most_streams}
 use Rattle.quic_streams_state.specs.Opening.{opens, opened_if, opened_by, with_own_limit, after_max_streams, receiving_refusal}
-use Rattle.quic_streams_state.specs.Taking.{part_for, refusal, readable_if}
+use Rattle.quic_streams_state.specs.Taking.{part_for, refusal, reset_breach, readable_if, renewed}
 use Rattle.quic_streams_state.specs.Telling.{Telling, passed, after_passing, told_next, told_behind, told_writable, polled}
 use Rattle.quic_streams_laws.specs.Content.{AllReceiving}
 use Rattle.quic_streams_laws.specs.Each.{HalfIs}
-use Rattle.quic_streams_laws.specs.KeepingLaws.{by_stream, by_reset_frame, stream_cases}
+use Rattle.quic_streams_laws.specs.KeepingLaws.{by_stream, by_reset_frame, stream_cases, reset_cases}
 use Rattle.quic_streams_laws.specs.QuietLaws.{is_quiet}
 use Rattle.quic_streams_laws.specs.StatusLaws.{GoesOn, each_kept}
 use Rattle.quic_machine.specs.declared.answers.Event.TheVariants as events
@@ -43,14 +43,15 @@ use Rattle.quic_machine.specs.End.{End, with_numbers, closed_by}
 use Rattle.quic_machine.specs.Receive.{Fault, Outcome, reason_of, take_frame, take_items, unless_fault}
 use Rattle.quic_machine.specs.FrameCases as frame_cases
 use Rattle.quic_machine.specs.FrameCases.{begun, frames_keep}
+use Rattle.quic_machine.specs.Steps as steps
 use Rattle.quic_machine.specs.CallCases.{asks_event}
-use Rattle.quic_machine.specs.Machine.{World, after_call, policy_at}
-use Rattle.quic_headline.specs.Runs.{Run, Told, Packet, Intake, In, OpensStream, and_told, folded, until, given_of, finished}
+use Rattle.quic_machine.specs.Machine.{World, after_call}
+use Rattle.quic_headline.specs.Runs.{Run, Told, Packet, Intake, In, OpensStream, and_told, folded, finished}
 use Rattle.quic_headline.specs.Observer.{Sent, news}
 use Rattle.quic_headline.specs.Headline.{IsHonest, IsRun}
 use Rattle.quic_headline.specs.Unread.{stopped}
-use Rattle.quic_headline.specs.Credit.{was_reset, is_read_up}
-use Rattle.quic_headline.specs.Events.{brings_of, brings, tells_readable, is_reading, Reading, no_reading, reading_behind, reading_told, reading, ReadablesAreTold}
+use Rattle.quic_headline.specs.Credit.{resets_stream, was_reset, is_read_up}
+use Rattle.quic_headline.specs.Events.{brings_of, brings, tells_readable, is_reading, comes_to_read, Reading, no_reading, reading_behind, reading_told, reading, ReadablesAreTold}
 use Rattle.quic_headline.proofs.Packets.Delivered.{Arrivals, with_taken, with_refused}
 use Rattle.quic_headline.proofs.Packets.Group.{PacketsHold, meets}
 use Rattle.quic_headline.proofs.Packets.Intakes.{folded_more}
@@ -58,15 +59,18 @@ use Rattle.quic_headline.proofs.Packets.Watching.{none_new, one_new}
 use Rattle.quic_headline.proofs.Places.Parties.{told_of, Party, called, came_to}
 use Rattle.quic_headline.proofs.Places.Groups.{Way, Nothing, And, Calls, Group, both}
 use Rattle.quic_headline.proofs.Places.Coming.{came_more, came_same, by_coming}
-use Rattle.quic_headline.proofs.Places.Placed.{party_at, Placed, placed, answered, known_first}
+use Rattle.quic_headline.proofs.Places.Placed.{party_at, Placed, placed, answered}
 use Rattle.quic_headline.proofs.Halves.Opened.{IsOpened, IsOf, opened_stays, side_stays}
 use Rattle.quic_headline.proofs.Halves.Bringing.{Brought}
 use Rattle.quic_headline.proofs.Halves.QuietSteps.{frame_quiet}
 use Rattle.quic_headline.proofs.Halves.ReadGroup.{WasIn, ReadsHold}
 use Rattle.quic_headline.proofs.Channel.Counted.{flagged_call, flagged_frame}
+use Rattle.quic_headline.proofs.Channel.Received.{Stays as StaysUp}
+use Rattle.quic_headline.proofs.Channel.Told.{stays_frame}
+use Rattle.quic_headline.proofs.Channel.Within.{Within}
 use Rattle.quic_headline.proofs.Credit.Clause.{Base, Credits, credited}
-use Rattle.quic_headline.proofs.Credit.Counted.{IsAny, IsCounted, Uses, up_more}
-use Rattle.quic_headline.proofs.Credit.Lists.{Usage, usage, told_uses, packet_uses, uses_then}
+use Rattle.quic_headline.proofs.Credit.Counted.{IsAny, IsCounted, IsReadUp, Uses, grown, half_counts, frame_counts, up_more}
+use Rattle.quic_headline.proofs.Credit.Lists.{Usage, usage, UsesMore, SaysFrame, told_uses, packet_uses, uses_then, frame_said}
 use Rattle.quic_headline.proofs.Unread.OpeningLasts.{lasts_any}
 use Rattle.quic_headline.proofs.Unread.OpeningStatus.{IsDoneStatus, ReceivesNoMore, done_lasts}
 use Rattle.quic_headline.proofs.Unread.Taken.{gone_there, no_fault, kept_before, unbroken_none}
@@ -306,21 +310,101 @@ abbrev StaysOpen : End → Type 0
 StaysOpen e = e.closing.state ≡ states.Open
 
 open_settles : frame_cases.Settling StaysOpen
-open_settles = record { known = λ n e i. i; reset = λ q e i. i; acked = λ m e i. i; lost = λ m e i. i; again = λ carried e i. i; searched = λ discovery e i. i; shortens = λ most e i. i; tracked = λ t e i. i; measured = λ r first e i. i; marked = λ m marking e i. i }
+open_settles (steps.known n) e i = i
+open_settles s e i = i
 
 -- frames close none
 frames_open : (frames : List FrameValue) (e : End) → StaysOpen e → StaysOpen (frame_cases.passed frames e).end
 frames_open frames e is = frames_keep StaysOpen (frame_cases.frame_keeps StaysOpen (record {
   ack = λ rises a x i. frame_cases.acked_keeps StaysOpen open_settles rises a (frame_cases.named a x) i;
   on_streams = λ f x on i. frame_cases.frame_leaves StaysOpen f x on (λ t. i);
+  apart = λ f x is i. frame_cases.apart_leaves StaysOpen f x is (λ c. i);
   message = λ m x i. i;
 })) frames e is
+
+-- ---- the first RESET_STREAM frame
+
+-- what is known of one that is done
+spent_at : (N : Type 0) (Q : RecvHalf → Type 0) (D : Type 0) (o : Option RecvHalf) (m used : Bool) → IsDoneStatus (status_from o m used) → HalfIs N Q D o used → D
+spent_at N Q D (Some h) m used is c = absurd is
+spent_at N Q D None true true is c = c
+spent_at N Q D None true false is c = absurd is
+spent_at N Q D None false used is c = absurd is
+
+-- one that is taken tells, where nothing of the stream was read up by what was used of it
+reset_tells : (side : Side) (wide each_wide : ℕ) (before : StreamsState) (u : Usage) (g : ResetStreamValue) (e : End) → (take_frame (reset_stream g) e).fault ≡ None → Facts side g.id e.streams → Of (Uses wide each_wide u) e.streams → (IsReadUp u g.id → ⊥)
+    → HasReadable g.id (take_frame (reset_stream g) e).end.streams
+reset_tells side wide each_wide before u g e none i uses unread =
+    let allowed : reset_breach e.streams g ≡ None = no_fault _ none in
+    reset_cases e.streams e.waiting.frames g (HasReadable g.id)
+    (λ b is. absurd (unbroken_none b (reset_breach e.streams g) allowed is))
+    (λ within gone. absurd (alive (done_there side g.id e.streams i within gone)))
+    (λ h within part kept. first h (subst (λ (b : Bool). receiving_half (opened_if b g.id e.streams) g.id ≡ Some h) (none_opens side g.id e.streams i) part) (or_from h.stopped (opens e.streams g.id) (not_stopped side g.id e.streams i h part) (none_opens side g.id e.streams i)))
+  where
+    alive : ReceivesNoMore g.id e.streams → ⊥
+    alive gone = unread (spent_at (IsAny g.id) (IsCounted u g.id) _ (at e.streams.receiving.halves.live g.id) (receives_on e.streams.side g.id && is_opened e.streams g.id) (has_place e.streams.side e.streams.receiving.halves.places g.id) (gone.each g.id refl) (uses.sums.each g.id)).2
+
+    uncut : (h : RecvHalf) → receiving_half e.streams g.id ≡ Some h → is_some h.reset ≡ false
+    uncut h here = false_from_ne_true (is_some h.reset) (λ is. unread (or_right (u.ended g.id) (u.halted g.id || u.cut g.id) (or_right (u.halted g.id) (u.cut g.id) ((half_counts wide each_wide before u e.streams g.id h here uses).cut is))))
+
+    first : (h : RecvHalf) → receiving_half e.streams g.id ≡ Some h → (h.stopped || opens e.streams g.id) ≡ false → HasReadable g.id (renewed e.streams g.id h (after_reset_stream h g.code g.final_size) (not (is_some h.reset)))
+    first h here quiet = subst (λ (b : Bool). HasReadable g.id (renewed e.streams g.id h (after_reset_stream h g.code g.final_size) (not b))) (sym (uncut h here)) (readable_has g.id _ (h.stopped || opens e.streams g.id) quiet)
+
+-- what these lists say, where this stream was reset only as is said here
+abbrev but_reset : ℕ → Bool → Usage → Usage
+but_reset id was u = record { top = u.top; read = u.read; halted = u.halted; cut = λ j. if j == id then was else u.cut j; ended = u.ended; listed = u.listed }
+
+-- where it is as it was before a packet, no less was used
+but_more : (id : ℕ) (p : Packet) (packets : List Packet) (ts : List Told) → UsesMore (usage packets ts) (but_reset id (was_reset id packets) (usage (p ∷ packets) ts))
+but_more id p packets ts =
+    let m : UsesMore (usage packets ts) (usage (p ∷ packets) ts) = packet_uses p packets ts in
+    record { top = λ j. m.top j; read = λ j. m.read j; halted = λ j is. m.halted j is; cut = λ j is. go j (j == id) refl is (m.cut j is); ended = λ j is. m.ended j is; listed = λ j is. m.listed j is }
+  where
+    go : (j : ℕ) (b : Bool) → (j == id) ≡ b → was_reset j packets ≡ true → was_reset j (p ∷ packets) ≡ true → (if b then was_reset id packets else was_reset j (p ∷ packets)) ≡ true
+    go j true same was now = subst (λ (q : ℕ). was_reset q packets ≡ true) (eqb-true j id same) was
+    go j false apart was now = now
+
+-- and so say its frames that don't reset the stream
+but_says : (id : ℕ) (was : Bool) (u : Usage) (f : FrameValue) → resets_stream id f ≡ false → SaysFrame u f → SaysFrame (but_reset id was u) f
+but_says id was u f other says = record {
+  brings = λ g is. says.brings g is;
+  resets = λ g is. (
+      let said = says.resets g is in
+      let apart : (g.id == id) ≡ false = sym (ap (resets_stream id) is) ∙ other in
+      (said.0, cond-false (g.id == id) was (u.cut g.id) apart ∙ said.1, said.2));
+}
+
+module _ (side : Side) (id wide each_wide : ℕ) (before : StreamsState) (u : Usage) (unread : IsReadUp u id → ⊥) where
+  frame_resets : (f : FrameValue) (e : End) → (take_frame f e).fault ≡ None → resets_stream id f ≡ true → Facts side id e.streams → Of (Uses wide each_wide u) e.streams → HasReadable id (take_frame f e).end.streams
+  frame_resets (reset_stream g) e none is i uses =
+      let same : g.id ≡ id = eqb-true g.id id is in
+      subst (λ (q : ℕ). HasReadable q (take_frame (reset_stream g) e).end.streams) same
+      (reset_tells side wide each_wide before u g e none (subst (λ (q : ℕ). Facts side q e.streams) (sym same) i) uses (subst (λ (q : ℕ). IsReadUp u q → ⊥) (sym same) unread))
+  frame_resets f e none is i uses = cc
+
+  -- of a packet that is taken
+  resets_tell : (frames : List FrameValue) (e : End) → (frame_cases.passed frames e).fault ≡ None → Facts side id e.streams → StaysUp before e.streams → Of (Uses wide each_wide u) e.streams → ((f : FrameValue) → In f frames → resets_stream id f ≡ false → SaysFrame u f)
+      → list_any (resets_stream id) frames ≡ true → HasReadable id (frame_cases.passed frames e).end.streams
+  resets_tell [] e none i stays uses says is = cc
+  resets_tell (f ∷ fs) e none i stays uses says is = go (take_frame f e).fault refl none (λ right rest. step (resets_stream id f) refl right rest (λ other.
+      resets_tell fs (take_frame f e).end rest (facts_frame side id f e i) (stays_frame before f e stays) (frame_counts wide each_wide before u f e (says f (inl refl) other) stays uses) (λ g among. says g (inr among))
+      (elim (or_cases (resets_stream id f) (list_any (resets_stream id) fs) is) [ inl it ↦ absurd (both_ways (resets_stream id f) other it) | inr later ↦ later ])))
+    where
+      step : (b : Bool) → resets_stream id f ≡ b → (take_frame f e).fault ≡ None → (frame_cases.passed fs (take_frame f e).end).fault ≡ None → (resets_stream id f ≡ false → HasReadable id (frame_cases.passed fs (take_frame f e).end).end.streams)
+          → HasReadable id (frame_cases.passed fs (take_frame f e).end).end.streams
+      step true it right rest later = frames_have id fs (take_frame f e).end (frame_resets f e right it i uses)
+      step false other right rest later = later other
+
+      go : (o : Option Fault) → (take_frame f e).fault ≡ o → (unless_fault o (take_frame f e) (take_items (map Ok fs))).fault ≡ None → ((take_frame f e).fault ≡ None → (frame_cases.passed fs (take_frame f e).end).fault ≡ None → HasReadable id (frame_cases.passed fs (take_frame f e).end).end.streams)
+          → HasReadable id (unless_fault o (take_frame f e) (take_items (map Ok fs))).end.streams
+      go None right rest later = later right rest
+      go (Some x) wrong rest later = let clash : Some x ≡ None = sym wrong ∙ rest in cc
 
 -- ---- the group
 
 -- whether x is to be told that it may read a stream
 abbrev pub reading_of : ℕ → Party → Party → Reading
-reading_of id x y = folded (reading_told x.side x.policy y.final id) x.told (no_reading (x.id ∷ []))
+reading_of id x y = folded (reading_told x.side x.policy y.final id) x.told no_reading
 
 same_intake : (side : Side) (p : _) (given : List (List ℕ)) (id : ℕ) (told : List Told) (r : Reading) → (folded (reading_told side p given id) told r).intake ≡ folded (and_told p given) told r.intake
 same_intake side p given id [] r = refl
@@ -338,6 +422,7 @@ pub record IsReadying (B : Way) : Type 1 where
   pub packets : (x y : Party) → B x y → PacketsHold x y
   pub reads : (x y : Party) → B x y → ReadsHold x y
   pub credits : (x y : Party) → B x y → Credits x y
+  pub within : (x y : Party) → B x y → Within x y
 
 -- the status of a half that wasn't stopped, by what is known of it
 unhalted_at : (u : Usage) (id : ℕ) (D : Type 0) (o : Option RecvHalf) (m used : Bool) → (u.halted id ≡ true → ⊥) → HalfIs (IsAny id) (IsCounted u id) D o used → IsUnhalted (status_from o m used)
@@ -345,13 +430,6 @@ unhalted_at u id D (Some h) m used none c = false_from_ne_true h.stopped (λ is.
 unhalted_at u id D None true true none c = tt
 unhalted_at u id D None true false none c = tt
 unhalted_at u id D None false used none c = tt
-
--- what is known of one that is done
-spent_at : (N : Type 0) (Q : RecvHalf → Type 0) (D : Type 0) (o : Option RecvHalf) (m used : Bool) → IsDoneStatus (status_from o m used) → HalfIs N Q D o used → D
-spent_at N Q D (Some h) m used is c = absurd is
-spent_at N Q D None true true is c = c
-spent_at N Q D None true false is c = absurd is
-spent_at N Q D None false used is c = absurd is
 
 module _ (B : Way) (b : IsReadying B) (id : ℕ) (x y : Party) (call : Call) (a : Answer) (c : Calls B x y call a) (h : Readied id x y) where
   abbrev next : Party
@@ -367,24 +445,26 @@ module _ (B : Way) (b : IsReadying B) (id : ℕ) (x y : Party) (call : Call) (a 
   abbrev Shows : End → Intake → Type 0
   Shows e j = (HasReadable id x.end.streams → HasReadable id e.streams)
       × (brings id (news came j) ≡ true → is_reading x.side id came.took j.took (x.told ++ t ∷ []) ≡ true → (e.closing.state ≡ states.Open → ReceivesNoMore id e.streams → ⊥) → HasReadable id e.streams)
+      × (was_reset id (news came j) ≡ true → is_reading x.side id came.took came.took (x.told ++ t ∷ []) ≡ true → HasReadable id e.streams)
 
   -- where nothing came
   quiet : (e : End) (j : Intake) → news came j ≡ [] → (HasReadable id x.end.streams → HasReadable id e.streams) → Shows e j
-  quiet e j none keeps = (keeps, λ is reads alive. let nothing : brings id (news came j) ≡ false = ap (brings id) none in let clash : false ≡ true = sym nothing ∙ is in cc)
+  quiet e j none keeps = (
+    keeps,
+    λ is reads alive. (let nothing : brings id (news came j) ≡ false = ap (brings id) none in let clash : false ≡ true = sym nothing ∙ is in cc),
+    λ is reads. (let nothing : was_reset id (news came j) ≡ false = ap (was_reset id) none in let clash : false ≡ true = sym nothing ∙ is in cc),
+  )
 
-  -- before a packet that is taken
-  facts : (p : Packet) → x.end.closing.state ≡ states.Open → is_reading x.side id came.took (p ∷ came.took) (x.told ++ t ∷ []) ≡ true → Facts x.side id x.end.streams
-  facts p state reads = record {
+  -- while it is open and the stream is read on
+  facts : x.end.closing.state ≡ states.Open → (is_own x.side id || brings id came.took) ≡ true → (is_read_up id came.took x.told ≡ true → ⊥) → Facts x.side id x.end.streams
+  facts state there not_up = record {
     of_side = brought.of_side;
-    opened = elim (or_cases (is_own x.side id) (brings id came.took) parts.0) [ inl own ↦ inl own | inr was ↦ by_side (is_own x.side id) refl was ];
+    opened = elim (or_cases (is_own x.side id) (brings id came.took) there) [ inl own ↦ inl own | inr was ↦ by_side (is_own x.side id) refl was ];
     half = record { shape = (b.reads y x c.takes).reads.shape; each = λ j same. subst (λ (q : ℕ). IsUnhalted (receiving_status x.end.streams q)) (sym same) here };
   }
     where
       brought : Brought x.side (WasIn (came_to x y).took) x.end.streams
       brought = (b.reads y x c.takes).brought
-
-      parts : ((is_own x.side id || brings id came.took) ≡ true) × (not (is_read_up id (p ∷ came.took) (x.told ++ t ∷ [])) ≡ true)
-      parts = and_parts (is_own x.side id || brings id came.took) (not (is_read_up id (p ∷ came.took) (x.told ++ t ∷ []))) reads
 
       in_frames : (fs : List FrameValue) → list_any (brings_of id) fs ≡ true → (f : FrameValue) × In f fs × (brings_of id f ≡ true)
       in_frames [] is = cc
@@ -408,10 +488,6 @@ module _ (B : Way) (b : IsReadying B) (id : ℕ) (x y : Party) (call : Call) (a 
       uses : Of (Uses x.made.streams.receiving.window x.made.streams.receiving.stream_window (usage (came_to x y).took x.told)) x.end.streams
       uses = (b.credits y x c.takes).still state
 
-      not_up : is_read_up id came.took x.told ≡ true → ⊥
-      not_up is = both_ways (is_read_up id (p ∷ came.took) (x.told ++ t ∷ [])) (not-true (is_read_up id (p ∷ came.took) (x.told ++ t ∷ [])) parts.1)
-          (up_more (usage came.took x.told) (usage (p ∷ came.took) (x.told ++ t ∷ [])) (uses_then (usage came.took x.told) (usage (p ∷ came.took) x.told) (usage (p ∷ came.took) (x.told ++ t ∷ [])) (packet_uses p came.took x.told) (told_uses (p ∷ came.took) x.told t)) id is)
-
       here : IsUnhalted (receiving_status x.end.streams id)
       here = unhalted_at (usage came.took x.told) id _ (at x.end.streams.receiving.halves.live id) (receives_on x.end.streams.side id && is_opened x.end.streams id) (has_place x.end.streams.side x.end.streams.receiving.halves.places id)
           (λ halted. not_up (or_right (finished id x.told) (stopped id x.told || was_reset id came.took) (or_left (stopped id x.told) (was_reset id came.took) halted))) (uses.sums.each id)
@@ -420,20 +496,45 @@ module _ (B : Way) (b : IsReadying B) (id : ℕ) (x y : Party) (call : Call) (a 
   arrives now s = record {
     ignored = λ reason. quiet x.end came (none_new came) (λ has. has);
     noted = λ state reason. quiet (with_numbers x.end (number_opened x.end.numbers s.number)) came (none_new came) (λ has. has);
-    takes = λ state new none mark. (frames_have id s.frames (begun x.end now s.number), λ is reads alive. taken state none is reads (alive (frames_open s.frames (begun x.end now s.number) state)));
+    takes = λ state new none mark. (frames_have id s.frames (begun x.end now s.number), λ is reads alive. taken state none is reads (alive (frames_open s.frames (begun x.end now s.number) state)), λ is reads. taken_reset state none is reads);
     refuses = λ state new f fault. quiet (closed_by (reason_of f) (frame_cases.passed s.frames (begun x.end now s.number)).end) (with_refused came s.number s.frames) (none_new came) (frames_have id s.frames (begun x.end now s.number));
   }
     where
       packet : Packet
       packet = record { number = s.number; frames = s.frames }
 
+      later : List Told
+      later = x.told ++ t ∷ []
+
       taken : x.end.closing.state ≡ states.Open → (frame_cases.passed s.frames (begun x.end now s.number)).fault ≡ None → brings id (news came (with_taken came s.number s.frames)) ≡ true → is_reading x.side id came.took (packet ∷ came.took) (x.told ++ t ∷ []) ≡ true
           → (ReceivesNoMore id (frame_cases.passed s.frames (begun x.end now s.number)).end.streams → ⊥) → HasReadable id (frame_cases.passed s.frames (begun x.end now s.number)).end.streams
       taken state none is reads alive =
           let one : brings id (packet ∷ []) ≡ true = sym (ap (brings id) (one_new came s.number s.frames)) ∙ is in
-          let f : Facts x.side id x.end.streams = facts packet state reads in
+          let parts = and_parts (is_own x.side id || brings id came.took) (not (is_read_up id (packet ∷ came.took) later)) reads in
+          let f : Facts x.side id x.end.streams = facts state parts.0 (λ up. both_ways (is_read_up id (packet ∷ came.took) later) (not-true (is_read_up id (packet ∷ came.took) later) parts.1)
+          (up_more (usage came.took x.told) (usage (packet ∷ came.took) later) (uses_then (usage came.took x.told) (usage (packet ∷ came.took) x.told) (usage (packet ∷ came.took) later) (packet_uses packet came.took x.told) (told_uses (packet ∷ came.took) x.told t)) id up)) in
           elim (or_cases (list_any (brings_of id) s.frames) false one) [
             | inl here ↦ frames_tell x.side id s.frames (begun x.end now s.number) none f alive (inl here)
+            | inr never ↦ cc
+          ]
+
+      -- what was used, where the packet didn't reset the stream
+      unreset : Usage
+      unreset = but_reset id (was_reset id came.took) (usage (packet ∷ came.took) later)
+
+      taken_reset : x.end.closing.state ≡ states.Open → (frame_cases.passed s.frames (begun x.end now s.number)).fault ≡ None → was_reset id (news came (with_taken came s.number s.frames)) ≡ true → is_reading x.side id came.took came.took (x.told ++ t ∷ []) ≡ true
+          → HasReadable id (frame_cases.passed s.frames (begun x.end now s.number)).end.streams
+      taken_reset state none is reads =
+          let one : was_reset id (packet ∷ []) ≡ true = sym (ap (was_reset id) (one_new came s.number s.frames)) ∙ is in
+          let parts = and_parts (is_own x.side id || brings id came.took) (not (is_read_up id came.took later)) reads in
+          let unread : is_read_up id came.took later ≡ true → ⊥ = λ up. both_ways (is_read_up id came.took later) (not-true (is_read_up id came.took later) parts.1) up in
+          let f : Facts x.side id x.end.streams = facts state parts.0 (λ up. unread (up_more (usage came.took x.told) (usage came.took later) (told_uses came.took x.told t) id up)) in
+          let uses : Of (Uses x.made.streams.receiving.window x.made.streams.receiving.stream_window unreset) x.end.streams =
+          grown x.made.streams.receiving.window x.made.streams.receiving.stream_window (usage came.took x.told) unreset (uses_then (usage came.took x.told) (usage came.took later) unreset (told_uses came.took x.told t) (but_more id packet came.took later)) x.end.streams ((b.credits y x c.takes).still state) in
+          elim (or_cases (list_any (resets_stream id) s.frames) false one) [
+            | inl here ↦ resets_tell x.side id x.made.streams.receiving.window x.made.streams.receiving.stream_window x.end.streams unreset
+                (λ up. unread (subst (λ (b : Bool). (finished id later || (stopped id later || b)) ≡ true) (cond-true (id == id) (was_reset id came.took) (was_reset id (packet ∷ came.took)) (eq-eqb id id refl)) up))
+                s.frames (begun x.end now s.number) none f (b.within y x c.takes).stays uses (λ g among other. but_says id (was_reset id came.took) (usage (packet ∷ came.took) later) g other (frame_said packet came.took later g among)) here
             | inr never ↦ cc
           ]
 
@@ -453,23 +554,26 @@ module _ (B : Way) (b : IsReadying B) (id : ℕ) (x y : Party) (call : Call) (a 
       both_ways (is_read_up id (came_to next y).took (x.told ++ t ∷ [])) (not-true (is_read_up id (came_to next y).took (x.told ++ t ∷ [])) parts.1) spent.2
 
   -- whether it is to be told behind the call
-  waits_more : (reading_of id next y).waits ≡ (if tells_readable id call a then false else (reading_of id x y).waits || (brings id (news came (came_to next y)) && is_reading x.side id came.took (came_to next y).took (x.told ++ t ∷ [])))
+  waits_more : (reading_of id next y).waits ≡ (if tells_readable id call a then false else (reading_of id x y).waits || comes_to_read x.side id came.took (news came (came_to next y)) (came_to next y).took (x.told ++ t ∷ []))
   waits_more =
       let r : Reading = reading_of id x y in
-      ap (λ (r : Reading). r.waits) (folded_more (reading_told x.side x.policy y.final id) x.told t (no_reading (x.id ∷ []))
-      ∙ ap (λ (i : Intake). reading_told x.side x.policy y.final id t (record { intake = i; told = r.told; waits = r.waits })) (same_intake x.side x.policy y.final id x.told (no_reading (x.id ∷ [])))
-      ∙ ap (λ (ts : List Told). reading_told x.side x.policy y.final id t (record { intake = came; told = ts; waits = r.waits })) (same_told x.side x.policy y.final id x.told (no_reading (x.id ∷ [])))
+      ap (λ (r : Reading). r.waits) (folded_more (reading_told x.side x.policy y.final id) x.told t no_reading
+      ∙ ap (λ (i : Intake). reading_told x.side x.policy y.final id t (record { intake = i; told = r.told; waits = r.waits })) (same_intake x.side x.policy y.final id x.told no_reading)
+      ∙ ap (λ (ts : List Told). reading_told x.side x.policy y.final id t (record { intake = came; told = ts; waits = r.waits })) (same_told x.side x.policy y.final id x.told no_reading)
       ∙ ap (λ (j : Intake). reading_behind x.side id t (record { intake = came; told = x.told; waits = r.waits }) j) (sym (came_more x y call a)))
 
   -- behind a call that tells it, it isn't; and behind one that doesn't
   by_tells : (tells : Bool) → tells_readable id call a ≡ tells → (tells ≡ false → Shows next.end (came_to next y)) → Readied id next y
-  by_tells tells is s = record { waits = λ on. go tells s (sym (waits_more ∙ ap (λ (b : Bool). if b then false else (reading_of id x y).waits || (brings id (news came (came_to next y)) && is_reading x.side id came.took (came_to next y).took (x.told ++ t ∷ []))) is) ∙ on) }
+  by_tells tells is s = record { waits = λ on. go tells s (sym (waits_more ∙ ap (λ (b : Bool). if b then false else (reading_of id x y).waits || comes_to_read x.side id came.took (news came (came_to next y)) (came_to next y).took (x.told ++ t ∷ [])) is) ∙ on) }
     where
-      go : (tells : Bool) → (tells ≡ false → Shows next.end (came_to next y)) → (if tells then false else (reading_of id x y).waits || (brings id (news came (came_to next y)) && is_reading x.side id came.took (came_to next y).took (x.told ++ t ∷ []))) ≡ true → HasReadable id next.end.streams
+      go : (tells : Bool) → (tells ≡ false → Shows next.end (came_to next y)) → (if tells then false else (reading_of id x y).waits || comes_to_read x.side id came.took (news came (came_to next y)) (came_to next y).took (x.told ++ t ∷ [])) ≡ true → HasReadable id next.end.streams
       go true s on = cc
-      go false s on = elim (or_cases (reading_of id x y).waits (brings id (news came (came_to next y)) && is_reading x.side id came.took (came_to next y).took (x.told ++ t ∷ [])) on) [
+      go false s on = elim (or_cases (reading_of id x y).waits (comes_to_read x.side id came.took (news came (came_to next y)) (came_to next y).took (x.told ++ t ∷ [])) on) [
         | inl was ↦ (s refl).0 (h.waits was)
-        | inr now ↦ (let parts = and_parts (brings id (news came (came_to next y))) (is_reading x.side id came.took (came_to next y).took (x.told ++ t ∷ [])) now in (s refl).1 parts.0 parts.1 (not_done parts.1))
+        | inr now ↦ elim (or_cases (brings id (news came (came_to next y)) && is_reading x.side id came.took (came_to next y).took (x.told ++ t ∷ [])) (was_reset id (news came (came_to next y)) && is_reading x.side id came.took came.took (x.told ++ t ∷ [])) now) [
+          | inl came_on ↦ (let parts = and_parts (brings id (news came (came_to next y))) (is_reading x.side id came.took (came_to next y).took (x.told ++ t ∷ [])) came_on in (s refl).1 parts.0 parts.1 (not_done parts.1))
+          | inr cut ↦ (let parts = and_parts (was_reset id (news came (came_to next y))) (is_reading x.side id came.took came.took (x.told ++ t ∷ [])) cut in (s refl).2 parts.0 parts.1)
+        ]
       ]
 
 quiet_tells : (id : ℕ) (call : Call) (a : Answer) → asks_event call ≡ false → tells_readable id call a ≡ false
@@ -509,7 +613,7 @@ readables_are_told r end honest run side i id served event = told_so (reading r 
     All = And (And Base Credits) (Readied id)
 
     all : Group Nothing All
-    all = both Nothing (And Base Credits) (Readied id) credited (readied_group (And Nothing (And Base Credits)) (record { packets = λ x y h. h.1.0.0.0.0.0.0; reads = λ x y h. h.1.0.1; credits = λ x y h. h.1.1 }) id)
+    all = both Nothing (And Base Credits) (Readied id) credited (readied_group (And Nothing (And Base Credits)) (record { packets = λ x y h. h.1.0.0.0.0.0.0; reads = λ x y h. h.1.0.1; credits = λ x y h. h.1.1; within = λ x y h. h.1.0.0.1.1 }) id)
 
     p : Placed All r end side i
     p = placed All all r end honest run side i served
@@ -521,7 +625,7 @@ readables_are_told r end honest run side i id served event = told_so (reading r 
     y = party_at r i p.world (other_side side) p.theirs
 
     same : reading r side id i ≡ reading_of id x y
-    same = ap (λ (ids : List (List ℕ)). folded (reading_told side (policy_at side r.keys) (given_of r (other_side side)) id) (until r side i) (no_reading ids)) (known_first r honest side)
+    same = refl
 
     told_so : (b : Bool) → (reading r side id i).waits ≡ b → (reading r side id i).waits ≡ false
     told_so false is = is

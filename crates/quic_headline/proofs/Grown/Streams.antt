@@ -17,6 +17,7 @@ use Rattle.quic_streams_state.specs.State.{Receiving, receiving_status, sending_
 use Rattle.quic_streams_state.specs.Taking.{joined}
 use Rattle.quic_streams_state.specs.Control.{limit_told}
 use Rattle.quic_streams_laws.specs.Keeping.{KeepsBy}
+use Rattle.quic_streams_laws.specs.Keeping as changes
 use Rattle.quic_streams_laws.specs.KeepingLaws.{at-half, by_limit_told}
 use Rattle.quic_streams_laws.specs.LimitedLaws.{WasReceiving, in_use, unused, was_receiving}
 use Rattle.quic_streams_laws.specs.QueuedLaws.{half-apart}
@@ -88,36 +89,21 @@ module _ (G : ℕ → Type 0) where
 
   -- each small change keeps it that lets no other limit grow
   pub grown_kept : KeepsBy (GrowsNot G) (λ s id old new. Unit {0}) (λ s id n old new. Unit {0}) (Grown G)
-  grown_kept = record {
-    finishes = λ s id f i. record { shape = shape_any.finishes s id f i.shape; each = i.each };
-    events = λ s e less i. record { shape = shape_any.events s e less i.shape; each = i.each };
-    opens_own = λ s dir lt i. record { shape = shape_any.opens_own s dir lt i.shape; each = i.each };
-    accepts = λ s dir lt i. record { shape = shape_any.accepts s dir lt i.shape; each = i.each };
-    allows = λ s dir count le lt i. record { shape = shape_any.allows s dir count le lt i.shape; each = i.each };
-    opens_theirs = λ s id e within i. record { shape = shape_any.opens_theirs s id e within i.shape; each = i.each };
-    raises = λ s limit le i. record { shape = shape_any.raises s limit le i.shape; each = i.each };
-    changes = λ s id old new is on same i. record { shape = shape_any.changes s id old new is tt same i.shape; each = i.each };
-    queues = λ s id old new b is on same i. record { shape = shape_any.queues s id old new b is tt same i.shape; each = i.each };
-    turns = λ s id old new is on same i. record { shape = shape_any.turns s id old new is tt same i.shape; each = i.each };
-    writes = λ s id n old new is on same i. record { shape = shape_any.writes s id n old new is tt same i.shape; each = i.each };
-    joins = λ s id h is i. record { shape = shape_any.joins s id h is i.shape; each = joined_each s id h i.each };
-    passes = λ s id ids is i. record { shape = shape_any.passes s id ids is i.shape; each = i.each };
-    ends_sending = λ s id h is over i. record { shape = shape_any.ends_sending s id h is over i.shape; each = done_each (not (is_own s.side id) && is_done (receiving_status s id)) id (without_send s id) i.each };
-    changes_receiving = λ s id old new is on i. record {
-      shape = shape_any.changes_receiving s id old new is tt i.shape;
-      each = one s id new (λ grew. elim (on grew) [ inl here ↦ here | inr was ↦ was_grown s id old (was_receiving s id old is) i.each was ]) i.each;
-    };
-    ends_receiving = λ s id h is i. record {
-      shape = shape_any.ends_receiving s id h is i.shape;
-      each = done_each (not (is_own s.side id) && (not (is_two_way (dir_of id)) || is_done (sending_status s id))) id _ (ends s id i.shape i.each);
-    };
-    tells = λ s i. record { shape = shape_any.tells s i.shape; each = i.each };
-    tells_on = λ s id h is i. record {
-      shape = shape_any.tells_on s id h is i.shape;
-      each = one s id (record h { announced = raised_on s.receiving.stream_window h }) (λ grew. absurd (told_grew_not s.receiving.stream_window h grew)) i.each;
-    };
-    tells_count = λ s dir i. record { shape = shape_any.tells_count s dir i.shape; each = i.each };
+  grown_kept (changes.joins id h) s is i = record { shape = shape_any (changes.joins id h) s is i.shape; each = joined_each s id h i.each }
+  grown_kept (changes.ends_sending id h) s (is, over) i = record { shape = shape_any (changes.ends_sending id h) s (is, over) i.shape; each = done_each (not (is_own s.side id) && is_done (receiving_status s id)) id (without_send s id) i.each }
+  grown_kept (changes.changes_receiving r id old new) s (is, on, same) i = record {
+    shape = shape_any (changes.changes_receiving r id old new) s (is, tt, same) i.shape;
+    each = one s id new (λ grew. elim (subst (λ q. GrowsNot G q id old new) (sym same) on grew) [ inl here ↦ here | inr was ↦ was_grown s id old (was_receiving s id old is) i.each was ]) i.each;
   }
+  grown_kept (changes.ends_receiving id h) s is i = record {
+    shape = shape_any (changes.ends_receiving id h) s is i.shape;
+    each = done_each (not (is_own s.side id) && (not (is_two_way (dir_of id)) || is_done (sending_status s id))) id _ (ends s id i.shape i.each);
+  }
+  grown_kept (changes.tells_on id h) s is i = record {
+    shape = shape_any (changes.tells_on id h) s is i.shape;
+    each = one s id (record h { announced = raised_on s.receiving.stream_window h }) (λ grew. absurd (told_grew_not s.receiving.stream_window h grew)) i.each;
+  }
+  grown_kept c s may i = record { shape = shape_any c s may i.shape; each = i.each }
 
 -- ---- frames
 

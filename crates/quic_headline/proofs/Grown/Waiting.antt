@@ -46,10 +46,11 @@ use Rattle.quic_machine.specs.End.{End, with_closing, streams_at}
 use Rattle.quic_machine.specs.Calls.{AreNexts, after_nexts, is_open}
 use Rattle.quic_machine.specs.StreamCalls.{if_ok, IsStreamAnswer, after_on_streams}
 use Rattle.quic_machine.specs.Receive.{take_frame}
-use Rattle.quic_machine.specs.Poll.{Draft, no_frames, with_ping_frame, ping_if, with_control_frames, with_message_frames, with_asking, with_ack, ack_fits, ack_if, composed_if, composed, frame_room}
-use Rattle.quic_machine.specs.DraftLaws.{by_streams, by_messages}
+use Rattle.quic_machine.specs.Poll.{Draft, no_frames, with_signal_frames, with_control_frames, with_message_frames, with_asking, with_ack, ack_fits, ack_if, composed_if, composed, frame_room}
+use Rattle.quic_machine.specs.DraftLaws.{by_streams, by_messages, by_signals}
 use Rattle.quic_machine.specs.FrameCases.{OnStreams, Settling, named, acked_keeps, losses_keep, passed, frames_keep}
 use Rattle.quic_machine.specs.FrameCases as cases
+use Rattle.quic_machine.specs.Steps as steps
 use Rattle.quic_machine.specs.CallCases.{is_delivery, by_call}
 use Rattle.quic_machine.specs.LeaveCases.{by_expired, by_event}
 use Rattle.quic_machine.specs.Machine.{IsAnswer, after_call}
@@ -58,6 +59,7 @@ use Rattle.quic_headline.proofs.Halves.QuietSteps.{on_streams_quiet, frame_quiet
 use Rattle.quic_headline.proofs.Grown.Streams.{Grown, grown_more, grown_kept, frame_grows_not, reset_grows_not, told_once}
 use Rattle.quic_headline.proofs.Grown.Flags.{is_read, KeptIn, Decides, calls_keep, polled_keeps, reset_acked_keeps, lost_keeps, frame_keeps}
 use Rattle.quic_headline.proofs.Grown.Flags as flags
+use Rattle.quic_streams_laws.specs.Keeping as changes
 
 -- ---- what waits
 
@@ -158,21 +160,17 @@ call_waits e within b call a is w =
 -- ---- frames that come
 
 settles : Settling (λ (e : End). Waits (streams_at e))
-settles = record {
-  known = λ n e w. w;
-  reset = λ id e w. (let ids : List ℕ = e.waiting.frames.max_stream_data in
-      waits_of ids _ (reset_acked_keeps (Flagged ids) (decides ids) e.streams e.waiting.frames id (flags_of (streams_at e) w)) ((quiet (IsListed ids)).reset_acked e.streams e.waiting.frames id w.each));
-  acked = λ m e w. (let ids : List ℕ = e.waiting.frames.max_stream_data in
-      waits_of ids _ (flags.acked_keeps (Flagged ids) (decides ids) e.streams e.waiting.frames m (flags_of (streams_at e) w)) ((quiet (IsListed ids)).acked e.streams e.waiting.frames m w.each));
-  lost = λ m e w. (let ids : List ℕ = e.waiting.frames.max_stream_data in
-      waits_of ids _ (lost_keeps (Flagged ids) (decides ids) e.streams e.waiting.frames m (flags_of (streams_at e) w)) ((quiet (IsListed ids)).lost e.streams m w.each));
-  again = λ c e w. waits_told (IsListed e.waiting.frames.max_stream_data) _ w.each (told_merged e.streams e.waiting.frames c.retransmits (told_of_waits (streams_at e) w));
-  searched = λ discovery e w. w;
-  shortens = λ most e w. w;
-  tracked = λ t e w. w;
-  measured = λ r first e w. w;
-  marked = λ m marking e w. w;
-}
+settles (steps.reset id) e w =
+    let ids : List ℕ = e.waiting.frames.max_stream_data in
+    waits_of ids _ (reset_acked_keeps (Flagged ids) (decides ids) e.streams e.waiting.frames id (flags_of (streams_at e) w)) ((quiet (IsListed ids)).reset_acked e.streams e.waiting.frames id w.each)
+settles (steps.acked m) e w =
+    let ids : List ℕ = e.waiting.frames.max_stream_data in
+    waits_of ids _ (flags.acked_keeps (Flagged ids) (decides ids) e.streams e.waiting.frames m (flags_of (streams_at e) w)) ((quiet (IsListed ids)).acked e.streams e.waiting.frames m w.each)
+settles (steps.lost m) e w =
+    let ids : List ℕ = e.waiting.frames.max_stream_data in
+    waits_of ids _ (lost_keeps (Flagged ids) (decides ids) e.streams e.waiting.frames m (flags_of (streams_at e) w)) ((quiet (IsListed ids)).lost e.streams m w.each)
+settles (steps.again c) e w = waits_told (IsListed e.waiting.frames.max_stream_data) _ w.each (told_merged e.streams e.waiting.frames c.retransmits (told_of_waits (streams_at e) w))
+settles s e w = w
 
 -- one on streams
 on_streams_waits : (f : FrameValue) (e : End) → OnStreams f → Waits (streams_at e) → Waits (streams_at (take_frame f e).end)
@@ -189,6 +187,7 @@ frames_wait fs e w = frames_keep (λ (x : End). Waits (streams_at x)) (cases.fra
   ack = λ rises a x v. acked_keeps (λ (y : End). Waits (streams_at y)) settles rises a (named a x) v;
   on_streams = on_streams_waits;
   message = λ m x v. v;
+  apart = λ f x is v. subst (λ (y : End). Waits (streams_at y)) (sym (cases.apart_same f x is)) v;
 })) fs e w
 
 -- ---- frames that go
@@ -254,7 +253,7 @@ count_told Uni Uni o flags was grew = let past = leb-true (raised_count Uni o + 
 
 -- once a frame went: only those that tell a limit change what has to wait
 sends_wait : (c : control.Draft) (f : FrameValue) → control.Goes c.pending c.state f → Waits (streams_of c.state c.pending) → Waits (streams_of (control.frame_told f c.state) (without_of (control.kind_of f) c.pending))
-sends_wait c (max_data limit) goes w = record { all = record { bytes = none; counts = w.all.counts }; each = (grown_kept (IsListed c.pending.max_stream_data)).tells c.state w.each }
+sends_wait c (max_data limit) goes w = record { all = record { bytes = none; counts = w.all.counts }; each = grown_kept (IsListed c.pending.max_stream_data) changes.tells c.state tt w.each }
   where
     r : Receiving
     r = c.state.receiving
@@ -263,7 +262,7 @@ sends_wait c (max_data limit) goes w = record { all = record { bytes = none; cou
     none grew = let past = leb-true (raised_data r + least_growth r.window) (raised_data r) grew in absurd (omega arith)
 sends_wait c (max_streams f) goes w = record {
   all = record { bytes = w.all.bytes; counts = λ d. count_told (control.dir_named f.one_way) d c.state.opening c.pending.max_stream_id w.all.counts };
-  each = (grown_kept (IsListed c.pending.max_stream_data)).tells_count c.state (control.dir_named f.one_way) w.each;
+  each = grown_kept (IsListed c.pending.max_stream_data) (changes.tells_count (control.dir_named f.one_way)) c.state tt w.each;
 }
 sends_wait c (max_stream_data f) goes w =
     let r : Receiving = c.state.receiving in
@@ -298,12 +297,8 @@ asking_waits : (d : Draft) → Drafted d → Drafted (with_asking d)
 asking_waits d w = by_streams Drafted (λ x id h room found first left is counts i. record {
   all = record { bytes = i.all.bytes; counts = i.all.counts };
   each = by_frame (Grown (IsListed x.end.waiting.frames.max_stream_data)) (grown_kept (IsListed x.end.waiting.frames.max_stream_data)) x.end.transport.send_fairness x.end.streams id room h found tt i.each;
-}) (with_message_frames (with_control_frames (with_ping_frame d))) (by_messages Drafted (λ x m ms is fit i. i) (with_control_frames (with_ping_frame d))
-    (control_waits (frame_room (with_ping_frame d).end) (length (with_ping_frame d).bytes) (streams_at (with_ping_frame d).end) (pinged d.end.waiting.ping)))
-  where
-    pinged : (b : Bool) → Drafted (ping_if b d)
-    pinged true = w
-    pinged false = w
+}) (with_message_frames (with_control_frames (with_signal_frames d))) (by_messages Drafted (λ x m ms is fit i. i) (with_control_frames (with_signal_frames d))
+    (control_waits (frame_room (with_signal_frames d).end) (length (with_signal_frames d).bytes) (streams_at (with_signal_frames d).end) (by_signals Drafted (λ x f left is i. i) d w)))
 
 -- whichever frames go
 composed_waits : (e : End) → Waits (streams_at e) → Drafted (composed e)
@@ -326,9 +321,8 @@ call_grown p e theirs call a within apart is w = by_call p e theirs (λ (f : End
   on_streams = λ on answer. call_waits e within (is_open e.closing.state) call a (answer is) w;
   on_messages = λ on answer. w;
   pings = w;
-  heard = λ path same. w;
   times = λ now expiry set. by_expired e now (λ (f : End). Waits (streams_at f)) (λ pending tracking timers runs packets. w) (λ pending timers runs. losses_keep (λ (f : End). Waits (streams_at f)) settles (with_closing e (ticked e.closing now)) w) expiry;
-  polls = λ now set. poll_streams Waits p e now composed_waits w (ready_streams Waits e now w (λ n t among. settles.again t.carried e w));
+  polls = λ now set. poll_streams Waits p e now composed_waits w (ready_streams Waits e now w (λ n t among. settles (steps.again t.carried) e w));
   hears = λ arrival d set. cc;
   tells = λ asks. by_event e (λ (f : End). Waits (streams_at f)) w (λ told.
       (let ids : List ℕ = e.waiting.frames.max_stream_data in

@@ -131,7 +131,7 @@ module _ (B : Way) (b : IsSpoken B) where
           → Arrivals x.end delivery.now s.number s.frames (came_to x y) (λ (o : Outcome) (j : Intake). FinishedHave (OffsetIn (came_to y x).took) (EndIn (came_to y x).took) (done_by call a (wrote x.told)) o.end.streams)
       comes gives takes delivery is s among =
           let took : List Packet = (came_to y x).took in
-          let spelled = step_of (IsSent y.policy x.id) y.sents y.given s takes.gives.each among in
+          let spelled = step_of (IsSent y.policy) y.sents y.given s takes.gives.each among in
           rw is (finished_arrivals took x.sents (record { taken = gives.taken; rising = gives.gives.rising }) (OffsetIn took) (EndIn took) (wrote x.told) (brought x.sents (wrote x.told) (b.says x y c.gives) took gives.taken) x.end delivery.now s.number s.frames (came_to x y)
           (λ ak carried. names_taken x y takes s among ak carried) (payload_small s.frames spelled.1.payload spelled.1.spells) gives.tracked i)
 
@@ -140,7 +140,7 @@ module _ (B : Way) (b : IsSpoken B) where
   arrives_reader x y call a i =
       let old : List Packet = (came_to x y).took in
       let new : List Packet = (came_to (called x y.given call a) y).took in
-      let stays : (packet : Packet) → In packet old → In packet new = took_more x.policy y.final x.told (told_of call a x.end.closing.state) (nothing_came (x.id ∷ [])) in
+      let stays : (packet : Packet) → In packet old → In packet new = took_more x.policy y.final x.told (told_of call a x.end.closing.state) nothing_came in
       finished_grows (OffsetIn old) (OffsetIn new) (EndIn old) (EndIn new) (λ id o has. offset_on old new stays has) (λ id has. (has.0, end_on old new stays has.1)) (wrote y.told) y.end.streams i
 
 -- ---- at the start

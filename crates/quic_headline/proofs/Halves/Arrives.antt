@@ -16,6 +16,7 @@ use Rattle.quic_machine.specs.Tracking.{Carried, dir_named}
 use Rattle.quic_machine.specs.End.{End, streams_at}
 use Rattle.quic_machine.specs.Receive.{take_frame}
 use Rattle.quic_machine.specs.FrameCases.{OnStreams}
+use Rattle.quic_machine.specs.Steps as steps
 use Rattle.quic_headline.specs.Runs.{Packet}
 use Rattle.quic_headline.specs.Observer.{Sent}
 use Rattle.quic_headline.proofs.Packets.Named.{SettlesOn, WasCarried, IsCarriedBy}
@@ -70,15 +71,8 @@ module _ (done : ℕ → Wrote) (e : End) (w : Writes done (streams_at e)) where
 
 -- what an ACK frame makes of an end, where what was sent says what was written
 pub settles_leave : (done : ℕ → Wrote) (took : List Packet) (sents : List Sent) → ((c : Carried) → WasCarried took c → CarriedSays done c) → ((c : Carried) → IsCarriedBy sents c → CarriedSays done c) → SettlesOn took sents (λ (e : End). Writes done (streams_at e))
-settles_leave done took sents taken sent = record {
-  known = λ n e w. w;
-  reset = λ c r e was i w. reset_leaves done e w r.0;
-  acked = λ c m e was i w. acked_leaves done e w m ((taken c was).ends m i);
-  lost = λ c m e was i w. lost_leaves done e w m ((sent c was).ends m i);
-  again = λ c e was w. again_leaves done e w c (sent c was);
-  searched = λ discovery e w. w;
-  shortens = λ most e w. w;
-  tracked = λ t e w. w;
-  measured = λ r first e w. w;
-  marked = λ m marking e w. w;
-}
+settles_leave done took sents taken sent (steps.reset id) e may w = reset_leaves done e w id
+settles_leave done took sents taken sent (steps.acked m) e (c, was, i) w = acked_leaves done e w m ((taken c was).ends m i)
+settles_leave done took sents taken sent (steps.lost m) e (c, was, i) w = lost_leaves done e w m ((sent c was).ends m i)
+settles_leave done took sents taken sent (steps.again c) e was w = again_leaves done e w c (sent c was)
+settles_leave done took sents taken sent s e may w = w

@@ -15,12 +15,14 @@ use Rattle.quic_streams_state.specs.Taking.{joined}
 use Rattle.quic_streams_state.specs.Writing.{write_answer, grown_by, accepted_at, blocked_by_all, blocked_by_own, blocked_at, written_by, after_write, write_chunks_answer, chunks_accepted_at, after_write_chunks}
 use Rattle.quic_streams_laws.specs.Written.{Wrote}
 use Rattle.quic_streams_laws.specs.Keeping.{KeepsWhere}
+use Rattle.quic_streams_laws.specs.Keeping as changes
 use Rattle.quic_streams_laws.specs.KeepingLaws.{by_open, by_accept, by_max_streams, by_finish, by_reset, by_set_priority, by_stop_sending, by_max_data_where, by_max_stream_data, by_stream, by_reset_frame, by_read_begun, by_next, by_finalize, by_stop, by_received_reset, by_reset_acked_where, by_stream_lost, by_stream_acked_where, by_polled, by_frame}
 use Rattle.quic_machine.specs.declared.run.Call.{Call}
 use Rattle.quic_machine.specs.declared.run.Answer.{Answer}
 use Rattle.quic_machine.specs.End.{End}
 use Rattle.quic_machine.specs.Receive.{Progress, is_above, names_ungiven, take_frame, Outcome}
-use Rattle.quic_machine.specs.FrameCases.{Settling, named, ack_taken, acked_keeps, begun, passed, frames_leave}
+use Rattle.quic_machine.specs.FrameCases.{Settling, named, ack_taken, acked_keeps, begun, passed, frames_leave, apart_leaves}
+use Rattle.quic_machine.specs.Steps as steps
 use Rattle.quic_headline.specs.Runs.{In, Intake}
 use Rattle.quic_headline.proofs.Packets.Invariant.{IsSent}
 use Rattle.quic_headline.proofs.Packets.Growth.{step_of}
@@ -58,27 +60,11 @@ small_joined s id h i = small_if h.blocked s _ i i
 
 -- each small change does, where a limit on all streams is small
 small_kept : KeepsWhere (λ r id old new. Unit {0}) (λ s id old new. Unit {0}) (λ s id n old new. Unit {0}) (λ s dir. Unit {0}) (λ id. Unit {0}) (λ id h. Unit {0}) (λ s limit. limit < 2 ^ 62) HasSmallLimit
-small_kept = record {
-  finishes = λ s id f i. i;
-  events = λ s e less i. i;
-  opens_own = λ s dir lt i. i;
-  accepts = λ s dir lt i. i;
-  allows = λ s dir count le lt i. i;
-  opens_theirs = λ s id e within i. i;
-  raises = λ s limit small i. small;
-  changes = λ s id old new is on same i. i;
-  queues = λ s id old new b is on has i. i;
-  turns = λ s id old new is on has i. i;
-  writes = λ s id n old new is on has i. i;
-  joins = λ s id h is i. small_joined s id h i;
-  passes = λ s id ids is i. i;
-  ends_sending = λ s id h is over i. small_done (not (is_own s.side id) && is_done (receiving_status s id)) id (without_send s id) i;
-  changes_receiving = λ s id old new is on i. i;
-  ends_receiving = λ s id h is i. small_done _ id _ i;
-  tells = λ s i. i;
-  tells_on = λ s id h is i. i;
-  tells_count = λ s dir i. i;
-}
+small_kept (changes.raises limit) s small i = small
+small_kept (changes.joins id h) s may i = small_joined s id h i
+small_kept (changes.ends_sending id h) s may i = small_done (not (is_own s.side id) && is_done (receiving_status s id)) id (without_send s id) i
+small_kept (changes.ends_receiving id h) s may i = small_done _ id _ i
+small_kept c s may i = i
 
 -- ---- writes
 
@@ -152,22 +138,14 @@ ended_all id = record { bytes = []; ended = true; reset = None }
 
 -- an ACK frame
 settling : Settling SmallAt
-settling = record {
-  known = λ n e i. i;
-  reset = λ id e i. by_reset_acked_where HasSmallLimit small_kept e.streams e.waiting.frames id (λ h is reset. tt) i;
-  acked = λ m e i. by_stream_acked_where HasSmallLimit small_kept e.streams e.waiting.frames m (λ h is none. tt) (λ h is none all. tt) (λ h all. tt) i;
-  lost = λ m e i. small_words.lost ended_all e.streams m (λ fin. refl) i;
-  again = λ carried e i. i;
-  searched = λ discovery e i. i;
-  shortens = λ most e i. i;
-  tracked = λ t e i. i;
-  measured = λ r first e i. i;
-  marked = λ m marking e i. i;
-}
+settling (steps.reset id) e i = by_reset_acked_where HasSmallLimit small_kept e.streams e.waiting.frames id (λ h is reset. tt) i
+settling (steps.acked m) e i = by_stream_acked_where HasSmallLimit small_kept e.streams e.waiting.frames m (λ h is none. tt) (λ h is none all. tt) (λ h all. tt) i
+settling (steps.lost m) e i = small_words.lost ended_all e.streams m (λ fin. refl) i
+settling s e i = i
 
 -- a frame with a small limit
 small_frame : (f : FrameValue) (e : End) → IsSmallLimit f → SmallAt e → SmallAt (take_frame f e).end
-small_frame f e small i = by_kind f e (λ (g : FrameValue) (r : Progress). SmallAt r.end) (λ a is. ack_case (names_ungiven a e) a) (λ apart on. frame_on (λ done s. HasSmallLimit s) small_words ended_all f e on small i) (λ apart m same. subst SmallAt (sym same) i)
+small_frame f e small i = by_kind f e (λ (g : FrameValue) (r : Progress). SmallAt r.end) (λ a is. ack_case (names_ungiven a e) a) (λ apart on. frame_on (λ done s. HasSmallLimit s) small_words ended_all f e on small i) (λ apart m same. subst SmallAt (sym same) i) (λ other apart. apart_leaves SmallAt f e apart (λ c. i))
   where
     ack_case : (b : Bool) (a : AckValue) → SmallAt (ack_taken b a e).end
     ack_case true a = i
@@ -198,7 +176,7 @@ limit_step x y call a c i = record {
     apart = λ apart. call_keeps (λ done s. HasSmallLimit s) small_words x.policy ended_all x.end y.given call a apart c.answer (λ n t among m inside fin. refl) i.small;
     none = λ delivery is. i.small;
     comes = λ delivery is s among. (
-        let spelled = step_of (IsSent y.policy x.id) y.sents y.given s c.takes.gives.each among in
+        let spelled = step_of (IsSent y.policy) y.sents y.given s c.takes.gives.each among in
         small_arrivals x.end delivery.now s.number s.frames (came_to x y) (payload_small s.frames spelled.1.payload spelled.1.spells) i.small);
   });
 }

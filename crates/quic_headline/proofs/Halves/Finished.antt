@@ -18,8 +18,9 @@ use Rattle.quic_streams_laws.specs.FinishedLaws.{finished_kept, finished_write, 
 use Rattle.quic_machine.specs.Tracking.{Carried}
 use Rattle.quic_machine.specs.End.{End}
 use Rattle.quic_machine.specs.Receive.{Outcome}
-use Rattle.quic_machine.specs.FrameCases.{begun}
+use Rattle.quic_machine.specs.FrameCases.{begun, apart_leaves}
 use Rattle.quic_machine.specs.Poll.{tracked}
+use Rattle.quic_machine.specs.Steps as steps
 use Rattle.quic_headline.specs.Runs.{Packet, Intake, In}
 use Rattle.quic_headline.specs.Observer.{Sent}
 use Rattle.quic_headline.proofs.Packets.Invariant.{AreTracked}
@@ -117,18 +118,10 @@ module _ (took : List Packet) (sents : List Sent) (stands : Stands took sents) (
 
   -- an ACK frame keeps it
   settles : SettlesOn took sents Holds
-  settles = record {
-    known = λ n e i. i;
-    reset = λ c r e was among i. by_reset_acked (FinishedHave arrived end_arrived wrote) (finished_kept arrived end_arrived wrote) e.streams e.waiting.frames r.0 i;
-    acked = λ c m e was among i. finished_stream_acked arrived end_arrived wrote e.streams i e.waiting.frames m (b.came c m was among);
-    lost = λ c m e was among i. (finished_words arrived end_arrived).lost wrote e.streams m (b.ended c m was among) i;
-    again = λ c e was i. i;
-    searched = λ discovery e i. i;
-    shortens = λ most e i. i;
-    tracked = λ t e i. i;
-    measured = λ r first e i. i;
-    marked = λ m marking e i. i;
-  }
+  settles (steps.reset id) e may i = by_reset_acked (FinishedHave arrived end_arrived wrote) (finished_kept arrived end_arrived wrote) e.streams e.waiting.frames id i
+  settles (steps.acked m) e (c, was, among) i = finished_stream_acked arrived end_arrived wrote e.streams i e.waiting.frames m (b.came c m was among)
+  settles (steps.lost m) e (c, was, among) i = (finished_words arrived end_arrived).lost wrote e.streams m (b.ended c m was among) i
+  settles s e may i = i
 
   -- so do all frames of a packet, taken or refused, whose ACK frames name packets that were taken
   pub finished_arrivals : (e : End) (now n : ℕ) (frames : List FrameValue) (came : Intake) → ((a : AckValue) → In (ack a) frames → NamesTaken took a) → ((f : FrameValue) → In f frames → IsSmallLimit f) → AreTracked sents e.tracking.packets → Holds e
@@ -141,4 +134,5 @@ module _ (took : List Packet) (sents : List Sent) (stands : Stands took sents) (
         names = λ a x among h. h;
         on_streams = λ f x among on h. frame_on (FinishedHave arrived end_arrived) (finished_words arrived end_arrived) wrote f x on (small f among) h;
         message = λ m x h. h;
+        apart = λ f x among apart h. apart_leaves Holds f x apart (λ c. h);
       }) (begun e now n) names tracked i

@@ -15,6 +15,7 @@ use Rattle.quic_streams_state.specs.State.{sending_half, receiving_status, sendi
 use Rattle.quic_streams_state.specs.Taking.{joined}
 use Rattle.quic_streams_state.specs.Telling.{unblocked_at}
 use Rattle.quic_streams_laws.specs.Keeping.{KeepsWhere}
+use Rattle.quic_streams_laws.specs.Keeping as changes
 use Rattle.quic_streams_laws.specs.KeepingLaws.{at-half, live_sends}
 use Rattle.quic_streams_laws.specs.QueuedLaws.{half-apart, same_half}
 use Rattle.quic_headline.proofs.Packets.MayGo.{WasReset}
@@ -126,30 +127,18 @@ module _ (r : ℕ × ℕ) where
 
   -- each small change keeps it, where nothing is written on it, and no half of it that was reset is done
   pub in_use_kept : KeepsWhere (λ q id old new. Unit {0}) (λ s id old new. StaysReset old new) (λ s id n old new. (id ≡ r.0 → ⊥)) (λ s dir. Unit {0}) (λ id. Unit {0}) (λ id h. (is_some h.reset ≡ true → id ≡ r.0 → ⊥)) (λ s limit. Unit {0}) InUse
-  in_use_kept = record {
-    finishes = λ s id f u. u;
-    events = λ s e less u. u;
-    opens_own = λ s dir lt u. u;
-    accepts = λ s dir may u. u;
-    allows = λ s dir count le lt u. u;
-    opens_theirs = λ s id e within u. u;
-    raises = λ s limit raised u. u;
-    changes = λ s id old new is on same u. with_kept s id old new is on u;
-    queues = λ s id old new b is on has u. with_kept s id old (requeued_at old.place b s.sending.queue id new).half is (λ some. requeued_reset old.place b s.sending.queue id new ∙ on some) u;
-    turns = λ s id old new is on has u. with_kept s id old (turned_at old.place s.sending.queue id new).half is (λ some. turned_reset old.place s.sending.queue id new ∙ on some) u;
-    writes = λ s id n old new is apart has u. record {
-      half = u.half;
-      found = half-apart s.side s.sending.halves id (requeued_at old.place true s.sending.queue id new).half r.0 (λ same. apart (sym same)) ∙ u.found;
-      size = u.size;
-      reset = u.reset;
-      code = u.code;
-    };
-    joins = λ s id h is u. joined_kept s id h is u;
-    passes = λ s id ids is u. unblocked_kept s.sending.halves.live id u;
-    ends_sending = λ s id h is over u. done_same (not (is_own s.side id) && is_done (receiving_status s id)) id (without_send s id) (done_kept s id h is over u);
-    changes_receiving = λ s id old new is on u. u;
-    ends_receiving = λ s id h is u. done_same (not (is_own s.side id) && (not (is_two_way (dir_of id)) || is_done (sending_status s id))) id _ u;
-    tells = λ s u. u;
-    tells_on = λ s id h is u. u;
-    tells_count = λ s dir u. u;
+  in_use_kept (changes.changes_sending id old new) s (is, on, same) u = with_kept s id old new is on u
+  in_use_kept (changes.queues id old new b) s (is, on, has) u = with_kept s id old (requeued_at old.place b s.sending.queue id new).half is (λ some. requeued_reset old.place b s.sending.queue id new ∙ on some) u
+  in_use_kept (changes.turns id old new) s (is, on, has) u = with_kept s id old (turned_at old.place s.sending.queue id new).half is (λ some. turned_reset old.place s.sending.queue id new ∙ on some) u
+  in_use_kept (changes.writes id n old new) s (is, apart, has) u = record {
+    half = u.half;
+    found = half-apart s.side s.sending.halves id (requeued_at old.place true s.sending.queue id new).half r.0 (λ same. apart (sym same)) ∙ u.found;
+    size = u.size;
+    reset = u.reset;
+    code = u.code;
   }
+  in_use_kept (changes.joins id h) s is u = joined_kept s id h is u
+  in_use_kept (changes.passes id ids) s may u = unblocked_kept s.sending.halves.live id u
+  in_use_kept (changes.ends_sending id h) s (is, over) u = done_same (not (is_own s.side id) && is_done (receiving_status s id)) id (without_send s id) (done_kept s id h is over u)
+  in_use_kept (changes.ends_receiving id h) s may u = done_same (not (is_own s.side id) && (not (is_two_way (dir_of id)) || is_done (sending_status s id))) id _ u
+  in_use_kept c s may u = u

@@ -20,6 +20,7 @@ use Rattle.quic_streams_state.specs.State.{Opening, is_opened, receives_on, firs
 use Rattle.quic_streams_state.specs.Opening.{opens, opened_if, opened_by, with_remote, sending_refusal}
 use Rattle.quic_streams_state.specs.Taking.{part_for, writable_again, is_used_up, limited_half, limit_raised, limit_at, limit_unless, after_max_stream_data, stop_at, stop_unless, sending_for, after_stop_sending, renewed, after_reset_frame, reset_unless, reset_at, reset_breach, refusal, stream_unless, stream_at, after_stream}
 use Rattle.quic_streams_laws.specs.Keeping.{KeepsAll}
+use Rattle.quic_streams_laws.specs.Keeping as changes
 use Rattle.quic_streams_laws.specs.KeepingLaws.{by_value}
 use Rattle.quic_streams_laws.specs.Shape.{IsShaped}
 use Rattle.quic_streams_laws.specs.ShapeLaws.{opened_more, more_own, more_remote, past_remote}
@@ -39,57 +40,25 @@ done_of : (b : Bool) (id : ℕ) (s : StreamsState) → (done_if b id s).side ≡
 done_of false id s = refl
 done_of true id s = refl
 
+through : (side : Side) (q : ℕ) (b : Bool) (id : ℕ) (s : StreamsState) → IsOpened side q s → IsOpened side q (done_if b id s)
+through side q false id s i = i
+through side q true id s i = record { of_side = i.of_side; opened = i.opened }
+
 -- a fact of the side and of which streams are opened stays so
 pub opened_stays : (side : Side) (id : ℕ) → KeepsAll (λ r id old new. Unit {0}) (λ s id old new. Unit {0}) (λ s id n old new. Unit {0}) (λ s dir. Unit {0}) (λ id. Unit {0}) (IsOpened side id)
-opened_stays side q = record {
-  finishes = λ s id f i. record { of_side = i.of_side; opened = i.opened };
-  events = λ s e less i. record { of_side = i.of_side; opened = i.opened };
-  opens_own = λ s dir lt i. record { of_side = i.of_side; opened = opened_more s.opening (record s.opening { own = _; sending = s.opening.sending + 1 }) s.side q (record { own = λ d. more_own dir d s.opening.own; remote = λ d. omega arith }) i.opened };
-  accepts = λ s dir may i. record { of_side = i.of_side; opened = i.opened };
-  allows = λ s dir count le lt i. record { of_side = i.of_side; opened = i.opened };
-  opens_theirs = λ s id e within i. let past = past_remote s id e in record { of_side = i.of_side; opened = opened_more s.opening (with_remote (dir_of id) (index_of id + 1) s.opening) s.side q (more_remote (dir_of id) (index_of id + 1) s.opening (omega (arith, past.1))) i.opened };
-  raises = λ s limit le i. record { of_side = i.of_side; opened = i.opened };
-  changes = λ s id old new is on same i. record { of_side = i.of_side; opened = i.opened };
-  queues = λ s id old new b is on same i. record { of_side = i.of_side; opened = i.opened };
-  turns = λ s id old new is on same i. record { of_side = i.of_side; opened = i.opened };
-  writes = λ s id n old new is on same i. record { of_side = i.of_side; opened = i.opened };
-  joins = λ s id h is i. cond_both h.blocked s _ (IsOpened side q) (λ e. i) (λ e. record { of_side = i.of_side; opened = i.opened });
-  passes = λ s id ids is i. record { of_side = i.of_side; opened = i.opened };
-  ends_sending = λ s id h is over i. through (not (is_own s.side id) && is_done (receiving_status s id)) id _ (record { of_side = i.of_side; opened = i.opened });
-  changes_receiving = λ s id old new is on i. record { of_side = i.of_side; opened = i.opened };
-  ends_receiving = λ s id h is i. through (not (is_own s.side id) && (not (is_two_way (dir_of id)) || is_done (sending_status s id))) id _ (record { of_side = i.of_side; opened = i.opened });
-  tells = λ s i. record { of_side = i.of_side; opened = i.opened };
-  tells_on = λ s id h is i. record { of_side = i.of_side; opened = i.opened };
-  tells_count = λ s dir i. record { of_side = i.of_side; opened = i.opened };
-}
-  where
-    through : (b : Bool) (id : ℕ) (s : StreamsState) → IsOpened side q s → IsOpened side q (done_if b id s)
-    through false id s i = i
-    through true id s i = record { of_side = i.of_side; opened = i.opened }
+opened_stays side q (changes.opens_own dir) s may i = record { of_side = i.of_side; opened = opened_more s.opening (record s.opening { own = _; sending = s.opening.sending + 1 }) s.side q (record { own = λ d. more_own dir d s.opening.own; remote = λ d. omega arith }) i.opened }
+opened_stays side q (changes.opens_theirs id) s (e, within) i = let past = past_remote s id e in record { of_side = i.of_side; opened = opened_more s.opening (with_remote (dir_of id) (index_of id + 1) s.opening) s.side q (more_remote (dir_of id) (index_of id + 1) s.opening (omega (arith, past.1))) i.opened }
+opened_stays side q (changes.joins id h) s may i = cond_both h.blocked s _ (IsOpened side q) (λ e. i) (λ e. record { of_side = i.of_side; opened = i.opened })
+opened_stays side q (changes.ends_sending id h) s may i = through side q (not (is_own s.side id) && is_done (receiving_status s id)) id _ (record { of_side = i.of_side; opened = i.opened })
+opened_stays side q (changes.ends_receiving id h) s may i = through side q (not (is_own s.side id) && (not (is_two_way (dir_of id)) || is_done (sending_status s id))) id _ (record { of_side = i.of_side; opened = i.opened })
+opened_stays side q c s may i = record { of_side = i.of_side; opened = i.opened }
 
 -- so does the side
 pub side_stays : (side : Side) → KeepsAll (λ r id old new. Unit {0}) (λ s id old new. Unit {0}) (λ s id n old new. Unit {0}) (λ s dir. Unit {0}) (λ id. Unit {0}) (IsOf side)
-side_stays side = record {
-  finishes = λ s id f i. i;
-  events = λ s e less i. i;
-  opens_own = λ s dir lt i. i;
-  accepts = λ s dir may i. i;
-  allows = λ s dir count le lt i. i;
-  opens_theirs = λ s id e within i. i;
-  raises = λ s limit le i. i;
-  changes = λ s id old new is on same i. i;
-  queues = λ s id old new b is on same i. i;
-  turns = λ s id old new is on same i. i;
-  writes = λ s id n old new is on same i. i;
-  joins = λ s id h is i. cond_both h.blocked s _ (IsOf side) (λ e. i) (λ e. i);
-  passes = λ s id ids is i. i;
-  ends_sending = λ s id h is over i. done_of (not (is_own s.side id) && is_done (receiving_status s id)) id _ ∙ i;
-  changes_receiving = λ s id old new is on i. i;
-  ends_receiving = λ s id h is i. done_of (not (is_own s.side id) && (not (is_two_way (dir_of id)) || is_done (sending_status s id))) id _ ∙ i;
-  tells = λ s i. i;
-  tells_on = λ s id h is i. i;
-  tells_count = λ s dir i. i;
-}
+side_stays side (changes.joins id h) s may i = cond_both h.blocked s _ (IsOf side) (λ e. i) (λ e. i)
+side_stays side (changes.ends_sending id h) s may i = done_of (not (is_own s.side id) && is_done (receiving_status s id)) id _ ∙ i
+side_stays side (changes.ends_receiving id h) s may i = done_of (not (is_own s.side id) && (not (is_two_way (dir_of id)) || is_done (sending_status s id))) id _ ∙ i
+side_stays side c s may i = i
 
 -- ---- a frame opens its stream
 

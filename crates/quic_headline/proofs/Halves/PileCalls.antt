@@ -383,7 +383,6 @@ step_holds p e theirs call a wrote holds few small is ascends h = by_call p e th
   on_streams = λ on answer. call_holds wrote e holds few h (is_open e.closing.state) call a small (answer is);
   on_messages = λ on answer. again_all e _ refl refl refl h;
   pings = again_all e _ refl refl refl h;
-  heard = λ path same. again_all e _ refl refl refl h;
   times = λ now expiry set. by_expired e now HoldsAll (λ pending tracking timers runs packets. again_all e _ refl refl packets h) (λ pending timers runs. expired now pending timers) expiry;
   polls = λ now set. polled_holds p e now ascends h;
   hears = λ arrival d set. received_holds p e arrival d h;

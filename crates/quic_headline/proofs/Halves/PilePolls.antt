@@ -5,7 +5,7 @@ use Rattle.std.specs.BTreeMap.{is_at}
 use Rattle.std.specs.declared.cmp.Ordering.{Ordering}
 use Rattle.std.specs.declared.cmp.Ordering.TheVariants.{Less, Equal, Greater}
 use Rattle.std.proofs.lemmas.List.{append-nil}
-use Rattle.quic_wire.specs.Value.{FrameValue, StopSendingValue, ack, ping, stream, datagram, reset_stream, stop_sending}
+use Rattle.quic_wire.specs.Value.{FrameValue, StopSendingValue, stream, reset_stream, stop_sending}
 use Rattle.quic_streams_parts.specs.Table.{Table, put, added, without}
 use Rattle.quic_streams_parts.specs.SendHalf.{SendHalf, frame_of}
 use Rattle.quic_retransmits.specs.Retransmits.{Retransmits}
@@ -17,10 +17,11 @@ use Rattle.quic_machine.specs.Tracking.{Tracking, TrackedPacket, Carried, withou
 use Rattle.quic_machine.specs.Closing.{ticked}
 use Rattle.quic_machine.specs.End.{End, with_closing, with_ping, number_of}
 use Rattle.quic_machine.specs.Acked.{again}
-use Rattle.quic_machine.specs.Poll.{Polled, Draft, ack_of, packet_of, tracked, record_moved, polled, goes, draft_as, Leaving, with_least, no_frames}
+use Rattle.quic_machine.specs.Poll.{Polled, Draft, packet_of, tracked, record_moved, polled, goes, draft_as, Leaving}
 use Rattle.quic_machine.specs.PollCases.{ready_at, draft_at, by_poll_to, composes, may_leave_at}
 use Rattle.quic_streams_laws.specs.QuietLaws.{told_sending}
-use Rattle.quic_machine.specs.DraftLaws.{by_leave, MayLeave}
+use Rattle.quic_machine.specs.DraftLaws.{Writing, by_leave, MayLeave}
+use Rattle.quic_machine.specs.Puts as puts
 use Rattle.quic_headline.specs.Runs.{In}
 use Rattle.quic_headline.specs.InFlight.{resets_in, stops_in}
 use Rattle.quic_headline.proofs.Packets.Carried.{carried_same}
@@ -91,35 +92,33 @@ module _ (resets : List (ℕ × ℕ)) (stops : List StopSendingValue) where
 
   -- whichever frames go
   draft_holds : (leaving : Leaving) (e : End) → MayLeave leaving e → Holds e resets stops → Drafts resets stops (draft_as leaving e)
-  draft_holds leaving e alone h = by_leave (Drafts resets stops) (record {
-    ack = λ d filled may g. other_frame d (ack (ack_of d.end)) _ refl refl (record { pile = g.pile; others = g.others });
-    ping = λ d g. other_frame d ping _ refl refl (record { pile = g.pile; others = g.others });
-    probes = λ f size g. other_frame (with_least (no_frames f) size) ping _ refl refl (record { pile = g.pile; others = g.others });
-    drops = λ d kind g. (
-        let w : Retransmits = d.end.waiting.frames in
-        let less = without_fewer kind w in
-        record {
-          pile = part_of d.end.streams.sending.halves.live (w.reset_stream ++ (resets_in d.frames ++ resets)) ((without_first kind w).reset_stream ++ (resets_in d.frames ++ resets)) (w.stop_sending ++ (stops_in d.frames ++ stops)) ((without_first kind w).stop_sending ++ (stops_in d.frames ++ stops))
-              (λ id. (let old = times_append id w.reset_stream (resets_in d.frames ++ resets) in let new = times_append id (without_first kind w).reset_stream (resets_in d.frames ++ resets) in let fewer = less.times_less id in omega arith))
-              (λ r i. elim (in_append r (without_first kind w).reset_stream (resets_in d.frames ++ resets) i) [ inl x ↦ in_left r w.reset_stream (resets_in d.frames ++ resets) (less.resets r x) | inr x ↦ in_right r w.reset_stream (resets_in d.frames ++ resets) x ])
-              (λ s i. elim (in_append s (without_first kind w).stop_sending (stops_in d.frames ++ stops) i) [ inl x ↦ in_left s w.stop_sending (stops_in d.frames ++ stops) (less.stops s x) | inr x ↦ in_right s w.stop_sending (stops_in d.frames ++ stops) x ])
-              g.pile;
-          others = record { no_ids = less.ids ∙ g.others.no_ids; no_retired = less.retired ∙ g.others.no_retired; no_frequency = less.frequency ∙ g.others.no_frequency };
-        });
-    control = λ d kind f is g. (
-        let w : Retransmits = d.end.waiting.frames in
-        let m = goes_moves kind w d.end.streams f is in
-        let same = told_sending f d.end.streams in
-        record {
-          pile = subst (λ (q : Sending). IsPile q.halves.live ((without_first kind w).reset_stream ++ (resets_in (d.frames ++ f ∷ []) ++ resets)) ((without_first kind w).stop_sending ++ (stops_in (d.frames ++ f ∷ []) ++ stops))) (sym same) (moved d (without_first kind w) f m g);
-          others = record { no_ids = m.ids ∙ g.others.no_ids; no_retired = m.retired ∙ g.others.no_retired; no_frequency = m.frequency ∙ g.others.no_frequency };
-        });
-    message = λ d m ms is fit g. other_frame d (datagram m) _ refl refl (record { pile = g.pile; others = g.others });
-    stream = λ d id h room found first some is counts g. other_frame d (stream (frame_of id h room)) _ refl refl (record {
-      pile = record { once = g.pile.once; reset = λ r i. by_frame (InUse r) (in_use_kept r) d.end.transport.send_fairness d.end.streams id room h found (λ was. refl) (g.pile.reset r i); small = g.pile.small };
-      others = g.others;
-    });
-  }) leaving e alone (record { pile = h.pile; others = h.others })
+  draft_holds leaving e alone h = by_leave (Drafts resets stops) keep leaving e alone (record { pile = h.pile; others = h.others })
+    where
+      keep : Writing (Drafts resets stops)
+      keep (puts.drops kind) d may g =
+          let w : Retransmits = d.end.waiting.frames in
+          let less = without_fewer kind w in
+          record {
+            pile = part_of d.end.streams.sending.halves.live (w.reset_stream ++ (resets_in d.frames ++ resets)) ((without_first kind w).reset_stream ++ (resets_in d.frames ++ resets)) (w.stop_sending ++ (stops_in d.frames ++ stops)) ((without_first kind w).stop_sending ++ (stops_in d.frames ++ stops))
+                (λ id. (let old = times_append id w.reset_stream (resets_in d.frames ++ resets) in let new = times_append id (without_first kind w).reset_stream (resets_in d.frames ++ resets) in let fewer = less.times_less id in omega arith))
+                (λ r i. elim (in_append r (without_first kind w).reset_stream (resets_in d.frames ++ resets) i) [ inl x ↦ in_left r w.reset_stream (resets_in d.frames ++ resets) (less.resets r x) | inr x ↦ in_right r w.reset_stream (resets_in d.frames ++ resets) x ])
+                (λ s i. elim (in_append s (without_first kind w).stop_sending (stops_in d.frames ++ stops) i) [ inl x ↦ in_left s w.stop_sending (stops_in d.frames ++ stops) (less.stops s x) | inr x ↦ in_right s w.stop_sending (stops_in d.frames ++ stops) x ])
+                g.pile;
+            others = record { no_ids = less.ids ∙ g.others.no_ids; no_retired = less.retired ∙ g.others.no_retired; no_frequency = less.frequency ∙ g.others.no_frequency };
+          }
+      keep (puts.control kind f) d is g =
+          let w : Retransmits = d.end.waiting.frames in
+          let m = goes_moves kind w d.end.streams f is in
+          let same = told_sending f d.end.streams in
+          record {
+            pile = subst (λ (q : Sending). IsPile q.halves.live ((without_first kind w).reset_stream ++ (resets_in (d.frames ++ f ∷ []) ++ resets)) ((without_first kind w).stop_sending ++ (stops_in (d.frames ++ f ∷ []) ++ stops))) (sym same) (moved d (without_first kind w) f m g);
+            others = record { no_ids = m.ids ∙ g.others.no_ids; no_retired = m.retired ∙ g.others.no_retired; no_frequency = m.frequency ∙ g.others.no_frequency };
+          }
+      keep (puts.stream id h room) d (found, first, some, is, counts) g = other_frame d (stream (frame_of id h room)) _ refl refl (record {
+        pile = record { once = g.pile.once; reset = λ r i. by_frame (InUse r) (in_use_kept r) d.end.transport.send_fairness d.end.streams id room h found (λ was. refl) (g.pile.reset r i); small = g.pile.small };
+        others = g.others;
+      })
+      keep p d may g = other_frame d _ _ refl refl (record { pile = g.pile; others = g.others })
 
 -- ---- what is tracked
 
@@ -381,7 +380,7 @@ polled_holds p e now ascends h = by_poll_to p e now (λ (q : Polled). HoldsAll q
   silent = h;
   failed = h;
   nothing = λ is none. again_all (ready_at e now).end _ refl refl refl ready;
-  used_up = again_all (ready_at e now).end _ refl refl refl ready;
+  closes = again_all (ready_at e now).end _ refl refl refl ready;
   gives = λ is may some. by_going HoldsAll p (draft_at e now) (λ pacing. again_all (tracked (draft_at e now)) (after_going p (draft_at e now) pacing) refl refl refl (gives some));
 })
   where

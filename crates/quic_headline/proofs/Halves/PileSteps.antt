@@ -22,7 +22,7 @@ use Rattle.quic_machine.specs.Tracking.{TrackedPacket, Carried, dir_named, acked
 use Rattle.quic_machine.specs.End.{End, with_streams, with_told, with_marking}
 use Rattle.quic_machine.specs.Acked.{without_known, reset_acked, resets_acked, stream_acked, streams_acked, packet_acked, packets_acked, stream_lost, streams_lost, again, carried_lost, packets_lost, verdict, losses_detected, measured, sampled, without_acked, after_named, losses_taken}
 use Rattle.quic_machine.specs.Receive.{take_frame, received}
-use Rattle.quic_machine.specs.FrameCases.{OnStreams, named, frame_keeps, by_received, by_marks}
+use Rattle.quic_machine.specs.FrameCases.{OnStreams, named, frame_keeps, by_received, by_marks, apart_same}
 use Rattle.quic_headline.specs.Runs.{In, names}
 use Rattle.quic_headline.proofs.Packets.Searches.{by_losses}
 use Rattle.quic_headline.proofs.Packets.MayGo.{WasReset}
@@ -296,6 +296,7 @@ received_holds = by_received HoldsAll (record {
     ack = λ rises a e h. named_step (acked_by a e.tracking.packets) rises a (named a e) refl (again_all e (named a e) refl refl refl h);
     on_streams = λ f e on h. frame_step f e on h;
     message = λ m e h. again_all e _ refl refl refl h;
+    apart = λ f e is h. subst HoldsAll (sym (apart_same f e is)) h;
   });
   takes = λ n asks mark e h. again_all e _ refl refl refl h;
   closes = λ reason e h. again_all e _ refl refl refl h;

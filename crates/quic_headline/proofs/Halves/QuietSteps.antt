@@ -23,10 +23,11 @@ use Rattle.quic_machine.specs.Calls.{is_open}
 use Rattle.quic_machine.specs.StreamCalls.{if_ok, after_on_streams, IsStreamAnswer}
 use Rattle.quic_machine.specs.Machine.{IsAnswer, after_call}
 use Rattle.quic_machine.specs.Receive.{is_above, names_ungiven, take_frame}
-use Rattle.quic_machine.specs.Poll.{Draft, Kind, pings, controls, messages, streams, order, put, with_asking, no_frames, with_ack, ack_if, ack_fits, ping_if, composed, composed_if, polled, frame_room, left, no_stream_frames}
+use Rattle.quic_machine.specs.Poll.{Draft, Kind, signals, controls, messages, streams, order, put, with_asking, no_frames, with_ack, ack_if, ack_fits, composed, composed_if, polled, frame_room, left, no_stream_frames}
 use Rattle.quic_machine.specs.CallCases.{is_delivery, by_call}
-use Rattle.quic_machine.specs.DraftLaws.{by_messages}
+use Rattle.quic_machine.specs.DraftLaws.{by_messages, by_signals}
 use Rattle.quic_machine.specs.FrameCases.{Settling, acked_keeps, losses_keep, named, ack_taken, message_leaves}
+use Rattle.quic_machine.specs.Steps as steps
 use Rattle.quic_machine.specs.LeaveCases.{by_expired, by_event}
 use Rattle.quic_headline.proofs.Packets.Kinds.{by_kinds}
 use Rattle.quic_headline.proofs.Packets.Probes.{poll_state}
@@ -85,11 +86,7 @@ module _ (P : StreamsState → Type 0) (q : IsQuiet P) where
 
   -- one kind of what goes
   kind_quiet : (d : Draft) (kind : Kind) → P d.end.streams → P (put d kind).end.streams
-  kind_quiet d pings i = go d.end.waiting.ping
-    where
-      go : (b : Bool) → P (ping_if b d).end.streams
-      go true = i
-      go false = i
+  kind_quiet d signals i = by_signals (λ (x : Draft). P x.end.streams) (λ x f left is j. j) d i
   kind_quiet d controls i = q.control_frames (frame_room d.end) (control.no_frames (length d.bytes) d.end.streams d.end.waiting.frames nothing_waits) i
   kind_quiet d messages i = by_messages (λ (x : Draft). P x.end.streams) (λ x m ms is fit j. j) d i
   kind_quiet d streams i = q.stream_frames d.end.transport.send_fairness (left d) (no_stream_frames d) i
@@ -116,18 +113,10 @@ module _ (P : StreamsState → Type 0) (q : IsQuiet P) where
   -- ---- packets that are acknowledged or lost
 
   settles : Settling (λ (e : End). P e.streams)
-  settles = record {
-    known = λ n e i. i;
-    reset = λ id e i. q.reset_acked e.streams e.waiting.frames id i;
-    acked = λ m e i. q.acked e.streams e.waiting.frames m i;
-    lost = λ m e i. q.lost e.streams m i;
-    again = λ carried e i. i;
-    searched = λ discovery e i. i;
-    shortens = λ most e i. i;
-    tracked = λ t e i. i;
-    measured = λ r first e i. i;
-    marked = λ m marking e i. i;
-  }
+  settles (steps.reset id) e i = q.reset_acked e.streams e.waiting.frames id i
+  settles (steps.acked m) e i = q.acked e.streams e.waiting.frames m i
+  settles (steps.lost m) e i = q.lost e.streams m i
+  settles s e i = i
 
   -- ---- any call by which nothing comes and nothing is read
 
@@ -138,7 +127,6 @@ module _ (P : StreamsState → Type 0) (q : IsQuiet P) where
     on_streams = λ on answer. on_streams_quiet e within i (is_open e.closing.state) call a (answer is) quiet;
     on_messages = λ on answer. i;
     pings = i;
-    heard = λ path same. i;
     times = λ now expiry set. by_expired e now (λ (f : End). P f.streams) (λ pending tracking timers runs packets. i) (λ pending timers runs. losses_keep (λ (x : End). P x.streams) settles (with_closing e (ticked e.closing now)) i) expiry;
     polls = λ now set. poll_quiet p e now i;
     hears = λ arrival d set. cc;

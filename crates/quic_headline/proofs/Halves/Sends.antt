@@ -1,7 +1,7 @@
 -- What an end composes says what was written on its streams, and leaves them holding it.
 use Rattle.std.proofs.Common.{ℕ, zero, suc, Bool, true, false, List, [], ◌∷◌, length, replicate, map, sym, subst, inl, inr, arith}
 use Rattle.std.specs.List.{AllByRecursion}
-use Rattle.quic_wire.specs.Value.{FrameValue, StreamValue, ping, padding, stream, datagram, reset_stream}
+use Rattle.quic_wire.specs.Value.{FrameValue, StreamValue, ping, padding, stream, datagram, reset_stream, connection_close, application_close}
 use Rattle.quic_retransmits.specs.Retransmits.{nothing_waits}
 use Rattle.quic_streams_state.specs.Control as control
 use Rattle.quic_streams_state.specs.Frames as of_streams
@@ -14,8 +14,8 @@ use Rattle.quic_streams_laws.specs.WrittenHalves.{polled_holds}
 use Rattle.quic_streams_laws.specs.WrittenResets.{TellsResets, control_frames_say}
 use Rattle.quic_recovery_core.specs.PendingAcks.{can_send}
 use Rattle.quic_machine.specs.End.{End, streams_at}
-use Rattle.quic_machine.specs.Poll.{lazied, zeros_behind, Draft, frame_room, left, no_frames, no_stream_frames, ping_if, with_ping_frame, with_ack, ack_if, ack_fits, with_control_frames, with_message_frames, with_stream_frames, Kind, pings, controls, messages, streams, order, put, with_asking, composed, composed_if, draft_as, probe, alone, whole, Leaving, nothing}
-use Rattle.quic_machine.specs.DraftLaws.{by_messages}
+use Rattle.quic_machine.specs.Poll.{lazied, zeros_behind, Draft, frame_room, left, no_frames, no_stream_frames, with_signal_frames, with_ack, ack_if, ack_fits, with_control_frames, with_message_frames, with_stream_frames, Kind, signals, controls, messages, streams, order, put, with_asking, composed, composed_if, draft_as, probe, alone, whole, Leaving, nothing, closing}
+use Rattle.quic_machine.specs.DraftLaws.{by_messages, MayLeave, IsClose, IsSignal, by_signals}
 use Rattle.quic_machine.specs.PollCases.{frames_padded}
 use Rattle.quic_headline.specs.Runs.{In}
 use Rattle.quic_headline.proofs.Packets.Entries.{IsControl, control_of}
@@ -68,12 +68,12 @@ pub record Draws (done : ℕ → Wrote) (d : Draft) : Type 0 where
   pub says : AllByRecursion (SaysOf done) d.frames
 
 module _ (done : ℕ → Wrote) where
-  ping_draws : (d : Draft) → Draws done d → Draws done (with_ping_frame d)
-  ping_draws d w = go d.end.waiting.ping
-    where
-      go : (b : Bool) → Draws done (ping_if b d)
-      go true = record { writes = w.writes; says = all_append (SaysOf done) d.frames (ping ∷ []) w.says (tt, tt) }
-      go false = w
+  signal_says : (f : FrameValue) → IsSignal f → SaysOf done f
+  signal_says ping is = tt
+  signal_says f is = absurd is
+
+  signal_draws : (d : Draft) → Draws done d → Draws done (with_signal_frames d)
+  signal_draws = by_signals (Draws done) (λ d f left is w. record { writes = w.writes; says = all_append (SaysOf done) d.frames (f ∷ []) w.says (signal_says f is, tt) })
 
   ack_draws : (d : Draft) → Draws done d → Draws done (with_ack d)
   ack_draws d w = record { writes = w.writes; says = all_append (SaysOf done) d.frames (_ ∷ []) w.says (tt, tt) }
@@ -106,7 +106,7 @@ module _ (done : ℕ → Wrote) where
   message_draws = by_messages (Draws done) (λ d m ms is fit w. record { writes = w.writes; says = all_append (SaysOf done) d.frames (datagram m ∷ []) w.says (tt, tt) })
 
   kind_draws : (d : Draft) (kind : Kind) → Draws done d → Draws done (put d kind)
-  kind_draws d pings w = ping_draws d w
+  kind_draws d signals w = signal_draws d w
   kind_draws d controls w = control_draws d w
   kind_draws d messages w = message_draws d w
   kind_draws d streams w = stream_draws d w
@@ -129,12 +129,18 @@ module _ (done : ℕ → Wrote) where
       go true = asking_draws (with_ack (no_frames e)) (ack_draws (no_frames e) first)
       go false = late (with_asking (no_frames e)) (ack_fits (with_asking (no_frames e))) (asking_draws (no_frames e) first)
 
-  -- also where a due ACK or a probe of a size goes alone
-  pub draft_draws : (leaving : Leaving) (e : End) → Writes done (streams_at e) → Draws done (draft_as leaving e)
-  draft_draws whole e w = composed_draws (lazied e) w
-  draft_draws alone e w = ack_draws (no_frames (lazied e)) (record { writes = w; says = tt })
-  draft_draws (probe size) e w = record { writes = w; says = (tt, tt) }
-  draft_draws (nothing held) e w = record { writes = w; says = tt }
+  -- also where a due ACK, a probe of a size or a close goes alone
+  pub draft_draws : (leaving : Leaving) (e : End) → MayLeave leaving e → Writes done (streams_at e) → Draws done (draft_as leaving e)
+  draft_draws whole e may w = composed_draws (lazied e) w
+  draft_draws alone e may w = ack_draws (no_frames (lazied e)) (record { writes = w; says = tt })
+  draft_draws (probe size) e may w = record { writes = w; says = (tt, tt) }
+  draft_draws (closing f) e may w = record { writes = w; says = (close_says f may.0, tt) }
+    where
+      close_says : (g : FrameValue) → IsClose g → SaysOf done g
+      close_says (connection_close c) is = tt
+      close_says (application_close c) is = tt
+      close_says g is = absurd is
+  draft_draws (nothing held) e may w = record { writes = w; says = tt }
 
   -- its frames say what was written, those of PADDING too
   pub padded_say : (d : Draft) → Draws done d → AllSay done (frames_padded d)

@@ -34,7 +34,8 @@ use Rattle.quic_machine.specs.Calls.{AreNexts, after_nexts}
 use Rattle.quic_machine.specs.StreamCalls.{IsStreamAnswer, if_ok, after_on_streams}
 use Rattle.quic_machine.specs.Receive.{take_frame}
 use Rattle.quic_machine.specs.Poll.{Draft, composed}
-use Rattle.quic_machine.specs.DraftLaws.{by_writing}
+use Rattle.quic_machine.specs.DraftLaws.{Writing, by_writing}
+use Rattle.quic_machine.specs.Puts as puts
 use Rattle.quic_machine.specs.FrameCases.{OnStreams}
 use Rattle.quic_headline.proofs.Halves.Wrote.{done_by}
 use Rattle.quic_headline.proofs.Halves.Small.{IsSmallLimit}
@@ -230,15 +231,12 @@ module _ (F : (ℕ → Wrote) → StreamsState → Type 0) (w : Words F) where
 
   -- whichever frames go
   pub composed_on : (done : ℕ → Wrote) (e : End) → F done e.streams → F done (composed e).end.streams
-  composed_on done e i = by_writing (λ (d : Draft). F done d.end.streams) (record {
-    ack = λ d filled may f. f;
-    ping = λ d f. f;
-    probes = λ x size f. f;
-    drops = λ d kind f. f;
-    control = λ d kind f is i. w.tells f done d.end.streams i;
-    message = λ d m ms is fit f. f;
-    stream = λ d id h room found first some is counts f. w.sends d.end.transport.send_fairness done d.end.streams id h room found f;
-  }) e i
+  composed_on done e i = by_writing (λ (d : Draft). F done d.end.streams) keep e i
+    where
+      keep : Writing (λ (d : Draft). F done d.end.streams)
+      keep (puts.control kind f) d may i = w.tells f done d.end.streams i
+      keep (puts.stream id h room) d (found, first, some, is, counts) f = w.sends d.end.transport.send_fairness done d.end.streams id h room found f
+      keep p d may f = f
 
   -- ---- what comes
 

@@ -77,7 +77,6 @@ module _ (F : (ℕ → Wrote) → StreamsState → Type 0) (words : Words F) whe
         on_streams = λ on answer. cc;
         on_messages = λ on answer. i;
         pings = i;
-        heard = λ path same. i;
         times = λ now expiry set. by_expired e now (λ (f : End). F w f.streams) (λ pending tracking timers runs packets. i) (λ pending timers runs. expiry_stays (λ (t : Streams). F w t.state) e now (losing w e.tracking.packets ends) i pending timers) expiry;
         polls = λ now set. poll_keeps p w e now i;
         hears = λ arrival d set. cc;

@@ -8,7 +8,7 @@ use Rattle.quic_streams_parts.specs.Dirs.{of}
 use Rattle.quic_streams_state.specs.declared.state.StreamsState.{StreamsState}
 use Rattle.quic_streams_laws.specs.StartLaws.{few_new, queue_new, few_set_params, queue_set_params}
 use Rattle.quic_streams_laws.specs.WrittenResets.{resets_grow}
-use Rattle.quic_machine.specs.FrameCases.{begun}
+use Rattle.quic_machine.specs.FrameCases.{begun, apart_same}
 use Rattle.quic_wire.specs.Value.{FrameValue}
 use Rattle.quic_streams_state.specs.State.{Streams, new_streams}
 use Rattle.quic_streams_laws.specs.KeepingLaws.{by_polled}
@@ -23,7 +23,7 @@ use Rattle.quic_machine.specs.Calls.{is_open}
 use Rattle.quic_machine.specs.End.{End, streams_at}
 use Rattle.quic_machine.specs.Receive.{Outcome}
 use Rattle.quic_machine.specs.Poll.{polled}
-use Rattle.quic_machine.specs.PollCases.{ready_at, draft_at, frames_at}
+use Rattle.quic_machine.specs.PollCases.{ready_at, draft_at, frames_at, may_leave_at}
 use Rattle.quic_machine.specs.StreamCalls.{is_on_streams, IsStreamAnswer, after_on_streams}
 use Rattle.quic_machine.specs.Machine.{IsAnswer, after_call, gave}
 use Rattle.quic_machine.specs.CallCases.{is_delivery, by_call}
@@ -109,7 +109,7 @@ module _ (p : Policy) (e : End) (theirs : List (List ℕ)) (done : ℕ → Wrote
 
   -- what it gives says what was written
   pub poll_says : Says → (now : ℕ) → AllSay done (frames_at e now)
-  poll_says says now = padded_say done (draft_at e now) (draft_draws done (ready_at e now).leaving (ready_at e now).end (ready_writes says now))
+  poll_says says now = padded_say done (draft_at e now) (draft_draws done (ready_at e now).leaving (ready_at e now).end (may_leave_at e now) (ready_writes says now))
 
   poll_writes : Says → (now : ℕ) → Writes done (streams_at (polled p e now).end)
   poll_writes says now = poll_streams (Writes done) p e now (λ x v. (composed_draws done x v).writes) w (ready_writes says now)
@@ -136,7 +136,6 @@ module _ (p : Policy) (e : End) (theirs : List (List ℕ)) (done : ℕ → Wrote
     on_streams = λ on answer. absurd (off_streams (is_on_streams call) off on);
     on_messages = λ on answer. w;
     pings = w;
-    heard = λ path same. w;
     times = λ now expiry set. by_expired e now (λ (f : End). Writes done (streams_at f)) (λ pending tracking timers runs packets. w) (λ pending timers runs. expiry_stays (Writes done) e now (losing says) w pending timers) expiry;
     polls = λ now set. poll_writes says now;
     hears = λ arrival d set. absurd (off_streams (is_delivery call) apart set);
@@ -172,7 +171,7 @@ module _ (x y : Party) (p : PacketsHold x y) (back : PacketsHold y x) (say : Say
       took = (came_to y x).took
 
       small : (f : FrameValue) → In f s.frames → IsSmallLimit f
-      small f i = let given = (step_of (IsSent y.policy x.id) y.sents y.given s back.gives.each among).1 in payload_small s.frames given.payload given.spells f i
+      small f i = let given = (step_of (IsSent y.policy) y.sents y.given s back.gives.each among).1 in payload_small s.frames given.payload given.spells f i
 
       takes : TakesOn took x.sents s.frames (λ (e : End). Writes (wrote x.told) (streams_at e))
       takes = record {
@@ -180,6 +179,7 @@ module _ (x y : Party) (p : PacketsHold x y) (back : PacketsHold y x) (say : Say
         names = λ a e i j. j;
         on_streams = λ f e i on j. frame_leaves (wrote x.told) e j f on (small f i);
         message = λ m e j. j;
+        apart = λ f e i apart j. subst (λ (g : End). Writes (wrote x.told) (streams_at g)) (sym (apart_same f e apart)) j;
       }
 
       passed_writes : Writes (wrote x.told) (streams_at (arrived x.end now s.number s.frames).end)

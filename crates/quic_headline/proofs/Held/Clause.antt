@@ -9,10 +9,11 @@ use Rattle.quic_machine.specs.End.{End}
 use Rattle.quic_machine.specs.Poll.{message_waits, asks_to_go}
 use Rattle.quic_machine.specs.Machine.{World, end_at}
 use Rattle.quic_machine.specs.RunLaws.{one_run}
-use Rattle.quic_headline.specs.Runs.{Run, In, AreServed}
+use Rattle.quic_machine.specs.declared.answers.State.TheVariants as states
+use Rattle.quic_headline.specs.Runs.{Run, In, LeadsTo, AreServed}
 use Rattle.quic_headline.specs.Observer.{HoldsOffset, HoldsEnd, Watch, watch}
 use Rattle.quic_headline.specs.Headline.{IsHonest, IsRun}
-use Rattle.quic_headline.specs.Polls.{IsByteToGo, IsEndToGo, PollsSendWhatWaits, PollsSendMessages}
+use Rattle.quic_headline.specs.Polls.{IsByteToGo, IsEndToGo, IsToGo, PollsSendWhatWaits, PollsSendMessages}
 use Rattle.quic_headline.proofs.Packets.Group.{PacketsHold, has_room}
 use Rattle.quic_headline.proofs.Packets.Sight.{Sight}
 use Rattle.quic_headline.proofs.Places.Parties.{Party, watch_of}
@@ -28,19 +29,20 @@ use Rattle.quic_headline.proofs.Settled.Group.{Settled, settled_group}
 use Rattle.quic_headline.proofs.Held.Behind.{open_now, held_back}
 use Rattle.quic_headline.proofs.Held.Messages.{AreShort, short_waits, short_group}
 use Rattle.quic_headline.proofs.Held.Unsent.{offset_queued, end_queued}
+use Rattle.quic_machine.specs.Parts.{signals_wait}
 
 -- ---- what waits asks to go
 
 -- where a stream has something to send
 queued_asks : (e : End) → can_send_stream_data e.streams ≡ true → asks_to_go e ≡ true
 queued_asks e queued =
-    or_right e.waiting.ping (not (is_empty e.waiting.frames e.streams) || (message_waits e || can_send_stream_data e.streams))
+    or_right (signals_wait e.waiting.signals) (not (is_empty e.waiting.frames e.streams) || (message_waits e || can_send_stream_data e.streams))
     (or_right (not (is_empty e.waiting.frames e.streams)) (message_waits e || can_send_stream_data e.streams) (or_right (message_waits e) (can_send_stream_data e.streams) queued))
 
 -- and where a message waits
-message_asks : (e : End) → message_waits e ≡ true → asks_to_go e ≡ true
+pub message_asks : (e : End) → message_waits e ≡ true → asks_to_go e ≡ true
 message_asks e waits =
-    or_right e.waiting.ping (not (is_empty e.waiting.frames e.streams) || (message_waits e || can_send_stream_data e.streams))
+    or_right (signals_wait e.waiting.signals) (not (is_empty e.waiting.frames e.streams) || (message_waits e || can_send_stream_data e.streams))
     (or_right (not (is_empty e.waiting.frames e.streams)) (message_waits e || can_send_stream_data e.streams) (or_left (message_waits e) (can_send_stream_data e.streams) waits))
 
 -- ---- bytes of streams, and their ends
@@ -53,33 +55,42 @@ pub record SaysWhatWaits (G : Way) : Type 1 where
   pub settled : (x y : Party) → G x y → Settled x y
   pub sight : (x y : Party) → G x y → Sight x y
 
-module _ (G : Way) (g : SaysWhatWaits G) (r : Run) (end : World) (honest : IsHonest r) (all : (side : Side) (i : ℕ) → AreServed r i → Placed G r end side i) where
-  pub what_waits : PollsSendWhatWaits r
-  what_waits side i now id v served gave waits =
-      held_back G (record { packets = g.packets; sight = g.sight }) r end honest side i now v at gave (queued_asks x.end (elim waits [ inl byte ↦ byte_queued byte.0 byte.1 | inr last ↦ last_queued last ]))
+module _ (G : Way) (g : SaysWhatWaits G) (r : Run) (end : World) (honest : IsHonest r) where
+  -- where a byte of a stream is to go at an open end, or its end, something asks
+  stream_asks : (side : Side) (i id : ℕ) (at : Placed G r end side i) → (end_at side at.world).closing.state ≡ states.Open → IsToGo r side i id → asks_to_go (end_at side at.world) ≡ true
+  stream_asks side i id at opened waits = queued_asks x.end (elim waits [ inl byte ↦ byte_queued byte.0 byte.1 | inr last ↦ last_queued last ])
     where
-      at : Placed G r end side (suc i)
-      at = all side (suc i) served
-
       x : Party
-      x = party_at r (suc i) at.world side at.sents
+      x = party_at r i at.world side at.sents
 
       y : Party
-      y = party_at r (suc i) at.world (other_side side) at.theirs
+      y = party_at r i at.world (other_side side) at.theirs
 
       -- the observer of the end is that of the run
-      seen : (P : Watch → Type 0) → P (watch_of x y) → P (watch r side (suc i))
-      seen P is = subst P (sym (watch_is r honest at.world (suc i) side at.sents at.theirs)) is
+      seen : (P : Watch → Type 0) → P (watch_of x y) → P (watch r side i)
+      seen P is = subst P (sym (watch_is r honest at.world i side at.sents at.theirs)) is
 
-      byte_queued : (offset : ℕ) → IsByteToGo r side (suc i) id offset → can_send_stream_data x.end.streams ≡ true
+      byte_queued : (offset : ℕ) → IsByteToGo r side i id offset → can_send_stream_data x.end.streams ≡ true
       byte_queued offset b =
-          offset_queued x y (g.writes x y at.gives) (g.flying x y at.gives) (g.settled x y at.gives) (g.sight x y at.gives) (open_now r side i now v at.world at.leads gave) id offset b.kept b.written
+          offset_queued x y (g.writes x y at.gives) (g.flying x y at.gives) (g.settled x y at.gives) (g.sight x y at.gives) opened id offset b.kept b.written
           (λ holds. b.not_flying (seen (λ w. HoldsOffset w.flight.flying id offset) holds)) (λ holds. b.not_acked (seen (λ w. HoldsOffset w.flight.acked id offset) holds))
 
-      last_queued : IsEndToGo r side (suc i) id → can_send_stream_data x.end.streams ≡ true
+      last_queued : IsEndToGo r side i id → can_send_stream_data x.end.streams ≡ true
       last_queued b =
-          end_queued x y (g.writes x y at.gives) (g.flying x y at.gives) (g.settled x y at.gives) (g.sight x y at.gives) (open_now r side i now v at.world at.leads gave) id b.kept b.ended
+          end_queued x y (g.writes x y at.gives) (g.flying x y at.gives) (g.settled x y at.gives) (g.sight x y at.gives) opened id b.kept b.ended
           (λ holds. b.not_flying (seen (λ w. HoldsEnd w.flight.flying id) holds)) (λ holds. b.not_acked (seen (λ w. HoldsEnd w.flight.acked id) holds))
+
+  module _ (all : (side : Side) (i : ℕ) → AreServed r i → Placed G r end side i) where
+    pub what_waits : PollsSendWhatWaits r
+    what_waits side i now id v served gave waits =
+        let at = all side (suc i) served in
+        held_back G (record { packets = g.packets; sight = g.sight }) r end honest side i now v at gave (stream_asks side (suc i) id at (open_now r side i now v at.world at.leads gave) waits)
+
+    pub what_asks_there : (side : Side) (i id : ℕ) (w : World) → AreServed r i → LeadsTo r i w → (end_at side w).closing.state ≡ states.Open → IsToGo r side i id → asks_to_go (end_at side w) ≡ true
+    what_asks_there side i id w served leads opened waits =
+        let at = all side i served in
+        let same : at.world ≡ w = (one_run r.keys (take i r.answers) r.start (take i r.events) (take i r.views) (take i r.views) at.world w served at.leads leads).1 in
+        subst (λ (u : World). asks_to_go (end_at side u) ≡ true) same (stream_asks side i id at (ap (λ (u : World). (end_at side u).closing.state) same ∙ opened) waits)
 
 -- ---- messages
 
@@ -115,9 +126,15 @@ known = both Nothing UnderWay Settled (everything.all_flying Ready ready) (settl
   sight = λ x y h. h.1.0.0.0.1;
 }))
 
+knows_all : SaysWhatWaits Known
+knows_all = record { packets = λ x y h. h.0.0.0.0.0.0; writes = λ x y h. h.0.0.0.0.0.1.0; flying = λ x y h. h.0.1; settled = λ x y h. h.1; sight = λ x y h. h.0.0.0.0.1 }
+
 pub polls_send_what_waits : (r : Run) (end : World) → IsHonest r → IsRun r end → PollsSendWhatWaits r
-polls_send_what_waits r end honest run =
-    what_waits Known (record { packets = λ x y h. h.0.0.0.0.0.0; writes = λ x y h. h.0.0.0.0.0.1.0; flying = λ x y h. h.0.1; settled = λ x y h. h.1; sight = λ x y h. h.0.0.0.0.1 }) r end honest (placed Known known r end honest run)
+polls_send_what_waits r end honest run = what_waits Known knows_all r end honest (placed Known known r end honest run)
+
+-- and where a byte of a stream is to go at an open end, or its end, something asks
+pub what_asks : (r : Run) (end : World) → IsHonest r → IsRun r end → (side : Side) (i id : ℕ) (w : World) → AreServed r i → LeadsTo r i w → (end_at side w).closing.state ≡ states.Open → IsToGo r side i id → asks_to_go (end_at side w) ≡ true
+what_asks r end honest run = what_asks_there Known knows_all r end honest (placed Known known r end honest run)
 
 -- the packets, the streams and what observers know, and how long messages are
 abbrev pub Shortly : Way

@@ -166,7 +166,6 @@ bounded_call p e theirs call a i = by_call p e theirs (λ (x : End). AreBounded 
   on_streams = λ on answer. i;
   on_messages = λ on answer. record { sized = i.sized; short = message_call_leaves (Some (bound (sizing e))) e taken i.short call a };
   pings = i;
-  heard = λ path same. subst (λ (d : Discovery). AreBounded (record (sizing e) { discovery = d })) (sym same.discovery) i;
   times = λ now expiry set. expired_size AreBounded searching e now expiry i;
   polls = λ now set. polled_bounded now;
   hears = λ arrival d set. received_size AreBounded searching p e arrival d i;

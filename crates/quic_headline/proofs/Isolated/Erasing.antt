@@ -1,4 +1,4 @@
--- A run less any choice of its idle events is a run again: the same answers, the same views, the same ends.
+-- A run less any choice of its idle events is a run again: the same answers, the same views, the same ends but for what they counted.
 use Rattle.std.proofs.Common.{◌≡◌, ℕ, suc, Bool, true, false, List, [], ◌∷◌, Option, Some, inl, inr, refl, sym, ap, ◌∙◌, subst}
 use Rattle.std.specs.Prelude.{if◌then◌else◌, slice_get}
 use Rattle.quic_wire_core.specs.declared.stream_id.Side.{Side}
@@ -11,11 +11,12 @@ use Rattle.quic_machine.specs.declared.run.Call.TheVariants as calls
 use Rattle.quic_machine.specs.declared.run.Answer.{Answer}
 use Rattle.quic_machine.specs.declared.run.Answer.TheVariants as answers
 use Rattle.quic_machine.specs.declared.run.View.{View}
+use Rattle.quic_machine.specs.Heard.{Heard}
 use Rattle.quic_machine.specs.Machine.{World, Policies, Follows}
 use Rattle.quic_headline.specs.Runs.{Run, In}
 use Rattle.quic_headline.specs.Headline.{IsRun}
-use Rattle.quic_headline.specs.Isolated.{drops_whole, is_idle, without, OnlyIdle, Isolated, is_shut_out, is_answered_idle, of_both, answered_idle, IsolatedByAnswers}
-use Rattle.quic_headline.proofs.Isolated.Idle.{idle_leaves}
+use Rattle.quic_headline.specs.Isolated.{drops_whole, is_idle, without, OnlyIdle, SameButCounts, Isolated, is_shut_out, is_answered_idle, of_both, answered_idle, IsolatedByAnswers}
+use Rattle.quic_headline.proofs.Isolated.Idle.{with_counts, idle_leaves, step_counts}
 
 -- ---- any choice
 
@@ -41,17 +42,26 @@ unanswered k w end (event ∷ events) same = same
 abbrev pub Chosen : (ℕ → Bool) → List RunEvent → List Answer → Type 0
 Chosen gone events told = (side : Side) (i : ℕ) (call : Call) (a : Answer) → gone i ≡ true → slice_get events i ≡ Some (record { side = side; call = call }) → slice_get told i ≡ Some a → is_idle call a ≡ true
 
--- without them the others are answered so, and lead to the same ends
-pub erases : (k : Policies) (gone : ℕ → Bool) (w end : World) (events : List RunEvent) (told : List Answer) (views : List View) → Chosen gone events told → Follows k w events told views end
-    → Follows k w (without gone events) (without gone told) (without gone views) end
-erases k gone w end [] [] [] idle f = f
-erases k gone w end (event ∷ events) [] [] idle f = unanswered k w end (without gone (event ∷ events)) f
-erases k gone w end [] [] (v ∷ views) idle f = absurd f
-erases k gone w end (event ∷ events) [] (v ∷ views) idle f = absurd f
-erases k gone w end [] (a ∷ told) views idle f = absurd f
-erases k gone w end (event ∷ events) (a ∷ told) [] idle f = absurd f
-erases k gone w end (event ∷ events) (a ∷ told) (v ∷ views) idle f =
-    go (gone 0) refl (erases k (λ i. gone (suc i)) f.0 end events told views (λ side i call b chosen at_event at_answer. idle side (suc i) call b chosen at_event at_answer) f.3)
+-- without them the others are answered so, and lead to the same ends, whatever was counted
+abbrev pub GoesOn : Policies → (ℕ → Bool) → World → World → List RunEvent → List Answer → List View → Type 0
+GoesOn k gone w end events told views = (left : World) × SameButCounts end left × Follows k w (without gone events) (without gone told) (without gone views) left
+
+-- no answer, and nothing changes
+none_left : (k : Policies) (w end : World) (events : List RunEvent) (client server : Heard) → end ≡ w → (left : World) × SameButCounts end left × Follows k (with_counts w client server) events [] [] left
+none_left k w end events client server same =
+    (with_counts w client server, ap (λ (v : World). with_counts v client server) (sym same), unanswered k (with_counts w client server) (with_counts w client server) events refl)
+
+-- so it is, whatever the ends had counted before
+erases_from : (k : Policies) (gone : ℕ → Bool) (w end : World) (events : List RunEvent) (told : List Answer) (views : List View) (client server : Heard) → Chosen gone events told → Follows k w events told views end
+    → GoesOn k gone (with_counts w client server) end events told views
+erases_from k gone w end [] [] [] client server idle f = none_left k w end [] client server f
+erases_from k gone w end (event ∷ events) [] [] client server idle f = none_left k w end (without gone (event ∷ events)) client server f
+erases_from k gone w end [] [] (v ∷ views) client server idle f = absurd f
+erases_from k gone w end (event ∷ events) [] (v ∷ views) client server idle f = absurd f
+erases_from k gone w end [] (a ∷ told) views client server idle f = absurd f
+erases_from k gone w end (event ∷ events) (a ∷ told) [] client server idle f = absurd f
+erases_from k gone w end (event ∷ events) (a ∷ told) (v ∷ views) client server idle f =
+    go (gone 0) refl (λ c s. erases_from k (λ i. gone (suc i)) f.0 end events told views c s (λ side i call b chosen at_event at_answer. idle side (suc i) call b chosen at_event at_answer) f.3)
   where
     events_left : List RunEvent
     events_left = without (λ i. gone (suc i)) events
@@ -62,18 +72,32 @@ erases k gone w end (event ∷ events) (a ∷ told) (v ∷ views) idle f =
     views_left : List View
     views_left = without (λ i. gone (suc i)) views
 
-    go : (b : Bool) → gone 0 ≡ b → Follows k f.0 events_left told_left views_left end → Follows k w (if b then events_left else event ∷ events_left) (if b then told_left else a ∷ told_left) (if b then views_left else v ∷ views_left) end
-    go true chosen later = subst (λ (x : World). Follows k x events_left told_left views_left end) (idle_leaves k w f.0 event a (idle event.side 0 event.call a chosen refl refl) f.1) later
-    go false kept later = (f.0, f.1, f.2, later)
+    go : (b : Bool) → gone 0 ≡ b → ((c s : Heard) → GoesOn k (λ i. gone (suc i)) (with_counts f.0 c s) end events told views)
+        → (left : World) × SameButCounts end left × Follows k (with_counts w client server) (if b then events_left else event ∷ events_left) (if b then told_left else a ∷ told_left) (if b then views_left else v ∷ views_left) left
+    go true chosen later =
+        let same : SameButCounts w f.0 = idle_leaves k w f.0 event a (idle event.side 0 event.call a chosen refl refl) f.1 in
+        subst (λ (x : World). GoesOn k (λ i. gone (suc i)) x end events told views) (ap (λ (x : World). with_counts x client server) same) (later client server)
+    go false kept later =
+        let step = step_counts k w f.0 event a client server f.1 in
+        let rest = later step.0 step.1 in
+        (rest.0, rest.1, (with_counts f.0 step.0 step.1, step.2, f.2, rest.2))
+
+pub erases : (k : Policies) (gone : ℕ → Bool) (w end : World) (events : List RunEvent) (told : List Answer) (views : List View) → Chosen gone events told → Follows k w events told views end → GoesOn k gone w end events told views
+erases k gone w end events told views idle f = erases_from k gone w end events told views w.client_heard w.server_heard idle f
 
 -- so the run is one again
 pub isolated : (r : Run) (end : World) → IsRun r end → Isolated r end
-isolated r end run gone idle = record {
-  codes = λ event i. run.codes event (without_in gone event r.events i);
-  follows = erases r.keys gone r.start end r.events r.answers r.views (λ side i call a chosen at_event at_answer. idle side i call a chosen (record { event = at_event; answer = at_answer })) run.follows;
-  from_client = run.from_client;
-  from_server = run.from_server;
-}
+isolated r end run gone idle =
+    let on = erases r.keys gone r.start end r.events r.answers r.views (λ side i call a chosen at_event at_answer. idle side i call a chosen (record { event = at_event; answer = at_answer })) run.follows in (
+      on.0,
+      on.1,
+      record {
+        codes = λ event i. run.codes event (without_in gone event r.events i);
+        follows = on.2;
+        from_client = run.from_client ∙ sym (ap (λ (v : World). v.from_client) on.1);
+        from_server = run.from_server ∙ sym (ap (λ (v : World). v.from_server) on.1);
+      },
+    )
 
 -- ---- the choice by answers
 

@@ -1,4 +1,4 @@
--- An idle event leaves both ends, their controllers and what they gave as they are.
+-- An idle event leaves both ends, their controllers and what they gave as they are; what they count is all that changes.
 use Rattle.std.proofs.Common.{◌≡◌, ℕ, Bool, true, false, ◌||◌, List, [], Option, Some, None, Result, Ok, Err, inl, inr, refl, sym, ap, ◌∙◌, subst}
 use Rattle.std.specs.Prelude.{if◌then◌else◌, slice_get}
 use Rattle.std.proofs.lemmas.List.{append-nil}
@@ -35,9 +35,9 @@ use Rattle.quic_machine.specs.Closing.{ticked}
 use Rattle.quic_wire.specs.Items.{items}
 use Rattle.quic_machine.specs.Receive.{Fault, dropped, asks_in, ends_as, take_payload, by_state, opened_to, opened_as, opening, headed, received_in, received, told_by_state, told_opened, told_opened_as, told_headed, told_received_in, told_received}
 use Rattle.quic_machine.specs.InjectionCases.{injected_leaves}
-use Rattle.quic_machine.specs.Machine.{IsAnswer, IsDelivered, injected_if, after_delivered, told_delivered, tells, gives, fails, reads_window, end_left, IsLeft, IsTold, World, Policies, policy_at, end_at, control_at, given_by, changed, IsStep}
-use Rattle.quic_machine.specs.RunLaws.{one_world}
-use Rattle.quic_headline.specs.Isolated.{drops_whole, is_idle}
+use Rattle.quic_machine.specs.Heard.{Heard}
+use Rattle.quic_machine.specs.Machine.{IsAnswer, IsDelivered, injected_if, after_delivered, told_delivered, tells, gives, fails, reads_window, end_left, IsLeft, IsTold, IsHeard, heard_by, World, Policies, policy_at, end_at, end_met, control_at, heard_at, given_by, changed, IsStep}
+use Rattle.quic_headline.specs.Isolated.{drops_whole, is_idle, SameButCounts}
 
 -- ---- a datagram that is dropped
 
@@ -144,20 +144,27 @@ idle_call p control e theirs call a idle is = absurd cc
 
 -- ---- an idle event
 
--- nothing changes
-changed_same : (side : Side) (w : World) → changed side w (end_at side w) [] (control_at side w) ≡ w
-changed_same Client w = ap (λ (ds : List (List ℕ)). record w { from_client = ds }) (append-nil w.from_client)
-changed_same Server w = ap (λ (ds : List (List ℕ)). record w { from_server = ds }) (append-nil w.from_server)
+-- both ends, which have counted this
+abbrev pub with_counts : World → Heard → Heard → World
+with_counts w client server = record w { client_heard = client; server_heard = server }
 
--- an idle event leaves the world as it was
-pub idle_leaves : (k : Policies) (w next : World) (event : RunEvent) (a : Answer) → is_idle event.call a ≡ true → IsStep k w event a next → next ≡ w
-idle_leaves k w next event a idle step = one_world k w event a next w i.served step (record {
-  answer = step.answer;
-  end = subst (λ (b : Bool). IsLeft b p control e theirs event.call a e) (sym i.served) (sym i.left);
-  control = subst (λ (b : Bool). IsTold b p control e theirs event.call control) (sym i.served) (ap (λ (told : List Told). after_told control told) (sym i.told));
-  others = sym (ap (λ (ds : List (List ℕ)). changed event.side w e ds control) i.given ∙ changed_same event.side w);
-  lacking = step.lacking;
-})
+-- both ends, of which one has counted this
+abbrev counted_at : Side → World → Heard → World
+counted_at Client w heard = with_counts w heard w.server_heard
+counted_at Server w heard = with_counts w w.client_heard heard
+
+-- nothing else changes
+changed_same : (side : Side) (w : World) (heard : Heard) → changed side w (end_at side w) [] (control_at side w) heard ≡ counted_at side w heard
+changed_same Client w heard = ap (λ (ds : List (List ℕ)). record w { from_client = ds; client_heard = heard }) (append-nil w.from_client)
+changed_same Server w heard = ap (λ (ds : List (List ℕ)). record w { from_server = ds; server_heard = heard }) (append-nil w.from_server)
+
+counted_same : (side : Side) (w : World) (heard : Heard) → SameButCounts w (counted_at side w heard)
+counted_same Client w heard = refl
+counted_same Server w heard = refl
+
+-- an idle event leaves the world as it was, but for what was counted
+pub idle_leaves : (k : Policies) (w next : World) (event : RunEvent) (a : Answer) → is_idle event.call a ≡ true → IsStep k w event a next → SameButCounts w next
+idle_leaves k w next event a idle step = subst (SameButCounts w) (sym same) (counted_same event.side w heard)
   where
     p : Policy
     p = policy_at event.side k
@@ -171,5 +178,43 @@ idle_leaves k w next event a idle step = one_world k w event a next w i.served s
     theirs : List (List ℕ)
     theirs = given_by (other_side event.side) w
 
+    heard : Heard
+    heard = heard_at event.side next
+
     i : Idles p control e theirs event.call a
     i = idle_call p control e theirs event.call a idle step.answer
+
+    end_same : end_at event.side next ≡ e
+    end_same = subst (λ (b : Bool). IsLeft b p control e theirs event.call a (end_at event.side next)) i.served step.end ∙ i.left
+
+    control_same : control_at event.side next ≡ control
+    control_same = subst (λ (b : Bool). IsTold b p control e theirs event.call (control_at event.side next)) i.served step.control ∙ ap (λ (told : List Told). after_told control told) i.told
+
+    same : next ≡ counted_at event.side w heard
+    same =
+        step.others
+        ∙ ap (λ (x : End). changed event.side w x (gives p (end_met w event) event.call a) (control_at event.side next) heard) end_same
+        ∙ ap (λ (c : Control). changed event.side w e (gives p (end_met w event) event.call a) c heard) control_same
+        ∙ ap (λ (ds : List (List ℕ)). changed event.side w e ds control heard) i.given
+        ∙ changed_same event.side w heard
+
+-- ---- what was counted before
+
+-- what memory doesn't lack for is counted
+counts : (failed : Bool) (theirs : List (List ℕ)) (call : Call) (a : Answer) (heard : Heard) → IsHeard failed theirs call a heard (heard_by theirs call a heard)
+counts true theirs call a heard = tt
+counts false theirs call a heard = refl
+
+-- an event may be answered so, and leave the ends so, whatever they had counted: nothing reads that
+pub step_counts : (k : Policies) (w next : World) (event : RunEvent) (a : Answer) (client server : Heard) → IsStep k w event a next
+    → (client_next : Heard) × (server_next : Heard) × IsStep k (with_counts w client server) event a (with_counts next client_next server_next)
+step_counts k w next event a client server step = go event.side event.call step
+  where
+    go : (side : Side) (call : Call) → IsStep k w (record { side = side; call = call }) a next
+        → (client_next : Heard) × (server_next : Heard) × IsStep k (with_counts w client server) (record { side = side; call = call }) a (with_counts next client_next server_next)
+    go Client call s =
+        let heard : Heard = heard_by w.from_server call a client in
+        (heard, server, record { answer = s.answer; end = s.end; control = s.control; heard = counts (fails a) w.from_server call a client; others = ap (λ (v : World). with_counts v heard server) s.others; lacking = s.lacking })
+    go Server call s =
+        let heard : Heard = heard_by w.from_client call a server in
+        (client, heard, record { answer = s.answer; end = s.end; control = s.control; heard = counts (fails a) w.from_client call a server; others = ap (λ (v : World). with_counts v client heard) s.others; lacking = s.lacking })

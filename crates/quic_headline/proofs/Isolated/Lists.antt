@@ -16,13 +16,12 @@ use Rattle.quic_machine.specs.declared.run.Delivery.{Delivery}
 use Rattle.quic_machine.specs.declared.run.Answer.{Answer}
 use Rattle.quic_machine.specs.declared.run.Answer.TheVariants as answers
 use Rattle.quic_machine.specs.Policy.{Policy}
-use Rattle.quic_machine.specs.Ids.{known}
-use Rattle.quic_machine.specs.Opens.{opens}
 use Rattle.quic_machine.specs.End.{End}
+use Rattle.quic_machine.specs.Receive.{received}
 use Rattle.quic_machine.specs.Control.{Control}
 use Rattle.quic_machine.specs.Start.{AreStarted}
 use Rattle.quic_machine.specs.Machine.{World, IsAnswer, IsDelivered, IsLeft, IsStep, end_at, given_by, policy_at, reads_window, control_at, end_left, fails}
-use Rattle.quic_headline.specs.Runs.{Run, Told, Intake, nothing_came, given_of, handed, expected_behind, and_told, folded, until, told_by, AreServed}
+use Rattle.quic_headline.specs.Runs.{Run, Told, Intake, nothing_came, given_of, handed, came_open, and_told, folded, until, told_by, AreServed}
 use Rattle.quic_headline.specs.Observer.{watch, lens_of, watch_from}
 use Rattle.quic_headline.specs.Headline.{IsAt, IsRun}
 use Rattle.quic_headline.specs.Isolated.{is_idle, is_new, is_nothing_new, brings_nothing, listed_idle, GoesOnWithout, IsolatedByLists}
@@ -59,14 +58,14 @@ none_at holds (y ∷ xs) (suc n) (suc i) x none q =
 module _ (r : Run) (end : World) (run : IsRun r end) (started : AreStarted r.start) where
   -- what came to an end with these calls
   abbrev came : Side → List Told → Intake
-  came side told = folded (and_told (policy_at side r.keys) (given_of r (other_side side))) told (nothing_came (known (end_at side r.start).ids))
+  came side told = folded (and_told (policy_at side r.keys) (given_of r (other_side side))) told nothing_came
 
   -- both ends recall what came
   abbrev BothKeep : World → List Told → List Told → Type 0
   BothKeep w client server = Keeps w.client (came Client client) × Keeps w.server (came Server server)
 
-  first_keeps : (side : Side) → Keeps (end_at side r.start) (nothing_came (known (end_at side r.start).ids))
-  first_keeps side = subst (λ (e : End). Keeps e (nothing_came (known e.ids))) (sym (start_is r.start started side)) (record { never_closing = λ is. cc; known = λ is. refl; seen = λ is. refl; expected = λ is. refl })
+  first_keeps : (side : Side) → Keeps (end_at side r.start) nothing_came
+  first_keeps side = subst (λ (e : End). Keeps e nothing_came) (sym (start_is r.start started side)) (record { never_closing = λ is. cc; seen = λ is. refl; expected = λ is. refl })
 
   -- the end at which a call is made
   acting : (side : Side) (control : Control) (e next : End) (theirs rest : List (List ℕ)) (call : Call) (a : Answer) (told : List Told) → fails a ≡ false → theirs ++ rest ≡ given_of r (other_side side)
@@ -78,7 +77,7 @@ module _ (r : Run) (end : World) (run : IsRun r end) (started : AreStarted r.sta
       let t : Told = record { call = call; answer = a; state = e.closing.state } in
       let same : next ≡ end_left p control e theirs call a = subst (λ (b : Bool). IsLeft b p control e theirs call a next) served left in
       subst (λ (x : End). Keeps x (came side (told ++ t ∷ []))) (sym same)
-      (subst (λ (j : Intake). Keeps (end_left p control e theirs call a) j) (sym (folded_more (and_told p final) told t (nothing_came (known (end_at side r.start).ids))))
+      (subst (λ (j : Intake). Keeps (end_left p control e theirs call a) j) (sym (folded_more (and_told p final) told t nothing_came))
       (call_keeps p control e theirs rest final call a (came side told) first served is k))
 
   -- the other end
@@ -125,17 +124,18 @@ module _ (r : Run) (end : World) (run : IsRun r end) (started : AreStarted r.sta
 
   -- a delivery of what is nothing new is dropped
   delivered_idle : (o : Option (List ℕ)) (side : Side) (i : ℕ) (p : Policy) (e : End) (theirs rest : List (List ℕ)) (delivery : Delivery) (a : Answer) → p ≡ policy_at side r.keys → slice_get theirs delivery.index ≡ o → theirs ++ rest ≡ given_of r (other_side side) → fails a ≡ false
-      → IsDelivered p e delivery o a → Keeps e (watch r side i).intake → is_nothing_new r side i (handed (given_of r (other_side side)) (calls.Deliver delivery) a) ≡ true → is_idle (calls.Deliver delivery) a ≡ true
+      → IsDelivered p e delivery o a → Keeps e (watch r side i).intake → is_nothing_new r side i a (handed (given_of r (other_side side)) (calls.Deliver delivery) a) ≡ true → is_idle (calls.Deliver delivery) a ≡ true
   delivered_idle None side i p e theirs rest delivery a own at first served is k old =
-      let clash : ◌≡◌ {A = Bool} false true = subst (λ (b : Answer). is_nothing_new r side i (handed (given_of r (other_side side)) (calls.Deliver delivery) b) ≡ true) is old in
+      let clash : ◌≡◌ {A = Bool} false true = subst (λ (b : Answer). is_nothing_new r side i b (handed (given_of r (other_side side)) (calls.Deliver delivery) b) ≡ true) is old in
       absurd cc
   delivered_idle (Some d) side i p e theirs rest delivery a own at first served (inl is) k old =
       let final : List (List ℕ) = given_of r (other_side side) in
       let there : slice_get final delivery.index ≡ Some d = first_get theirs rest final delivery.index d first at in
-      let handed_in : is_nothing_new r side i (slice_get final delivery.index) ≡ true = subst (λ (b : Answer). is_nothing_new r side i (handed final (calls.Deliver delivery) b) ≡ true) is old in
-      let stale : is_nothing_new r side i (Some d) ≡ true = subst (λ (h : Option (List ℕ)). is_nothing_new r side i h ≡ true) there handed_in in
+      let said : Answer = answers.Deliver (received p e (delivered_by delivery) d).answer in
+      let handed_in : is_nothing_new r side i said (slice_get final delivery.index) ≡ true = subst (λ (b : Answer). is_nothing_new r side i b (handed final (calls.Deliver delivery) b) ≡ true) is old in
+      let stale : is_nothing_new r side i said (Some d) ≡ true = subst (λ (h : Option (List ℕ)). is_nothing_new r side i said h ≡ true) there handed_in in
       let j : Intake = (watch r side i).intake in
-      let dropped = old_is_dropped p e (delivered_by delivery) d j k (subst (λ (q : Policy). is_new (opens q j.ids (expected_behind j.took) d) j.opened ≡ false) (sym own) (negated _ stale)) in
+      let dropped = old_is_dropped p e (delivered_by delivery) d j k (subst (λ (q : Policy). is_new (came_open q j.took said d) j.opened ≡ false) (sym own) (negated _ stale)) in
       let so : a ≡ answers.Deliver (receives.Dropped dropped.0) = is ∙ ap answers.Deliver dropped.1 in
       subst (λ (b : Answer). is_idle (calls.Deliver delivery) b ≡ true) (sym so) dropped.2
     where
@@ -169,11 +169,14 @@ module _ (r : Run) (end : World) (run : IsRun r end) (started : AreStarted r.sta
   goes_on_without i served =
       let at : Place i = place i served in
       let gave = grown r.keys at.world (drop i r.events) (drop i r.answers) (drop i r.views) end at.goes_on in
+      let on = erases r.keys (listed_idle r) r.start at.world (take i r.events) (take i r.answers) (take i r.views) (chosen_idle i served) at.came in
+      let client = gave_first Client at.world gave in
+      let server = gave_first Server at.world gave in
       record {
-        world = at.world;
-        follows = erases r.keys (listed_idle r) r.start at.world (take i r.events) (take i r.answers) (take i r.views) (chosen_idle i served) at.came;
-        client = gave_first Client at.world gave;
-        server = gave_first Server at.world gave;
+        world = on.0;
+        follows = on.2;
+        client = (client.0, ap (λ (v : World). v.from_client ++ client.0) on.1 ∙ client.1);
+        server = (server.0, ap (λ (v : World). v.from_server ++ server.0) on.1 ∙ server.1);
       }
 
 pub isolated_by_lists : (r : Run) (end : World) → AreStarted r.start → IsRun r end → IsolatedByLists r

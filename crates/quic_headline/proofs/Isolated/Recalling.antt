@@ -1,4 +1,4 @@
--- What an end knows of what came, whatever the keys and whoever sent it: the numbers that opened, the number that it expects, and its ids are those that the lists say.
+-- What an end knows of what came, whatever the keys and whoever sent it: the numbers that opened, and the number that it expects, are those that the lists say.
 use Rattle.std.proofs.Common.{◌≡◌, ℕ, zero, suc, ◌+◌, Bool, true, false, ◌||◌, List, [], ◌∷◌, ◌++◌, Option, Some, None, Result, Ok, Err, inl, inr, refl, sym, ap, ◌∙◌, subst, arith}
 use Rattle.std.specs.Prelude.{if◌then◌else◌, slice_get, max, not, ◌==◌}
 use Rattle.quic_wire_core.specs.declared.shared.EcnCodepoint.{EcnCodepoint}
@@ -25,38 +25,41 @@ use Rattle.quic_machine.specs.declared.run.Delivery.{Delivery}
 use Rattle.quic_machine.specs.declared.run.Answer.{Answer}
 use Rattle.quic_machine.specs.declared.run.Answer.TheVariants as answers
 use Rattle.quic_machine.specs.Policy.{Policy}
-use Rattle.quic_machine.specs.Ids.{Ids, known}
+use Rattle.quic_machine.specs.Ids.{known}
 use Rattle.quic_machine.specs.Closing.{ticked}
 use Rattle.quic_machine.specs.End.{End, with_closing, with_numbers}
 use Rattle.quic_machine.specs.Control.{Control}
-use Rattle.quic_machine.specs.Opens.{own_id_length, in_phase, opens_behind, opens}
+use Rattle.quic_machine.specs.Opens.{own_id_length, in_phase, opens_behind}
 use Rattle.quic_machine.specs.Receive.{Fault, Progress, Outcome, error_of, violation, is_empty, asks_in, take_frame, take_items, take_payload, dropped, ends_as, by_state, opened_to, opened_as, opening, drop_of, headed, received_in, received}
-use Rattle.quic_machine.specs.Poll.{Polled, Draft, polled, draft_as, lazied_as, Leaving, whole, alone, probe, nothing}
-use Rattle.quic_machine.specs.DraftLaws.{by_leave, MayLeave}
-use Rattle.quic_machine.specs.FrameCases.{Settling, begun, named, losses_keep, acked_keeps, frame_keeps, frame_leaves, items_keep}
+use Rattle.quic_machine.specs.Poll.{Polled, Draft, polled, draft_as, lazied_as, Leaving, whole, nothing}
+use Rattle.quic_machine.specs.DraftLaws.{Writing, by_leave, MayLeave}
+use Rattle.quic_machine.specs.Puts as puts
+use Rattle.quic_machine.specs.FrameCases.{Settling, begun, named, losses_keep, acked_keeps, frame_keeps, frame_leaves, items_keep, apart_same}
+use Rattle.quic_machine.specs.Steps as steps
 use Rattle.quic_machine.specs.LeaveCases.{by_expired}
 use Rattle.quic_machine.specs.PollCases.{ready_at, ready_leaves, by_poll_to, draft_at, may_leave_at}
-use Rattle.quic_machine.specs.CallCases.{is_delivery, by_plain_call, by_left}
+use Rattle.quic_machine.specs.CallCases.{Plain, is_delivery, by_plain_call, by_left}
+use Rattle.quic_machine.specs.CallCases as cases
 use Rattle.quic_machine.specs.Machine.{IsAnswer, IsDelivered, after_delivered, after_call, end_left, reads_window, fails}
-use Rattle.quic_headline.specs.Runs.{Intake, is_again, is_refused, packet_of, handed, expected_behind, and_opened, and_handed}
+use Rattle.quic_headline.specs.Runs.{Intake, is_again, is_refused, packet_of, handed, expected_behind, came_open, and_opened, and_handed}
 use Rattle.quic_headline.specs.Isolated.{drops_whole, is_new}
 use Rattle.quic_headline.proofs.Packets.Intakes.{nothing_handed}
 use Rattle.quic_headline.proofs.Packets.Probes.{by_going}
 use Rattle.quic_headline.proofs.Packets.Window.{is_duplicate-is}
+use Rattle.quic_headline.proofs.Packets.ByKey.{came_open_is}
 
 -- an open end recalls what came; it is open, or it is drained or has failed
-pub record Recalls (state : State) (ids : Ids) (opened : Seen) (taken : Option ℕ) (i : Intake) : Type 0 where
+pub record Recalls (state : State) (opened : Seen) (taken : Option ℕ) (i : Intake) : Type 0 where
   pub never_closing : state ≡ states.Closing → ⊥
-  pub known : state ≡ states.Open → known ids ≡ i.ids
   pub seen : state ≡ states.Open → opened ≡ seen_after i.opened
   pub expected : state ≡ states.Open → after_greatest taken ≡ expected_behind i.took
 
 abbrev pub Keeps : End → Intake → Type 0
-Keeps e i = Recalls e.closing.state e.ids e.numbers.opened e.numbers.taken i
+Keeps e i = Recalls e.closing.state e.numbers.opened e.numbers.taken i
 
 -- an end that isn't open has nothing to recall
-drained_keeps : (ids : Ids) (opened : Seen) (taken : Option ℕ) (i : Intake) → Recalls states.Drained ids opened taken i
-drained_keeps ids opened taken i = record { never_closing = λ is. cc; known = λ is. absurd cc; seen = λ is. absurd cc; expected = λ is. absurd cc }
+drained_keeps : (opened : Seen) (taken : Option ℕ) (i : Intake) → Recalls states.Drained opened taken i
+drained_keeps opened taken i = record { never_closing = λ is. cc; seen = λ is. absurd cc; expected = λ is. absurd cc }
 
 -- ---- calls that are no delivery
 
@@ -66,25 +69,20 @@ module _ (i : Intake) where
   Still e = Keeps e i
 
   settling : Settling Still
-  settling = record { known = λ n e k. k; reset = λ id e k. k; acked = λ m e k. k; lost = λ m e k. k; again = λ carried e k. k; searched = λ discovery e k. k; shortens = λ most e k. k; tracked = λ t e k. k; measured = λ r first e k. k; marked = λ m marking e k. k }
+  settling (steps.known n) e k = k
+  settling s e k = k
 
   -- an acknowledgement that became due leaves it
   lazied_still : (leaving : Leaving) (e : End) → Still e → Still (lazied_as leaving e)
   lazied_still whole e i = i
-  lazied_still alone e i = i
-  lazied_still (probe size) e i = i
-  lazied_still (nothing held) e i = i
+  lazied_still other e i = i
 
   draft_still : (leaving : Leaving) (e : End) → MayLeave leaving e → Still e → Still (draft_as leaving e).end
-  draft_still leaving e due k = by_leave (λ (d : Draft). Still d.end) (record {
-    ack = λ d filled may k. k;
-    ping = λ d k. k;
-    probes = λ f size k. k;
-    drops = λ d kind k. k;
-    control = λ d kind f is k. k;
-    message = λ d m ms is fit k. k;
-    stream = λ d id h room found first some is counts k. k;
-  }) leaving e due (lazied_still leaving e k)
+  draft_still leaving e due k = by_leave (λ (d : Draft). Still d.end) keep leaving e due (lazied_still leaving e k)
+    where
+      keep : Writing (λ (d : Draft). Still d.end)
+      keep puts.ping d may k = k
+      keep p d may k = k
 
   ready_still : (e : End) (now : ℕ) → Still e → Still (ready_at e now).end
   ready_still e now k = subst (λ (x : End). Still x) (sym (ready_leaves e now)) k
@@ -94,22 +92,18 @@ module _ (i : Intake) where
     silent = k;
     failed = k;
     nothing = λ is none. ready_still e now k;
-    used_up = let x : End = (ready_at e now).end in drained_keeps x.ids x.numbers.opened x.numbers.taken i;
+    closes = let x : End = (ready_at e now).end in drained_keeps x.numbers.opened x.numbers.taken i;
     gives = λ is may some. by_going Still p (draft_at e now) (λ pacing. draft_still (ready_at e now).leaving (ready_at e now).end (may_leave_at e now) (ready_still e now k));
   })
 
   call_still : (p : Policy) (e : End) (theirs : List (List ℕ)) (call : Call) (a : Answer) → is_delivery call ≡ false → Still e → Still (after_call p e theirs call a)
-  call_still p e theirs call a other k = by_plain_call p e theirs Still call a (record {
-    same = k;
-    on_streams = λ t. k;
-    on_messages = λ m. k;
-    pings = k;
-    heard = λ path same. k;
-    times = λ now expiry is. by_expired e now Still (λ pending tracking timers runs packets. k) (λ pending timers runs. losses_keep Still settling (with_closing e (ticked e.closing now)) k) expiry;
-    polls = λ now is. polled_still p e now k;
-    hears = λ arrival d is. absurd cc;
-    tells = λ told. k;
-  })
+  call_still p e theirs call a other k = by_plain_call p e theirs Still call a cases_keep
+    where
+      cases_keep : Plain p e call Still
+      cases_keep (cases.times now expiry) may = by_expired e now Still (λ pending tracking timers runs packets. k) (λ pending timers runs. losses_keep Still settling (with_closing e (ticked e.closing now)) k) expiry
+      cases_keep (cases.polls now) may = polled_still p e now k
+      cases_keep (cases.hears arrival d) is = absurd cc
+      cases_keep c may = k
 
   -- whichever window a poll reads
   pub left_still : (p : Policy) (control : Control) (e : End) (theirs : List (List ℕ)) (call : Call) (a : Answer) → is_delivery call ≡ false → Still e → Still (end_left p control e theirs call a)
@@ -117,28 +111,28 @@ module _ (i : Intake) where
 
 -- ---- a packet that is new
 
--- frames leave ids, numbers and state of an end that noted a number, but for the greatest number that was named
-record IsBegun (e : End) (n : ℕ) (ids : Ids) (opened : Seen) (taken : Option ℕ) (state : State) : Type 0 where
-  ids_same : ids ≡ e.ids
+-- frames leave numbers and state of an end that noted a number, but for the greatest number that was named
+record IsBegun (e : End) (n : ℕ) (opened : Seen) (taken : Option ℕ) (state : State) : Type 0 where
   noted : opened ≡ after_insert e.numbers.opened n
   taken_same : taken ≡ e.numbers.taken
   state_same : state ≡ e.closing.state
 
 module _ (e : End) (n : ℕ) where
   abbrev Begun : End → Type 0
-  Begun x = IsBegun e n x.ids x.numbers.opened x.numbers.taken x.closing.state
+  Begun x = IsBegun e n x.numbers.opened x.numbers.taken x.closing.state
 
   begun_settles : Settling Begun
-  begun_settles = record { known = λ m x b. b; reset = λ id x b. b; acked = λ m x b. b; lost = λ m x b. b; again = λ carried x b. b; searched = λ discovery x b. b; shortens = λ most x b. b; tracked = λ t x b. b; measured = λ r first x b. b; marked = λ m marking x b. b }
+  begun_settles (steps.known m) x b = b
+  begun_settles s x b = b
 
   frame_begun : (f : FrameValue) (x : End) → Begun x → Begun (take_frame f x).end
-  frame_begun = frame_keeps Begun (record { ack = λ rises a x b. acked_keeps Begun begun_settles rises a (named a x) b; on_streams = λ f x on b. frame_leaves Begun f x on (λ t. b); message = λ m x b. b })
+  frame_begun = frame_keeps Begun (record { ack = λ rises a x b. acked_keeps Begun begun_settles rises a (named a x) b; on_streams = λ f x on b. frame_leaves Begun f x on (λ t. b); apart = λ f x is b. subst Begun (sym (apart_same f x is)) b; message = λ m x b. b })
 
   payload_begun : (now first : ℕ) (is : List (Result FrameValue InvalidFrame)) → Begun (take_payload first is (begun e now n)).end
   payload_begun now first is = go (not (reserved_bits first == 0) || is_empty is)
     where
       start : Begun (begun e now n)
-      start = record { ids_same = refl; noted = refl; taken_same = refl; state_same = refl }
+      start = record { noted = refl; taken_same = refl; state_same = refl }
 
       go : (b : Bool) → Begun (if b then record { end = begun e now n; fault = Some violation } else take_items is (begun e now n)).end
       go true = start
@@ -147,7 +141,6 @@ module _ (e : End) (n : ℕ) where
 -- what came once a packet was taken, or was refused
 abbrev with_new : Opening → Answer → Intake → Intake
 with_new o a i = record {
-  ids = i.ids;
   opened = o.number ∷ i.opened;
   took = if is_refused a then i.took else packet_of o ∷ i.took;
   part = if is_refused a then Some (packet_of o) else i.part;
@@ -163,11 +156,10 @@ ends_keeps : (fault : Option Fault) (asking : Bool) (mark : Option EcnCodepoint)
     → Keeps (ends_as fault asking o.number mark x).end (with_new o (answers.Deliver (ends_as fault asking o.number mark x).answer) i)
 ends_keeps None asking mark e x o i is_open k b = record {
   never_closing = λ closing. k.never_closing (sym b.state_same ∙ closing);
-  known = λ still. ap (λ (ids : Ids). known ids) b.ids_same ∙ k.known is_open;
   seen = λ still. b.noted ∙ ap (λ (s : Seen). after_insert s o.number) (k.seen is_open);
   expected = λ still. expected_after x.numbers.taken o.number (expected_behind i.took) (ap (λ (t : Option ℕ). after_greatest t) b.taken_same ∙ k.expected is_open);
 }
-ends_keeps (Some fault) asking mark e x o i is_open k b = drained_keeps x.ids x.numbers.opened x.numbers.taken (with_new o (answers.Deliver (receives.Closed (error_of fault))) i)
+ends_keeps (Some fault) asking mark e x o i is_open k b = drained_keeps x.numbers.opened x.numbers.taken (with_new o (answers.Deliver (receives.Closed (error_of fault))) i)
 
 -- a packet that is new to an open end
 state_keeps : (state : State) (o : Opening) (arrival : Arrival) (e : End) (i : Intake) → e.closing.state ≡ state → state ≡ states.Open → Keeps e i
@@ -211,10 +203,6 @@ headed_keeps : (r : Result (List ℕ) HeaderError) (p : Policy) (e : End) (arriv
 headed_keeps (Err error) p e arrival d i is_open k = k
 headed_keeps (Ok id) p e arrival d i is_open k = packet_keeps (opening p e d) arrival e i is_open k
 
--- what a datagram opens to at an open end is what it opens to by the lists
-pub opens_by_lists : (p : Policy) (e : End) (d : List ℕ) (i : Intake) → e.closing.state ≡ states.Open → Keeps e i → opens p (known e.ids) (expected e.numbers) d ≡ opens p i.ids (expected_behind i.took) d
-opens_by_lists p e d i is_open k = ap (λ (ids : List (List ℕ)). opens p ids (expected e.numbers) d) (k.known is_open) ∙ ap (λ (n : ℕ). opens p i.ids n d) (k.expected is_open)
-
 -- a datagram of whatever bytes
 pub received_keeps : (p : Policy) (e : End) (arrival : Arrival) (d : List ℕ) (i : Intake) → Keeps e i → Keeps (received p e arrival d).end (and_handed e.closing.state (Some d) p (answers.Deliver (received p e arrival d).answer) i)
 received_keeps p e arrival d i k = go e.closing.state refl
@@ -227,7 +215,7 @@ received_keeps p e arrival d i k = go e.closing.state refl
     go states.Drained here = k
     go states.Closing here = absurd (k.never_closing here)
     go states.Open here =
-        subst (λ (o : Option Opening). Keeps (headed head p e arrival d).end (and_opened o (answers.Deliver (headed head p e arrival d).answer) i)) (opens_by_lists p e d i here k)
+        subst (λ (o : Option Opening). Keeps (headed head p e arrival d).end (and_opened o (answers.Deliver (headed head p e arrival d).answer) i)) (sym (came_open_is p e arrival d i.took (k.expected here)))
         (headed_keeps head p e arrival d i here k)
 
 -- what stands in a list stands in a longer one
@@ -293,11 +281,12 @@ headed_drops (Err error) p e arrival d numbers seen old = (drop_of error, refl, 
 headed_drops (Ok id) p e arrival d numbers seen old = packet_drops (opening p e d) arrival e numbers seen old
 
 -- a datagram that by the lists is nothing new is dropped, whatever the state of its end
-pub old_is_dropped : (p : Policy) (e : End) (arrival : Arrival) (d : List ℕ) (i : Intake) → Keeps e i → is_new (opens p i.ids (expected_behind i.took) d) i.opened ≡ false → IsDropped (received p e arrival d)
-old_is_dropped p e arrival d i k old = go e.closing.state refl
+pub old_is_dropped : (p : Policy) (e : End) (arrival : Arrival) (d : List ℕ) (i : Intake) → Keeps e i → is_new (came_open p i.took (answers.Deliver (received p e arrival d).answer) d) i.opened ≡ false → IsDropped (received p e arrival d)
+old_is_dropped p e arrival d i k = go e.closing.state refl
   where
-    go : (state : State) → e.closing.state ≡ state → IsDropped (received_in state p e arrival d)
-    go states.Failed here = (drops.Failed, refl, refl)
-    go states.Drained here = (drops.Drained, refl, refl)
-    go states.Closing here = absurd (k.never_closing here)
-    go states.Open here = headed_drops (decoded (fixed_length_id own_id_length) (known e.ids) d) p e arrival d i.opened (k.seen here) (ap (λ (o : Option Opening). is_new o i.opened) (opens_by_lists p e d i here k) ∙ old)
+    go : (state : State) → e.closing.state ≡ state → is_new (came_open p i.took (answers.Deliver (received_in state p e arrival d).answer) d) i.opened ≡ false → IsDropped (received_in state p e arrival d)
+    go states.Failed here old = (drops.Failed, refl, refl)
+    go states.Drained here old = (drops.Drained, refl, refl)
+    go states.Closing here old = absurd (k.never_closing here)
+    go states.Open here old =
+        headed_drops (decoded (fixed_length_id own_id_length) (known e.ids) d) p e arrival d i.opened (k.seen here) (ap (λ (o : Option Opening). is_new o i.opened) (sym (came_open_is p e arrival d i.took (k.expected here))) ∙ old)

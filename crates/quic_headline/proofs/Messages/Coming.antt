@@ -13,7 +13,8 @@ use Rattle.quic_machine.specs.Receive.{Outcome, take_frame}
 use Rattle.quic_machine.specs.Poll.{Polled, Draft, polled, draft_as, Leaving}
 use Rattle.quic_machine.specs.MessageCalls.{limits_of}
 use Rattle.quic_machine.specs.Machine.{IsAnswer, after_call, fails}
-use Rattle.quic_machine.specs.DraftLaws.{by_leave, MayLeave}
+use Rattle.quic_machine.specs.DraftLaws.{Writing, by_leave, MayLeave}
+use Rattle.quic_machine.specs.Puts as puts
 use Rattle.quic_machine.specs.FrameCases.{passed, frames_leave, begun}
 use Rattle.quic_machine.specs.PollCases.{by_poll, at_poll}
 use Rattle.quic_machine.specs.CallCases.{is_delivery}
@@ -31,15 +32,11 @@ use Rattle.quic_headline.proofs.Packets.Probes.{may_leave}
 
 -- whichever frames go
 drafted : (leaving : Leaving) (e : End) → MayLeave leaving e → (draft_as leaving e).end.messages.queues.incoming ≡ e.messages.queues.incoming
-drafted leaving e due = by_leave (λ (d : Draft). d.end.messages.queues.incoming ≡ e.messages.queues.incoming) (record {
-  ack = λ d filled may i. i;
-  ping = λ d i. i;
-  probes = λ f size i. i;
-  drops = λ d kind i. i;
-  control = λ d kind f is i. i;
-  message = λ d x xs is fit i. i;
-  stream = λ d id h room found first some is counts i. i;
-}) leaving e due refl
+drafted leaving e due = by_leave (λ (d : Draft). d.end.messages.queues.incoming ≡ e.messages.queues.incoming) keep leaving e due refl
+  where
+    keep : Writing (λ (d : Draft). d.end.messages.queues.incoming ≡ e.messages.queues.incoming)
+    keep puts.ping d may i = i
+    keep p d may i = i
 
 -- a poll
 polled_leaves : (p : Policy) (e : End) (now : ℕ) → (polled p e now).end.messages.queues.incoming ≡ e.messages.queues.incoming
@@ -48,7 +45,7 @@ polled_leaves p e now = by_poll p e now (λ (q : Polled). q.end.messages.queues.
       silent = refl;
       failed = refl;
       nothing = λ c. refl;
-      used_up = λ c. refl;
+      closes = λ c. refl;
       gives = λ leaving c left is may ready some.
           let x : End = at_poll e now c in
           drafted leaving x (may_leave e now leaving x ready);

@@ -141,7 +141,6 @@ quiet_drops p e theirs call a unpolled off sized = by_call p e theirs (λ (x : E
   on_streams = λ on answer. same;
   on_messages = λ on answer. (let clash : true ≡ false = sym on ∙ off in cc);
   pings = same;
-  heard = λ path is. subst (λ (d : Discovery). Drops s (record s { discovery = d })) (sym is.discovery) same;
   times = λ now expiry set. expired_size (Drops s) (searching s) e now expiry same;
   polls = λ now set. (let clash : true ≡ false = sym set ∙ unpolled in cc);
   hears = λ arrival d set. received_size (Drops s) (searching s) p e arrival d same;

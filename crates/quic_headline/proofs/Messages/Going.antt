@@ -4,8 +4,7 @@ use Rattle.std.specs.Prelude.{slice_get}
 use Rattle.std.proofs.lemmas.List.{append_assoc, append-nil}
 use Rattle.quic_machine.specs.Arrival.{delivered_by}
 use Rattle.quic_machine.specs.declared.run.Delivery.{Delivery}
-use Rattle.quic_wire.specs.Value.{FrameValue, padding, ping, ack, stream, datagram}
-use Rattle.quic_streams_parts.specs.SendHalf.{frame_of}
+use Rattle.quic_wire.specs.Value.{FrameValue, padding, datagram}
 use Rattle.quic_messages.specs.Messages.{is_within, without_longer, Messages}
 use Rattle.quic_machine.specs.declared.run.Call.{Call}
 use Rattle.quic_machine.specs.declared.run.Call.TheVariants as calls
@@ -13,10 +12,11 @@ use Rattle.quic_machine.specs.declared.run.Answer.{Answer}
 use Rattle.quic_machine.specs.declared.run.Answer.TheVariants as answers
 use Rattle.quic_machine.specs.Policy.{Policy}
 use Rattle.quic_machine.specs.End.{End}
-use Rattle.quic_machine.specs.Poll.{zeros_behind, Polled, Draft, ack_of, polled, goes, draft_as, draft_of, Leaving, with_least, no_frames, Ready}
+use Rattle.quic_machine.specs.Poll.{zeros_behind, Polled, Draft, polled, goes, draft_as, draft_of, Leaving, Ready}
 use Rattle.quic_machine.specs.MessageCalls.{limits_of}
 use Rattle.quic_machine.specs.Machine.{IsAnswer, after_delivered, after_call, fails, gave}
-use Rattle.quic_machine.specs.DraftLaws.{by_leave, MayLeave}
+use Rattle.quic_machine.specs.DraftLaws.{Writing, by_leave, MayLeave}
+use Rattle.quic_machine.specs.Puts as puts
 use Rattle.quic_machine.specs.FrameCases.{by_received}
 use Rattle.quic_machine.specs.PollCases.{ready_at, frames_padded, frames_at, by_poll, at_poll, PollChange}
 use Rattle.quic_headline.specs.Runs.{Told}
@@ -60,15 +60,13 @@ module _ (m : List ℕ) (e : End) where
 
 -- whichever frames go, a message goes or waits still as often as it waited
 drafted : (m : List ℕ) (leaving : Leaving) (e : End) → MayLeave leaving e → often m (messages_in (draft_as leaving e).frames) + often m (draft_as leaving e).end.messages.queues.outgoing ≡ often m e.messages.queues.outgoing
-drafted m leaving e due = by_leave (Same m e) (record {
-  ack = λ d filled may i. plain_goes m e d (ack (ack_of d.end)) refl i;
-  ping = λ d i. plain_goes m e d ping refl i;
-  probes = λ f size i. plain_goes m e (with_least (no_frames f) size) ping refl i;
-  drops = λ d kind i. i;
-  control = λ d kind f is i. plain_goes m e d f (control_none f (control_of f kind is.of_kind)) i;
-  message = λ d x xs is fit i. message_goes m e d x xs is i;
-  stream = λ d id h room found first some is counts i. plain_goes m e d (stream (frame_of id h room)) refl i;
-}) leaving e due (let none = often_none m in omega arith)
+drafted m leaving e due = by_leave (Same m e) keep leaving e due (let none = often_none m in omega arith)
+  where
+    keep : Writing (Same m e)
+    keep (puts.drops kind) d may i = i
+    keep (puts.control kind f) d is i = plain_goes m e d f (control_none f (control_of f kind is.of_kind)) i
+    keep (puts.message x xs) d (is, fit) i = message_goes m e d x xs is i
+    keep p d may i = plain_goes m e d _ refl i
 
 -- a message waits at most as often as it did
 abbrev FewWait : List ℕ → End → Messages → Type 0
@@ -113,7 +111,7 @@ module _ (m : List ℕ) where
   polled_goes : (p : Policy) (e : End) (now : ℕ)
       → often m (gone (sent_if (gave (answers.Poll (polled p e now).answer)) (sent_by e now))) + often m (polled p e now).end.messages.queues.outgoing ≤ often m e.messages.queues.outgoing
   polled_goes p e now = by_poll p e now (λ (q : Polled). often m (gone (sent_if (gave (answers.Poll q.answer)) (sent_by e now))) + often m q.end.messages.queues.outgoing ≤ often m e.messages.queues.outgoing)
-      (record { silent = nothing; failed = nothing; nothing = λ c. nothing; used_up = λ c. nothing; gives = λ leaving c left is may. one leaving c })
+      (record { silent = nothing; failed = nothing; nothing = λ c. nothing; closes = λ c. nothing; gives = λ leaving c left is may. one leaving c })
     where
       nothing : often m [] + often m e.messages.queues.outgoing ≤ often m e.messages.queues.outgoing
       nothing = let none = often_none m in omega arith

@@ -12,13 +12,15 @@ use Rattle.quic_machine.specs.Receive.{is_above, names_ungiven, message_judged, 
 use Rattle.quic_machine.specs.MessageCalls.{is_on_messages}
 use Rattle.quic_machine.specs.Machine.{after_call}
 use Rattle.quic_machine.specs.FrameCases.{Settling, losses_keep, named, ack_taken, acked_keeps}
+use Rattle.quic_machine.specs.Steps as steps
 use Rattle.quic_machine.specs.LeaveCases.{by_expired, by_event}
 use Rattle.quic_machine.specs.CallCases.{is_delivery, is_poll, by_call}
 
 module _ (P : Messages → Type 0) (drops : (most : ℕ) (q : Messages) → P q → P (without_longer most q)) where
   -- packets that are acknowledged or lost
   settles : Settling (λ (f : End). P f.messages.queues)
-  settles = record { known = λ n x p. p; reset = λ id x p. p; acked = λ m x p. p; lost = λ m x p. p; again = λ c x p. p; searched = λ discovery x p. p; shortens = λ most x p. drops most x.messages.queues p; tracked = λ t x p. p; measured = λ r first x p. p; marked = λ m marking x p. p }
+  settles (steps.shortens most) x p = drops most x.messages.queues p
+  settles s x p = p
 
   -- what holds of the messages, and where one more is taken, holds behind a frame
   pub frame_messages : (f : FrameValue) (e : End) → P e.messages.queues → ((m : List ℕ) → f ≡ datagram m → P (after_received e.transport.datagram_receive_buffer_size m e.messages.queues)) → P (take_frame f e).end.messages.queues
@@ -41,7 +43,6 @@ module _ (P : Messages → Type 0) (drops : (most : ℕ) (q : Messages) → P q 
     on_streams = λ on answer. same;
     on_messages = λ on answer. cc;
     pings = same;
-    heard = λ path is. same;
     times = λ now expiry set. by_expired e now (λ (f : End). P f.messages.queues) (λ pending tracking timers runs packets. same) (λ pending timers runs. losses_keep (λ (f : End). P f.messages.queues) settles (with_closing e (ticked e.closing now)) same) expiry;
     polls = λ now set. cc;
     hears = λ arrival d set. cc;

@@ -4,8 +4,7 @@ use Rattle.std.specs.Prelude.{nat_le, nat_lt, is_ok, is_none, not, if◌then◌e
 use Rattle.std.proofs.lemmas.List.{append_assoc, append-nil}
 use Rattle.quic_config.specs.declared.mtu_discovery.TheConstants.{MAX_UDP_PAYLOAD}
 use Rattle.quic_congestion.specs.SearchBounds.{IsSized}
-use Rattle.quic_wire.specs.Value.{FrameValue, padding, ping, ack, stream, datagram}
-use Rattle.quic_streams_parts.specs.SendHalf.{frame_of}
+use Rattle.quic_wire.specs.Value.{FrameValue, padding, datagram}
 use Rattle.quic_messages.specs.declared.errors.SendDatagramError.{SendDatagramError}
 use Rattle.quic_messages.specs.declared.errors.SendDatagramError.TheVariants as send_errors
 use Rattle.quic_messages.specs.declared.limits.DatagramLimits.{DatagramLimits}
@@ -17,10 +16,11 @@ use Rattle.quic_machine.specs.declared.run.Answer.{Answer}
 use Rattle.quic_machine.specs.declared.run.Answer.TheVariants as answers
 use Rattle.quic_machine.specs.Policy.{Policy}
 use Rattle.quic_machine.specs.End.{End}
-use Rattle.quic_machine.specs.Poll.{zeros_behind, Polled, Draft, Leaving, Ready, ack_of, no_frames, with_least, draft_as, draft_of, polled}
+use Rattle.quic_machine.specs.Poll.{zeros_behind, Polled, Draft, Leaving, Ready, draft_as, draft_of, polled}
 use Rattle.quic_machine.specs.MessageCalls.{limits_of}
 use Rattle.quic_machine.specs.Machine.{IsAnswer, after_call, fails, gave}
-use Rattle.quic_machine.specs.DraftLaws.{MayLeave, by_leave}
+use Rattle.quic_machine.specs.DraftLaws.{Writing, MayLeave, by_leave}
+use Rattle.quic_machine.specs.Puts as puts
 use Rattle.quic_machine.specs.PollCases.{ready_at, frames_padded, frames_at, by_poll, at_poll}
 use Rattle.quic_headline.specs.Observer.{Sent}
 use Rattle.quic_headline.specs.Queue.{messages_in, Outbox, and_queued, short_ones, outbox_by, outbox_behind}
@@ -47,15 +47,13 @@ message_goes fs x xs before all first is = ap (λ (ms : List (List ℕ)). ms ++ 
 
 -- whichever frames go, their messages are the first of those that waited, and the others wait still
 drafted : (leaving : Leaving) (e : End) → MayLeave leaving e → messages_in (draft_as leaving e).frames ++ (draft_as leaving e).end.messages.queues.outgoing ≡ e.messages.queues.outgoing
-drafted leaving e due = by_leave (λ (d : Draft). messages_in d.frames ++ d.end.messages.queues.outgoing ≡ e.messages.queues.outgoing) (record {
-  ack = λ d filled may i. plain_goes d.frames (ack (ack_of d.end)) d.end.messages.queues.outgoing e.messages.queues.outgoing refl i;
-  ping = λ d i. plain_goes d.frames ping d.end.messages.queues.outgoing e.messages.queues.outgoing refl i;
-  probes = λ f size i. plain_goes (with_least (no_frames f) size).frames ping f.messages.queues.outgoing e.messages.queues.outgoing refl i;
-  drops = λ d kind i. i;
-  control = λ d kind f is i. plain_goes d.frames f d.end.messages.queues.outgoing e.messages.queues.outgoing (control_none f (control_of f kind is.of_kind)) i;
-  message = λ d x xs is fit i. message_goes d.frames x xs d.end.messages.queues.outgoing e.messages.queues.outgoing is i;
-  stream = λ d id h room found first some is counts i. plain_goes d.frames (stream (frame_of id h room)) d.end.messages.queues.outgoing e.messages.queues.outgoing refl i;
-}) leaving e due refl
+drafted leaving e due = by_leave (λ (d : Draft). messages_in d.frames ++ d.end.messages.queues.outgoing ≡ e.messages.queues.outgoing) keep leaving e due refl
+  where
+    keep : Writing (λ (d : Draft). messages_in d.frames ++ d.end.messages.queues.outgoing ≡ e.messages.queues.outgoing)
+    keep (puts.drops kind) d may i = i
+    keep (puts.control kind f) d is i = plain_goes d.frames f d.end.messages.queues.outgoing e.messages.queues.outgoing (control_none f (control_of f kind is.of_kind)) i
+    keep (puts.message x xs) d (is, fit) i = message_goes d.frames x xs d.end.messages.queues.outgoing e.messages.queues.outgoing is i
+    keep p d may i = plain_goes d.frames _ d.end.messages.queues.outgoing e.messages.queues.outgoing refl i
 
 -- PADDING has none
 padded_same : (frames : List FrameValue) (count : ℕ) → messages_in (frames ++ replicate count padding) ≡ messages_in frames
@@ -74,7 +72,7 @@ polled_order p e now = by_poll p e now (λ (q : Polled). gave (answers.Poll q.an
   silent = λ is. cc;
   failed = λ is. cc;
   nothing = λ c is. cc;
-  used_up = λ c is. cc;
+  closes = λ c is. cc;
   gives = λ leaving c left is may ready some given. given_order e now leaving (at_poll e now c) ready;
 })
 
@@ -95,7 +93,7 @@ polled_leaves room p e now = by_poll p e now (λ (q : Polled). Leaves room (call
   silent = λ more. refl;
   failed = λ more. refl;
   nothing = λ c more. refl;
-  used_up = λ c more. refl;
+  closes = λ c more. refl;
   gives = λ leaving c left is may ready some more.
       ap (λ (ms : List (List ℕ)). record { waiting = ms; left = more }) (drop_front (messages_in (frames_at e now)) (draft_as leaving (at_poll e now c)).end.messages.queues.outgoing e.messages.queues.outgoing (given_order e now leaving (at_poll e now c) ready));
 })

@@ -1,5 +1,5 @@
 -- The numbers that an end has to acknowledge stay few maximal runs of packet numbers, whatever comes and whatever call is made.
-use Rattle.std.proofs.Common.{◌≡◌, ℕ, ◌^◌, ◌<◌, Bool, true, false, Option, Some, None, List, ◌∷◌, length, map, Ok, refl, sym, subst, inl, inr, arith}
+use Rattle.std.proofs.Common.{◌≡◌, ℕ, ◌^◌, ◌<◌, Bool, true, false, Option, Some, None, List, ◌∷◌, map, Ok, refl, sym, subst, inl, inr, arith}
 use Rattle.quic_wire_core.specs.declared.shared.EcnCodepoint.{EcnCodepoint}
 use Rattle.quic_wire_core.specs.declared.shared.EcnCodepoint.TheVariants.{Ect0, Ect1, Ce}
 use Rattle.quic_spaces.specs.Marks.{Counts, none_marked, after_mark, is_congested}
@@ -8,28 +8,26 @@ use Rattle.quic_wire.specs.Value.{FrameValue}
 use Rattle.quic_recovery_core.specs.Duplicates.{Seen}
 use Rattle.quic_recovery_core.specs.PendingAcks.{Pending, none_pending, after_insert, with_wait, asking_counted, after_packet, starts_wait}
 use Rattle.quic_recovery_core.proofs.AckRunSteps.{at_most_kept, kept_numbers}
-use Rattle.quic_machine.specs.Arrival.{Arrival}
 use Rattle.quic_machine.specs.declared.run.Call.{Call}
 use Rattle.quic_machine.specs.declared.run.Answer.{Answer}
-use Rattle.quic_machine.specs.Policy.{Policy, CanOpen}
+use Rattle.quic_machine.specs.Policy.{Policy}
 use Rattle.quic_machine.specs.Closing.{ticked}
-use Rattle.quic_machine.specs.Ids.{known}
 use Rattle.quic_machine.specs.End.{End, with_closing}
-use Rattle.quic_machine.specs.Opens.{own_id_length}
-use Rattle.quic_machine.specs.Receive.{asks_in, received}
+use Rattle.quic_machine.specs.Receive.{asks_in}
 use Rattle.quic_spaces.specs.Acknowledging.{with_due}
-use Rattle.quic_machine.specs.Poll.{Draft, Polled, polled, draft_as, Leaving, whole, alone, probe, nothing, lazied_as}
+use Rattle.quic_machine.specs.Poll.{Draft, Polled, polled, draft_as, Leaving, whole, nothing, lazied_as}
 use Rattle.quic_machine.specs.Machine.{after_call}
 use Rattle.quic_headline.specs.Runs.{Packet, Intake}
-use Rattle.quic_machine.specs.Start.{IsLawful}
-use Rattle.quic_machine.specs.DraftLaws.{by_leave, MayLeave}
-use Rattle.quic_headline.proofs.Packets.Invariant.{IsGiven, KnowsIn, AreTaken, CountsFit, Acks}
+use Rattle.quic_machine.specs.DraftLaws.{Writing, by_leave, MayLeave}
+use Rattle.quic_machine.specs.Puts as puts
+use Rattle.quic_headline.proofs.Packets.Invariant.{AreTaken, CountsFit, Acks}
 use Rattle.quic_machine.specs.FrameCases.{begun}
-use Rattle.quic_headline.proofs.Packets.Delivered.{Arrivals, arrived, by_arrival}
+use Rattle.quic_headline.proofs.Packets.Delivered.{Arrivals, arrived}
 use Rattle.quic_headline.proofs.Packets.Stays.{Keeps, keeps_frames, settles_losses}
 use Rattle.quic_headline.proofs.Packets.Probes.{may_leave}
 use Rattle.quic_machine.specs.LeaveCases.{by_expired}
-use Rattle.quic_machine.specs.CallCases.{is_delivery, by_plain_call}
+use Rattle.quic_machine.specs.CallCases.{Plain, is_delivery, by_plain_call}
+use Rattle.quic_machine.specs.CallCases as cases
 use Rattle.quic_machine.specs.PollCases.{by_poll, at_poll}
 
 -- nothing came yet
@@ -84,13 +82,6 @@ acks_arrivals e now n frames i small acks = record {
     after : Acks left.acknowledging left.marks.came
     after = (keeps_frames frames (begun e now n)).acks acks
 
--- a datagram of an honest end is delivered
-pub acks_delivered : (p q : Policy) (id : List ℕ) (n reference : ℕ) (frames : List FrameValue) (d : List ℕ) → IsGiven p id n reference frames d → (e : End) (arrival : Arrival) (i : Intake)
-    → CanOpen p q → IsLawful p → length id ≡ own_id_length → known e.ids ≡ i.ids → KnowsIn e.closing.state e.numbers i
-    → Acks e.acknowledging e.marks.came → Acks (received q e arrival d).end.acknowledging (received q e arrival d).end.marks.came
-acks_delivered p q id n reference frames d g e arrival i mates lawful long ids k acks =
-    by_arrival p q id n reference frames d g e arrival i (λ o j. Acks o.end.acknowledging o.end.marks.came) mates lawful long ids k (acks_arrivals e arrival.now n frames i g.small acks)
-
 -- in each case of a delivery the numbers to acknowledge are those of packets that were taken
 pub taken_arrivals : (e : End) (now n : ℕ) (frames : List FrameValue) (i : Intake) → Acks e.acknowledging e.marks.came → AreTaken e.acknowledging.runs i.took → Arrivals e now n frames i (λ o j. AreTaken o.end.acknowledging.runs j.took)
 taken_arrivals e now n frames i acks before = record {
@@ -124,13 +115,15 @@ TellsAs e f = (f.acknowledging.runs ≡ e.acknowledging.runs) × (f.marks.came �
 -- they are the same where an acknowledgement becomes due
 lazied_tells : (leaving : Leaving) (e : End) → TellsAs e (lazied_as leaving e)
 lazied_tells whole e = (refl, refl)
-lazied_tells alone e = (refl, refl)
-lazied_tells (probe size) e = (refl, refl)
-lazied_tells (nothing held) e = (refl, refl)
+lazied_tells other e = (refl, refl)
 
 -- whichever frames go, they stay: an ACK that tells them may be lost
 draft_runs : (leaving : Leaving) (e : End) → MayLeave leaving e → TellsAs e (draft_as leaving e).end
-draft_runs leaving e due = by_leave (λ (d : Draft). TellsAs e d.end) (record { ack = λ d filled may same. same; ping = λ d same. same; probes = λ f size same. same; drops = λ d kind same. same; control = λ d kind f is same. same; message = λ d m ms is fit same. same; stream = λ d id h room found first some is counts same. same }) leaving e due (lazied_tells leaving e)
+draft_runs leaving e due = by_leave (λ (d : Draft). TellsAs e d.end) keep leaving e due (lazied_tells leaving e)
+  where
+    keep : Writing (λ (d : Draft). TellsAs e d.end)
+    keep puts.ping d may same = same
+    keep p d may same = same
 
 -- a poll leaves them
 polled_runs : (p : Policy) (e : End) (now : ℕ) → TellsAs e (polled p e now).end
@@ -138,7 +131,7 @@ polled_runs p e now = by_poll p e now (λ (q : Polled). TellsAs e q.end) (record
   silent = (refl, refl);
   failed = (refl, refl);
   nothing = λ c. (refl, refl);
-  used_up = λ c. (refl, refl);
+  closes = λ c. (refl, refl);
   gives = λ leaving c left is may ready some.
       let x : End = at_poll e now c in
       draft_runs leaving x (may_leave e now leaving x ready);
@@ -148,17 +141,13 @@ polled_runs p e now = by_poll p e now (λ (q : Polled). TellsAs e q.end) (record
 
 -- a call that is no delivery leaves them, though losses are detected
 pub runs_step : (q : Policy) (e : End) (theirs : List (List ℕ)) (call : Call) (a : Answer) → is_delivery call ≡ false → TellsAs e (after_call q e theirs call a)
-runs_step q e theirs call a other = by_plain_call q e theirs (TellsAs e) call a (record {
-  same = (refl, refl);
-  on_streams = λ t. (refl, refl);
-  on_messages = λ m. (refl, refl);
-  pings = (refl, refl);
-  heard = λ path same. (refl, refl);
-  times = λ now expiry is. by_expired e now (TellsAs e) (λ pending tracking timers runs packets. (runs, refl)) (λ pending timers runs. (runs, (settles_losses (with_closing e (ticked e.closing now))).came)) expiry;
-  polls = λ now is. polled_runs q e now;
-  hears = λ arrival d is. cc;
-  tells = λ told. (refl, refl);
-})
+runs_step q e theirs call a other = by_plain_call q e theirs (TellsAs e) call a cases_keep
+  where
+    cases_keep : Plain q e call (TellsAs e)
+    cases_keep (cases.times now expiry) may = by_expired e now (TellsAs e) (λ pending tracking timers runs packets. (runs, refl)) (λ pending timers runs. (runs, (settles_losses (with_closing e (ticked e.closing now))).came)) expiry
+    cases_keep (cases.polls now) may = polled_runs q e now
+    cases_keep (cases.hears arrival d) is = cc
+    cases_keep c may = (refl, refl)
 
 -- the numbers to acknowledge stay those of packets that were taken over a call that is no delivery
 pub taken_step : (q : Policy) (e : End) (theirs : List (List ℕ)) (call : Call) (a : Answer) (packets : List Packet) → is_delivery call ≡ false → AreTaken e.acknowledging.runs packets → AreTaken (after_call q e theirs call a).acknowledging.runs packets

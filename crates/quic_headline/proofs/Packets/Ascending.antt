@@ -17,8 +17,9 @@ use Rattle.quic_machine.specs.Receive.{received}
 use Rattle.quic_machine.specs.Poll.{Polled, Draft, packet_of, tracked, polled, goes, Ready}
 use Rattle.quic_machine.specs.PollCases.{ready_at, by_poll_to, composes, draft_at, may_leave_at}
 use Rattle.quic_machine.specs.LeaveCases.{by_expired}
-use Rattle.quic_machine.specs.FrameCases.{named, frame_keeps, frame_leaves, by_received, by_marks}
-use Rattle.quic_machine.specs.CallCases.{by_plain_call}
+use Rattle.quic_machine.specs.FrameCases.{named, frame_keeps, frame_leaves, by_received, by_marks, apart_leaves}
+use Rattle.quic_machine.specs.CallCases.{Plain, by_plain_call}
+use Rattle.quic_machine.specs.CallCases as cases
 use Rattle.quic_machine.specs.Machine.{after_call}
 use Rattle.quic_machine.specs.declared.run.Call.{Call}
 use Rattle.quic_machine.specs.declared.run.Answer.{Answer}
@@ -141,6 +142,7 @@ ascends_received = by_received Ascends (record {
   frame = frame_keeps Ascends (record {
     ack = λ rises k x a. ascends_named (acked_by k x.tracking.packets) rises k (named k x) a;
     on_streams = λ f x on a. frame_leaves Ascends f x on (λ streams. a);
+    apart = λ f x is a. apart_leaves Ascends f x is (λ c. a);
     message = λ m x a. a;
   });
   takes = λ n asks mark x a. a;
@@ -167,7 +169,7 @@ ascends_polled p e now a = by_poll_to p e now (λ (q : Polled). Ascends q.end) (
   silent = a;
   failed = a;
   nothing = λ is none. ready;
-  used_up = ready;
+  closes = ready;
   gives = λ is may some. by_going Ascends p d (λ pacing. gives some);
 })
   where
@@ -185,14 +187,10 @@ ascends_polled p e now a = by_poll_to p e now (λ (q : Polled). Ascends q.end) (
 
 -- any call
 pub ascends_call : (p : Policy) (e : End) (theirs : List (List ℕ)) (call : Call) (answer : Answer) → Ascends e → Ascends (after_call p e theirs call answer)
-ascends_call p e theirs call answer a = by_plain_call p e theirs Ascends call answer (record {
-  same = a;
-  on_streams = λ t. a;
-  on_messages = λ m. a;
-  pings = a;
-  heard = λ path same. a;
-  times = λ now expiry is. by_expired e now Ascends (λ pending tracking timers runs packets. subst (λ (ps : Table TrackedPacket). Ascending 0 ps) (sym packets) a) (λ pending timers runs. ascends_losses (with_closing e (ticked e.closing now)) a) expiry;
-  polls = λ now is. ascends_polled p e now a;
-  hears = λ arrival d is. ascends_received p e arrival d a;
-  tells = λ told. a;
-})
+ascends_call p e theirs call answer a = by_plain_call p e theirs Ascends call answer keep
+  where
+    keep : Plain p e call Ascends
+    keep (cases.times now expiry) may = by_expired e now Ascends (λ pending tracking timers runs packets. subst (λ (ps : Table TrackedPacket). Ascending 0 ps) (sym packets) a) (λ pending timers runs. ascends_losses (with_closing e (ticked e.closing now)) a) expiry
+    keep (cases.polls now) may = ascends_polled p e now a
+    keep (cases.hears arrival d) may = ascends_received p e arrival d a
+    keep c may = a

@@ -23,10 +23,11 @@ use Rattle.quic_streams_state.specs.Frames.{after_frame_sent}
 use Rattle.quic_spaces.specs.Marks.{Counts, told_counts}
 use Rattle.quic_spaces.specs.Acknowledging.{written_delay, delay_at}
 use Rattle.quic_machine.specs.End.{End, streams_at, with_ping}
-use Rattle.quic_machine.specs.Poll.{asking, overhead, number_width, with_least, zeros_behind, Draft, no_frames, with_frame, frame_room, fits, left, ping_if, with_ping_frame, with_control_frames, with_message, with_message_frames, with_asking, ack_of, with_ack, ack_fits, ack_if, composed_if, payload_of, lazied, asks_to_go, waits, draft_as, draft_of, probe, alone, whole, Leaving, Ready, nothing, probing, composed, behind_control, least_left}
+use Rattle.quic_machine.specs.Poll.{asking, overhead, number_width, with_least, zeros_behind, Draft, no_frames, with_frame, frame_room, fits, left, ping_if, with_signal_frames, with_control_frames, with_message, with_message_frames, with_asking, ack_of, with_ack, ack_fits, ack_if, composed_if, payload_of, lazied, asks_to_go, waits, draft_as, draft_of, probe, alone, whole, Leaving, Ready, nothing, probing, composed, behind_control, least_left, closing}
 use Rattle.quic_machine.specs.Parts.{current_mtu}
 use Rattle.quic_machine.specs.PollCases.{frames_padded}
-use Rattle.quic_machine.specs.DraftLaws.{SendsHalf, stream_room, with_entry, with_half_frame, by_messages, by_streams, MayLeave, HasRoom, room_most, entry_behind}
+use Rattle.quic_machine.specs.DraftLaws.{SendsHalf, by_messages, by_streams, MayLeave, HasRoom, room_most, entry_behind}
+use Rattle.quic_machine.specs.Puts.{stream_room, with_entry, with_half_frame}
 use Rattle.quic_streams_state.specs.Control as control
 use Rattle.quic_headline.proofs.Packets.Invariant.{CountsFit, Acks}
 use Rattle.quic_wire.proofs.FrameRange.{size_most}
@@ -293,8 +294,8 @@ module _ (K : Streams → Type 0) (k : Spelling K) where
     stands : S d
 
   -- PING goes, where there is room for it
-  ping_goes : (d : Draft) → length d.bytes + 25 ≤ frame_room d.end → Goes Behind d → Goes Behind (with_ping_frame d)
-  ping_goes d left g = go d.end.waiting.ping
+  ping_goes : (d : Draft) → length d.bytes + 25 ≤ frame_room d.end → Goes Behind d → Goes Behind (with_signal_frames d)
+  ping_goes d left g = go d.end.waiting.signals.ping
     where
       go : (b : Bool) → Goes Behind (ping_if b d)
       go true =
@@ -371,8 +372,8 @@ module _ (K : Streams → Type 0) (k : Spelling K) where
   -- what asks goes, where there is room
   asking_goes : (d : Draft) → length d.bytes + 25 ≤ frame_room d.end → Goes Behind d → Goes Stands (with_asking d)
   asking_goes d left g =
-      let before = messages_go (with_control_frames (with_ping_frame d)) (entries_go (with_ping_frame d) (ping_goes d left g)) in
-      by_streams (Goes Stands) half_goes (with_message_frames (with_control_frames (with_ping_frame d)))
+      let before = messages_go (with_control_frames (with_signal_frames d)) (entries_go (with_signal_frames d) (ping_goes d left g)) in
+      by_streams (Goes Stands) half_goes (with_message_frames (with_control_frames (with_signal_frames d)))
       (record { streams = before.streams; acks = before.acks; sized = before.sized; room = before.room; least = before.least; within = before.within; stands = inl before.stands })
 
   -- an ACK frame goes behind it where it fits
@@ -437,6 +438,7 @@ module _ (K : Streams → Type 0) (k : Spelling K) where
 
       go : (b : Leaving) → MayLeave b e → Spells (least_left b) (draft_as b e)
       go whole due = spelled (composed x) (composes (can_send x.acknowledging) refl)
-      go alone due = stood (with_ack (no_frames x)) (acked (due refl))
+      go alone due = stood (with_ack (no_frames x)) (acked due)
       go (probe size) due = record { spells = fills (probing size e) (inl (behind_fit (with_least (no_frames e) size) ping e (λ fs rest spells. spells) tt)); within = (let enough = room in omega arith); least_is = refl }
+      go (closing f) (is, (none, fit, form)) = record { spells = fills (with_frame (no_frames e) f (spelling f) e) (inl (behind_fit (no_frames e) f e (λ fs rest spells. spells) form)); within = (let long = spelling_length f form in let room = leb-true (0 + frame_size f) (frame_room e) fit in omega arith); least_is = refl }
       go (nothing held) due = record { spells = fills (no_frames e) (inl (λ fs rest spells. spells)); within = omega arith; least_is = refl }

@@ -32,11 +32,12 @@ use Rattle.quic_recovery_core.specs.DuplicateRuns.{seen_after}
 use Rattle.quic_machine.specs.End.{End, closed_by, with_numbers}
 use Rattle.quic_machine.specs.Opens.{own_id_length, in_phase, opens_behind, opens}
 use Rattle.quic_machine.specs.Receive.{Fault, Progress, Outcome, error_of, reason_of, take_payload, violation, asks_in, after_taken, dropped, ends_as, judged, processed, by_state, opened_to, opened_as, headed, received_in, received}
-use Rattle.quic_headline.specs.Runs.{Intake, is_again, frames_of, is_refused, expected_behind, and_opened, and_handed}
+use Rattle.quic_headline.specs.Runs.{Intake, is_again, frames_of, is_refused, destination, opens_by_key, came_open, and_opened, and_handed}
 use Rattle.quic_machine.specs.Start.{IsLawful}
 use Rattle.quic_machine.specs.FrameCases.{passed, begun}
 use Rattle.quic_headline.proofs.Packets.Invariant.{IsGiven, Knows, KnowsIn}
 use Rattle.quic_headline.proofs.Packets.Window.{is_duplicate-is}
+use Rattle.quic_headline.proofs.Packets.ByKey.{known_alone, header_for, came_open_is}
 
 -- ---- the header
 
@@ -54,15 +55,20 @@ pub plain_number : (n reference : ℕ) → n - reference < 2 ^ 31 → (key_phase
 plain_number n reference near = let few = fewest (n - reference) near in plain_first (truncated n reference).width few.some few.four
 
 -- what the header of a datagram says that was sent to this id, which is one of those that its taker is known by, or isn't
-abbrev known_as : Bool → List ℕ → Result (List ℕ) HeaderError
+abbrev pub known_as : Bool → List ℕ → Result (List ℕ) HeaderError
 known_as b id = cond {A = Result (List ℕ) HeaderError} b (Ok id) (Err UnknownId)
 
 -- the datagram is for the id that it was sent to
-decoded_given : (p : Policy) (id : List ℕ) (n reference : ℕ) (frames : List FrameValue) (d : List ℕ) → IsGiven p id n reference frames d → IsLawful p → length id ≡ own_id_length → (ids : List (List ℕ))
+pub decoded_given : (p : Policy) (id : List ℕ) (n reference : ℕ) (frames : List FrameValue) (d : List ℕ) → IsGiven p id n reference frames d → IsLawful p → (ids : List (List ℕ))
     → decoded (fixed_length_id own_id_length) ids d ≡ known_as (is_known id ids) id
-decoded_given p id n reference frames d g lawful long ids =
-    let finds : (rest : List ℕ) → fixed_length_id own_id_length (id ++ rest) ≡ Some id = λ rest. subst (λ (k : ℕ). fixed_length_id k (id ++ rest) ≡ Some id) long (fixed_length_finds id rest) in
+decoded_given p id n reference frames d g lawful ids =
+    let finds : (rest : List ℕ) → fixed_length_id own_id_length (id ++ rest) ≡ Some id = λ rest. subst (λ (k : ℕ). fixed_length_id k (id ++ rest) ≡ Some id) g.long (fixed_length_finds id rest) in
     ap (λ (x : List ℕ). decoded (fixed_length_id own_id_length) ids x) g.is ∙ sent_is_decoded p.header p.packet lawful.form lawful.width lawful.tag (fixed_length_id own_id_length) ids n reference id g.payload finds g.near g.four
+
+-- it was sent to that id
+pub destination_given : (p : Policy) (id : List ℕ) (n reference : ℕ) (frames : List FrameValue) (d : List ℕ) → IsGiven p id n reference frames d → IsLawful p → destination d ≡ id
+destination_given p id n reference frames d g lawful =
+    header_for (id ∷ []) d id (decoded_given p id n reference frames d g lawful (id ∷ []) ∙ ap (λ (b : Bool). known_as b id) (known_alone id))
 
 -- ---- what it opens to
 
@@ -79,10 +85,10 @@ abbrev pub expands : ℕ → ℕ → ℕ → Bool
 expands n reference x = expanded (truncated n reference) x == n
 
 -- the datagram opens where its number's bytes expand to it
-pub opened_given : (p q : Policy) (id : List ℕ) (n reference : ℕ) (frames : List FrameValue) (d : List ℕ) → (g : IsGiven p id n reference frames d) → CanOpen p q → length id ≡ own_id_length → (x : ℕ)
+pub opened_given : (p q : Policy) (id : List ℕ) (n reference : ℕ) (frames : List FrameValue) (d : List ℕ) → (g : IsGiven p id n reference frames d) → CanOpen p q → (x : ℕ)
     → opened_packet q.header q.packet (own_id_length + 1) x d ≡ shown_if (expands n reference x) n reference g.payload
-opened_given p q id n reference frames d g mates long x =
-    subst (λ (k : ℕ). opened_packet q.header q.packet (k + 1) x d ≡ shown_if (expands n reference x) n reference g.payload) long
+opened_given p q id n reference frames d g mates x =
+    subst (λ (k : ℕ). opened_packet q.header q.packet (k + 1) x d ≡ shown_if (expands n reference x) n reference g.payload) g.long
     (ap (λ (y : List ℕ). opened_packet q.header q.packet (length id + 1) x y) g.is ∙ mates_open p.header p.packet q.header q.packet mates n reference x id g.payload g.near g.small)
 
 -- its key phase is 0
@@ -91,14 +97,21 @@ in_phase_shown true n reference payload near = ap (λ (b : Bool). cond {A = Opti
 in_phase_shown false n reference payload near = refl
 
 -- what it opens to at an end that is known by these ids is that opening as well, where its id is one of them
-pub opens_given : (p q : Policy) (id : List ℕ) (n reference : ℕ) (frames : List FrameValue) (d : List ℕ) → (g : IsGiven p id n reference frames d) → CanOpen p q → IsLawful p → length id ≡ own_id_length → (ids : List (List ℕ)) (x : ℕ)
+pub opens_given : (p q : Policy) (id : List ℕ) (n reference : ℕ) (frames : List FrameValue) (d : List ℕ) → (g : IsGiven p id n reference frames d) → CanOpen p q → IsLawful p → (ids : List (List ℕ)) (x : ℕ)
     → opens q ids x d ≡ shown_if (is_known id ids && expands n reference x) n reference g.payload
-opens_given p q id n reference frames d g mates lawful long ids x =
-    ap (λ (r : Result (List ℕ) HeaderError). opens_behind r q x d) (decoded_given p id n reference frames d g lawful long ids) ∙ go (is_known id ids)
+opens_given p q id n reference frames d g mates lawful ids x =
+    ap (λ (r : Result (List ℕ) HeaderError). opens_behind r q x d) (decoded_given p id n reference frames d g lawful ids) ∙ go (is_known id ids)
   where
     go : (b : Bool) → opens_behind (known_as b id) q x d ≡ shown_if (b && expands n reference x) n reference g.payload
-    go true = ap in_phase (opened_given p q id n reference frames d g mates long x) ∙ in_phase_shown (expands n reference x) n reference g.payload g.near
+    go true = ap in_phase (opened_given p q id n reference frames d g mates x) ∙ in_phase_shown (expands n reference x) n reference g.payload g.near
     go false = refl
+
+-- by its key alone it opens so whatever ids there are
+pub by_key_given : (p q : Policy) (id : List ℕ) (n reference : ℕ) (frames : List FrameValue) (d : List ℕ) → (g : IsGiven p id n reference frames d) → CanOpen p q → IsLawful p → (x : ℕ)
+    → opens_by_key q x d ≡ shown_if (expands n reference x) n reference g.payload
+by_key_given p q id n reference frames d g mates lawful x =
+    opens_given p q id n reference frames d g mates lawful (destination d ∷ []) x
+    ∙ ap (λ (b : Bool). shown_if (b && expands n reference x) n reference g.payload) (ap (λ (to : List ℕ). is_known id (to ∷ [])) (destination_given p id n reference frames d g lawful) ∙ known_alone id)
 
 -- ---- its frames
 
@@ -158,7 +171,6 @@ opened_tested o arrival e again s phase is state =
 -- what came once a packet opened
 abbrev came_by : Bool → ℕ → List FrameValue → Answer → Intake → Intake
 came_by again n frames a i = cond again i (record {
-  ids = i.ids;
   opened = n ∷ i.opened;
   took = cond (is_refused a) i.took (record { number = n; frames = frames } ∷ i.took);
   part = cond (is_refused a) (Some (record { number = n; frames = frames })) i.part;
@@ -182,30 +194,32 @@ moved P came o o' i e h p = subst (λ (x : Outcome). P x (came x)) (sym e) (subs
 
 -- what came to an open end once it was handed a datagram
 abbrev handed_open : Policy → End → Intake → List ℕ → Outcome → Intake
-handed_open q e i d o = and_opened (opens q i.ids (expected_behind i.took) d) (answers.Deliver o.answer) i
+handed_open q e i d o = and_opened (came_open q i.took (answers.Deliver o.answer) d) (answers.Deliver o.answer) i
 
-module _ (p q : Policy) (id : List ℕ) (n reference : ℕ) (frames : List FrameValue) (d : List ℕ) (g : IsGiven p id n reference frames d) (mates : CanOpen p q) (lawful : IsLawful p) (long : length id ≡ own_id_length)
-    (e : End) (arrival : Arrival) (i : Intake) (P : Outcome → Intake → Type 0) (ids : known e.ids ≡ i.ids) (cases : Arrivals e arrival.now n frames i P) where
+module _ (p q : Policy) (id : List ℕ) (n reference : ℕ) (frames : List FrameValue) (d : List ℕ) (g : IsGiven p id n reference frames d) (mates : CanOpen p q) (lawful : IsLawful p)
+    (e : End) (arrival : Arrival) (i : Intake) (P : Outcome → Intake → Type 0) (cases : Arrivals e arrival.now n frames i P) where
   -- the outcome, where its id is known or isn't
   abbrev headed_if : Bool → Outcome
   headed_if b = cond b (opened_as (shown_if (expands n reference (expected e.numbers)) n reference g.payload) arrival e) (dropped drops.UnknownId e)
 
   -- it is that of the opening
-  headed_given : headed (decoded (fixed_length_id own_id_length) (known e.ids) d) q e arrival d ≡ headed_if (is_known id i.ids)
+  headed_given : headed (decoded (fixed_length_id own_id_length) (known e.ids) d) q e arrival d ≡ headed_if (is_known id (known e.ids))
   headed_given =
-      ap (λ (x : List (List ℕ)). headed (decoded (fixed_length_id own_id_length) x d) q e arrival d) ids
-      ∙ ap (λ (r : Result (List ℕ) HeaderError). headed r q e arrival d) (decoded_given p id n reference frames d g lawful long i.ids)
-      ∙ go (is_known id i.ids)
+      ap (λ (r : Result (List ℕ) HeaderError). headed r q e arrival d) (decoded_given p id n reference frames d g lawful (known e.ids))
+      ∙ go (is_known id (known e.ids))
     where
       go : (b : Bool) → headed (known_as b id) q e arrival d ≡ headed_if b
-      go true = ap (λ (o : Option Opening). opened_as o arrival e) (opened_given p q id n reference frames d g mates long (expected e.numbers))
+      go true = ap (λ (o : Option Opening). opened_as o arrival e) (opened_given p q id n reference frames d g mates (expected e.numbers))
       go false = refl
 
   -- what came is by the same opening
-  handed_given : Knows e.numbers i → (o : Outcome) → handed_open q e i d o ≡ and_opened (shown_if (is_known id i.ids && expands n reference (expected e.numbers)) n reference g.payload) (answers.Deliver o.answer) i
-  handed_given k o =
-      ap (λ (y : Option Opening). and_opened y (answers.Deliver o.answer) i) (opens_given p q id n reference frames d g mates lawful long i.ids (expected_behind i.took))
-      ∙ ap (λ (x : ℕ). and_opened (shown_if (is_known id i.ids && expands n reference x) n reference g.payload) (answers.Deliver o.answer) i) (sym k.expected)
+  handed_given : Knows e.numbers i → (let o : Outcome = headed_if (is_known id (known e.ids)) in
+      handed_open q e i d o ≡ and_opened (shown_if (is_known id (known e.ids) && expands n reference (expected e.numbers)) n reference g.payload) (answers.Deliver o.answer) i)
+  handed_given k =
+      ap (λ (y : Option Opening). and_opened y (answers.Deliver (headed_if (is_known id (known e.ids))).answer) i)
+      (ap (λ (o : Outcome). came_open q i.took (answers.Deliver o.answer) d) (sym headed_given)
+      ∙ came_open_is q e arrival d i.took k.expected
+      ∙ opens_given p q id n reference frames d g mates lawful (known e.ids) (expected e.numbers))
 
   closing_tested : (b again : Bool) → e.closing.state ≡ states.Closing → is_duplicate e.numbers.opened n ≡ again → P (opened_as (shown_if b n reference g.payload) arrival e) i
   closing_tested false again state is = cases.ignored drops.NotOpened
@@ -217,7 +231,7 @@ module _ (p q : Policy) (id : List ℕ) (n reference : ℕ) (frames : List Frame
   known_closing false state = cases.ignored drops.UnknownId
 
   at_closing : e.closing.state ≡ states.Closing → P (headed (decoded (fixed_length_id own_id_length) (known e.ids) d) q e arrival d) i
-  at_closing state = subst (λ (o : Outcome). P o i) (sym headed_given) (known_closing (is_known id i.ids) state)
+  at_closing state = subst (λ (o : Outcome). P o i) (sym headed_given) (known_closing (is_known id (known e.ids)) state)
 
   taken_or_refused : e.closing.state ≡ states.Open → is_again n i.opened ≡ false → (f : Option Fault) → (arrived e arrival.now n frames).fault ≡ f
       → P (ends_as f (asks_in (map Ok frames)) n arrival.mark (arrived e arrival.now n frames).end) (came_by false n frames (answers.Deliver (ends_as f (asks_in (map Ok frames)) n arrival.mark (arrived e arrival.now n frames).end).answer) i)
@@ -247,10 +261,10 @@ module _ (p q : Policy) (id : List ℕ) (n reference : ℕ) (frames : List Frame
   at_open : e.closing.state ≡ states.Open → Knows e.numbers i
       → P (headed (decoded (fixed_length_id own_id_length) (known e.ids) d) q e arrival d) (handed_open q e i d (headed (decoded (fixed_length_id own_id_length) (known e.ids) d) q e arrival d))
   at_open state k =
-      let b : Bool = is_known id i.ids in
+      let b : Bool = is_known id (known e.ids) in
       moved P (handed_open q e i d) (headed (decoded (fixed_length_id own_id_length) (known e.ids) d) q e arrival d) (headed_if b)
       (and_opened (shown_if (b && expands n reference (expected e.numbers)) n reference g.payload) (answers.Deliver (headed_if b).answer) i)
-      headed_given (handed_given k (headed_if b)) (known_open b state k)
+      headed_given (handed_given k) (known_open b state k)
 
   at_state : (s : State) → e.closing.state ≡ s → KnowsIn s e.numbers i → P (received_in s q e arrival d) (and_handed s (Some d) q (answers.Deliver (received_in s q e arrival d).answer) i)
   at_state states.Open state k = at_open state k
@@ -260,7 +274,7 @@ module _ (p q : Policy) (id : List ℕ) (n reference : ℕ) (frames : List Frame
 
 -- every delivery of a datagram that an honest end gave is one of the cases
 pub by_arrival : (p q : Policy) (id : List ℕ) (n reference : ℕ) (frames : List FrameValue) (d : List ℕ) (g : IsGiven p id n reference frames d) (e : End) (arrival : Arrival) (i : Intake) (P : Outcome → Intake → Type 0)
-    → CanOpen p q → IsLawful p → length id ≡ own_id_length → known e.ids ≡ i.ids → KnowsIn e.closing.state e.numbers i
+    → CanOpen p q → IsLawful p → KnowsIn e.closing.state e.numbers i
     → Arrivals e arrival.now n frames i P
     → P (received q e arrival d) (and_handed e.closing.state (Some d) q (answers.Deliver (received q e arrival d).answer) i)
-by_arrival p q id n reference frames d g e arrival i P mates lawful long ids k cases = at_state p q id n reference frames d g mates lawful long e arrival i P ids cases e.closing.state refl k
+by_arrival p q id n reference frames d g e arrival i P mates lawful k cases = at_state p q id n reference frames d g mates lawful e arrival i P cases e.closing.state refl k

@@ -4,7 +4,7 @@ use Rattle.std.specs.Prelude.{if◌then◌else◌, nat_lt, unwrap_or}
 use Rattle.std.specs.List.{list_any}
 use Rattle.std.specs.Ordering.{nat_cmp}
 use Rattle.std.specs.BTreeMap.{is_at}
-use Rattle.std.proofs.lemmas.Bool.{eq-eqb}
+use Rattle.std.proofs.lemmas.Bool.{eq-eqb, both_ways, not-true}
 use Rattle.quic_wire.specs.Value.{FrameValue, AckValue, ack, padding, asks}
 use Rattle.quic_packet.specs.Number.{truncated, expanded}
 use Rattle.quic_packet.specs.Datagram.{Opening, opened_packet}
@@ -17,6 +17,7 @@ use Rattle.quic_congestion.specs.Search.{Discovery}
 use Rattle.quic_machine.specs.Policy.{Policy, CanOpen}
 use Rattle.quic_machine.specs.Closing.{Closing, ticked}
 use Rattle.quic_machine.specs.Opens.{own_id_length}
+use Rattle.quic_machine.specs.Start.{IsLawful}
 use Rattle.quic_spaces.specs.Numbers.{Numbers, cut_against, greatest_of}
 use Rattle.quic_spaces.specs.Marks.{Counts}
 use Rattle.quic_machine.specs.Parts.{Path, Messaging}
@@ -27,18 +28,18 @@ use Rattle.quic_machine.specs.Acked.{without_known, reset_acked, stream_acked, p
 use Rattle.quic_machine.specs.Receive.{is_above, names_ungiven, take_frame}
 use Rattle.quic_machine.specs.Poll.{Draft, asking, datagram_size, packet_of, after_given, draft_as, Leaving}
 use Rattle.quic_machine.specs.Timeouts.{loss_judged, loss_expired}
-use Rattle.quic_machine.specs.FrameCases.{OnStreams, named, ack_taken, passed, streams_acked_keep, resets_acked_keep, packets_lost_keep, frame_leaves, frames_taken, by_marks}
+use Rattle.quic_machine.specs.FrameCases.{OnStreams, named, ack_taken, passed, streams_acked_keep, resets_acked_keep, packets_lost_keep, frame_leaves, frames_taken, by_marks, IsApart, apart_same}
 use Rattle.quic_machine.specs.PollCases.{ready_at, frames_padded, Composes, composes}
-use Rattle.quic_headline.specs.Runs.{In, names}
-use Rattle.quic_headline.specs.Observer.{Sent, Terms, terms_of, asks_of, Flight, latest, late_by, is_lost, after_losses, is_greatest, of_number, measures, rtt_behind, settled_by, after_ack, after_frames, is_behind_asked, unasked, without_oldest, kept_flying, and_sent, waited, probe_due, due_or, loss_due, most_probes, expired_for, sent_as}
+use Rattle.quic_headline.specs.Runs.{In, names, destination}
+use Rattle.quic_headline.specs.Observer.{Sent, Terms, terms_of, asks_of, Flight, latest, late_by, is_lost, after_losses, is_greatest, of_number, measures, rtt_behind, settled_by, after_ack, after_frames, is_behind_asked, unasked, without_oldest, kept_flying, and_flying, waited, probe_due, due_or, loss_due, most_probes, expired_for, sent_as}
 use Rattle.quic_headline.specs.Telling.{acked_flight}
 use Rattle.quic_headline.proofs.Packets.Searches.{by_losses}
 use Rattle.quic_headline.proofs.Packets.Invariant.{IsGiven}
 use Rattle.quic_headline.proofs.Packets.Carried.{carried_padded}
-use Rattle.quic_headline.proofs.Packets.Named.{in_filter, IsNoAck, by_frame}
+use Rattle.quic_headline.proofs.Packets.Named.{in_filter, filter_chose, IsNoAck, by_frame}
 use Rattle.quic_headline.proofs.Packets.Probes.{by_ready, after_going, by_going}
 use Rattle.quic_headline.proofs.Packets.Given.{draft_number}
-use Rattle.quic_headline.proofs.Packets.Delivered.{shown_if, expands, opened_given, frames_of_payload}
+use Rattle.quic_headline.proofs.Packets.Delivered.{shown_if, expands, destination_given, opened_given, frames_of_payload}
 use Rattle.quic_headline.proofs.Packets.Numbered.{Lies, lies_remove, one_key, added_last, is_at_same}
 use Rattle.quic_headline.proofs.Packets.Waited.{IsWaited, AreWaited, waited_filter, waited_length, waited_asks, waited_put, waited_push, waited_oldest, IsFound, waited_found, waited_staying, waited_lost, waited_late}
 use Rattle.quic_headline.proofs.Timers.LossTimers.{OpenStands}
@@ -239,28 +240,34 @@ named_waits t now (s ∷ ss) others [] rises a f e is acked stay w = absurd acke
 
 -- ---- what losses and frames keep
 
+-- those that pass a test don't fail it
+pub apart_filter : (f : Sent → Bool) (ss : List Sent) (s : Sent) → In s (filter f ss) → In s (filter (λ t. not (f t)) ss) → ⊥
+apart_filter f ss s i j = both_ways (f s) (not-true (f s) (filter_chose (λ t. not (f t)) s ss j)) (filter_chose f s ss i)
+
 -- what holds of the datagrams in flight, of those that were acknowledged there, and of the end that gave them, stays where some of them are lost
 pub record Loses (P : List Sent → List Sent → End → Type 0) : Type 0 where
   -- other packets are tracked
   pub tracked : (flying acked : List Sent) (t : Tracking) (e : End) → P flying acked e → P flying acked (with_tracking e t)
   -- the search for a size learns of packets that are lost
   pub searches : (flying acked : List Sent) (lost : Table TrackedPacket) (e : End) → P flying acked e → P flying acked (search_lost lost e)
-  -- of the datagrams in flight some are lost, which are tracked as these packets, and others stay
-  pub loses : (flying acked gone left : List Sent) (ps : Table TrackedPacket) (e : End) → ((s : Sent) → In s gone → In s flying) → ((s : Sent) → In s left → In s flying) → AreWaited gone ps → P flying acked e → P left acked (packets_lost ps e)
+  -- of the datagrams in flight some are lost, which are tracked as these packets, and the others stay
+  pub loses : (flying acked gone left : List Sent) (ps : Table TrackedPacket) (e : End) → ((s : Sent) → In s gone → In s flying) → ((s : Sent) → In s left → In s flying) → ((s : Sent) → In s gone → In s left → ⊥) → AreWaited gone ps → P flying acked e → P left acked (packets_lost ps e)
 
 -- and while the end takes these frames
 pub record Flies (frames : List FrameValue) (P : List Sent → List Sent → End → Type 0) : Type 0 where
   pub losing : Loses P
   -- the greatest number of an ACK frame counts
   pub names : (flying acked : List Sent) (a : AckValue) (e : End) → In (ack a) frames → P flying acked e → P flying acked (named a e)
-  -- of the datagrams in flight these are acknowledged, which are tracked as these packets, and others stay
-  pub acks : (flying acked ss left : List Sent) (ps : Table TrackedPacket) (e : End) → ((s : Sent) → In s ss → In s flying) → ((s : Sent) → In s left → In s flying) → AreWaited ss ps → P flying acked e → P left (acked ++ ss) (packets_acked ps e)
+  -- of the datagrams in flight these are acknowledged by an ACK frame, which are tracked as these packets, and the others stay
+  pub acks : (flying acked ss left : List Sent) (ps : Table TrackedPacket) (e : End) (a : AckValue) → In (ack a) frames → ((s : Sent) → In s ss → In s flying) → ((s : Sent) → In s left → In s flying) → ((s : Sent) → In s ss → In s left → ⊥) → AreWaited ss ps → P flying acked e
+      → P left (acked ++ ss) (packets_acked ps e)
   -- the round trip is measured
   pub measured : (flying acked : List Sent) (r : Rtt) (first : Option ℕ) (e : End) → P flying acked e → P flying acked (with_rtt e r first)
   -- counts of marks came
   pub marked : (flying acked : List Sent) (counts : Counts) (marking : Bool) (e : End) → P flying acked e → P flying acked (with_marking (with_told e counts) marking)
   pub on_streams : (flying acked : List Sent) (f : FrameValue) (e : End) → In f frames → OnStreams f → P flying acked e → P flying acked (take_frame f e).end
   pub message : (flying acked : List Sent) (m : Messaging) (e : End) → P flying acked e → P flying acked (with_messages e m)
+  pub apart : (flying acked : List Sent) (f : FrameValue) (e : End) → In f frames → IsApart f → P flying acked e → P flying acked (take_frame f e).end
 
 -- where an end knows what its observer does, losses are such
 pub losses_fly : (P : List Sent → List Sent → End → Type 0) → Loses P → (t : Terms) (now : ℕ) (f : Flight) (acked : List Sent) (e : End) → Tells t now f (held e) → P f.flying acked e → P (after_losses t now f).flying acked (losses_detected e)
@@ -271,7 +278,7 @@ losses_fly P c t now f acked e w i =
     let ps : Table TrackedPacket = lost_by (verdict e) e.tracking.packets in
     c.searches (after_losses t now f).flying acked ps (with_tracking (packets_lost ps e) (after_detection (verdict e) e.tracking))
     (c.tracked (after_losses t now f).flying acked (after_detection (verdict e) e.tracking) (packets_lost ps e)
-    (c.loses f.flying acked gone (after_losses t now f).flying ps e (λ s j. in_filter (λ s. is_lost t delay now greatest s) s f.flying j) (λ s j. in_filter (λ s. not (is_lost t delay now greatest s)) s f.flying j) (lost_waited t now f e w) i))
+    (c.loses f.flying acked gone (after_losses t now f).flying ps e (λ s j. in_filter (λ s. is_lost t delay now greatest s) s f.flying j) (λ s j. in_filter (λ s. not (is_lost t delay now greatest s)) s f.flying j) (apart_filter (λ s. is_lost t delay now greatest s) f.flying) (lost_waited t now f e w) i))
 
 -- the first frame, and then the others
 first_flight : (t : Terms) (now : ℕ) (f : FrameValue) (fs : List FrameValue) (x : Flight) → after_frames t now (f ∷ fs) x ≡ after_frames t now fs (after_frames t now (f ∷ []) x)
@@ -295,10 +302,10 @@ module _ (t : Terms) (now : ℕ) (frames : List FrameValue) (P : List Sent → L
   sampled_flies flying acked (Some p) a e i = c.measured flying acked (sampled (Some p) a e).path.rtt (sampled (Some p) a e).path.first_after_rtt e i
 
   -- an ACK frame that names these
-  named_flies : (ss others : List Sent) (ps : Table TrackedPacket) (rises : Bool) (x : Flight) (a : AckValue) (e : End) → rises ≡ is_greatest x.named a.largest → ((s : Sent) → In s ss → In s x.flying) → ((s : Sent) → In s others → In s x.flying)
-      → AreWaited ss ps → AreWaited others (not_acked_by a e.tracking.packets) → Tells t now (counted a x) (held e) → P x.flying x.acked e → P (settled_by t now a ss others x).flying (settled_by t now a ss others x).acked (after_named ps rises a e)
-  named_flies [] others [] rises x a e is inside stays acked stay w i = i
-  named_flies (s ∷ ss) others (p ∷ ps) rises x a e is inside stays acked stay w i =
+  named_flies : (ss others : List Sent) (ps : Table TrackedPacket) (rises : Bool) (x : Flight) (a : AckValue) (e : End) → In (ack a) frames → rises ≡ is_greatest x.named a.largest → ((s : Sent) → In s ss → In s x.flying) → ((s : Sent) → In s others → In s x.flying)
+      → ((s : Sent) → In s ss → In s others → ⊥) → AreWaited ss ps → AreWaited others (not_acked_by a e.tracking.packets) → Tells t now (counted a x) (held e) → P x.flying x.acked e → P (settled_by t now a ss others x).flying (settled_by t now a ss others x).acked (after_named ps rises a e)
+  named_flies [] others [] rises x a e among is inside stays apart acked stay w i = i
+  named_flies (s ∷ ss) others (p ∷ ps) rises x a e among is inside stays apart acked stay w i =
       let ss' : List Sent = s ∷ ss in
       let ps' : Table TrackedPacket = p ∷ ps in
       let left : End = without_acked ps' a e in
@@ -307,17 +314,17 @@ module _ (t : Terms) (now : ℕ) (frames : List FrameValue) (P : List Sent → L
       let kept : P (settled_by t now a ss' others x).flying (x.acked ++ ss') taken =
       c.losing.tracked (settled_by t now a ss' others x).flying (x.acked ++ ss') (after_answered found.tracking) found
       (losses_fly P c.losing t now (acked_flight t now a ss' others x) (x.acked ++ ss') (timed ps' rises a e) (timed_tells t now ss' others ps' rises a x e is acked stay w)
-      (sampled_flies others (x.acked ++ ss') (measured rises a ps') a left (c.losing.tracked others (x.acked ++ ss') left.tracking (packets_acked ps' e) (c.acks x.flying x.acked ss' others ps' e inside stays acked i)))) in
+      (sampled_flies others (x.acked ++ ss') (measured rises a ps') a left (c.losing.tracked others (x.acked ++ ss') left.tracking (packets_acked ps' e) (c.acks x.flying x.acked ss' others ps' e a among inside stays apart acked i)))) in
       by_marks rises (length ps') a taken (P (settled_by t now a ss' others x).flying (x.acked ++ ss')) (λ m marking. c.marked (settled_by t now a ss' others x).flying (x.acked ++ ss') m marking taken kept)
-  named_flies [] others (p ∷ ps) rises x a e is inside stays acked stay w i = absurd acked
-  named_flies (s ∷ ss) others [] rises x a e is inside stays acked stay w i = absurd acked
+  named_flies [] others (p ∷ ps) rises x a e among is inside stays apart acked stay w i = absurd acked
+  named_flies (s ∷ ss) others [] rises x a e among is inside stays apart acked stay w i = absurd acked
 
   -- an ACK frame that is taken
   ack_flies : (b : Bool) (a : AckValue) (x : Flight) (e : End) → (ack_taken b a e).fault ≡ None → In (ack a) frames → Flying x e → Flying (after_ack t now a x) (ack_taken b a e).end
   ack_flies true a x e none among f = cc
   ack_flies false a x e none among f = record {
     waits = named_waits t now acked others (acked_by a e.tracking.packets) rises a x (named a e) is first second counts;
-    holds = named_flies acked others (acked_by a e.tracking.packets) rises x a (named a e) is (λ s i. in_filter (λ t. names a t.number) s x.flying i) (λ s i. in_filter (λ t. not (names a t.number)) s x.flying i) first second counts.tells (c.names x.flying x.acked a e among f.holds);
+    holds = named_flies acked others (acked_by a e.tracking.packets) rises x a (named a e) among is (λ s i. in_filter (λ t. names a t.number) s x.flying i) (λ s i. in_filter (λ t. not (names a t.number)) s x.flying i) (apart_filter (λ t. names a t.number) x.flying) first second counts.tells (c.names x.flying x.acked a e among f.holds);
   }
     where
       acked : List Sent
@@ -352,6 +359,9 @@ module _ (t : Terms) (now : ℕ) (frames : List FrameValue) (P : List Sent → L
   other_flies : (f : FrameValue) (x : Flight) (e : End) → OnStreams f → In f frames → Flying x e → Flying x (take_frame f e).end
   other_flies f x e on among i = record { waits = frame_leaves (λ (g : End). Waits t now x (held g)) f e on (λ u. i.waits); holds = c.on_streams x.flying x.acked f e among on i.holds }
 
+  apart_flies : (f : FrameValue) (x : Flight) (e : End) → IsApart f → In f frames → Flying x e → Flying x (take_frame f e).end
+  apart_flies f x e apart among i = record { waits = subst (λ (g : End). Waits t now x (held g)) (sym (apart_same f e apart)) i.waits; holds = c.apart x.flying x.acked f e among apart i.holds }
+
   -- any frame that is taken
   frame_flies : (f : FrameValue) (x : Flight) (e : End) → (take_frame f e).fault ≡ None → In f frames → Flying x e → Flying (after_frames t now (f ∷ []) x) (take_frame f e).end
   frame_flies f x e none among i =
@@ -359,6 +369,7 @@ module _ (t : Terms) (now : ℕ) (frames : List FrameValue) (P : List Sent → L
       (λ a is ok. ack_flies (names_ungiven a e) a x e ok (subst (λ (g : FrameValue). In g frames) (sym is) among) i)
       (λ other on ok. subst (λ (y : Flight). Flying y (take_frame f e).end) (sym (no_ack_flight t now f x other)) (other_flies f x e on among i))
       (λ other m same ok. subst (λ (y : Flight). Flying y (take_frame f e).end) (sym (no_ack_flight t now f x other)) (subst (λ (g : End). Flying x g) (sym same) (record { waits = i.waits; holds = c.message x.flying x.acked m e i.holds })))
+      (λ other apart ok. subst (λ (y : Flight). Flying y (take_frame f e).end) (sym (no_ack_flight t now f x other)) (apart_flies f x e apart among i))
       none
 
   -- where all frames of a packet were taken, an end waits for what they leave in flight
@@ -375,13 +386,14 @@ module _ (t : Terms) (now : ℕ) (frames : List FrameValue) (P : List Sent → L
 -- so it waits for them, whatever else holds
 pub frames_wait : (t : Terms) (now : ℕ) (frames : List FrameValue) (x : Flight) (e : End) → (passed frames e).fault ≡ None → Waits t now x (held e) → Waits t now (after_frames t now frames x) (held (passed frames e).end)
 frames_wait t now frames x e none w = (frames_fly t now frames (λ flying acked g. Unit {0}) (record {
-  losing = record { tracked = λ flying acked u g i. tt; searches = λ flying acked lost g i. tt; loses = λ flying acked gone left ps g inside stays lost i. tt };
+  losing = record { tracked = λ flying acked u g i. tt; searches = λ flying acked lost g i. tt; loses = λ flying acked gone left ps g inside stays apart lost i. tt };
   names = λ flying acked a g among i. tt;
-  acks = λ flying acked ss left ps g inside stays all i. tt;
+  acks = λ flying acked ss left ps g a among inside stays apart all i. tt;
   measured = λ flying acked r first g i. tt;
   marked = λ flying acked m marking g i. tt;
   on_streams = λ flying acked f g among on i. tt;
   message = λ flying acked m g i. tt;
+  apart = λ flying acked f g among apart i. tt;
 }) x e none (record { waits = w; holds = tt })).waits
 
 -- ---- the timer of losses
@@ -434,12 +446,13 @@ expands_there : (n reference : ℕ) → n - reference < 2 ^ 31 → reference ≤
 expands_there n reference near behind = eq-eqb (expanded (truncated n reference) reference) n (newest_opens n reference reference near (omega arith) (omega arith))
 
 -- the datagram of a number opens to what it was sent as, by the keys of its taker alone
-pub sent_read : (p q : Policy) (id : List ℕ) (n reference : ℕ) (frames : List FrameValue) (d : List ℕ) → IsGiven p id n reference frames d → CanOpen p q → length id ≡ own_id_length → reference ≤ n → (moment size : ℕ)
-    → sent_as (opened_packet q.header q.packet (own_id_length + 1) reference d) reference moment size ≡ record { number = n; reference = reference; frames = frames; moment = moment; size = size } ∷ []
-sent_read p q id n reference frames d g mates eight behind moment size =
-    ap (λ (o : Option Opening). sent_as o reference moment size) (opened_given p q id n reference frames d g mates eight reference)
-    ∙ ap (λ (b : Bool). sent_as (shown_if b n reference g.payload) reference moment size) (expands_there n reference g.near behind)
-    ∙ ap (λ (fs : List FrameValue). record { number = n; reference = reference; frames = fs; moment = moment; size = size } ∷ []) (frames_of_payload frames g.payload g.spells)
+pub sent_read : (p q : Policy) (id : List ℕ) (n reference : ℕ) (frames : List FrameValue) (d : List ℕ) → IsGiven p id n reference frames d → CanOpen p q → IsLawful p → reference ≤ n → (moment : ℕ)
+    → sent_as (opened_packet q.header q.packet (own_id_length + 1) reference d) reference moment d ≡ record { id = id; number = n; reference = reference; frames = frames; moment = moment; size = length d } ∷ []
+sent_read p q id n reference frames d g mates lawful behind moment =
+    ap (λ (o : Option Opening). sent_as o reference moment d) (opened_given p q id n reference frames d g mates reference)
+    ∙ ap (λ (b : Bool). sent_as (shown_if b n reference g.payload) reference moment d) (expands_there n reference g.near behind)
+    ∙ ap (λ (fs : List FrameValue). record { id = destination d; number = n; reference = reference; frames = fs; moment = moment; size = length d } ∷ []) (frames_of_payload frames g.payload g.spells)
+    ∙ ap (λ (to : List ℕ). record { id = to; number = n; reference = reference; frames = frames; moment = moment; size = length d } ∷ []) (destination_given p id n reference frames d g lawful)
 
 -- PADDING doesn't ask for an acknowledgement
 pub asking_padded : (fs : List FrameValue) (count : ℕ) → asking (fs ++ replicate count padding) ≡ asking fs
@@ -467,9 +480,9 @@ kept_lies (Some p) low high ps lies = lies_remove (is_at (nat_cmp p.0)) low high
 
 -- a datagram that goes is in flight, and its end waits for it
 given_waits : (t : Terms) (now : ℕ) (tr : Tracking) (n next : ℕ) (p : TrackedPacket) (s : Sent) (f : Flight) (h : Held) → IsWaited s (n, p) → Lies 0 next h.tracking.packets → next ≤ n → Waits t now f h → (numbers : Numbers) → numbers.largest_acked ≡ h.numbers.largest_acked
-    → tr ≡ asking_sent p.asks n p.time_sent (record h.tracking { packets = added (without_packet (forgotten h.tracking p) h.tracking.packets) n p }) → Waits t now (and_sent s f) (record h { tracking = tr; numbers = numbers })
+    → tr ≡ asking_sent p.asks n p.time_sent (record h.tracking { packets = added (without_packet (forgotten h.tracking p) h.tracking.packets) n p }) → Waits t now (and_flying s f) (record h { tracking = tr; numbers = numbers })
 given_waits t now tr n next p s f h is lies above w numbers same tracks =
-    subst (λ (u : Tracking). Waits t now (and_sent s f) (record h { tracking = u; numbers = numbers })) (sym tracks)
+    subst (λ (u : Tracking). Waits t now (and_flying s f) (record h { tracking = u; numbers = numbers })) (sym tracks)
     (subst (λ (b : Bool). Waits t now (record f { flying = kept_flying (asks_of s) f ++ s ∷ []; asked = if b then Some s else f.asked; probes = if b then f.probes - 1 else f.probes }) (record h { tracking = asking_sent p.asks n p.time_sent (record h.tracking { packets = added kept n p }); numbers = numbers })) is.asks
     (go p.asks))
   where
@@ -508,8 +521,8 @@ given_waits t now tr n next p s f h is lies above w numbers same tracks =
 
 -- what an end gives is in flight, and waited for
 pub draft_waits : (p : Policy) (t : Terms) (now : ℕ) (b : Leaving) (e : End) (s : Sent) (f : Flight) → MayLeave b e → e.path.generation ≡ 0 → s.number ≡ number_of e → s.moment ≡ e.closing.clock → s.frames ≡ frames_padded (draft_as b e) → s.size ≡ datagram_size (draft_as b e)
-    → Lies 0 e.numbers.next e.tracking.packets → e.numbers.next ≤ number_of e → Waits t now f (held e) → Waits t now (and_sent s f) (held (after_given p (draft_as b e)))
-draft_waits p t now b e s f may path number moment frames size lies above w = by_going (λ (x : End). Waits t now (and_sent s f) (held x)) p d (λ pacing.
+    → Lies 0 e.numbers.next e.tracking.packets → e.numbers.next ≤ number_of e → Waits t now f (held e) → Waits t now (and_flying s f) (held (after_given p (draft_as b e)))
+draft_waits p t now b e s f may path number moment frames size lies above w = by_going (λ (x : End). Waits t now (and_flying s f) (held x)) p d (λ pacing.
     let x : End = after_going p d pacing in
     given_waits t now x.tracking (number_of d.end) e.numbers.next (packet_of d) s f (held d.end) is (subst (λ (x : Tracking). Lies 0 e.numbers.next x.packets) (sym c.tracking) lies) (subst (λ (n : ℕ). e.numbers.next ≤ n) (sym given) above)
     (subst (λ (h : Held). Waits t now f h) same w) x.numbers refl refl)

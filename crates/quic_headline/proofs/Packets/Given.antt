@@ -14,6 +14,7 @@ use Rattle.quic_machine.specs.Ids.{Ids}
 use Rattle.quic_spaces.specs.Numbers.{Numbers, cut_against, kept_numbers, can_number, number_given}
 use Rattle.quic_spaces.specs.Filter.{Filter, is_skipped, allocated, after_skipped, after_allocated}
 use Rattle.quic_machine.specs.Policy.{Policy}
+use Rattle.quic_machine.specs.Opens.{own_id_length}
 use Rattle.quic_machine.specs.End.{End, number_of}
 use Rattle.quic_headline.specs.Runs.{In}
 use Rattle.quic_machine.specs.DraftLaws.{MayLeave}
@@ -64,8 +65,8 @@ number_small f numbers may =
     (omega arith, omega arith)
 
 -- what goes of an end that is ready does so in a datagram of its number
-pub datagram_given : (p : Policy) (g : Ready) → can_number g.end.numbers ≡ true → MayLeave g.leaving g.end → IsSpellable g → IsGiven p g.end.ids.active.id (number_of g.end) (cut_against g.end.numbers) (frames_padded (draft_of g)) (datagram_of p (draft_of g))
-datagram_given p g may alone spellable =
+pub datagram_given : (p : Policy) (g : Ready) → can_number g.end.numbers ≡ true → MayLeave g.leaving g.end → length g.end.ids.active.id ≡ own_id_length → IsSpellable g → IsGiven p g.end.ids.active.id (number_of g.end) (cut_against g.end.numbers) (frames_padded (draft_of g)) (datagram_of p (draft_of g))
+datagram_given p g may alone eight spellable =
     let e : End = g.end in
     let c = composes g.leaving e alone in
     let d : Draft = draft_of g in
@@ -76,6 +77,7 @@ datagram_given p g may alone spellable =
     let four = padded_four d in
     let small = number_small e.filter e.numbers may in
     record {
+      long = eight;
       payload = payload_of d;
       spells = spellable.spells;
       some = omega arith;
@@ -95,9 +97,9 @@ left_out_on : (o : Option ℕ) (next other : ℕ) (sents : List Sent) → other 
 left_out_on o next other sents same before = subst (λ (n : ℕ). IsLeftOut o n sents) (sym same) before
 
 -- nothing more is given
-pub gives_quiet : (p : Policy) (id : List ℕ) (before after : Numbers) (skipped : Option ℕ) (sents : List Sent) (given : List (List ℕ)) → after.next ≡ before.next → (IsBehind before → IsBehind after) → Gives p id before skipped sents given
-    → Gives p id after skipped (sents ++ []) (given ++ [])
-gives_quiet p id before after skipped sents given next behind g =
+pub gives_quiet : (p : Policy) (before after : Numbers) (skipped : Option ℕ) (sents : List Sent) (given : List (List ℕ)) → after.next ≡ before.next → (IsBehind before → IsBehind after) → Gives p before skipped sents given
+    → Gives p after skipped (sents ++ []) (given ++ [])
+gives_quiet p before after skipped sents given next behind g =
     rw (append-nil sents, append-nil given) (record {
       rising = g.rising;
       below = λ s i. subst (λ (n : ℕ). s.number < n) (sym next) (g.below s i);
@@ -136,9 +138,9 @@ left_out_now f numbers word sents s number below before = go (is_skipped f numbe
     go false goes above = left_out_more f.last numbers.next (numbers.next + 1) sents s (omega arith) (omega arith) before
 
 -- one more is given, under the next number that isn't left out
-gives_more : (p : Policy) (id : List ℕ) (f : Filter) (word : ℕ) (numbers : Numbers) (sents : List Sent) (given : List (List ℕ)) (s : Sent) (d : List ℕ) → s.number ≡ allocated f numbers.next → IsSent p id s d → Gives p id numbers f.last sents given
-    → Gives p id (number_given numbers (allocated f numbers.next)) (after_allocated f numbers.next word).last (sents ++ s ∷ []) (given ++ d ∷ [])
-gives_more p id f word numbers sents given s d number is g =
+gives_more : (p : Policy) (f : Filter) (word : ℕ) (numbers : Numbers) (sents : List Sent) (given : List (List ℕ)) (s : Sent) (d : List ℕ) → s.number ≡ allocated f numbers.next → IsSent p s d → Gives p numbers f.last sents given
+    → Gives p (number_given numbers (allocated f numbers.next)) (after_allocated f numbers.next word).last (sents ++ s ∷ []) (given ++ d ∷ [])
+gives_more p f word numbers sents given s d number is g =
     let behind = g.behind in
     let before = g.next in
     let pushed = next_push sents s in
@@ -152,22 +154,22 @@ gives_more p id f word numbers sents given s d number is g =
       next = omega arith;
       behind = omega arith;
       left_out = left_out_now f numbers word sents s number g.below g.left_out;
-      each = step_push (IsSent p id) sents given s d g.each is;
+      each = step_push (IsSent p) sents given s d g.each is;
     }
 
 -- a poll gives one or none
-polled_gives : (p : Policy) (e : End) (now : ℕ) (id : List ℕ) (sents : List Sent) (given : List (List ℕ)) → e.ids.active.id ≡ id → (goes (ready_at e now) ≡ true → IsSpellable (ready_at e now)) → Gives p id e.numbers e.filter.last sents given
-    → Gives p id (polled p e now).end.numbers (polled p e now).end.filter.last (sents ++ sent_if (gave (answers.Poll (polled p e now).answer)) (sent_by e now)) (given ++ given_as (polled p e now).answer (polled p e now).datagram)
-polled_gives p e now id sents given active spellable before =
-    by_poll p e now (λ (q : Polled). Gives p id q.end.numbers q.end.filter.last (sents ++ sent_if (gave (answers.Poll q.answer)) (sent_by e now)) (given ++ given_as q.answer q.datagram))
-    (record { silent = nothing; failed = nothing; nothing = λ c. nothing; used_up = λ c. nothing; gives = λ leaving c left is. one leaving c })
+polled_gives : (p : Policy) (e : End) (now : ℕ) (sents : List Sent) (given : List (List ℕ)) → length e.ids.active.id ≡ own_id_length → (goes (ready_at e now) ≡ true → IsSpellable (ready_at e now)) → Gives p e.numbers e.filter.last sents given
+    → Gives p (polled p e now).end.numbers (polled p e now).end.filter.last (sents ++ sent_if (gave (answers.Poll (polled p e now).answer)) (sent_by e now)) (given ++ given_as (polled p e now).answer (polled p e now).datagram)
+polled_gives p e now sents given eight spellable before =
+    by_poll p e now (λ (q : Polled). Gives p q.end.numbers q.end.filter.last (sents ++ sent_if (gave (answers.Poll q.answer)) (sent_by e now)) (given ++ given_as q.answer q.datagram))
+    (record { silent = nothing; failed = nothing; nothing = λ c. nothing; closes = λ c. nothing; gives = λ leaving c left is. one leaving c })
   where
-    nothing : Gives p id e.numbers e.filter.last (sents ++ []) (given ++ [])
-    nothing = gives_quiet p id e.numbers e.numbers e.filter.last sents given refl (λ b. b) before
+    nothing : Gives p e.numbers e.filter.last (sents ++ []) (given ++ [])
+    nothing = gives_quiet p e.numbers e.numbers e.filter.last sents given refl (λ b. b) before
 
     -- what is given where these are the numbers, and these are left out
     OneMore : List ℕ → Filter → Numbers → Type 0
-    OneMore d f numbers = Gives p id (number_given numbers (allocated f numbers.next)) (after_allocated f numbers.next (p.words f.drawn)).last (sents ++ sent_by e now ∷ []) (given ++ d ∷ [])
+    OneMore d f numbers = Gives p (number_given numbers (allocated f numbers.next)) (after_allocated f numbers.next (p.words f.drawn)).last (sents ++ sent_by e now ∷ []) (given ++ d ∷ [])
 
     one : (leaving : Leaving) (c : PollChange) → can_number e.numbers ≡ true → ready_at e now ≡ record { leaving = leaving; end = at_poll e now c } → goes (ready_at e now) ≡ true
         → (let d : Draft = draft_as leaving (at_poll e now c) in OneMore (datagram_of p d) d.end.filter d.end.numbers)
@@ -179,30 +181,30 @@ polled_gives p e now id sents given active spellable before =
         let due : MayLeave leaving there = may_leave e now leaving there ready in
         let c = composes leaving there due in
         let frames_are : frames_at e now ≡ frames = ap (λ (x : Ready). frames_padded (draft_of x)) ready in
-        let given_now : IsGiven p e.ids.active.id (number_of e) (cut_against e.numbers) frames d = datagram_given p g may due (subst IsSpellable ready (spellable some)) in
-        let here : IsGiven p id (number_of e) (cut_against e.numbers) (frames_at e now) d =
-        subst (λ (fs : List FrameValue). IsGiven p id (number_of e) (cut_against e.numbers) fs d) (sym frames_are) (subst (λ (i : List ℕ). IsGiven p i (number_of e) (cut_against e.numbers) frames d) active given_now) in
-        let more : OneMore d e.filter e.numbers = gives_more p id e.filter (p.words e.filter.drawn) e.numbers sents given (sent_by e now) d refl here before in
+        let given_now : IsGiven p e.ids.active.id (number_of e) (cut_against e.numbers) frames d = datagram_given p g may due eight (subst IsSpellable ready (spellable some)) in
+        let here : IsGiven p e.ids.active.id (number_of e) (cut_against e.numbers) (frames_at e now) d =
+        subst (λ (fs : List FrameValue). IsGiven p e.ids.active.id (number_of e) (cut_against e.numbers) fs d) (sym frames_are) given_now in
+        let more : OneMore d e.filter e.numbers = gives_more p e.filter (p.words e.filter.drawn) e.numbers sents given (sent_by e now) d refl here before in
         subst (λ (x : Numbers). OneMore d (draft_of g).end.filter x) (sym c.numbers) (subst (λ (f : Filter). OneMore d f e.numbers) (sym c.filter) more)
 
 -- ---- any call
 
-module _ (p : Policy) (e : End) (theirs : List (List ℕ)) (a : Answer) (id : List ℕ) (given : List (List ℕ)) (sents : List Sent) where
+module _ (p : Policy) (e : End) (theirs : List (List ℕ)) (a : Answer) (given : List (List ℕ)) (sents : List Sent) where
   -- what is given, once a call gave its datagrams
   abbrev GivesOn : Call → Type 0
-  GivesOn call = Gives p id (after_call p e theirs call a).numbers (after_call p e theirs call a).filter.last (sents ++ sents_by e call a) (given ++ gives p e call a)
+  GivesOn call = Gives p (after_call p e theirs call a).numbers (after_call p e theirs call a).filter.last (sents ++ sents_by e call a) (given ++ gives p e call a)
 
   -- another call than a poll gives none
-  other_gives : (call : Call) → is_poll call ≡ false → gives p e call a ≡ [] → sents_by e call a ≡ [] → Gives p id e.numbers e.filter.last sents given → GivesOn call
+  other_gives : (call : Call) → is_poll call ≡ false → gives p e call a ≡ [] → sents_by e call a ≡ [] → Gives p e.numbers e.filter.last sents given → GivesOn call
   other_gives call other none unsent g =
       let stays = stays_call p e theirs call a other in
-      rw (none, unsent) (subst (λ (f : Filter). Gives p id (after_call p e theirs call a).numbers f.last (sents ++ []) (given ++ [])) (sym stays.filter)
-      (gives_quiet p id e.numbers (after_call p e theirs call a).numbers e.filter.last sents given stays.next stays.behind g))
+      rw (none, unsent) (subst (λ (f : Filter). Gives p (after_call p e theirs call a).numbers f.last (sents ++ []) (given ++ [])) (sym stays.filter)
+      (gives_quiet p e.numbers (after_call p e theirs call a).numbers e.filter.last sents given stays.next stays.behind g))
 
   -- after each call that lacks no memory, each datagram that was given was sent under its number, and the numbers rise
-  pub gives_step : (call : Call) → IsAnswer p e theirs call a → fails a ≡ false → e.ids.active.id ≡ id → ((now : ℕ) → goes (ready_at e now) ≡ true → IsSpellable (ready_at e now)) → Gives p id e.numbers e.filter.last sents given → GivesOn call
-  gives_step (calls.Poll now) is ok active spellable g =
+  pub gives_step : (call : Call) → IsAnswer p e theirs call a → fails a ≡ false → length e.ids.active.id ≡ own_id_length → ((now : ℕ) → goes (ready_at e now) ≡ true → IsSpellable (ready_at e now)) → Gives p e.numbers e.filter.last sents given → GivesOn call
+  gives_step (calls.Poll now) is ok eight spellable g =
       let said = poll_answer p e now a is ok in
       let all : gives p e (calls.Poll now) a ≡ given_as (polled p e now).answer (polled p e now).datagram = ap (λ (x : Answer). gives p e (calls.Poll now) x) said ∙ gives_as p e now (polled p e now).answer in
-      rw (all, ap gave said) (polled_gives p e now id sents given active (spellable now) g)
-  gives_step call is ok active spellable g = other_gives call refl refl refl g
+      rw (all, ap gave said) (polled_gives p e now sents given eight (spellable now) g)
+  gives_step call is ok eight spellable g = other_gives call refl refl refl g

@@ -6,7 +6,7 @@ use Rattle.std.specs.Option.{is_some}
 use Rattle.std.proofs.lemmas.Bool.{le-leb, leb-true, or_cases, and_parts, not-true}
 use Rattle.std.proofs.lemmas.List.{length-append, length-map}
 use Rattle.quic_wire_core.specs.Law.{length-shortest, varint_size_le}
-use Rattle.quic_wire.specs.Value.{FrameValue, ack, ping, stream, datagram}
+use Rattle.quic_wire.specs.Value.{FrameValue, ack, stream, datagram}
 use Rattle.quic_wire.specs.Writing.{frame_size, width_of}
 use Rattle.quic_recovery_core.specs.PendingAcks.{can_send}
 use Rattle.quic_retransmits.specs.Retransmits.{Retransmits, nothing_waits, first_of, control_kinds}
@@ -28,10 +28,12 @@ use Rattle.quic_messages.specs.Messages.{fitting, frame_bytes}
 use Rattle.quic_spaces.specs.Numbers.{cut_against}
 use Rattle.quic_machine.specs.Ids.{Ids}
 use Rattle.quic_machine.specs.End.{End, number_of, streams_at}
-use Rattle.quic_machine.specs.Poll.{Draft, no_frames, frame_room, least_room, fits, left, no_stream_frames, ping_if, with_control_frames, with_message, with_messages_of, with_message_frames, with_stream_frames, with_asking, ack_of, with_ack, ack_fits, ack_if, composed_if, composed, lazied, message_waits, asks_to_go, waits, draft_as, goes, probe, alone, whole, Leaving, with_least, Ready, nothing, goes_as}
+use Rattle.quic_machine.specs.Poll.{Draft, no_frames, frame_room, least_room, fits, left, no_stream_frames, with_control_frames, with_message, with_messages_of, with_message_frames, with_stream_frames, with_asking, ack_of, with_ack, ack_fits, ack_if, composed_if, composed, lazied, message_waits, asks_to_go, waits, draft_as, goes, probe, alone, whole, Leaving, Ready, nothing, goes_as, closing, with_signal_frames}
 use Rattle.quic_machine.specs.PollCases.{ready_at, ready_leaves, whole_waits, may_leave_at}
-use Rattle.quic_machine.specs.Parts.{current_mtu}
-use Rattle.quic_machine.specs.DraftLaws.{Writing, HasRoom, room_most, without_entry, by_entries, by_messages, by_streams, by_asking}
+use Rattle.quic_machine.specs.Parts.{current_mtu, signals_wait}
+use Rattle.quic_machine.specs.DraftLaws.{Writing, drops_of, entry_of, half_of, message_of, HasRoom, room_most, by_entries, by_messages, by_streams, by_asking, by_some_signal, no_signal}
+use Rattle.quic_machine.specs.Puts.{without_entry}
+use Rattle.quic_machine.specs.Puts as puts
 use Rattle.quic_headline.specs.Runs.{In}
 use Rattle.quic_headline.proofs.Packets.Searches.{ready_size}
 use Rattle.quic_headline.proofs.Packets.Invariant.{Acks}
@@ -110,7 +112,7 @@ halves_more (suc n) fair most t some = next (of_streams.next_stream most t) (λ 
     next (Some id) more = half id (at t.state.sending.halves.live id) more
 
 -- that of the stream that stands first goes, where there is room
-first_goes : (n : ℕ) (fair : Bool) (most : ℕ) (t : Sent) (id : ℕ) (h : SendHalf) → 1 ≤ n → length t.bytes + 25 ≤ most → first_queued t.state.sending.queue ≡ Some id → at t.state.sending.halves.live id ≡ Some h
+pub first_goes : (n : ℕ) (fair : Bool) (most : ℕ) (t : Sent) (id : ℕ) (h : SendHalf) → 1 ≤ n → length t.bytes + 25 ≤ most → first_queued t.state.sending.queue ≡ Some id → at t.state.sending.halves.live id ≡ Some h
     → frame_counts h (of_streams.stream_room most t id) ≡ true → 0 < length (stream_frames n fair most t).frames
 first_goes zero fair most t id h some room first found counts = absurd (omega arith)
 first_goes (suc n) fair most t id h some room first found counts =
@@ -128,15 +130,8 @@ one_more d f = let all = length-append d.frames (f ∷ []) in omega arith
 
 -- frames stay, whichever go behind them
 frames_stay : Writing HasFrames
-frames_stay = record {
-  ack = λ d filled may some. one_more d (ack (ack_of d.end));
-  ping = λ d some. one_more d ping;
-  probes = λ f size some. one_more (with_least (no_frames f) size) ping;
-  drops = λ d kind some. some;
-  control = λ d kind f is some. one_more d f;
-  message = λ d m ms is fit some. one_more d (datagram m);
-  stream = λ d id h room found first left is counts some. one_more d (stream (frame_of id h room));
-}
+frames_stay (puts.drops kind) d may some = some
+frames_stay p d may some = one_more d _
 
 -- no frame went: there is no byte, the streams and the messages are as they were, and there is as much room
 record Untouched (e : End) (d : Draft) : Type 0 where
@@ -187,7 +182,7 @@ message_brings e d u on =
     go [] waits = cc
     go (m ∷ ms) waits =
         let goes = short m (nat_le (frame_bytes m) (least_room e)) refl waits in
-        rw goes (by_messages HasFrames frames_stay.message (with_message d m ms) (one_more d (datagram m)))
+        rw goes (by_messages HasFrames (message_of HasFrames frames_stay) (with_message d m ms) (one_more d (datagram m)))
 
 -- behind none, that of the stream that stands first goes
 first_brings : (e : End) (d : Draft) → 1159 ≤ frame_room e → Untouched e d → BringsFirst e.streams → HasFrames (with_stream_frames d)
@@ -296,21 +291,21 @@ module _ (K : Streams → Type 0) (k : Spelling K) (c : Bringing K) where
 
   -- where something waits that asks, a frame goes
   pub asking_goes : (e : End) → 1159 ≤ frame_room e → K (streams_at e) → asks_to_go e ≡ true → HasFrames (with_asking (no_frames e))
-  asking_goes e room i asks = pinged e.waiting.ping asks
+  asking_goes e room i asks = signalled (signals_wait e.waiting.signals) refl asks
     where
       -- messages and frames of streams go behind others
       more : (d : Draft) → HasFrames d → HasFrames (with_stream_frames (with_message_frames d))
-      more d some = by_streams HasFrames frames_stay.stream (with_message_frames d) (by_messages HasFrames frames_stay.message d some)
+      more d some = by_streams HasFrames (half_of HasFrames frames_stay) (with_message_frames d) (by_messages HasFrames (message_of HasFrames frames_stay) d some)
 
       -- or else the oldest message goes
       told : HasFrames (with_control_frames (no_frames e)) ⊎ Untouched e (with_control_frames (no_frames e)) → message_waits e ≡ true → HasFrames (with_stream_frames (with_message_frames (with_control_frames (no_frames e))))
       told (inl some) on = more (with_control_frames (no_frames e)) some
-      told (inr u) on = by_streams HasFrames frames_stay.stream (with_message_frames (with_control_frames (no_frames e))) (message_brings e (with_control_frames (no_frames e)) u on)
+      told (inr u) on = by_streams HasFrames (half_of HasFrames frames_stay) (with_message_frames (with_control_frames (no_frames e))) (message_brings e (with_control_frames (no_frames e)) u on)
 
       -- or else the first frame of a stream
       behind : HasFrames (with_message_frames (with_control_frames (no_frames e))) ⊎ Untouched e (with_message_frames (with_control_frames (no_frames e))) → BringsFirst e.streams
           → HasFrames (with_stream_frames (with_message_frames (with_control_frames (no_frames e))))
-      behind (inl some) b = by_streams HasFrames frames_stay.stream (with_message_frames (with_control_frames (no_frames e))) some
+      behind (inl some) b = by_streams HasFrames (half_of HasFrames frames_stay) (with_message_frames (with_control_frames (no_frames e))) some
       behind (inr u) b = first_brings e (with_message_frames (with_control_frames (no_frames e))) room u b
 
       quiet : (not (is_empty e.waiting.frames e.streams) || (message_waits e || can_send_stream_data e.streams)) ≡ true → HasFrames (with_stream_frames (with_message_frames (with_control_frames (no_frames e))))
@@ -322,9 +317,11 @@ module _ (K : Streams → Type 0) (k : Spelling K) (c : Bringing K) where
         ]
       ]
 
-      pinged : (b : Bool) → (b || (not (is_empty e.waiting.frames e.streams) || (message_waits e || can_send_stream_data e.streams))) ≡ true → HasFrames (with_stream_frames (with_message_frames (with_control_frames (ping_if b (no_frames e)))))
-      pinged true on = more (with_control_frames (ping_if true (no_frames e))) (by_entries HasFrames frames_stay.drops frames_stay.control (ping_if true (no_frames e)) (omega arith))
-      pinged false on = quiet on
+      signalled : (b : Bool) → signals_wait e.waiting.signals ≡ b → (b || (not (is_empty e.waiting.frames e.streams) || (message_waits e || can_send_stream_data e.streams))) ≡ true → HasFrames (with_asking (no_frames e))
+      signalled true some on =
+          let d : Draft = with_signal_frames (no_frames e) in
+          more (with_control_frames d) (by_entries HasFrames (drops_of HasFrames frames_stay) (entry_of HasFrames frames_stay) d (by_some_signal HasFrames (λ x f left is. one_more x f) (no_frames e) some))
+      signalled false none on = subst (λ (x : Draft). HasFrames (with_stream_frames (with_message_frames (with_control_frames x)))) (sym (no_signal (no_frames e) none)) (quiet on)
 
   -- where something waits, a frame goes
   pub composed_some : (e : End) → HasRoom e → K (streams_at e) → waits e ≡ true → HasFrames (composed e)
@@ -351,6 +348,7 @@ module _ (K : Streams → Type 0) (k : Spelling K) (c : Bringing K) where
       go whole is on = composed_some (lazied g.end) short i (waits_lazied g.end (whole_waits e now is))
       go alone is on = omega arith
       go (probe size) is on = omega arith
+      go (closing f) is on = omega arith
       go (nothing held) is on = cc
 
   -- at any moment

@@ -1,7 +1,8 @@
 -- What holds of the packets between two ends, as one group: what the one gave, and what the other took of it.
-use Rattle.std.proofs.Common.{◌≡◌, ℕ, ◌<◌, ◌^◌, List, [], ◌∷◌, ◌++◌, length, false, refl, sym, ap, ◌∙◌, subst, arith, true}
+use Rattle.std.proofs.Common.{◌≡◌, ℕ, ◌<◌, ◌^◌, Bool, List, [], ◌∷◌, ◌++◌, length, false, inl, inr, refl, sym, ap, ◌∙◌, subst, arith, true}
 use Rattle.std.proofs.lemmas.List.{length-append}
 use Rattle.quic_machine.specs.declared.run.Call.{Call}
+use Rattle.quic_machine.specs.declared.run.Call.TheVariants as calls
 use Rattle.quic_machine.specs.declared.run.Answer.{Answer}
 use Rattle.quic_machine.specs.Ids.{Ids, known}
 use Rattle.quic_spaces.specs.Numbers.{Numbers, number_given}
@@ -19,8 +20,9 @@ use Rattle.quic_machine.specs.Start.{Making, IsMaking}
 use Rattle.quic_machine.specs.End.{End, new_end, with_closing, number_of}
 use Rattle.quic_machine.specs.Receive.{Outcome}
 use Rattle.quic_machine.specs.Poll.{Polled, polled, goes, draft_as, Leaving}
-use Rattle.quic_machine.specs.Machine.{after_call, gives}
-use Rattle.quic_machine.specs.CallCases.{is_delivery, by_plain_call}
+use Rattle.quic_machine.specs.Machine.{after_call, gives, gave}
+use Rattle.quic_machine.specs.CallCases.{Plain, is_delivery, by_plain_call}
+use Rattle.quic_machine.specs.CallCases as cases
 use Rattle.quic_machine.specs.LeaveCases.{at_losses, by_expired}
 use Rattle.quic_machine.specs.PollCases.{ready_at, by_poll, composes, at_poll}
 use Rattle.quic_headline.specs.Runs.{Intake, In, count_given, nothing_came}
@@ -40,16 +42,18 @@ use Rattle.quic_headline.proofs.Packets.TrackedSteps.{tracked_step}
 use Rattle.quic_headline.proofs.Packets.Ascending.{Ascends, ascends_call}
 use Rattle.quic_headline.proofs.Packets.Naming.{were_sent_more, sent_arrivals, name_taken_on, name_taken_step}
 use Rattle.quic_headline.proofs.Places.Steps.{gives_count}
-use Rattle.quic_headline.proofs.Places.Parties.{sents_by, told_of, Party, called, came_to, AreJoined}
+use Rattle.quic_headline.proofs.Places.Told.{in_append}
+use Rattle.quic_headline.proofs.Places.Parties.{sent_by, sent_if, sents_by, told_of, Party, called, came_to, AreJoined}
 use Rattle.quic_headline.proofs.Places.Groups.{Way, Before, Early}
-use Rattle.quic_headline.proofs.Places.Coming.{Meets, by_coming, came_ids}
+use Rattle.quic_headline.proofs.Places.Coming.{Meets, by_coming}
 use Rattle.quic_headline.proofs.Packets.Probes.{may_leave}
 
 -- x gives, and y takes.
 pub record PacketsHold (x y : Party) : Type 0 where
   -- the datagrams that were given, as they were sent
-  pub gives : Gives x.policy y.id x.end.numbers x.end.filter.last x.sents x.given
-  -- they go to the id of y, in datagrams of 1200 bytes at least, and no more than a UDP payload has
+  pub gives : Gives x.policy x.end.numbers x.end.filter.last x.sents x.given
+  -- they went to the id of y, and so does what goes next, in datagrams of 1200 bytes at least, and no more than a UDP payload has
+  pub went : (s : Sent) → In s x.sents → s.id ≡ y.id
   pub active : x.end.ids.active.id ≡ y.id
   pub sized : HasSize 1200 MAX_UDP_PAYLOAD x.end
   pub count : length x.given ≡ count_given x.told
@@ -58,7 +62,7 @@ pub record PacketsHold (x y : Party) : Type 0 where
   pub ascends : Ascends x.end
   -- what the ACK frames of x name, x took
   pub named : NameTaken x.sents (came_to x y).took
-  pub known : known y.end.ids ≡ (came_to y x).ids
+  pub known : known y.end.ids ≡ y.id ∷ []
   pub knows : KnowsIn y.end.closing.state y.end.numbers (came_to y x)
   pub acks : Acks y.end.acknowledging y.end.marks.came
   -- each packet that y took was sent so
@@ -68,7 +72,7 @@ pub record PacketsHold (x y : Party) : Type 0 where
 
 -- what a delivery rests on
 pub meets : (x y : Party) → PacketsHold x y → Meets x y
-meets x y p = record { each = p.gives.each; known = p.known; knows = p.knows }
+meets x y p = record { each = p.gives.each; knows = p.knows }
 
 -- a datagram of x has room for frames, and fewer than 2 ^ 16 bytes
 pub has_room : (x y : Party) → PacketsHold x y → length y.id ≡ own_id_length → HasRoom x.end
@@ -100,7 +104,7 @@ knows_poll p e now i k =
       silent = k;
       failed = k;
       nothing = λ c. k;
-      used_up = λ c. expects_in e.closing.state e.numbers i k;
+      closes = λ c. expects_in e.closing.state e.numbers i k;
       gives = λ leaving c left is may ready some. gives leaving (at_poll e now c) refl refl (may_leave e now leaving (at_poll e now c) ready);
     })
   where
@@ -114,22 +118,18 @@ knows_poll p e now i k =
 
 -- what came is known, after a call that is no delivery
 knows_step : (q : Policy) (e : End) (theirs : List (List ℕ)) (call : Call) (a : Answer) (i : Intake) → is_delivery call ≡ false → KnowsIn e.closing.state e.numbers i → KnowsIn (after_call q e theirs call a).closing.state (after_call q e theirs call a).numbers i
-knows_step q e theirs call a i other k = by_plain_call q e theirs (λ (f : End). KnowsIn f.closing.state f.numbers i) call a (record {
-  same = k;
-  on_streams = λ t. k;
-  on_messages = λ m. k;
-  pings = k;
-  heard = λ path same. k;
-  times = λ now expiry set. by_expired e now (λ (f : End). KnowsIn f.closing.state f.numbers i) (λ pending tracking timers runs packets. k) (λ pending timers runs. losses now pending timers) expiry;
-  polls = λ now set. knows_poll q e now i k;
-  hears = λ arrival d set. cc;
-  tells = λ told. k;
-})
+knows_step q e theirs call a i other k = by_plain_call q e theirs (λ (f : End). KnowsIn f.closing.state f.numbers i) call a keep
   where
     losses : (now : ℕ) (pending : Pending) (timers : Timers) → KnowsIn (at_losses e now pending timers).closing.state (at_losses e now pending timers).numbers i
     losses now pending timers =
         let s = settles_losses (with_closing e (ticked e.closing now)) in
         subst (λ (c : Closing). KnowsIn c.state (at_losses e now pending timers).numbers i) (sym s.closing) (subst (λ (x : Numbers). KnowsIn e.closing.state x i) (sym s.numbers) k)
+
+    keep : Plain q e call (λ (f : End). KnowsIn f.closing.state f.numbers i)
+    keep (cases.times now expiry) may = by_expired e now (λ (f : End). KnowsIn f.closing.state f.numbers i) (λ pending tracking timers runs packets. k) (λ pending timers runs. losses now pending timers) expiry
+    keep (cases.polls now) may = knows_poll q e now i k
+    keep (cases.hears arrival d) set = cc
+    keep c may = k
 
 -- in each case of a delivery
 takes_arrivals : (e : End) (now : ℕ) (s : Sent) (i : Intake) (sents : List Sent) → In s sents → s.number < 2 ^ 62 → Takes sents e i → Arrivals e now s.number s.frames i (λ (o : Outcome) (j : Intake). Takes sents o.end j)
@@ -155,7 +155,7 @@ takes_step B x y call a c p = by_coming x y a c.joined c.served (meets y x p) (T
     acking = taken_step x.policy x.end y.given call a (came_to x y).took apart p.acking;
   };
   none = λ delivery is. before;
-  comes = λ delivery is s among. takes_arrivals x.end delivery.now s (came_to x y) y.sents among (step_of (IsSent y.policy x.id) y.sents y.given s p.gives.each among).1.small before;
+  comes = λ delivery is s among. takes_arrivals x.end delivery.now s (came_to x y) y.sents among (step_of (IsSent y.policy) y.sents y.given s p.gives.each among).1.small before;
 })
   where
     before : Takes y.sents x.end (came_to x y)
@@ -166,6 +166,16 @@ takes_step B x y call a c p = by_coming x y a c.joined c.served (meets y x p) (T
 -- what goes of an end next has a form, whenever it is polled
 abbrev pub SpellsNext : End → Type 0
 SpellsNext e = (now : ℕ) → goes (ready_at e now) ≡ true → IsSpellable (ready_at e now)
+
+-- what a call sends goes to the peer's id in use
+sent_to : (e : End) (call : Call) (a : Answer) (s : Sent) → In s (sents_by e call a) → s.id ≡ e.ids.active.id
+sent_to e (calls.Poll now) a s i = go (gave a) i
+  where
+    go : (b : Bool) → In s (sent_if b (sent_by e now)) → s.id ≡ e.ids.active.id
+    go true (inl same) = ap (λ (t : Sent). t.id) same
+    go true (inr none) = absurd none
+    go false none = absurd none
+sent_to e call a s i = absurd i
 
 -- x makes a call: how many datagrams it gave
 counted : (B : Way) (x y : Party) (call : Call) (a : Answer) → Before B x y call a → length x.given ≡ count_given x.told → length (called x y.given call a).given ≡ count_given (called x y.given call a).told
@@ -183,14 +193,15 @@ module _ (B : Way) (spells : (x y : Party) → AreJoined x y → B x y → B y x
       let t = told_of call a x.end.closing.state in
       let more = sents_by x.end call a in
       record {
-        gives = gives_step x.policy x.end y.given a y.id x.given x.sents call c.answer c.served p.active (spells x y c.joined c.gives c.takes p back) p.gives;
+        gives = gives_step x.policy x.end y.given a x.given x.sents call c.answer c.served (ap (λ (id : List ℕ). length id) p.active ∙ c.joined.y_long) (spells x y c.joined c.gives c.takes p back) p.gives;
+        went = λ s i. elim (in_append s x.sents more i) [ inl old ↦ p.went s old | inr new ↦ sent_to x.end call a s new ∙ p.active ];
         active = ap (λ (ids : Ids). ids.active.id) placed.ids ∙ p.active;
         sized = sized_call 1200 MAX_UDP_PAYLOAD x.policy x.end y.given call a p.sized;
         count = counted B x y call a c p.count;
         tracked = tracked_step x.policy x.end y.given call a x.sents c.answer c.served p.tracked;
         ascends = ascends_call x.policy x.end y.given call a p.ascends;
         named = name_taken_on (x.sents ++ more) (came_to x y).took (came_to (called x y.given call a) y).took
-            (took_more x.policy y.final x.told t (nothing_came (x.id ∷ [])))
+            (took_more x.policy y.final x.told t nothing_came)
             (name_taken_step x.end call a x.sents (came_to x y).took back.acks back.acking p.named);
         known = p.known;
         knows = p.knows;
@@ -205,13 +216,14 @@ module _ (B : Way) (spells : (x y : Party) → AreJoined x y → B x y → B y x
       let t = takes_step B x y call a c back in
       record {
         gives = back.gives;
+        went = back.went;
         active = back.active;
         sized = back.sized;
         count = back.count;
         tracked = back.tracked;
         ascends = back.ascends;
         named = back.named;
-        known = ap (λ (ids : Ids). known ids) (placed_call x.policy x.end y.given call a).ids ∙ back.known ∙ sym (came_ids x y call a);
+        known = ap (λ (ids : Ids). known ids) (placed_call x.policy x.end y.given call a).ids ∙ back.known;
         knows = t.knows;
         acks = t.acks;
         taken = t.taken;
@@ -223,6 +235,7 @@ module _ (B : Way) (spells : (x y : Party) → AreJoined x y → B x y → B y x
   packets_group = record {
     first = λ x y m. record {
       gives = record { rising = tt; below = λ s i. absurd i; next = refl; behind = omega arith; left_out = tt; each = tt };
+      went = λ s i. absurd i;
       active = refl;
       sized = made_sized x.side x.making y.making m.x_is;
       count = refl;
@@ -230,7 +243,7 @@ module _ (B : Way) (spells : (x y : Party) → AreJoined x y → B x y → B y x
       ascends = tt;
       named = λ s a k is i named. absurd is;
       known = refl;
-      knows = knows_first (y.making.id ∷ []);
+      knows = knows_first;
       acks = acks_first;
       taken = λ packet i. absurd i;
       acking = λ k h. absurd h;
@@ -239,6 +252,7 @@ module _ (B : Way) (spells : (x y : Party) → AreJoined x y → B x y → B y x
     reader = takes_on;
     shows = λ x y here there p. record {
       gives = p.gives;
+      went = p.went;
       active = p.active;
       sized = p.sized;
       count = p.count;

@@ -1,5 +1,5 @@
 -- One call more, and what came to an end by it.
-use Rattle.std.proofs.Common.{◌≡◌, ℕ, ◌+◌, Bool, true, false, List, [], ◌∷◌, ◌++◌, Option, Some, None, inr, refl, sym, ◌∙◌, subst, arith}
+use Rattle.std.proofs.Common.{◌≡◌, ℕ, ◌+◌, Bool, true, false, List, [], ◌∷◌, ◌++◌, Option, Some, None, inr, refl, sym, subst, arith}
 use Rattle.std.specs.Prelude.{if◌then◌else◌}
 use Rattle.quic_packet.specs.Datagram.{Opening}
 use Rattle.quic_machine.specs.declared.answers.State.{State}
@@ -7,9 +7,8 @@ use Rattle.quic_machine.specs.declared.answers.State.TheVariants as states
 use Rattle.quic_machine.specs.declared.run.Call.{Call}
 use Rattle.quic_machine.specs.declared.run.Call.TheVariants as calls
 use Rattle.quic_machine.specs.declared.run.Answer.{Answer}
-use Rattle.quic_machine.specs.Opens.{opens}
 use Rattle.quic_machine.specs.Policy.{Policy}
-use Rattle.quic_headline.specs.Runs.{Told, Packet, Intake, In, is_again, packet_of, handed, is_refused, expected_behind, and_opened, and_handed, and_told, folded, count_given}
+use Rattle.quic_headline.specs.Runs.{Told, Packet, Intake, In, is_again, packet_of, handed, is_refused, came_open, and_opened, and_handed, and_told, folded, count_given}
 use Rattle.quic_machine.specs.Machine.{gave}
 use Rattle.quic_machine.specs.CallCases.{is_delivery}
 
@@ -23,7 +22,7 @@ opened_keeps : (o : Option Opening) (a : Answer) (i : Intake) (packet : Packet) 
 opened_keeps None a i packet h = h
 opened_keeps (Some o) a i packet h = go (is_again o.number i.opened) (is_refused a)
   where
-    go : (again refused : Bool) → In packet (if again then i else record { ids = i.ids; opened = o.number ∷ i.opened; took = (if refused then i.took else packet_of o ∷ i.took); part = (if refused then Some (packet_of o) else i.part) }).took
+    go : (again refused : Bool) → In packet (if again then i else record { opened = o.number ∷ i.opened; took = (if refused then i.took else packet_of o ∷ i.took); part = (if refused then Some (packet_of o) else i.part) }).took
     go true refused = h
     go false true = h
     go false false = inr h
@@ -31,7 +30,7 @@ opened_keeps (Some o) a i packet h = go (is_again o.number i.opened) (is_refused
 -- so a datagram that is handed in leaves the packets that were taken
 handed_keeps : (state : State) (d : Option (List ℕ)) (p : Policy) (a : Answer) (i : Intake) (packet : Packet) → In packet i.took → In packet (and_handed state d p a i).took
 handed_keeps states.Open None p a i packet h = h
-handed_keeps states.Open (Some d) p a i packet h = opened_keeps (opens p i.ids (expected_behind i.took) d) a i packet h
+handed_keeps states.Open (Some d) p a i packet h = opened_keeps (came_open p i.took a d) a i packet h
 handed_keeps states.Closing d p a i packet h = h
 handed_keeps states.Drained d p a i packet h = h
 handed_keeps states.Failed d p a i packet h = h
@@ -41,31 +40,6 @@ pub took_more : (p : Policy) (given : List (List ℕ)) (ts : List Told) (t : Tol
 took_more p given ts t i packet h =
     subst (λ (j : Intake). In packet j.took) (sym (folded_more (and_told p given) ts t i))
     (handed_keeps t.state (handed given t.call t.answer) p t.answer (folded (and_told p given) ts i) packet h)
-
--- the ids that an end is known by are as they were
-opened_ids : (o : Option Opening) (a : Answer) (i : Intake) → (and_opened o a i).ids ≡ i.ids
-opened_ids None a i = refl
-opened_ids (Some o) a i = go (is_again o.number i.opened)
-  where
-    go : (again : Bool) → (if again then i else record { ids = i.ids; opened = o.number ∷ i.opened; took = (if is_refused a then i.took else packet_of o ∷ i.took); part = (if is_refused a then Some (packet_of o) else i.part) }).ids ≡ i.ids
-    go true = refl
-    go false = refl
-
-handed_ids : (state : State) (d : Option (List ℕ)) (p : Policy) (a : Answer) (i : Intake) → (and_handed state d p a i).ids ≡ i.ids
-handed_ids states.Open None p a i = refl
-handed_ids states.Open (Some d) p a i = opened_ids (opens p i.ids (expected_behind i.took) d) a i
-handed_ids states.Closing d p a i = refl
-handed_ids states.Drained d p a i = refl
-handed_ids states.Failed d p a i = refl
-
--- so they are by one call more
-pub told_ids : (p : Policy) (given : List (List ℕ)) (t : Told) (i : Intake) → (and_told p given t i).ids ≡ i.ids
-told_ids p given t i = handed_ids t.state (handed given t.call t.answer) p t.answer i
-
--- and by all calls
-pub folded_ids : (p : Policy) (given : List (List ℕ)) (ts : List Told) (i : Intake) → (folded (and_told p given) ts i).ids ≡ i.ids
-folded_ids p given [] i = refl
-folded_ids p given (t ∷ ts) i = folded_ids p given ts (and_told p given t i) ∙ told_ids p given t i
 
 -- a call that hands nothing in
 pub nothing_handed : (state : State) (p : Policy) (a : Answer) (i : Intake) → and_handed state None p a i ≡ i

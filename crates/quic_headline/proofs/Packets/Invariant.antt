@@ -12,6 +12,7 @@ use Rattle.quic_packet.specs.Datagram.{sent}
 use Rattle.quic_machine.specs.declared.answers.State.{State}
 use Rattle.quic_machine.specs.declared.answers.State.TheVariants as states
 use Rattle.quic_machine.specs.Policy.{Policy}
+use Rattle.quic_machine.specs.Opens.{own_id_length}
 use Rattle.quic_streams_parts.specs.Table.{Table}
 use Rattle.quic_spaces.specs.Marks.{Counts}
 use Rattle.quic_spaces.specs.Numbers.{Numbers, expected, cut_against}
@@ -39,8 +40,9 @@ RisingFrom low (s ∷ sents) = (low ≤ s.number) × (s.number ≤ low + 1) × R
 abbrev pub SentAs : List Sent → ℕ → Sent → Type 0
 SentAs sents n s = In s sents × (s.number ≡ n)
 
--- the datagram of a number, cut against a reference, with these frames, as an end gives it to the peer with this id
+-- the datagram of a number, cut against a reference, with these frames, as an end gives it to the peer with this id, which has the length of own ones
 pub record IsGiven (p : Policy) (id : List ℕ) (n reference : ℕ) (frames : List FrameValue) (d : List ℕ) : Type 0 where
+  pub long : length id ≡ own_id_length
   pub payload : List ℕ
   pub spells : Payload frames payload
   pub some : 0 < length frames
@@ -91,8 +93,8 @@ carried_without t frames (inr is) = inr (ap (λ (x : Carried). record x { retran
 -- ---- what was sent
 
 -- a datagram that was sent so
-abbrev pub IsSent : Policy → List ℕ → Sent → List ℕ → Type 0
-IsSent p id s d = IsGiven p id s.number s.reference s.frames d
+abbrev pub IsSent : Policy → Sent → List ℕ → Type 0
+IsSent p s d = IsGiven p s.id s.number s.reference s.frames d
 
 -- what the next number is cut against isn't above it
 abbrev pub IsBehind : Numbers → Type 0
@@ -104,13 +106,13 @@ IsLeftOut None next sents = Unit {0}
 IsLeftOut (Some n) next sents = (n < next) × ((s : Sent) → In s sents → s.number ≢ n)
 
 -- each datagram that was given was sent as one of these, the numbers of these rise, and no number above them was given; nor was the one that was left out last
-pub record Gives (p : Policy) (id : List ℕ) (numbers : Numbers) (skipped : Option ℕ) (sents : List Sent) (given : List (List ℕ)) : Type 0 where
+pub record Gives (p : Policy) (numbers : Numbers) (skipped : Option ℕ) (sents : List Sent) (given : List (List ℕ)) : Type 0 where
   pub rising : RisingFrom 0 sents
   pub below : (s : Sent) → In s sents → s.number < numbers.next
   pub next : numbers.next ≡ next_number sents
   pub behind : IsBehind numbers
   pub left_out : IsLeftOut skipped numbers.next sents
-  pub each : InStep (IsSent p id) sents given
+  pub each : InStep (IsSent p) sents given
 
 -- ACK frames name numbers of these packets only
 abbrev pub NameTaken : List Sent → List Packet → Type 0

@@ -1,29 +1,22 @@
 -- What an end knows of what came goes on with each datagram.
-use Rattle.std.proofs.Common.{◌≡◌, ℕ, ◌+◌, List, length, Option, Some, None, refl, sym, ap, ◌∙◌, subst, arith}
+use Rattle.std.proofs.Common.{◌≡◌, ℕ, ◌+◌, List, Option, Some, None, refl, sym, ap, ◌∙◌, subst, arith}
 use Rattle.std.specs.Prelude.{max}
 use Rattle.quic_wire.specs.Value.{FrameValue}
-use Rattle.quic_machine.specs.Arrival.{Arrival}
 use Rattle.quic_machine.specs.declared.answers.State.{State}
 use Rattle.quic_machine.specs.declared.answers.State.TheVariants as states
-use Rattle.quic_machine.specs.declared.run.Answer.TheVariants as answers
-use Rattle.quic_machine.specs.Policy.{Policy, CanOpen}
-use Rattle.quic_machine.specs.Ids.{known}
 use Rattle.quic_machine.specs.Closing.{Closing}
 use Rattle.quic_spaces.specs.Numbers.{Numbers, no_numbers, cut_against, expected, after_greatest, greatest_of, number_given, number_opened, number_taken}
 use Rattle.quic_machine.specs.End.{End}
-use Rattle.quic_machine.specs.Opens.{own_id_length}
-use Rattle.quic_machine.specs.Receive.{received}
-use Rattle.quic_headline.specs.Runs.{Intake, nothing_came, expected_behind, and_handed, acknowledged_in}
-use Rattle.quic_machine.specs.Start.{IsLawful}
-use Rattle.quic_headline.proofs.Packets.Invariant.{IsGiven, Knows, Expects, KnowsIn}
+use Rattle.quic_headline.specs.Runs.{Intake, nothing_came, expected_behind, acknowledged_in}
+use Rattle.quic_headline.proofs.Packets.Invariant.{Knows, Expects, KnowsIn}
 use Rattle.quic_recovery_core.specs.Duplicates.{Seen, after_insert}
 use Rattle.quic_machine.specs.FrameCases.{begun}
-use Rattle.quic_headline.proofs.Packets.Delivered.{Arrivals, arrived, with_taken, with_refused, by_arrival}
+use Rattle.quic_headline.proofs.Packets.Delivered.{Arrivals, arrived, with_taken, with_refused}
 use Rattle.quic_headline.proofs.Packets.Stays.{keeps_frames, named_frames}
 
 -- nothing came yet
-pub knows_first : (ids : List (List ℕ)) → Knows no_numbers (nothing_came ids)
-knows_first ids = record { seen = refl; expected = refl; named = refl }
+pub knows_first : Knows no_numbers nothing_came
+knows_first = record { seen = refl; expected = refl; named = refl }
 
 -- a number that is given says nothing of what came
 pub knows_given : (s : State) (numbers : Numbers) (n : ℕ) (i : Intake) → KnowsIn s numbers i → KnowsIn s (number_given numbers n) i
@@ -91,10 +84,3 @@ knows_arrivals e now n frames i k = record {
         let keeps = keeps_frames frames (begun e now n) in
         subst (λ (s : State). KnowsIn s (number_taken left.numbers n) (with_taken i n frames)) (sym (ap (λ (c : Closing). c.state) keeps.closing))
         (knows_in_taken e.closing.state e.numbers left.numbers i n frames k keeps.numbers (named_frames frames (begun e now n) none))
-
--- a datagram of an honest end is delivered: the end that it leaves knows what came then
-pub knows_delivered : (p q : Policy) (id : List ℕ) (n reference : ℕ) (frames : List FrameValue) (d : List ℕ) → IsGiven p id n reference frames d → (e : End) (arrival : Arrival) (i : Intake)
-    → CanOpen p q → IsLawful p → length id ≡ own_id_length → known e.ids ≡ i.ids → KnowsIn e.closing.state e.numbers i
-    → KnowsIn (received q e arrival d).end.closing.state (received q e arrival d).end.numbers (and_handed e.closing.state (Some d) q (answers.Deliver (received q e arrival d).answer) i)
-knows_delivered p q id n reference frames d g e arrival i mates lawful long ids k =
-    by_arrival p q id n reference frames d g e arrival i (λ o j. KnowsIn o.end.closing.state o.end.numbers j) mates lawful long ids k (knows_arrivals e arrival.now n frames i k)

@@ -1,26 +1,24 @@
 -- What ACK frames name: an end that takes some waits for no packet more, and where the peer took what they name, each packet that is acknowledged was taken.
 use Rattle.std.proofs.Common.{◌≡◌, ℕ, Bool, true, false, not, List, [], ◌∷◌, filter, cond, Option, Some, None, refl, sym, ap, ◌∙◌, subst, inl, inr, length}
-use Rattle.quic_wire.specs.Value.{FrameValue, AckValue, ack, stream, reset_stream, stop_sending, max_data, max_stream_data, max_streams, new_token, handshake_done, datagram}
+use Rattle.quic_wire.specs.Value.{FrameValue, AckValue, ack, stream, reset_stream, stop_sending, max_data, max_stream_data, max_streams, datagram}
 use Rattle.quic_send_buffer.specs.declared.stream_meta.StreamMeta.{StreamMeta}
 use Rattle.quic_streams_parts.specs.Table.{Table}
 use Rattle.quic_machine.specs.Arrival.{Arrival}
 use Rattle.quic_machine.specs.Policy.{Policy}
-use Rattle.quic_time.specs.Rtt.{Rtt}
 use Rattle.quic_time.specs.Timers.{Timers}
 use Rattle.quic_recovery_core.specs.PendingAcks.{Pending}
 use Rattle.quic_machine.specs.Closing.{Closing, ticked}
 use Rattle.quic_machine.specs.Tracking.{Tracking, TrackedPacket, Carried, acked_by, Verdict, is_lost, lost_by, after_detection}
 use Rattle.quic_machine.specs.LeaveCases.{at_losses}
-use Rattle.quic_spaces.specs.Marks.{Counts}
 use Rattle.quic_machine.specs.Parts.{Messaging}
-use Rattle.quic_machine.specs.End.{with_discovery, with_queued, End, with_closing, with_messages, with_tracking, with_rtt, with_told, with_marking}
-use Rattle.quic_machine.specs.Acked.{without_known, reset_acked, resets_acked, stream_acked, streams_acked, packet_acked, packets_acked, stream_lost, streams_lost, again, carried_lost, packets_lost, verdict, losses_detected, measured, sampled, without_acked, after_named, losses_taken}
+use Rattle.quic_machine.specs.End.{End, with_closing, with_messages}
+use Rattle.quic_machine.specs.Acked.{without_known, resets_acked, stream_acked, streams_acked, packet_acked, packets_acked, stream_lost, streams_lost, carried_lost, packets_lost, verdict, losses_detected, measured, sampled, without_acked, after_named, losses_taken}
 use Rattle.quic_machine.specs.Receive.{Progress, is_above, names_ungiven, take_message, take_frame, received}
-use Rattle.quic_machine.specs.FrameCases.{OnStreams, named, ack_taken, passed, message_leaves, frame_keeps, frame_leaves, frames_leave, by_received, by_marks}
+use Rattle.quic_machine.specs.Steps.{Step, after}
+use Rattle.quic_machine.specs.Steps as steps
+use Rattle.quic_machine.specs.FrameCases.{resets_acked_keep, OnStreams, named, ack_taken, passed, message_leaves, frame_keeps, frame_leaves, frames_leave, by_received, by_marks, IsApart, apart_leaves}
 use Rattle.quic_headline.specs.Runs.{Packet, In, IsTaken, names}
 use Rattle.quic_headline.specs.Observer.{Sent}
-use Rattle.quic_congestion.specs.Search.{Discovery}
-use Rattle.quic_messages.specs.Messages.{without_longer}
 use Rattle.quic_headline.proofs.Packets.Searches.{by_losses, losses_searched}
 use Rattle.quic_headline.proofs.Packets.Invariant.{IsCarriedFrom, AreTracked, RisingFrom, WereSent}
 use Rattle.quic_headline.proofs.Packets.Rising.{one_number}
@@ -77,6 +75,7 @@ pub frame_fewer : (e : End) (f : FrameValue) (x : End) → WaitsForFewer e x →
 frame_fewer e = frame_keeps (WaitsForFewer e) (record {
   ack = λ rises a x w n t i. w n t (named_fewer (acked_by a x.tracking.packets) rises a (named a x) n t i);
   on_streams = λ f x on w. frame_leaves (WaitsForFewer e) f x on (λ streams. w);
+  apart = λ f x is w. apart_leaves (WaitsForFewer e) f x is (λ c. w);
   message = λ m x w. w;
 })
 
@@ -143,46 +142,32 @@ tracked_carried sents packets tracked n t i = let was = tracked n t i in record 
 
 -- ---- steps
 
--- What holds where an ACK frame makes an end take these steps: frames that are acknowledged stood in a packet that was taken, those that are lost in one that was sent.
-pub record SettlesOn (took : List Packet) (sents : List Sent) (P : End → Type 0) : Type 0 where
-  -- numbers that the peer knows of need no more acknowledgement
-  pub known : (n : ℕ) (e : End) → P e → P (without_known (Some n) e)
-  -- RESET_STREAM is acknowledged, and a STREAM frame
-  pub reset : (c : Carried) (r : ℕ × ℕ) (e : End) → WasCarried took c → In r c.retransmits.reset_stream → P e → P (reset_acked r.0 e)
-  pub acked : (c : Carried) (m : StreamMeta) (e : End) → WasCarried took c → In m c.stream_frames → P e → P (stream_acked m e)
-  -- a STREAM frame is lost, and what else a packet carried
-  pub lost : (c : Carried) (m : StreamMeta) (e : End) → IsCarriedBy sents c → In m c.stream_frames → P e → P (stream_lost m e)
-  pub again : (c : Carried) (e : End) → IsCarriedBy sents c → P e → P (again c e)
-  -- the search for a size learns of it, and messages that are too long are dropped
-  pub searched : (d : Discovery) (e : End) → P e → P (with_discovery e d)
-  pub shortens : (most : ℕ) (e : End) → P e → P (with_queued e (without_longer most e.messages.queues))
-  -- fewer packets are tracked
-  pub tracked : (t : Tracking) (e : End) → P e → P (with_tracking e t)
-  -- the round trip is measured
-  pub measured : (r : Rtt) (first : Option ℕ) (e : End) → P e → P (with_rtt e r first)
-  -- counts of marks came
-  pub marked : (counts : Counts) (marking : Bool) (e : End) → P e → P (with_marking (with_told e counts) marking)
+-- where a step may be taken: a STREAM frame that is acknowledged stood in a packet that was taken, and what is lost in one that was sent
+abbrev pub MayOn : List Packet → List Sent → Step → Type 0
+MayOn took sents (steps.acked m) = (c : Carried) × WasCarried took c × In m c.stream_frames
+MayOn took sents (steps.lost m) = (c : Carried) × IsCarriedBy sents c × In m c.stream_frames
+MayOn took sents (steps.again c) = IsCarriedBy sents c
+MayOn took sents s = Unit {0}
+
+-- a fact that each such step keeps
+abbrev pub SettlesOn : List Packet → List Sent → (End → Type 0) → Type 0
+SettlesOn took sents P = (s : Step) (e : End) → MayOn took sents s → P e → P (after s e)
 
 module _ (took : List Packet) (sents : List Sent) (P : End → Type 0) (s : SettlesOn took sents P) where
   -- what the peer knows of, if anything
   known_on : (o : Option ℕ) (e : End) → P e → P (without_known o e)
   known_on None e i = i
-  known_on (Some n) e i = s.known n e i
-
-  -- the RESET_STREAM frames of a packet
-  resets_on : (c : Carried) → WasCarried took c → (rs : List (ℕ × ℕ)) (e : End) → ((r : ℕ × ℕ) → In r rs → In r c.retransmits.reset_stream) → P e → P (resets_acked rs e)
-  resets_on c was [] e inside i = i
-  resets_on c was (r ∷ rs) e inside i = resets_on c was rs (reset_acked r.0 e) (λ q j. inside q (inr j)) (s.reset c r e was (inside r (inl refl)) i)
+  known_on (Some n) e i = s (steps.known n) e tt i
 
   -- its STREAM frames, acknowledged
   acked_on : (c : Carried) → WasCarried took c → (ms : List StreamMeta) (e : End) → ((m : StreamMeta) → In m ms → In m c.stream_frames) → P e → P (streams_acked ms e)
   acked_on c was [] e inside i = i
-  acked_on c was (m ∷ ms) e inside i = acked_on c was ms (stream_acked m e) (λ q j. inside q (inr j)) (s.acked c m e was (inside m (inl refl)) i)
+  acked_on c was (m ∷ ms) e inside i = acked_on c was ms (stream_acked m e) (λ q j. inside q (inr j)) (s (steps.acked m) e (c, was, inside m (inl refl)) i)
 
   -- or lost
   lost_on : (c : Carried) → IsCarriedBy sents c → (ms : List StreamMeta) (e : End) → ((m : StreamMeta) → In m ms → In m c.stream_frames) → P e → P (streams_lost ms e)
   lost_on c was [] e inside i = i
-  lost_on c was (m ∷ ms) e inside i = lost_on c was ms (stream_lost m e) (λ q j. inside q (inr j)) (s.lost c m e was (inside m (inl refl)) i)
+  lost_on c was (m ∷ ms) e inside i = lost_on c was ms (stream_lost m e) (λ q j. inside q (inr j)) (s (steps.lost m) e (c, was, inside m (inl refl)) i)
 
   -- packets are acknowledged
   packets_on : (ps : Table TrackedPacket) (e : End) → ((n : ℕ) (t : TrackedPacket) → In (n, t) ps → WasCarried took t.carried) → P e → P (packets_acked ps e)
@@ -194,7 +179,7 @@ module _ (took : List Packet) (sents : List Sent) (P : End → Type 0) (s : Sett
       let knows : End = without_known c.largest_acked heard in
       let reset : End = resets_acked c.retransmits.reset_stream knows in
       packets_on ps (packet_acked p e) (λ n t j. was n t (inr j))
-      (acked_on c here c.stream_frames reset (λ m j. j) (resets_on c here c.retransmits.reset_stream knows (λ r j. j) (known_on c.largest_acked heard (s.searched heard.path.discovery e i))))
+      (acked_on c here c.stream_frames reset (λ m j. j) (resets_acked_keep P (λ id x j. s (steps.reset id) x tt j) c.retransmits.reset_stream knows (known_on c.largest_acked heard (s (steps.searched heard.path.discovery) e tt i))))
 
   -- and lost
   losses_on : (ps : Table TrackedPacket) (e : End) → ((n : ℕ) (t : TrackedPacket) → In (n, t) ps → IsCarriedBy sents t.carried) → P e → P (packets_lost ps e)
@@ -202,18 +187,18 @@ module _ (took : List Packet) (sents : List Sent) (P : End → Type 0) (s : Sett
   losses_on (p ∷ ps) e was i =
       let c : Carried = p.1.carried in
       let here : IsCarriedBy sents c = was p.0 p.1 (inl refl) in
-      losses_on ps (carried_lost c e) (λ n t j. was n t (inr j)) (s.again c (streams_lost c.stream_frames e) here (lost_on c here c.stream_frames e (λ m j. j) i))
+      losses_on ps (carried_lost c e) (λ n t j. was n t (inr j)) (s (steps.again c) (streams_lost c.stream_frames e) here (lost_on c here c.stream_frames e (λ m j. j) i))
 
   -- losses are detected
   pub detected_on : (e : End) → AreTracked sents e.tracking.packets → P e → P (losses_detected e)
   detected_on e tracked i =
       let lost = lost_by (verdict e) e.tracking.packets in
-      losses_searched P s.searched s.shortens e (s.tracked (after_detection (verdict e) e.tracking) (packets_lost lost e) (losses_on lost e (lost_carried sents (verdict e) e.tracking.packets tracked) i))
+      losses_searched P (λ d x j. s (steps.searched d) x tt j) (λ most x j. s (steps.shortens most) x tt j) e (s (steps.tracked (after_detection (verdict e) e.tracking)) (packets_lost lost e) tt (losses_on lost e (lost_carried sents (verdict e) e.tracking.packets tracked) i))
 
   -- a round trip is measured, if one is
   sampled_on : (o : Option TrackedPacket) (a : AckValue) (e : End) → P e → P (sampled o a e)
   sampled_on None a e i = i
-  sampled_on (Some p) a e i = s.measured (sampled (Some p) a e).path.rtt (sampled (Some p) a e).path.first_after_rtt e i
+  sampled_on (Some p) a e i = s (steps.measured (sampled (Some p) a e).path.rtt (sampled (Some p) a e).path.first_after_rtt) e tt i
 
   -- an ACK frame that names these packets
   named_on : (ps : Table TrackedPacket) (rises : Bool) (a : AckValue) (e : End) → ((n : ℕ) (t : TrackedPacket) → In (n, t) ps → WasCarried took t.carried) → AreTracked sents e.tracking.packets → P e → P (after_named ps rises a e)
@@ -224,10 +209,10 @@ module _ (took : List Packet) (sents : List Sent) (P : End → Type 0) (s : Sett
       let timed : End = sampled o a left in
       let stay : AreTracked sents left.tracking.packets = (λ n t j. tracked n t (in_filter (λ q. not (names a q.0)) (n, t) e.tracking.packets j)) in
       let rest : AreTracked sents timed.tracking.packets = subst (λ (x : Tracking). AreTracked sents x.packets) (sym (sampled_tracking o a left)) stay in
-      let acked : P left = s.tracked left.tracking (packets_acked (p ∷ ps) e) (packets_on (p ∷ ps) e was i) in
+      let acked : P left = s (steps.tracked left.tracking) (packets_acked (p ∷ ps) e) tt (packets_on (p ∷ ps) e was i) in
       let taken : End = losses_taken (p ∷ ps) rises a e in
-      let kept : P taken = s.tracked taken.tracking (losses_detected timed) (detected_on timed rest (sampled_on o a left acked)) in
-      by_marks rises (length (p ∷ ps)) a taken P (λ m marking. s.marked m marking taken kept)
+      let kept : P taken = s (steps.tracked taken.tracking) (losses_detected timed) tt (detected_on timed rest (sampled_on o a left acked)) in
+      by_marks rises (length (p ∷ ps)) a taken P (λ m marking. s (steps.marked m marking) taken tt kept)
 
   -- losses that a timeout detects, where the clock may go on
   pub expired_on : (e : End) (now : ℕ) → ((c : Closing) (x : End) → P x → P (with_closing x c)) → ((acks : Pending) (timers : Timers) (x : End) → P x → P (record x { acknowledging = acks; timers = timers })) → AreTracked sents e.tracking.packets → P e
@@ -238,33 +223,32 @@ module _ (took : List Packet) (sents : List Sent) (P : End → Type 0) (s : Sett
 
 -- ---- frames of a packet that an end takes
 
--- what holds over the frames of a packet: its ACK frames settle what they do, its frames on streams leave them so, and its messages wait to be read
+-- what holds over the frames of a packet: its ACK frames settle what they do, its frames on streams leave them so, its messages wait to be read, and those apart leave it
 pub record TakesOn (took : List Packet) (sents : List Sent) (frames : List FrameValue) (P : End → Type 0) : Type 0 where
   pub settles : SettlesOn took sents P
   -- the greatest number of an ACK frame counts
   pub names : (a : AckValue) (e : End) → In (ack a) frames → P e → P (named a e)
   pub on_streams : (f : FrameValue) (e : End) → In f frames → OnStreams f → P e → P (take_frame f e).end
   pub message : (m : Messaging) (e : End) → P e → P (with_messages e m)
+  pub apart : (f : FrameValue) (e : End) → In f frames → IsApart f → P e → P (take_frame f e).end
 
 -- a frame that is no ACK frame
 abbrev pub IsNoAck : FrameValue → Type 0
 IsNoAck (ack a) = ⊥
 IsNoAck f = Unit {0}
 
--- a frame is an ACK frame, or one on streams, or changes nothing but messages
+-- a frame is an ACK frame, one on streams, a message, or one apart from these
 pub by_frame : (f : FrameValue) (e : End) (Q : FrameValue → Progress → Type 0) → ((a : AckValue) → ack a ≡ f → Q (ack a) (ack_taken (names_ungiven a e) a e)) → (IsNoAck f → OnStreams f → Q f (take_frame f e))
-    → (IsNoAck f → (m : Messaging) → (take_frame f e).end ≡ with_messages e m → Q f (take_frame f e)) → Q f (take_frame f e)
-by_frame (ack a) e Q acks on same = acks a refl
-by_frame (stream f) e Q acks on same = on tt tt
-by_frame (reset_stream f) e Q acks on same = on tt tt
-by_frame (stop_sending f) e Q acks on same = on tt tt
-by_frame (max_data limit) e Q acks on same = on tt tt
-by_frame (max_stream_data f) e Q acks on same = on tt tt
-by_frame (max_streams f) e Q acks on same = on tt tt
-by_frame (datagram m) e Q acks on same = same tt (take_message m e).end.messages (message_leaves (λ (x : End). x ≡ with_messages e x.messages) m e refl (λ left. refl))
-by_frame (new_token t) e Q acks on same = same tt e.messages refl
-by_frame handshake_done e Q acks on same = same tt e.messages refl
-by_frame f e Q acks on same = same tt e.messages refl
+    → (IsNoAck f → (m : Messaging) → (take_frame f e).end ≡ with_messages e m → Q f (take_frame f e)) → (IsNoAck f → IsApart f → Q f (take_frame f e)) → Q f (take_frame f e)
+by_frame (ack a) e Q acks on same apart = acks a refl
+by_frame (stream f) e Q acks on same apart = on tt tt
+by_frame (reset_stream f) e Q acks on same apart = on tt tt
+by_frame (stop_sending f) e Q acks on same apart = on tt tt
+by_frame (max_data limit) e Q acks on same apart = on tt tt
+by_frame (max_stream_data f) e Q acks on same apart = on tt tt
+by_frame (max_streams f) e Q acks on same apart = on tt tt
+by_frame (datagram m) e Q acks on same apart = same tt (take_message m e).end.messages (message_leaves (λ (x : End). x ≡ with_messages e x.messages) m e refl (λ left. refl))
+by_frame f e Q acks on same apart = apart tt tt
 
 module _ (took : List Packet) (sents : List Sent) (stands : Stands took sents) (frames : List FrameValue) (P : End → Type 0) (c : TakesOn took sents frames P) where
   -- an ACK frame, taken or refused
@@ -277,7 +261,7 @@ module _ (took : List Packet) (sents : List Sent) (stands : Stands took sents) (
   frame_on : (f : FrameValue) (e : End) → In f frames → ((a : AckValue) → In (ack a) frames → NamesTaken took a) → AreTracked sents e.tracking.packets → P e → P (take_frame f e).end
   frame_on f e among takes tracked i =
       by_frame f e (λ g p. P p.end) (λ a is. (let there : In (ack a) frames = subst (λ (g : FrameValue). In g frames) (sym is) among in ack_on (names_ungiven a e) a e there (takes a there) tracked i))
-      (λ other on. c.on_streams f e among on i) (λ other m same. subst P (sym same) (c.message m e i))
+      (λ other on. c.on_streams f e among on i) (λ other m same. subst P (sym same) (c.message m e i)) (λ other apart. c.apart f e among apart i)
 
   -- what holds over such frames, while what is waited for was given
   record Going (left : List FrameValue) (e : End) : Type 0 where

@@ -4,7 +4,7 @@ use Rattle.std.specs.List.{list_any}
 use Rattle.std.proofs.lemmas.Bool.{leb-true, le-leb, and_parts}
 use Rattle.std.proofs.lemmas.List.{append-nil}
 use Rattle.quic_sets.specs.Runs.{Run, Has}
-use Rattle.quic_wire.specs.Value.{FrameValue, AckValue, ack, stream, datagram, ping, padding}
+use Rattle.quic_wire.specs.Value.{FrameValue, AckValue, ack, padding}
 use Rattle.quic_wire.specs.Grammar.{Payload}
 use Rattle.quic_wire.specs.AckGrammar.{InRanges, GoDown}
 use Rattle.quic_wire.specs.AckSet.{ranges_of_set}
@@ -14,16 +14,16 @@ use Rattle.quic_machine.specs.declared.run.Call.{Call}
 use Rattle.quic_machine.specs.declared.run.Call.TheVariants as calls
 use Rattle.quic_machine.specs.declared.run.Answer.{Answer}
 use Rattle.quic_machine.specs.End.{End}
-use Rattle.quic_machine.specs.Poll.{zeros_behind, Draft, ack_of, lazied, draft_as, with_ack, no_frames, probe, alone, whole, Leaving, nothing}
-use Rattle.quic_streams_parts.specs.SendHalf.{frame_of}
+use Rattle.quic_machine.specs.Poll.{zeros_behind, Draft, ack_of, draft_as, with_ack, whole, Leaving, lazied_as}
 use Rattle.quic_headline.proofs.Packets.Entries.{IsControl, control_of}
 use Rattle.quic_headline.specs.Runs.{Packet, Intake, In, names}
 use Rattle.quic_headline.specs.Observer.{Sent}
 use Rattle.quic_machine.specs.Machine.{gave}
-use Rattle.quic_machine.specs.DraftLaws.{Writing, by_writing}
+use Rattle.quic_machine.specs.DraftLaws.{Writing, MayLeave, by_leave}
+use Rattle.quic_machine.specs.Puts as puts
 use Rattle.quic_headline.proofs.Packets.Invariant.{SentAs, NameTaken, WereSent, AreTaken, Acks}
 use Rattle.quic_headline.proofs.Packets.Growth.{in_more}
-use Rattle.quic_machine.specs.PollCases.{ready_at, frames_at, draft_at}
+use Rattle.quic_machine.specs.PollCases.{ready_at, frames_at, draft_at, may_leave_at}
 use Rattle.quic_headline.proofs.Packets.Delivered.{Arrivals}
 use Rattle.quic_headline.proofs.Packets.Probes.{ready_acks}
 use Rattle.quic_headline.proofs.Places.Parties.{sent_by, sent_if, sents_by}
@@ -92,21 +92,17 @@ acked_acknowledges runs d k = record {
 
 -- whichever frames go, ACK frames have them
 acknowledges : (runs : List Run) → Writing (Acknowledges runs)
-acknowledges runs = record {
-  ack = λ d filled may k. acked_acknowledges runs d k;
-  ping = λ d k. record { frames = ack_more runs d.frames ping k.frames (λ a is. cc); same = k.same };
-  probes = λ f size k. record { frames = ack_more runs [] ping k.frames (λ a is. cc); same = k.same };
-  drops = λ d kind k. record { frames = k.frames; same = k.same };
-  control = λ d kind f is k. record { frames = ack_more runs d.frames f k.frames (λ a ack_is. absurd (no_ack f a (control_of f kind is.of_kind) ack_is)); same = k.same };
-  message = λ d m ms is fit k. record { frames = ack_more runs d.frames (datagram m) k.frames (λ a is. cc); same = k.same };
-  stream = λ d id h room found first some is counts k. record { frames = ack_more runs d.frames (stream (frame_of id h room)) k.frames (λ a is. cc); same = k.same };
-}
+acknowledges runs puts.ack d may k = acked_acknowledges runs d k
+acknowledges runs (puts.drops kind) d may k = record { frames = k.frames; same = k.same }
+acknowledges runs (puts.control kind f) d is k = record { frames = ack_more runs d.frames f k.frames (λ a ack_is. absurd (no_ack f a (control_of f kind is.of_kind) ack_is)); same = k.same }
+acknowledges runs p d may k = record { frames = ack_more runs d.frames _ k.frames (λ a is. cc); same = k.same }
 
-draft_acknowledges : (leaving : Leaving) (e : End) → Acknowledges e.acknowledging.runs (draft_as leaving e)
-draft_acknowledges whole e = by_writing (Acknowledges e.acknowledging.runs) (acknowledges e.acknowledging.runs) (lazied e) (record { frames = λ a i. absurd i; same = refl })
-draft_acknowledges alone e = acked_acknowledges e.acknowledging.runs (no_frames (lazied e)) (record { frames = λ a i. absurd i; same = refl })
-draft_acknowledges (probe size) e = (acknowledges e.acknowledging.runs).probes e size (record { frames = λ a i. absurd i; same = refl })
-draft_acknowledges (nothing held) e = record { frames = λ a i. absurd i; same = refl }
+draft_acknowledges : (leaving : Leaving) (e : End) → MayLeave leaving e → Acknowledges e.acknowledging.runs (draft_as leaving e)
+draft_acknowledges leaving e may = by_leave (Acknowledges e.acknowledging.runs) (acknowledges e.acknowledging.runs) leaving e may (record { frames = λ a i. absurd i; same = same leaving })
+  where
+    same : (l : Leaving) → (lazied_as l e).acknowledging.runs ≡ e.acknowledging.runs
+    same whole = refl
+    same other = refl
 
 -- PADDING behind frames has none
 ack_zeros : (runs : List Run) (frames : List FrameValue) (count : ℕ) → AckOf runs frames → AckOf runs (frames ++ replicate count padding)
@@ -121,7 +117,7 @@ pub names_kept : (e : End) (now : ℕ) (a : AckValue) (k : ℕ) → Acks e.ackno
 names_kept e now a k acks i named =
     let ready = (ready_at e now).end in
     let d = draft_at e now in
-    let acknowledges = draft_acknowledges (ready_at e now).leaving ready in
+    let acknowledges = draft_acknowledges (ready_at e now).leaving ready (may_leave_at e now) in
     let count : ℕ = zeros_behind d in
     let ranges : a.ranges ≡ ranges_of_set ready.acknowledging.runs = ack_zeros ready.acknowledging.runs d.frames count acknowledges.frames a i in
     let same : a.ranges ≡ ranges_of_set e.acknowledging.runs = ranges ∙ ap (λ (p : Pending). ranges_of_set p.runs) (ready_acks e now) in

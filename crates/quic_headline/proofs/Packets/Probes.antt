@@ -15,7 +15,7 @@ use Rattle.quic_congestion.specs.Pacer.{Pacing}
 use Rattle.quic_machine.specs.End.{End, with_closing, with_ping, with_number_given, with_loss_timer, streams_at}
 use Rattle.quic_machine.specs.Acked.{again}
 use Rattle.quic_machine.specs.Control.{Gated, pacer_asked, paid, with_pacing_timer, with_app_limited}
-use Rattle.quic_machine.specs.Poll.{Polled, Draft, asking, datagram_size, tracked, paid_if, after_given, record_moved, probed, gated, composed, lazied, draft_as, polled, probe, alone, whole, Leaving, Ready, nothing, leaves}
+use Rattle.quic_machine.specs.Poll.{Polled, Draft, asking, datagram_size, tracked, paid_if, after_given, record_moved, probed, gated, composed, lazied, draft_as, polled, alone, whole, Leaving, Ready, nothing, leaves}
 use Rattle.quic_machine.specs.Policy.{Policy}
 use Rattle.quic_machine.specs.PollCases.{ready_at, draft_at, by_probed, by_gate, search_leaves, ready_leaves, by_poll_to, may_leave_at}
 use Rattle.quic_machine.specs.DraftLaws.{MayLeave}
@@ -115,17 +115,16 @@ by_going P p d each = go (asking d.frames)
     go true = each (paid x (datagram_size d)).path.pacing
     go false = each x.path.pacing
 
--- what goes leaves streams, and what waits beside their bytes, as what is composed does, or, where an ACK or a probe of a size goes alone, or nothing, as they were
+-- what goes leaves streams, and what waits beside their bytes, as what is composed does, or, where an ACK, a probe of a size or a close goes alone, or nothing, as they were
 pub draft_streams : (P : Streams → Type 0) (leaving : Leaving) (e : End) → (P (streams_at (lazied e)) → P (streams_at (composed (lazied e)).end)) → P (streams_at e) → P (streams_at (draft_as leaving e).end)
 draft_streams P whole e composes i = composes i
 draft_streams P alone e composes i = i
-draft_streams P (probe size) e composes i = i
-draft_streams P (nothing held) e composes i = i
+draft_streams P other e composes i = i
 
 -- A poll keeps what is so of them, if what is composed does.
 pub poll_streams : (P : Streams → Type 0) (p : Policy) (e : End) (now : ℕ) → ((x : End) → P (streams_at x) → P (streams_at (composed x).end)) → P (streams_at e) → P (streams_at (ready_at e now).end) → P (streams_at (polled p e now).end)
 poll_streams P p e now composes same ready =
-    by_poll_to p e now (λ (q : Polled). P (streams_at q.end)) (record { silent = same; failed = same; nothing = λ is none. ready; used_up = ready; gives = λ is may some. by_going (λ (x : End). P (streams_at x)) p (draft_at e now) (λ pacing. draft_streams P (ready_at e now).leaving (ready_at e now).end (composes (lazied (ready_at e now).end)) ready) })
+    by_poll_to p e now (λ (q : Polled). P (streams_at q.end)) (record { silent = same; failed = same; nothing = λ is none. ready; closes = ready; gives = λ is may some. by_going (λ (x : End). P (streams_at x)) p (draft_at e now) (λ pacing. draft_streams P (ready_at e now).leaving (ready_at e now).end (composes (lazied (ready_at e now).end)) ready) })
 
 -- so it is of what is so of streams alone
 pub poll_state : (P : StreamsState → Type 0) (p : Policy) (e : End) (now : ℕ) → ((x : End) → P x.streams → P (composed x).end.streams) → P e.streams → P (polled p e now).end.streams

@@ -68,7 +68,7 @@ open_gives p e now a is served gives = opened (ap gave (sym (poll_answer p e now
   where
     opened : gave (answers.Poll (polled p e now).answer) ≡ true → e.closing.state ≡ states.Open
     opened = by_poll p e now (λ (q : Polled). gave (answers.Poll q.answer) ≡ true → e.closing.state ≡ states.Open)
-        (record { silent = λ some. cc; failed = λ some. cc; nothing = λ c some. cc; used_up = λ c some. cc; gives = λ leaving c left is may ready goes some. is })
+        (record { silent = λ some. cc; failed = λ some. cc; nothing = λ c some. cc; closes = λ c some. cc; gives = λ leaving c left is may ready goes some. is })
 
 -- ---- the group
 
@@ -84,7 +84,7 @@ named_expected x y p back = all_acknowledged_most (came_to x y).took (expected_b
     below packet a i carried =
         let found = back.taken packet i in
         let among : In (ack a) found.sent.frames = subst (λ (fs : List FrameValue). In (ack a) fs) (sym found.frames) carried in
-        let spelled = (step_of (IsSent y.policy x.id) y.sents y.given found.sent back.gives.each found.is.0).1 in
+        let spelled = (step_of (IsSent y.policy) y.sents y.given found.sent back.gives.each found.is.0).1 in
         let was = back.named found.sent a a.largest found.is.0 among (greatest_named found.sent.frames spelled.payload a spelled.spells among) in
         let lies = taken_below (came_to y x).took was.packet was.was_taken in
         let same = was.is in
@@ -120,7 +120,7 @@ refers_group = record {
         (let earlier = back.behind s i in
         let on : expected_behind (came_to x y).took ≤ expected_behind (came_to (called x y.given call a) y).took =
         expected_most (came_to x y).took (expected_behind (came_to (called x y.given call a) y).took)
-        (λ packet j. taken_below (came_to (called x y.given call a) y).took packet (took_more x.policy y.final x.told (told_of call a x.end.closing.state) (nothing_came (x.id ∷ [])) packet j)) in
+        (λ packet j. taken_below (came_to (called x y.given call a) y).took packet (took_more x.policy y.final x.told (told_of call a x.end.closing.state) nothing_came packet j)) in
         omega arith);
   };
   shows = λ x y here there b back refers others. record { behind = refers.behind };

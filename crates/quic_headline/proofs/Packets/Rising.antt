@@ -1,10 +1,13 @@
 -- Numbers rise: one more above all stays so, what has the same number is the same, and the datagrams given are those of the numbers.
-use Rattle.std.proofs.Common.{◌≡◌, ℕ, ◌+◌, ◌<◌, ◌≤◌, max, List, [], ◌∷◌, ◌++◌, map, inl, inr, refl, sym, ◌∙◌, arith}
+use Rattle.std.proofs.Common.{◌≡◌, ℕ, ◌+◌, ◌<◌, ◌≤◌, max, List, [], ◌∷◌, ◌++◌, map, inl, inr, refl, sym, ◌∙◌, subst, arith}
 use Rattle.quic_machine.specs.Policy.{Policy}
-use Rattle.quic_headline.specs.Runs.{In}
+use Rattle.quic_machine.specs.Poll.{IsDatagram}
+use Rattle.quic_machine.specs.Start.{IsLawful}
+use Rattle.quic_headline.specs.Runs.{In, destination}
 use Rattle.quic_headline.specs.Observer.{Sent, next_number}
 use Rattle.quic_headline.specs.Headline.{Rise}
 use Rattle.quic_headline.proofs.Packets.Invariant.{InStep, RisingFrom, IsSent}
+use Rattle.quic_headline.proofs.Packets.Delivered.{destination_given}
 
 -- one more, with a number above all, of which at most one is left out before it
 pub rising_push : (low : ℕ) (sents : List Sent) (s : Sent) → RisingFrom low sents → low ≤ s.number → s.number ≤ max low (next_number sents) + 1 → ((t : Sent) → In t sents → t.number < s.number) → RisingFrom low (sents ++ s ∷ [])
@@ -45,10 +48,12 @@ one_number low (u ∷ sents) s t rising (inr i) (inl j) same =
 one_number low (u ∷ sents) s t rising (inr i) (inr j) same = one_number (u.number + 1) sents s t rising.2 i j same
 
 -- the datagrams given are those of numbers that rise
-pub rise : (p : Policy) (id : List ℕ) (low : ℕ) (sents : List Sent) (ds : List (List ℕ)) → RisingFrom low sents → InStep (IsSent p id) sents ds → Rise p id low (map (λ s. s.reference) sents) ds
-rise p id low [] [] rising all = tt
-rise p id low (s ∷ sents) (d ∷ ds) rising all =
+pub rise : (p : Policy) (low : ℕ) (sents : List Sent) (ds : List (List ℕ)) → IsLawful p → RisingFrom low sents → InStep (IsSent p) sents ds → Rise p low (map (λ s. s.reference) sents) ds
+rise p low [] [] lawful rising all = tt
+rise p low (s ∷ sents) (d ∷ ds) lawful rising all =
     let g = all.0 in
-    (s.number, rising.0, rising.1, record { frames = s.frames; is = record { payload = g.payload; spells = g.spells; is = g.is } }, rise p id (s.number + 1) sents ds rising.2 all.1)
-rise p id low [] (d ∷ ds) rising all = absurd all
-rise p id low (s ∷ sents) [] rising all = absurd all
+    let to : destination d ≡ s.id = destination_given p s.id s.number s.reference s.frames d g lawful in
+    let is : IsDatagram p s.reference s.number (destination d) s.frames d = subst (λ (id : List ℕ). IsDatagram p s.reference s.number id s.frames d) (sym to) (record { payload = g.payload; spells = g.spells; is = g.is }) in
+    (s.number, rising.0, rising.1, record { frames = s.frames; is = is }, rise p (s.number + 1) sents ds lawful rising.2 all.1)
+rise p low [] (d ∷ ds) lawful rising all = absurd all
+rise p low (s ∷ sents) [] lawful rising all = absurd all

@@ -72,20 +72,20 @@ poll_gives p e now d = by_poll p e now (λ (r : Polled). r.datagram ≡ Some d �
   silent = λ is. cc;
   failed = λ is. cc;
   nothing = λ c is. cc;
-  used_up = λ c is. cc;
+  closes = λ c is. cc;
   gives = λ leaving c left s n ready some is. (let same : datagram_of p (draft_as leaving (at_poll e now c)) ≡ d = cc in record { gave = refl; given = ap (λ (x : List ℕ). x ∷ []) same });
 })
 
 -- ---- any call
 
-module _ (x y : Party) (joined : AreJoined x y) (meets : Meets y x) (gives_before : Gives x.policy y.id x.end.numbers x.end.filter.last x.sents x.given) (sight : Sight x y) where
+module _ (x y : Party) (joined : AreJoined x y) (meets : Meets y x) (gives_before : Gives x.policy x.end.numbers x.end.filter.last x.sents x.given) (sight : Sight x y) where
   -- what the observer knows before the call
   abbrev pub seen : Watch
   seen = watch_of x y
 
   -- what came to the end, as the observer has it
   seen_intake : seen.intake ≡ came_to x y
-  seen_intake = watched_intake (lens x y) x.told (first_watch (x.id ∷ []) x.final x.began x.initial_rtt)
+  seen_intake = watched_intake (lens x y) x.told (first_watch x.final x.began x.initial_rtt)
 
   -- what it knows behind the call
   abbrev pub after_told : Call → Answer → Watch
@@ -150,40 +150,40 @@ module _ (x y : Party) (joined : AreJoined x y) (meets : Meets y x) (gives_befor
   timeout_seen now a is =
       let t : Told = told_of (calls.Timeout now) a x.end.closing.state in
       subst (λ (v : Watch). IsWatched x.terms v (after_call x.policy x.end y.given (calls.Timeout now) a)) (sym (told_timed (lens x y) t seen (only_polls_give x.policy x.end y.given (calls.Timeout now) a refl is) (none_comes (lens x y) t seen.intake refl)))
-      (timeout_watched x.terms seen x.end now sight.stands sight.watched)
+      (timeout_watched x.policy x.terms seen x.end now sight.stands sight.watched)
 
   -- what a poll gives was sent so, where it holds behind the call of all that was given
-  gives_at : (now : ℕ) → InStep (IsSent x.policy y.id) (x.sents ++ sents_by x.end (calls.Poll now) (answers.Poll (polled x.policy x.end now).answer)) (x.given ++ gives x.policy x.end (calls.Poll now) (answers.Poll (polled x.policy x.end now).answer))
-      → (d : List ℕ) → (polled x.policy x.end now).datagram ≡ Some d → IsSent x.policy y.id (sent_by x.end now) d
+  gives_at : (now : ℕ) → InStep (IsSent x.policy) (x.sents ++ sents_by x.end (calls.Poll now) (answers.Poll (polled x.policy x.end now).answer)) (x.given ++ gives x.policy x.end (calls.Poll now) (answers.Poll (polled x.policy x.end now).answer))
+      → (d : List ℕ) → (polled x.policy x.end now).datagram ≡ Some d → IsSent x.policy (sent_by x.end now) d
   gives_at now behind d is =
       let r : Polled = polled x.policy x.end now in
       let by = poll_gives x.policy x.end now d is in
       let given : gives x.policy x.end (calls.Poll now) (answers.Poll r.answer) ≡ d ∷ [] = gives_as x.policy x.end now r.answer ∙ by.given in
-      step_last (IsSent x.policy y.id) x.sents x.given (sent_by x.end now) d gives_before.each
-      (subst (λ (ds : List (List ℕ)). InStep (IsSent x.policy y.id) (x.sents ++ sent_by x.end now ∷ []) (x.given ++ ds)) given
-      (subst (λ (b : Bool). InStep (IsSent x.policy y.id) (x.sents ++ sent_if b (sent_by x.end now)) (x.given ++ gives x.policy x.end (calls.Poll now) (answers.Poll r.answer))) by.gave behind))
+      step_last (IsSent x.policy) x.sents x.given (sent_by x.end now) d gives_before.each
+      (subst (λ (ds : List (List ℕ)). InStep (IsSent x.policy) (x.sents ++ sent_by x.end now ∷ []) (x.given ++ ds)) given
+      (subst (λ (b : Bool). InStep (IsSent x.policy) (x.sents ++ sent_if b (sent_by x.end now)) (x.given ++ gives x.policy x.end (calls.Poll now) (answers.Poll r.answer))) by.gave behind))
 
   -- a poll
-  poll_seen : (now : ℕ) (a : Answer) → IsAnswer x.policy x.end y.given (calls.Poll now) a → fails a ≡ false → InStep (IsSent x.policy y.id) (x.sents ++ sents_by x.end (calls.Poll now) a) (x.given ++ gives x.policy x.end (calls.Poll now) a)
+  poll_seen : (now : ℕ) (a : Answer) → IsAnswer x.policy x.end y.given (calls.Poll now) a → fails a ≡ false → InStep (IsSent x.policy) (x.sents ++ sents_by x.end (calls.Poll now) a) (x.given ++ gives x.policy x.end (calls.Poll now) a)
       → (rest : List (List ℕ)) → seen.left ≡ gives x.policy x.end (calls.Poll now) a ++ rest → KnowsOn (calls.Poll now) a
   poll_seen now a is served behind rest left =
       let r : Polled = polled x.policy x.end now in
       let said : a ≡ answers.Poll r.answer = poll_answer x.policy x.end now a is served in
       subst (λ (b : Answer). KnowsOn (calls.Poll now) b) (sym said)
-      (subst (λ (b : Answer). InStep (IsSent x.policy y.id) (x.sents ++ sents_by x.end (calls.Poll now) b) (x.given ++ gives x.policy x.end (calls.Poll now) b) → seen.left ≡ gives x.policy x.end (calls.Poll now) b ++ rest → fails b ≡ false → KnowsOn (calls.Poll now) (answers.Poll r.answer)) (sym said)
+      (subst (λ (b : Answer). InStep (IsSent x.policy) (x.sents ++ sents_by x.end (calls.Poll now) b) (x.given ++ gives x.policy x.end (calls.Poll now) b) → seen.left ≡ gives x.policy x.end (calls.Poll now) b ++ rest → fails b ≡ false → KnowsOn (calls.Poll now) (answers.Poll r.answer)) (sym said)
       (λ all whole ok. goes_on all (whole ∙ ap (λ (ds : List (List ℕ)). ds ++ rest) (gives_as x.policy x.end now r.answer)) ok) behind left served)
     where
       knows : x.end.closing.state ≡ states.Open → cut_against x.end.numbers ≡ acknowledged seen.intake.took
       knows opened = open_named x.end.closing.state x.end.numbers (came_to x y) opened meets.knows ∙ ap (λ (i : Intake). acknowledged i.took) (sym seen_intake)
 
-      goes_on : InStep (IsSent x.policy y.id) (x.sents ++ sents_by x.end (calls.Poll now) (answers.Poll (polled x.policy x.end now).answer)) (x.given ++ gives x.policy x.end (calls.Poll now) (answers.Poll (polled x.policy x.end now).answer))
+      goes_on : InStep (IsSent x.policy) (x.sents ++ sents_by x.end (calls.Poll now) (answers.Poll (polled x.policy x.end now).answer)) (x.given ++ gives x.policy x.end (calls.Poll now) (answers.Poll (polled x.policy x.end now).answer))
           → seen.left ≡ given_as (polled x.policy x.end now).answer (polled x.policy x.end now).datagram ++ rest → fails (answers.Poll (polled x.policy x.end now).answer) ≡ false → KnowsOn (calls.Poll now) (answers.Poll (polled x.policy x.end now).answer)
       goes_on all whole ok =
-          let on = poll_watched (lens x y) y.id rest joined.x_lawful joined.to_y joined.y_long x.end seen gives_before.behind sight.stands knows sight.watched now ok (λ d has. gives_at now all d has) whole in
+          let on = poll_watched (lens x y) rest joined.x_lawful joined.to_y x.end seen gives_before.behind sight.stands knows sight.watched now ok (λ d has. gives_at now all d has) whole in
           record { own = on.0; watched = on.1 }
 
   -- after any call the observer knows what the end knows
-  pub call_seen : (call : Call) (a : Answer) → IsAnswer x.policy x.end y.given call a → fails a ≡ false → InStep (IsSent x.policy y.id) (x.sents ++ sents_by x.end call a) (x.given ++ gives x.policy x.end call a)
+  pub call_seen : (call : Call) (a : Answer) → IsAnswer x.policy x.end y.given call a → fails a ≡ false → InStep (IsSent x.policy) (x.sents ++ sents_by x.end call a) (x.given ++ gives x.policy x.end call a)
       → (rest : List (List ℕ)) → seen.left ≡ gives x.policy x.end call a ++ rest → KnowsOn call a
   call_seen (calls.Poll now) a is served behind rest left = poll_seen now a is served behind rest left
   call_seen (calls.Timeout now) a is served behind rest left = record { own = none_more (calls.Timeout now) a refl is; watched = timeout_seen now a is }
@@ -191,11 +191,11 @@ module _ (x y : Party) (joined : AreJoined x y) (meets : Meets y x) (gives_befor
   call_seen call a is served behind rest left = quiet_seen call a refl refl refl is
 
   -- so it stays in sight, where what it gives is the first of what is left
-  pub sight_step : (call : Call) (a : Answer) → IsAnswer x.policy x.end y.given call a → fails a ≡ false → InStep (IsSent x.policy y.id) (x.sents ++ sents_by x.end call a) (x.given ++ gives x.policy x.end call a)
+  pub sight_step : (call : Call) (a : Answer) → IsAnswer x.policy x.end y.given call a → fails a ≡ false → InStep (IsSent x.policy) (x.sents ++ sents_by x.end call a) (x.given ++ gives x.policy x.end call a)
       → (rest : List (List ℕ)) × ((x.given ++ gives x.policy x.end call a) ++ rest ≡ x.final) → Sight (called x y.given call a) y
   sight_step call a is served behind more =
       let t : Told = told_of call a x.end.closing.state in
-      let first : Watch = first_watch (x.id ∷ []) x.final x.began x.initial_rtt in
+      let first : Watch = first_watch x.final x.began x.initial_rtt in
       let after : watch_of (called x y.given call a) y ≡ after_told call a = folded_more (watch_told (lens x y)) x.told t first in
       let before : (rest : List (List ℕ)) → (x.given ++ gives x.policy x.end call a) ++ rest ≡ x.final → seen.left ≡ gives x.policy x.end call a ++ rest =
       λ rest whole. sight.left (gives x.policy x.end call a ++ rest) (sym (append_assoc x.given (gives x.policy x.end call a) rest) ∙ whole) in

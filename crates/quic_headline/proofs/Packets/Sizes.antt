@@ -26,7 +26,8 @@ use Rattle.quic_machine.specs.Machine.{after_call}
 use Rattle.quic_machine.specs.FrameCases.{streams_acked_keep, resets_acked_keep, packets_lost_keep, by_marks, by_searched, named, ack_taken, by_received}
 use Rattle.quic_machine.specs.LeaveCases.{at_expiry, by_expired}
 use Rattle.quic_machine.specs.PollCases.{ready_at, draft_at, by_poll_to, composes, may_leave_at}
-use Rattle.quic_machine.specs.CallCases.{by_plain_call}
+use Rattle.quic_machine.specs.CallCases.{Plain, by_plain_call}
+use Rattle.quic_machine.specs.CallCases as cases
 use Rattle.quic_headline.proofs.Messages.Counted.{received_leaves}
 use Rattle.quic_headline.proofs.Packets.Probes.{by_going}
 use Rattle.quic_headline.proofs.Packets.Searches.{ready_searched}
@@ -134,7 +135,7 @@ polled_search Q asks p e now i = by_poll_to p e now (λ (q : Polled). Q q.end.pa
   silent = i;
   failed = i;
   nothing = λ is none. ready;
-  used_up = ready;
+  closes = ready;
   gives = λ is may some. by_going (λ (x : End). Q x.path.discovery) p (draft_at e now) (λ pacing. subst (λ (x : Path). Q x.discovery) (sym (composes (ready_at e now).leaving (ready_at e now).end (may_leave_at e now)).path) ready);
 })
   where
@@ -157,14 +158,10 @@ module _ (least most : ℕ) where
 
   -- no call makes it another
   pub sized_call : (p : Policy) (e : End) (theirs : List (List ℕ)) (call : Call) (a : Answer) → HasSize e → HasSize (after_call p e theirs call a)
-  sized_call p e theirs call a h = by_plain_call p e theirs HasSize call a (record {
-    same = h;
-    on_streams = λ t. h;
-    on_messages = λ m. h;
-    pings = h;
-    heard = λ path same. subst (IsSized least most) (sym same.discovery) h;
-    times = λ now expiry is. expired_size (λ s. IsSized least most s.discovery) searching e now expiry h;
-    polls = λ now is. polled_search (IsSized least most) (sized_polled least most) p e now h;
-    hears = λ arrival d is. received_size (λ s. IsSized least most s.discovery) searching p e arrival d h;
-    tells = λ told. h;
-  })
+  sized_call p e theirs call a h = by_plain_call p e theirs HasSize call a keep
+    where
+      keep : Plain p e call HasSize
+      keep (cases.times now expiry) may = expired_size (λ s. IsSized least most s.discovery) searching e now expiry h
+      keep (cases.polls now) may = polled_search (IsSized least most) (sized_polled least most) p e now h
+      keep (cases.hears arrival d) may = received_size (λ s. IsSized least most s.discovery) searching p e arrival d h
+      keep c may = h

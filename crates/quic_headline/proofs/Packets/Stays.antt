@@ -25,10 +25,12 @@ use Rattle.quic_machine.specs.Acked.{losses_detected, after_acked}
 use Rattle.quic_machine.specs.Receive.{is_above, names_ungiven, take_frame, received}
 use Rattle.quic_machine.specs.Poll.{Polled}
 use Rattle.quic_machine.specs.Machine.{after_call}
-use Rattle.quic_machine.specs.FrameCases.{Settling, losses_keep, named, ack_taken, passed, acked_keeps, message_leaves, frame_keeps, frame_leaves, frames_keep, frames_taken, by_received}
+use Rattle.quic_machine.specs.FrameCases.{Settling, losses_keep, named, ack_taken, passed, acked_keeps, message_leaves, frame_keeps, frame_leaves, frames_keep, frames_taken, by_received, apart_same}
+use Rattle.quic_machine.specs.Steps as steps
 use Rattle.quic_machine.specs.LeaveCases.{at_timeout, at_losses, at_event, by_expired}
 use Rattle.quic_machine.specs.PollCases.{at_poll, by_poll, composes}
-use Rattle.quic_machine.specs.CallCases.{is_poll, by_plain_call}
+use Rattle.quic_machine.specs.CallCases.{Plain, is_poll, by_plain_call}
+use Rattle.quic_machine.specs.CallCases as cases
 use Rattle.quic_headline.specs.Runs.{acknowledged_in}
 use Rattle.quic_headline.proofs.Packets.Invariant.{IsBehind, Acks}
 use Rattle.quic_headline.proofs.Packets.Probes.{may_leave}
@@ -88,29 +90,19 @@ settles_same e = record { ids = refl; generation = refl; closing = refl; transpo
 
 -- each step of an ACK frame
 settling : (e : End) → Settling (Settles e)
-settling e = record {
-  known = λ n x s. record {
-    ids = s.ids;
-    generation = s.generation;
-    closing = s.closing;
-    transport = s.transport;
-    peer = s.peer;
-    filter = s.filter;
-    numbers = s.numbers;
-    acks = λ acks. acks_above x.acknowledging x.marks.came n (s.acks acks);
-    came = s.came;
-    fewer = λ k h. s.fewer k (in_above n k x.acknowledging.runs h).0;
-  };
-  reset = λ id x s. s;
-  acked = λ m x s. s;
-  lost = λ m x s. s;
-  again = λ c x s. s;
-  searched = λ discovery x s. s;
-  shortens = λ most x s. s;
-  tracked = λ t x s. s;
-  measured = λ r first x s. s;
-  marked = λ counts marking x s. s;
+settling e (steps.known n) x s = record {
+  ids = s.ids;
+  generation = s.generation;
+  closing = s.closing;
+  transport = s.transport;
+  peer = s.peer;
+  filter = s.filter;
+  numbers = s.numbers;
+  acks = λ acks. acks_above x.acknowledging x.marks.came n (s.acks acks);
+  came = s.came;
+  fewer = λ k h. s.fewer k (in_above n k x.acknowledging.runs h).0;
 }
+settling e step x s = s
 
 -- an ACK frame that was taken
 pub settles_ack : (rises : Bool) (a : AckValue) (e : End) → Settles e (after_acked rises a e)
@@ -162,6 +154,7 @@ pub keeps_frames : (fs : List FrameValue) (e : End) → Keeps e (passed fs e).en
 keeps_frames fs e = frames_keep (Keeps e) (frame_keeps (Keeps e) (record {
   ack = λ rises a x k. keeps_ack e rises a x k;
   on_streams = λ f x on k. frame_leaves (Keeps e) f x on (λ t. k);
+  apart = λ f x is k. subst (Keeps e) (sym (apart_same f x is)) k;
   message = λ m x k. k;
 })) fs e (keeps_same e)
 
@@ -280,17 +273,14 @@ stays_losses e now acks timers =
 
 -- only a poll gives numbers
 pub stays_call : (p : Policy) (e : End) (theirs : List (List ℕ)) (call : Call) (a : Answer) → is_poll call ≡ false → Stays e (after_call p e theirs call a)
-stays_call p e theirs call a other = by_plain_call p e theirs (Stays e) call a (record {
-  same = stays_same e;
-  on_streams = λ t. stays_same e;
-  on_messages = λ m. stays_same e;
-  pings = stays_same e;
-  heard = λ path same. stays_like e e (record e { path = path }) refl same.generation refl refl refl refl (stays_same e);
-  times = λ now expiry is. by_expired e now (Stays e) (λ pending tracking timers runs packets. stays_like e e (at_timeout e now pending tracking timers) refl refl refl refl refl refl (stays_same e)) (λ pending timers runs. stays_losses e now pending timers) expiry;
-  polls = λ now is. cc;
-  hears = λ arrival d is. stays_received p e arrival d;
-  tells = λ told. stays_like e e (at_event e told) refl refl refl refl refl refl (stays_same e);
-})
+stays_call p e theirs call a other = by_plain_call p e theirs (Stays e) call a keep
+  where
+    keep : Plain p e call (Stays e)
+    keep (cases.times now expiry) may = by_expired e now (Stays e) (λ pending tracking timers runs packets. stays_like e e (at_timeout e now pending tracking timers) refl refl refl refl refl refl (stays_same e)) (λ pending timers runs. stays_losses e now pending timers) expiry
+    keep (cases.polls now) is = cc
+    keep (cases.hears arrival d) may = stays_received p e arrival d
+    keep (cases.tells told) may = stays_like e e (at_event e told) refl refl refl refl refl refl (stays_same e)
+    keep c may = stays_same e
 
 -- ---- any call
 
@@ -310,7 +300,7 @@ placed_call p e theirs (calls.Poll now) a = by_poll p e now (λ (q : Polled). Is
   silent = record { ids = refl; generation = refl; transport = refl; peer = refl };
   failed = record { ids = refl; generation = refl; transport = refl; peer = refl };
   nothing = λ c. record { ids = refl; generation = refl; transport = refl; peer = refl };
-  used_up = λ c. record { ids = refl; generation = refl; transport = refl; peer = refl };
+  closes = λ c. record { ids = refl; generation = refl; transport = refl; peer = refl };
   gives = λ leaving c left is may ready some.
       let x : End = at_poll e now c in
       let c = composes leaving x (may_leave e now leaving x ready) in

@@ -19,7 +19,8 @@ use Rattle.quic_machine.specs.Poll.{zeros_behind, Polled, Draft, packet_of, trac
 use Rattle.quic_machine.specs.Machine.{IsAnswer, after_call, fails, gave}
 use Rattle.quic_machine.specs.PollCases.{ready_at, ready_leaves, draft_at, frames_padded, by_poll_to, composes, may_leave_at}
 use Rattle.quic_machine.specs.LeaveCases.{by_expired}
-use Rattle.quic_machine.specs.CallCases.{is_poll, by_plain_call}
+use Rattle.quic_machine.specs.CallCases.{Plain, is_poll, by_plain_call}
+use Rattle.quic_machine.specs.CallCases as cases
 use Rattle.quic_headline.specs.Runs.{In}
 use Rattle.quic_headline.specs.Observer.{Sent}
 use Rattle.quic_headline.proofs.Packets.Invariant.{AreTracked}
@@ -100,7 +101,7 @@ tracked_polled p e now sents i =
       silent = tracked_more sents [] e.tracking.packets i;
       failed = tracked_more sents [] e.tracking.packets i;
       nothing = λ is none. tracked_more sents [] (ready_at e now).end.tracking.packets ready;
-      used_up = tracked_more sents [] (ready_at e now).end.tracking.packets ready;
+      closes = tracked_more sents [] (ready_at e now).end.tracking.packets ready;
       gives = λ is may some. gives some;
     })
   where
@@ -118,20 +119,16 @@ tracked_polled p e now sents i =
 
 -- another call than a poll gives nothing that is tracked
 tracked_other : (p : Policy) (e : End) (theirs : List (List ℕ)) (call : Call) (a : Answer) (sents more : List Sent) → is_poll call ≡ false → AreTracked sents e.tracking.packets → AreTracked (sents ++ more) (after_call p e theirs call a).tracking.packets
-tracked_other p e theirs call a sents more silent i = by_plain_call p e theirs (λ (f : End). AreTracked (sents ++ more) f.tracking.packets) call a (record {
-  same = same;
-  on_streams = λ t. same;
-  on_messages = λ m. same;
-  pings = same;
-  heard = λ path is. same;
-  times = λ now expiry is. by_expired e now (λ (f : End). AreTracked (sents ++ more) f.tracking.packets) (λ pending tracking timers runs packets. subst (λ (x : Table TrackedPacket). AreTracked (sents ++ more) x) (sym packets) same) (λ pending timers runs n t i. same n t (losses_fewer (with_closing e (ticked e.closing now)) n t i)) expiry;
-  polls = λ now is. cc;
-  hears = λ arrival d is. tracked_more sents more (received p e arrival d).end.tracking.packets (tracked_received p e arrival d sents i);
-  tells = λ told. same;
-})
+tracked_other p e theirs call a sents more silent i = by_plain_call p e theirs (λ (f : End). AreTracked (sents ++ more) f.tracking.packets) call a keep
   where
     same : AreTracked (sents ++ more) e.tracking.packets
     same = tracked_more sents more e.tracking.packets i
+
+    keep : Plain p e call (λ (f : End). AreTracked (sents ++ more) f.tracking.packets)
+    keep (cases.times now expiry) may = by_expired e now (λ (f : End). AreTracked (sents ++ more) f.tracking.packets) (λ pending tracking timers runs packets. subst (λ (x : Table TrackedPacket). AreTracked (sents ++ more) x) (sym packets) same) (λ pending timers runs n t i. same n t (losses_fewer (with_closing e (ticked e.closing now)) n t i)) expiry
+    keep (cases.polls now) is = cc
+    keep (cases.hears arrival d) may = tracked_more sents more (received p e arrival d).end.tracking.packets (tracked_received p e arrival d sents i)
+    keep c may = same
 
 -- after any call that lacks no memory
 pub tracked_step : (p : Policy) (e : End) (theirs : List (List ℕ)) (call : Call) (a : Answer) (sents : List Sent) → IsAnswer p e theirs call a → fails a ≡ false → AreTracked sents e.tracking.packets

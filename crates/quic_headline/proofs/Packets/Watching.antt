@@ -25,15 +25,16 @@ use Rattle.quic_spaces.specs.Numbers.{Numbers, cut_against, can_number, number_o
 use Rattle.quic_machine.specs.Parts.{Path}
 use Rattle.quic_machine.specs.Tracking.{Tracking}
 use Rattle.quic_machine.specs.End.{End, number_of, with_closing, closed_by, with_numbers, with_loss_timer}
-use Rattle.quic_machine.specs.Timeouts.{acks_expired, loss_judged, loss_expired, pacing_expired, timed_out_in, timed_out}
+use Rattle.quic_machine.specs.Timeouts.{acks_expired, loss_judged, loss_expired, pacing_expired, timed_out_in, timed_out, Expiry, expiry_at, after_others}
 use Rattle.quic_machine.specs.Receive.{asks_in, after_taken}
 use Rattle.quic_machine.specs.Poll.{Polled, Draft, payload_of, datagram_of, datagram_size, after_given, goes, rests, sends, polled_if, polled_in, polled, Ready}
 use Rattle.quic_machine.specs.Machine.{after_call, fails, gave}
-use Rattle.quic_machine.specs.CallCases.{is_delivery, is_poll, is_timeout, by_plain_call}
+use Rattle.quic_machine.specs.CallCases.{Plain, is_delivery, is_poll, is_timeout, by_plain_call}
+use Rattle.quic_machine.specs.CallCases as cases
 use Rattle.quic_machine.specs.PollCases.{ready_at, ready_leaves, draft_at, frames_at, given_as, Composes, composes, poll_left, may_leave_at}
 use Rattle.quic_machine.specs.FrameCases.{begun}
 use Rattle.quic_headline.specs.Runs.{Told, Packet, Intake, acknowledged, and_handed, and_told, folded}
-use Rattle.quic_headline.specs.Observer.{Sent, Terms, loss_due, is_past, expired_for, after_packets, and_sent, and_all_sent, Watch, news, has_opened, moment_of, clock_behind, sent_as, after_frames, watch_sent, Lens, watch_given, is_timely, watch_moment, watch_came, watch_told}
+use Rattle.quic_headline.specs.Observer.{Sent, Terms, loss_due, is_past, expired_for, after_packets, and_flying, and_all_sent, Watch, news, has_opened, moment_of, clock_behind, sent_as, after_frames, watch_sent, Lens, watch_given, is_timely, watch_moment, watch_came, watch_told}
 use Rattle.quic_headline.proofs.Packets.Invariant.{IsGiven, KnowsIn, IsBehind}
 use Rattle.quic_headline.proofs.Packets.Intakes.{nothing_handed, none_handed}
 use Rattle.quic_headline.proofs.Packets.Stays.{keeps_frames}
@@ -41,10 +42,13 @@ use Rattle.quic_headline.proofs.Packets.Delivered.{Arrivals, arrived, with_taken
 use Rattle.quic_headline.proofs.Packets.Probes.{by_going}
 use Rattle.quic_headline.proofs.Packets.Given.{allocated_near, draft_number}
 use Rattle.quic_headline.proofs.Packets.Waited.{AreWaited}
+use Rattle.quic_headline.proofs.Packets.Closeless.{sent_closeless}
 use Rattle.quic_headline.proofs.Packets.Flying.{Held, held, IsAsked, Waits, Loses, detected_held, timer_is, frames_wait, sent_read, draft_waits, ticked_waits, numbers_wait, ready_waits, expired_waits, expired_flies}
 use Rattle.quic_headline.proofs.Timers.LossTimers.{OpenStands, LossStands, ready_stands}
 use Rattle.quic_headline.proofs.Places.Parties.{sent_by, sent_if, told_of}
 use Rattle.quic_machine.specs.DraftLaws.{MayLeave}
+use Rattle.quic_machine.specs.LeaveCases.{Expired, by_expiring}
+use Rattle.quic_machine.specs.LeaveCases as expiring
 
 -- ---- the observer
 
@@ -208,7 +212,7 @@ arrivals_watched t w e delivery n frames i = record {
 
 -- ---- a poll
 
-module _ (l : Lens) (id : List ℕ) (rest : List (List ℕ)) (lawful : IsLawful l.own) (mates : CanOpen l.own l.taker) (eight : length id ≡ own_id_length) (e : End) (w : Watch) (behind : IsBehind e.numbers) (stands : LossStands e)
+module _ (l : Lens) (rest : List (List ℕ)) (lawful : IsLawful l.own) (mates : CanOpen l.own l.taker) (e : End) (w : Watch) (behind : IsBehind e.numbers) (stands : LossStands e)
     (knows : e.closing.state ≡ states.Open → cut_against e.numbers ≡ acknowledged w.intake.took) (watched_before : IsWatched l.terms w e) where
   -- what the observer knows behind a poll that comes to this
   abbrev behind_poll : ℕ → State → Polled → Watch
@@ -216,7 +220,7 @@ module _ (l : Lens) (id : List ℕ) (rest : List (List ℕ)) (lawful : IsLawful 
 
   -- what a poll gives was sent so
   abbrev pub GivesAt : ℕ → Polled → Type 0
-  GivesAt now r = (d : List ℕ) → r.datagram ≡ Some d → IsGiven l.own id (number_of e) (cut_against e.numbers) (frames_at e now) d
+  GivesAt now r = (d : List ℕ) → r.datagram ≡ Some d → IsGiven l.own e.ids.active.id (number_of e) (cut_against e.numbers) (frames_at e now) d
 
   -- an observer goes on with what a poll comes to, where what it gives is the first of what was to be given
   abbrev GoesOn : ℕ → State → Polled → Type 0
@@ -269,7 +273,7 @@ module _ (l : Lens) (id : List ℕ) (rest : List (List ℕ)) (lawful : IsLawful 
       ticks : Watch
       ticks = record w { clock = max w.clock now }
 
-      was : IsGiven l.own id (number_of e) (cut_against e.numbers) (frames_at e now) d
+      was : IsGiven l.own e.ids.active.id (number_of e) (cut_against e.numbers) (frames_at e now) d
       was = given d refl
 
       moment : max w.clock now ≡ max e.closing.clock now
@@ -295,20 +299,21 @@ module _ (l : Lens) (id : List ℕ) (rest : List (List ℕ)) (lawful : IsLawful 
       above = let more = (allocated_near e.filter e.numbers.next).0 in let less : cut_against e.numbers ≤ e.numbers.next = behind in omega arith
 
       -- the observer reads it as it was sent
-      read : sent_as (opened_packet l.taker.header l.taker.packet (own_id_length + 1) (acknowledged w.intake.took) d) (acknowledged w.intake.took) (max w.clock now) (length d) ≡ s ∷ []
+      read : sent_as (opened_packet l.taker.header l.taker.packet (own_id_length + 1) (acknowledged w.intake.took) d) (acknowledged w.intake.took) (max w.clock now) d ≡ s ∷ []
       read =
-          ap (λ (n : ℕ). sent_as (opened_packet l.taker.header l.taker.packet (own_id_length + 1) n d) n (max w.clock now) (length d)) (sym (knows opened))
-          ∙ sent_read l.own l.taker id (number_of e) (cut_against e.numbers) (frames_at e now) d was mates eight above (max w.clock now) (length d)
-          ∙ ap (λ (n : ℕ). record { number = number_of e; reference = cut_against e.numbers; frames = frames_at e now; moment = n; size = length d } ∷ []) moment
-          ∙ ap (λ (n : ℕ). record { number = number_of e; reference = cut_against e.numbers; frames = frames_at e now; moment = max e.closing.clock now; size = n } ∷ []) size
+          ap (λ (n : ℕ). sent_as (opened_packet l.taker.header l.taker.packet (own_id_length + 1) n d) n (max w.clock now) d) (sym (knows opened))
+          ∙ sent_read l.own l.taker e.ids.active.id (number_of e) (cut_against e.numbers) (frames_at e now) d was mates lawful above (max w.clock now)
+          ∙ ap (λ (n : ℕ). record { id = e.ids.active.id; number = number_of e; reference = cut_against e.numbers; frames = frames_at e now; moment = n; size = length d } ∷ []) moment
+          ∙ ap (λ (n : ℕ). record { id = e.ids.active.id; number = number_of e; reference = cut_against e.numbers; frames = frames_at e now; moment = max e.closing.clock now; size = n } ∷ []) size
 
-      is : behind_poll now states.Open (sends true l.own (ready_at e now)) ≡ record ticks { left = rest; own = w.own ++ s ∷ []; flight = and_sent s w.flight }
+      is : behind_poll now states.Open (sends true l.own (ready_at e now)) ≡ record ticks { left = rest; own = w.own ++ s ∷ []; flight = and_flying s w.flight }
       is =
           ap (λ (v : Watch). watch_given true l v) (came_quiet l t w refl)
           ∙ ap (λ (ds : List (List ℕ)). watch_sent l.taker ds ticks) left
           ∙ ap (λ (ss : List Sent). record ticks { left = rest; own = w.own ++ ss; flight = and_all_sent ss w.flight }) read
+          ∙ ap (λ (b : Bool). record ticks { left = rest; own = w.own ++ s ∷ []; flight = if b then w.flight else and_flying s w.flight }) (sent_closeless e now)
 
-      after : IsWatched l.terms (record ticks { left = rest; own = w.own ++ s ∷ []; flight = and_sent s w.flight }) (after_given l.own draft)
+      after : IsWatched l.terms (record ticks { left = rest; own = w.own ++ s ∷ []; flight = and_flying s w.flight }) (after_given l.own draft)
       after = record {
         path = by_going (λ (x : End). x.path.generation ≡ 0) l.own draft (λ pacing. ap (λ (x : Path). x.generation) c.path ∙ ready_path now);
         flight = λ still.
@@ -365,73 +370,72 @@ abbrev pub at_time : Terms → Watch → ℕ → Watch
 at_time t w now = watch_moment true t (record w { clock = max w.clock now })
 
 -- the timers of acknowledgements and of the pacer leave what the observer knows of
-others_held : (acks pacing : Bool) (e : End) → held (pacing_expired pacing (acks_expired acks e)) ≡ held e
-others_held true true e = refl
-others_held true false e = refl
-others_held false true e = refl
-others_held false false e = refl
+others_held : (x : Expiry) (e : End) → held (after_others x e) ≡ held e
+others_held x e = by_expiring Same Same each (λ f i. i) x e refl
+  where
+    Same : End → Type 0
+    Same f = held f ≡ held e
+
+    each : (s : Expired) (f : End) → Same f → Same (expiring.after s f)
+    each expiring.of_acks f i = i
+    each s f i = i
 
 -- a timeout at an open end
-open_timeout : (t : Terms) (w : Watch) (e : End) (now : ℕ) → OpenStands e → e.path.generation ≡ 0 → Waits t w.clock w.flight (held e) → IsWatched t (at_time t w now) (timed_out_in states.Open e now).end
-open_timeout t w e now s path i = record { path = generation; flight = λ still. waits }
+open_timeout : (p : Policy) (t : Terms) (w : Watch) (e : End) (now : ℕ) → OpenStands e → e.path.generation ≡ 0 → Waits t w.clock w.flight (held e) → IsWatched t (at_time t w now) (timed_out_in states.Open p e now).end
+open_timeout p t w e now s path i = record { path = generation; flight = λ still. waits }
   where
     begins : End
     begins = with_closing e (ticked e.closing now)
 
-    acks : Bool
-    acks = has_come e.timers.max_ack_delay (max e.closing.clock now)
+    expiry : Expiry
+    expiry = expiry_at (max e.closing.clock now) e.timers
 
     expires : Bool
-    expires = has_come e.timers.loss_detection (max e.closing.clock now)
-
-    pacing : Bool
-    pacing = has_come e.timers.pacing (max e.closing.clock now)
+    expires = expiry.loss
 
     after : Waits t (max w.clock now) (if expires then expired_for w.flight.loss_time t (max w.clock now) w.flight else w.flight) (held (loss_expired expires begins))
     after = expired_waits t (max w.clock now) w.flight begins (ticked_waits t w.clock now w.flight (held e) i) expires
 
-    waits : Waits t (max w.clock now) (at_time t w now).flight (held (pacing_expired pacing (acks_expired acks (loss_expired expires begins))))
-    waits = subst (λ (h : Held). Waits t (max w.clock now) (at_time t w now).flight h) (sym (others_held acks pacing (loss_expired expires begins)))
+    waits : Waits t (max w.clock now) (at_time t w now).flight (held (after_others expiry (loss_expired expires begins)))
+    waits = subst (λ (h : Held). Waits t (max w.clock now) (at_time t w now).flight h) (sym (others_held expiry (loss_expired expires begins)))
         (subst (λ (b : Bool). Waits t (max w.clock now) (if b then expired_for w.flight.loss_time t (max w.clock now) w.flight else w.flight) (held (loss_expired expires begins))) (timer_expires t w e now s i) after)
 
-    generation : (pacing_expired pacing (acks_expired acks (loss_expired expires begins))).path.generation ≡ 0
-    generation = ap (λ (h : Held). h.generation) (others_held acks pacing (loss_expired expires begins)) ∙ expired_path expires begins ∙ path
+    generation : (after_others expiry (loss_expired expires begins)).path.generation ≡ 0
+    generation = ap (λ (h : Held). h.generation) (others_held expiry (loss_expired expires begins)) ∙ expired_path expires begins ∙ path
 
 -- a timeout takes the moment over, and expired timers leave what is watched
-pub timeout_watched : (t : Terms) (w : Watch) (e : End) (now : ℕ) → LossStands e → IsWatched t w e → IsWatched t (watch_moment (is_timely e.closing.state (calls.Timeout now)) t (record w { clock = clock_behind w.clock (moment_of e.closing.state false (calls.Timeout now)) })) (timed_out e now).end
-timeout_watched t w e now stands i = go e.closing.state refl
+pub timeout_watched : (p : Policy) (t : Terms) (w : Watch) (e : End) (now : ℕ) → LossStands e → IsWatched t w e → IsWatched t (watch_moment (is_timely e.closing.state (calls.Timeout now)) t (record w { clock = clock_behind w.clock (moment_of e.closing.state false (calls.Timeout now)) })) (timed_out p e now).end
+timeout_watched p t w e now stands i = go e.closing.state refl
   where
-    go : (state : State) → e.closing.state ≡ state → IsWatched t (watch_moment (is_timely state (calls.Timeout now)) t (record w { clock = clock_behind w.clock (moment_of state false (calls.Timeout now)) })) (timed_out_in state e now).end
-    go states.Open opened = open_timeout t w e now (stands opened) i.path (i.flight opened)
+    go : (state : State) → e.closing.state ≡ state → IsWatched t (watch_moment (is_timely state (calls.Timeout now)) t (record w { clock = clock_behind w.clock (moment_of state false (calls.Timeout now)) })) (timed_out_in state p e now).end
+    go states.Open opened = open_timeout p t w e now (stands opened) i.path (i.flight opened)
     go states.Closing is = i
     go states.Drained is = i
     go states.Failed is = i
 
 -- what losses keep, and a moment, other timers and other packets to acknowledge, an open end keeps there with what is in flight
 pub timeout_flies : (P : List Sent → List Sent → End → Type 0) → Loses P → ((flying acked : List Sent) (c : Closing) (pending : Pending) (timers : Timers) (e : End) → P flying acked e → P flying acked (record e { closing = c; acknowledging = pending; timers = timers }))
-    → (t : Terms) (w : Watch) (e : End) (now : ℕ) → OpenStands e → Waits t w.clock w.flight (held e) → P w.flight.flying w.flight.acked e → P (at_time t w now).flight.flying (at_time t w now).flight.acked (timed_out_in states.Open e now).end
-timeout_flies P c others t w e now s i holds =
-    after acks pacing (at_time t w now).flight.flying (at_time t w now).flight.acked (loss_expired expires begins)
+    → (p : Policy) (t : Terms) (w : Watch) (e : End) (now : ℕ) → OpenStands e → Waits t w.clock w.flight (held e) → P w.flight.flying w.flight.acked e → P (at_time t w now).flight.flying (at_time t w now).flight.acked (timed_out_in states.Open p e now).end
+timeout_flies P c others p t w e now s i holds =
+    by_expiring Here Here each (λ f j. others (at_time t w now).flight.flying (at_time t w now).flight.acked f.closing f.acknowledging (with_loss_timer f).timers f j) expiry (loss_expired expires begins)
     (subst (λ (b : Bool). P (if b then expired_for w.flight.loss_time t (max w.clock now) w.flight else w.flight).flying (if b then expired_for w.flight.loss_time t (max w.clock now) w.flight else w.flight).acked (loss_expired expires begins)) (timer_expires t w e now s i)
     (expired_flies P c t (max w.clock now) w.flight begins (ticked_waits t w.clock now w.flight (held e) i) (others w.flight.flying w.flight.acked (ticked e.closing now) e.acknowledging e.timers e holds) expires))
   where
     begins : End
     begins = with_closing e (ticked e.closing now)
 
-    acks : Bool
-    acks = has_come e.timers.max_ack_delay (max e.closing.clock now)
+    expiry : Expiry
+    expiry = expiry_at (max e.closing.clock now) e.timers
 
     expires : Bool
-    expires = has_come e.timers.loss_detection (max e.closing.clock now)
+    expires = expiry.loss
 
-    pacing : Bool
-    pacing = has_come e.timers.pacing (max e.closing.clock now)
+    Here : End → Type 0
+    Here = P (at_time t w now).flight.flying (at_time t w now).flight.acked
 
-    after : (b c : Bool) (flying acked : List Sent) (f : End) → P flying acked f → P flying acked (with_loss_timer (pacing_expired c (acks_expired b f)))
-    after true true flying acked f j = let g : End = with_loss_timer (pacing_expired true (acks_expired true f)) in others flying acked f.closing g.acknowledging g.timers f j
-    after true false flying acked f j = let g : End = with_loss_timer (acks_expired true f) in others flying acked f.closing g.acknowledging g.timers f j
-    after false true flying acked f j = let g : End = with_loss_timer (pacing_expired true f) in others flying acked f.closing f.acknowledging g.timers f j
-    after false false flying acked f j = let g : End = with_loss_timer f in others flying acked f.closing f.acknowledging g.timers f j
+    each : (s : Expired) (f : End) → Here f → Here (expiring.after s f)
+    each expiring.of_acks f j = let g : End = acks_expired true f in others (at_time t w now).flight.flying (at_time t w now).flight.acked f.closing g.acknowledging g.timers f j
+    each expiring.of_pacer f j = let g : End = pacing_expired true f in others (at_time t w now).flight.flying (at_time t w now).flight.acked f.closing f.acknowledging g.timers f j
 
 -- ---- other calls
 
@@ -458,17 +462,13 @@ pub record Leaves (e f : End) : Type 0 where
 
 -- a call at no moment leaves it
 pub leaves_call : (p : Policy) (e : End) (theirs : List (List ℕ)) (call : Call) (a : Answer) → is_delivery call ≡ false → is_poll call ≡ false → is_timeout call ≡ false → Leaves e (after_call p e theirs call a)
-leaves_call p e theirs call a apart silent other = by_plain_call p e theirs (Leaves e) call a (record {
-  same = record { state = refl; clock = refl; numbers = refl; tracking = refl; transport = refl; peer = refl; path = refl; rtt = refl };
-  on_streams = λ t. record { state = refl; clock = refl; numbers = refl; tracking = refl; transport = refl; peer = refl; path = refl; rtt = refl };
-  on_messages = λ m. record { state = refl; clock = refl; numbers = refl; tracking = refl; transport = refl; peer = refl; path = refl; rtt = refl };
-  pings = record { state = refl; clock = refl; numbers = refl; tracking = refl; transport = refl; peer = refl; path = refl; rtt = refl };
-  heard = λ path is. record { state = refl; clock = refl; numbers = refl; tracking = refl; transport = refl; peer = refl; path = is.generation; rtt = is.rtt };
-  times = λ now expiry is. cc;
-  polls = λ now is. cc;
-  hears = λ arrival d is. cc;
-  tells = λ told. record { state = refl; clock = refl; numbers = refl; tracking = refl; transport = refl; peer = refl; path = refl; rtt = refl };
-})
+leaves_call p e theirs call a apart silent other = by_plain_call p e theirs (Leaves e) call a cases_keep
+  where
+    cases_keep : Plain p e call (Leaves e)
+    cases_keep (cases.times now expiry) is = cc
+    cases_keep (cases.polls now) is = cc
+    cases_keep (cases.hears arrival d) is = cc
+    cases_keep c may = record { state = refl; clock = refl; numbers = refl; tracking = refl; transport = refl; peer = refl; path = refl; rtt = refl }
 
 -- an end that was left so is watched as it was
 pub leaves_watched : (t : Terms) (w : Watch) (e f : End) → Leaves e f → IsWatched t w e → IsWatched t w f

@@ -1,5 +1,5 @@
 -- What comes to an end by a call that it makes: nothing, or a datagram that the other sent.
-use Rattle.std.proofs.Common.{◌≡◌, ℕ, false, List, [], ◌∷◌, Option, Some, None, refl, sym, ap, ◌∙◌, subst, inl, inr}
+use Rattle.std.proofs.Common.{◌≡◌, ℕ, false, List, Option, Some, None, refl, sym, ap, ◌∙◌, subst, inl, inr}
 use Rattle.std.specs.Prelude.{slice_get}
 use Rattle.quic_machine.specs.Arrival.{delivered_by}
 use Rattle.quic_machine.specs.declared.run.Call.{Call}
@@ -7,7 +7,6 @@ use Rattle.quic_machine.specs.declared.run.Call.TheVariants as calls
 use Rattle.quic_machine.specs.declared.run.Delivery.{Delivery}
 use Rattle.quic_machine.specs.declared.run.Answer.{Answer}
 use Rattle.quic_machine.specs.declared.run.Answer.TheVariants as answers
-use Rattle.quic_machine.specs.Ids.{known}
 use Rattle.quic_machine.specs.End.{End}
 use Rattle.quic_machine.specs.Receive.{Outcome, received}
 use Rattle.quic_machine.specs.Machine.{IsAnswer, IsDelivered, after_delivered, after_call, fails}
@@ -16,7 +15,7 @@ use Rattle.quic_headline.specs.Runs.{Intake, In, handed, and_handed, and_told, n
 use Rattle.quic_headline.specs.Observer.{Sent}
 use Rattle.quic_headline.proofs.Packets.Invariant.{InStep, IsSent, KnowsIn}
 use Rattle.quic_headline.proofs.Packets.Growth.{get_front, step_at}
-use Rattle.quic_headline.proofs.Packets.Intakes.{folded_more, nothing_handed, none_handed, told_ids}
+use Rattle.quic_headline.proofs.Packets.Intakes.{folded_more, nothing_handed, none_handed}
 use Rattle.quic_headline.proofs.Packets.Delivered.{Arrivals, by_arrival}
 use Rattle.quic_headline.proofs.Places.Parties.{told_of, Party, called, came_to, AreJoined}
 
@@ -24,7 +23,7 @@ use Rattle.quic_headline.proofs.Places.Parties.{told_of, Party, called, came_to,
 
 -- what came by one call more
 pub came_more : (x y : Party) (call : Call) (a : Answer) → came_to (called x y.given call a) y ≡ and_told x.policy y.final (told_of call a x.end.closing.state) (came_to x y)
-came_more x y call a = folded_more (and_told x.policy y.final) x.told (told_of call a x.end.closing.state) (nothing_came (x.id ∷ []))
+came_more x y call a = folded_more (and_told x.policy y.final) x.told (told_of call a x.end.closing.state) nothing_came
 
 -- what came, where a call hands nothing in
 pub came_same : (x y : Party) (call : Call) (a : Answer) → handed y.final call a ≡ None → came_to (called x y.given call a) y ≡ came_to x y
@@ -33,16 +32,11 @@ came_same x y call a none =
     ∙ ap (λ (o : Option (List ℕ)). and_handed x.end.closing.state o x.policy a (came_to x y)) none
     ∙ nothing_handed x.end.closing.state x.policy a (came_to x y)
 
--- the ids that an end is known by stay
-pub came_ids : (x y : Party) (call : Call) (a : Answer) → (came_to (called x y.given call a) y).ids ≡ (came_to x y).ids
-came_ids x y call a = ap (λ (i : Intake). i.ids) (came_more x y call a) ∙ told_ids x.policy y.final (told_of call a x.end.closing.state) (came_to x y)
-
 -- ---- any call
 
 -- What a delivery rests on: the one gave each datagram as it was sent, and the other knows what came.
 pub record Meets (x y : Party) : Type 0 where
-  pub each : InStep (IsSent x.policy y.id) x.sents x.given
-  pub known : known y.end.ids ≡ (came_to y x).ids
+  pub each : InStep (IsSent x.policy) x.sents x.given
   pub knows : KnowsIn y.end.closing.state y.end.numbers (came_to y x)
 
 -- what may come to x by a call of its own: P of the end and of what came
@@ -62,7 +56,7 @@ module _ (x y : Party) (a : Answer) (joined : AreJoined x y) (served : fails a �
   delivered delivery (Some d) at (inr is) c = cc
   delivered delivery (Some d) at (inl is) c =
       let o : Outcome = received x.policy x.end (delivered_by delivery) d in
-      let found = step_at (IsSent y.policy x.id) y.sents y.given delivery.index d meets.each at in
+      let found = step_at (IsSent y.policy) y.sents y.given delivery.index d meets.each at in
       let s : Sent = found.0 in
       let more = joined.y_more in
       let there : slice_get y.final delivery.index ≡ Some d = subst (λ (ds : List (List ℕ)). slice_get ds delivery.index ≡ Some d) more.1 (get_front y.given more.0 delivery.index d at) in
@@ -71,7 +65,7 @@ module _ (x y : Party) (a : Answer) (joined : AreJoined x y) (served : fails a �
       ∙ ap (λ (b : Answer). and_handed x.end.closing.state (handed y.final (calls.Deliver delivery) b) x.policy b (came_to x y)) is
       ∙ ap (λ (h : Option (List ℕ)). and_handed x.end.closing.state h x.policy (answers.Deliver o.answer) (came_to x y)) there in
       subst (λ (i : Intake). P o.end i) (sym came)
-      (by_arrival y.policy x.policy x.id s.number s.reference s.frames d found.2 x.end (delivered_by delivery) (came_to x y) (λ (r : Outcome) (i : Intake). P r.end i) joined.to_x joined.y_lawful joined.x_long meets.known meets.knows (c.comes delivery refl s found.1))
+      (by_arrival y.policy x.policy s.id s.number s.reference s.frames d found.2 x.end (delivered_by delivery) (came_to x y) (λ (r : Outcome) (i : Intake). P r.end i) joined.to_x joined.y_lawful meets.knows (c.comes delivery refl s found.1))
 
   -- what holds in each case holds of the end behind its call, and of what came
   pub by_coming : (call : Call) → IsAnswer x.policy x.end y.given call a → Comes x y call a P → P (called x y.given call a).end (came_to (called x y.given call a) y)

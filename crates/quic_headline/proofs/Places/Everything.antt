@@ -1,19 +1,22 @@
 -- All that holds between the ends of an honest run, in one group: packets, streams, what observers know and what is read; and the clauses of it.
-use Rattle.std.proofs.Common.{ℕ, sym, subst}
+use Rattle.std.proofs.Common.{◌≡◌, ◌≤◌, ℕ, length, sym, subst}
 use Rattle.quic_wire_core.specs.declared.stream_id.Side.{Side}
-use Rattle.quic_machine.specs.Machine.{World}
-use Rattle.quic_headline.specs.Runs.{Run, AreServed}
+use Rattle.quic_machine.specs.declared.answers.State.TheVariants as states
+use Rattle.quic_machine.specs.Machine.{World, end_at}
+use Rattle.quic_headline.specs.Runs.{Run, LeadsTo, AreServed}
 use Rattle.quic_headline.specs.InFlight.{TracksInFlight}
 use Rattle.quic_headline.specs.Causes.{NumberLimit}
 use Rattle.quic_headline.specs.Duties.{DutiesStand}
 use Rattle.quic_headline.specs.Grown.{GrownLimitsWait}
 use Rattle.quic_headline.specs.Messages.{MessagesAtMostOnce}
 use Rattle.quic_headline.specs.Headline.{IsHonest, IsRun, OrderedPrefix, Slices, Once, EndAfterAll, BlockedOnlyWithoutBytes, AcceptsAll, FinishedMeansArrived, AcknowledgedWereTaken, NamesWereTaken, OpensExactly, NewestOpens, NumbersRise}
+use Rattle.quic_headline.specs.ConnectionIds.{SentToFirstId, NoUnknownId, FirstIdStays}
 use Rattle.quic_headline.specs.Moments.{LossMoments, LossTimerQuiet, AckMoments}
 use Rattle.quic_headline.specs.Resets.{ResetsAreTold}
 use Rattle.quic_headline.specs.Ids.{IdsAreNew, AcceptedWereOpened}
 use Rattle.quic_headline.specs.Polls.{AskingGoesWhereLet, ProbesPass}
 use Rattle.quic_headline.specs.Sizes.{SizesMove, DatagramsAreSized}
+use Rattle.quic_headline.specs.AppLimited.{MayCount}
 use Rattle.quic_headline.specs.Telling.{ControllersAreTold}
 use Rattle.quic_machine.specs.PollCases.{ready_at}
 use Rattle.quic_headline.proofs.Packets.Probes.{ready_state}
@@ -212,6 +215,15 @@ module _ (Ready : Way) (ready : IsReadying Ready) where
     pub newest_opens : NewestOpens r
     newest_opens = together.all_newest Streams (streams_spell Rest goes) (streams_group Rest goes rest) r end honest run
 
+    pub sent_to_first_id : SentToFirstId r
+    sent_to_first_id = together.all_sent Streams (streams_spell Rest goes) (streams_group Rest goes rest) r end honest run
+
+    pub no_unknown_id : NoUnknownId r
+    no_unknown_id = together.none_unknown Streams (streams_spell Rest goes) (streams_group Rest goes rest) r end honest run
+
+    pub first_id_stays : FirstIdStays r
+    first_id_stays = together.all_stay Streams (streams_spell Rest goes) (streams_group Rest goes rest) r end honest run
+
     pub numbers_rise : NumbersRise r
     numbers_rise = together.all_rise Streams (streams_spell Rest goes) (streams_group Rest goes rest) r end honest run
 
@@ -246,8 +258,9 @@ module _ (Ready : Way) (ready : IsReadying Ready) where
     pub sizes_move : SizesMove r
     sizes_move = moves.sizes_move (And All (And KnowsSearch Unnamed)) all_searched (λ x y h. h.0.0.0) (λ x y h. h.0.1) (λ x y h. h.1.0) (λ x y h. h.1.1) r end honest run
 
-    pub controllers_are_told : ControllersAreTold r
-    controllers_are_told = tellings.controllers_are_told (And All (And KnowsSearch Unnamed)) all_searched (λ x y h. h.0.0.0) (λ x y h. h.0.1) (λ x y h. h.1.0) (λ x y h. h.1.1) r end honest run
+    -- where an end counts as having nothing more to send only as its last poll lets it
+    pub controllers_are_told : ((i : ℕ) (side : Side) (w : World) → i ≤ length r.views → LeadsTo r i w → AreServed r i → (end_at side w).closing.state ≡ states.Open → MayCount r side i (end_at side w).path.app_limited) → ControllersAreTold r
+    controllers_are_told counts = tellings.controllers_are_told (And All (And KnowsSearch Unnamed)) all_searched (λ x y h. h.0.0.0) (λ x y h. h.0.1) (λ x y h. h.1.0) (λ x y h. h.1.1) r end honest run counts
 
     pub datagrams_are_sized : DatagramsAreSized r
     datagrams_are_sized = sized.datagrams_are_sized Streams (streams_spell Rest goes) all r end honest run

@@ -10,7 +10,7 @@ use Rattle.quic_machine.specs.declared.run.RunEvent.{RunEvent}
 use Rattle.quic_machine.specs.declared.run.Answer.{Answer}
 use Rattle.quic_machine.specs.declared.run.EndView.{EndView}
 use Rattle.quic_machine.specs.declared.run.View.{View}
-use Rattle.quic_machine.specs.Machine.{World, Policies, IsStep, end_at, end_met, control_at, changed, gives, policy_at, fails, Follows, view_of}
+use Rattle.quic_machine.specs.Machine.{World, Policies, IsStep, end_at, end_met, control_at, heard_at, changed, gives, policy_at, fails, Follows, view_of}
 use Rattle.quic_headline.specs.Runs.{Told, told_by, told_at, state_in, state_behind}
 use Rattle.quic_headline.specs.Polls.{end_in, seen_of, seen_behind}
 
@@ -22,7 +22,7 @@ pub record Grown (w end : World) : Type 0 where
 grown_same : (w end : World) → end ≡ w → Grown w end
 grown_same w end is = record { client = ([], append-nil w.from_client ∙ sym (ap (λ t. t.from_client) is)); server = ([], append-nil w.from_server ∙ sym (ap (λ t. t.from_server) is)) }
 
-grown_by : (side : Side) (w next end : World) (ds : List (List ℕ)) → next ≡ changed side w (end_at side next) ds (control_at side next) → Grown next end → Grown w end
+grown_by : (side : Side) (w next end : World) (ds : List (List ℕ)) → next ≡ changed side w (end_at side next) ds (control_at side next) (heard_at side next) → Grown next end → Grown w end
 grown_by Client w next end ds is g = record {
   client = (ds ++ g.client.0, sym (append_assoc w.from_client ds g.client.0) ∙ ap (λ t. t ++ g.client.0) (sym (ap (λ t. t.from_client) is)) ∙ g.client.1);
   server = (g.server.0, ap (λ t. t ++ g.server.0) (sym (ap (λ t. t.from_server) is)) ∙ g.server.1);

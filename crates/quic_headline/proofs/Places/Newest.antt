@@ -1,38 +1,30 @@
 -- A datagram opens as it was sent where its taker took none above it: its number was cut against one that the taker took.
-use Rattle.std.proofs.Common.{◌≡◌, ℕ, zero, suc, ◌+◌, ◌≤◌, Bool, true, false, ◌||◌, ◌&&◌, List, [], ◌∷◌, length, Some, refl, sym, ap, ◌∙◌, subst, inl, inr, arith}
+use Rattle.std.proofs.Common.{◌≡◌, ℕ, zero, suc, ◌+◌, ◌≤◌, Bool, true, List, [], ◌∷◌, Some, refl, sym, ap, ◌∙◌, subst, inl, inr, arith}
 use Rattle.std.specs.Prelude.{slice_get}
-use Rattle.std.specs.Cmp.Lexicographic.{bytes_decides}
 use Rattle.std.proofs.lemmas.Bool.{eq-eqb}
 use Rattle.quic_wire_core.specs.declared.stream_id.Side.{Side}
 use Rattle.quic_wire_core.specs.StreamId.{other_side}
 use Rattle.quic_packet.specs.Number.{truncated, expanded}
-use Rattle.quic_packet.specs.Destination.{is_known}
 use Rattle.quic_packet.proofs.Numbers as numbers
 use Rattle.quic_machine.specs.Policy.{Policy, CanOpen}
-use Rattle.quic_machine.specs.Ids.{known}
-use Rattle.quic_machine.specs.Opens.{own_id_length, opens}
 use Rattle.quic_machine.specs.Start.{IsLawful}
-use Rattle.quic_machine.specs.Machine.{World, end_at}
-use Rattle.quic_headline.specs.Runs.{Run, Packet, In, given_until, AreServed, expected_behind}
+use Rattle.quic_machine.specs.Machine.{World}
+use Rattle.quic_headline.specs.Runs.{Run, Packet, In, given_until, AreServed, opens_by_key, expected_behind}
 use Rattle.quic_headline.specs.Observer.{Sent, frames_opened, took, sents_until}
 use Rattle.quic_headline.specs.Headline.{IsHonest, NoneAbove, OpensAs, opened_there, NewestOpens}
 use Rattle.quic_headline.proofs.Packets.Invariant.{InStep, IsSent}
-use Rattle.quic_headline.proofs.Packets.Delivered.{shown, shown_if, expands, opens_given, frames_of_payload}
+use Rattle.quic_headline.proofs.Packets.Delivered.{shown, shown_if, expands, by_key_given, frames_of_payload}
 use Rattle.quic_headline.proofs.Packets.Group.{PacketsHold}
 use Rattle.quic_headline.proofs.Packets.Sight.{Sight}
 use Rattle.quic_headline.proofs.Packets.Referring.{Refers, expected_most}
 use Rattle.quic_headline.proofs.Places.Parties.{Party}
 use Rattle.quic_headline.proofs.Places.Groups.{And}
-use Rattle.quic_headline.proofs.Places.Placed.{Placed, placed_less, party_at, known_first}
+use Rattle.quic_headline.proofs.Places.Placed.{Placed, placed_less, party_at}
 use Rattle.quic_headline.proofs.Places.Openings.{took_other, given_here}
 use Rattle.quic_headline.proofs.Places.Flights.{own_at}
 use Rattle.quic_headline.proofs.Timers.Watched.{Observed}
 
 -- ---- one datagram
-
--- an id is known where it is the only one
-known_alone : (id : List ℕ) → is_known id (id ∷ []) ≡ true
-known_alone id = ap (λ (b : Bool). b || false) ((bytes_decides id id).1 refl)
 
 -- what stands at a place of both lists
 stands_both : {Y X : Type 0} (P : Y → X → Type 0) (ys : List Y) (xs : List X) (k : ℕ) (y : Y) (x : X) → InStep P ys xs → slice_get ys k ≡ Some y → slice_get xs k ≡ Some x → In y ys × P y x
@@ -48,8 +40,8 @@ stands_both P [] (u ∷ xs) k y x a e f = absurd a
 stands_both P (v ∷ ys) [] k y x a e f = absurd a
 
 -- one that was sent so opens so where this number is expected, which is neither below what its number was cut against nor more than one above its number
-opens_sent : (p q : Policy) (id : List ℕ) (s : Sent) (d : List ℕ) → IsSent p id s d → CanOpen p q → IsLawful p → length id ≡ own_id_length → (ids : List (List ℕ)) (x : ℕ) → ids ≡ id ∷ [] → s.reference ≤ x → x ≤ s.number + 1 → OpensAs s (opens q ids x d)
-opens_sent p q id s d g mates lawful long ids x alone low high = record {
+opens_sent : (p q : Policy) (s : Sent) (d : List ℕ) → IsSent p s d → CanOpen p q → IsLawful p → (x : ℕ) → s.reference ≤ x → x ≤ s.number + 1 → OpensAs s (opens_by_key q x d)
+opens_sent p q s d g mates lawful x low high = record {
   opening = shown s.number s.reference g.payload;
   is = is;
   number = refl;
@@ -59,13 +51,9 @@ opens_sent p q id s d g mates lawful long ids x alone low high = record {
     expanded_is : expands s.number s.reference x ≡ true
     expanded_is = eq-eqb (expanded (truncated s.number s.reference) x) s.number (numbers.newest_opens s.number s.reference x g.near low high)
 
-    here : is_known id ids ≡ true
-    here = ap (λ (known : List (List ℕ)). is_known id known) alone ∙ known_alone id
-
-    is : opens q ids x d ≡ Some (shown s.number s.reference g.payload)
+    is : opens_by_key q x d ≡ Some (shown s.number s.reference g.payload)
     is =
-        opens_given p q id s.number s.reference s.frames d g mates lawful long ids x
-        ∙ ap (λ (b : Bool). shown_if (b && expands s.number s.reference x) s.number s.reference g.payload) here
+        by_key_given p q s.id s.number s.reference s.frames d g mates lawful x
         ∙ ap (λ (b : Bool). shown_if b s.number s.reference g.payload) expanded_is
 
 -- ---- at a place
@@ -83,14 +71,14 @@ module _ (r : Run) (end : World) (honest : IsHonest r) (side : Side) (i : ℕ) (
   newest_at : (place : ℕ) (d : List ℕ) (s : Sent) → slice_get (given_until r side i) place ≡ Some d → slice_get (sents_until r side i) place ≡ Some s → NoneAbove (took r (other_side side) i) s.number → OpensAs s (opened_there r side i d)
   newest_at place d s given sent none =
       let own : sents_until r side i ≡ at.sents = own_at r end honest side i (placed_less (And Observed Refers) Sight r end side i (λ x y h. h.0.1) at) in
-      let found = stands_both (IsSent here.policy there.id) at.sents here.given place s d at.gives.0.0.gives.each
+      let found = stands_both (IsSent here.policy) at.sents here.given place s d at.gives.0.0.gives.each
       (subst (λ (ss : List Sent). slice_get ss place ≡ Some s) own sent)
       (subst (λ (ds : List (List ℕ)). slice_get ds place ≡ Some d) (given_here r end honest side i packets) given) in
       let low : s.reference ≤ expected_behind (took r (other_side side) i) =
       subst (λ (ps : List Packet). s.reference ≤ expected_behind ps) (sym (took_other r end honest side i packets)) (at.gives.1.behind s found.0) in
       let high : expected_behind (took r (other_side side) i) ≤ s.number + 1 =
       expected_most (took r (other_side side) i) (s.number + 1) (λ packet j. (let most = none packet j in omega arith)) in
-      opens_sent here.policy there.policy there.id s d found.1 at.joined.to_y at.joined.x_lawful at.joined.y_long (known (end_at (other_side side) r.start).ids) (expected_behind (took r (other_side side) i)) (known_first r honest (other_side side)) low high
+      opens_sent here.policy there.policy s d found.1 at.joined.to_y at.joined.x_lawful (expected_behind (took r (other_side side) i)) low high
 
 -- the clause, where what is observed, and what numbers were cut against, hold at each place
 pub newest_opens : (r : Run) (end : World) → IsHonest r → ((side : Side) (i : ℕ) → AreServed r i → Placed (And Observed Refers) r end side i) → NewestOpens r

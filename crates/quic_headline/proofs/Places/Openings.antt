@@ -1,13 +1,12 @@
 -- What opens, what is named, and the numbers that rise, at each place of a run: the clauses that the packets alone give.
 use Rattle.std.proofs.Common.{◌≡◌, ℕ, Bool, true, false, List, [], ◌∷◌, ◌++◌, take, length, map, Option, refl, sym, ap, ◌∙◌, subst}
-use Rattle.std.specs.Prelude.{◌↔◌, ◌&&◌}
+use Rattle.std.specs.Prelude.{◌↔◌}
 use Rattle.std.specs.Option.{is_some}
 use Rattle.quic_wire_core.specs.declared.stream_id.Side.{Side}
 use Rattle.quic_wire_core.specs.declared.stream_id.Side.TheVariants.{Client, Server}
 use Rattle.quic_wire_core.specs.StreamId.{other_side}
 use Rattle.quic_wire.specs.Value.{FrameValue, ack}
 use Rattle.quic_packet.specs.Datagram.{Opening}
-use Rattle.quic_packet.specs.Destination.{is_known}
 use Rattle.quic_machine.specs.declared.run.Injection.{Injection}
 use Rattle.quic_machine.specs.declared.run.Call.TheVariants as calls
 use Rattle.quic_machine.specs.declared.run.Answer.{Answer}
@@ -17,14 +16,15 @@ use Rattle.quic_machine.specs.Ids.{known}
 use Rattle.quic_spaces.specs.Numbers.{expected}
 use Rattle.quic_machine.specs.Start.{IsLawful}
 use Rattle.quic_machine.specs.End.{End}
-use Rattle.quic_machine.specs.Opens.{own_id_length, opens, would_open}
-use Rattle.quic_machine.specs.Machine.{World, policy_at, end_at, injected_if}
-use Rattle.quic_headline.specs.Runs.{Run, Packet, Intake, In, IsTaken, IsNamed, until, given_until, count_given, AreServed, first_id_of_peer, expected_behind}
+use Rattle.quic_machine.specs.Opens.{opens, would_open}
+use Rattle.quic_machine.specs.Machine.{World, policy_at, injected_if}
+use Rattle.quic_machine.specs.RunLaws.{one_run}
+use Rattle.quic_headline.specs.Runs.{Run, Packet, Intake, In, IsTaken, IsNamed, until, given_until, count_given, AreServed, opens_by_key, expected_behind}
 use Rattle.quic_headline.specs.Observer.{Sent, Watch, first_watch, frames_opened, watch, took, sents_until, references_until}
 use Rattle.quic_headline.specs.Headline.{IsHonest, IsAt, IsNamedIn, frames_given, would_open_at, Rise, AcknowledgedWereTaken, NamesWereTaken, OpensExactly}
 use Rattle.quic_headline.proofs.Packets.Invariant.{InStep, IsSent, NameTaken, WereSent}
 use Rattle.quic_headline.proofs.Packets.Growth.{step_in}
-use Rattle.quic_headline.proofs.Packets.Delivered.{shown_if, expands, opens_given, frames_of_payload}
+use Rattle.quic_headline.proofs.Packets.Delivered.{shown_if, expands, by_key_given, frames_of_payload}
 use Rattle.quic_headline.proofs.Packets.Knowing.{expects_in}
 use Rattle.quic_headline.proofs.Packets.Rising.{rise}
 use Rattle.quic_headline.proofs.Packets.Watching.{watched_intake}
@@ -39,29 +39,29 @@ told_by_answer : (p : Policy) (e : End) (injection : Injection) (a : Answer) (b 
 told_by_answer p e injection a true c same is = (λ told. sym same, λ opened. is)
 told_by_answer p e injection a false c same is = (λ told. cc, λ opened. cc)
 
--- an end that has these ids and expects this number answers by them
-opens_by : (p : Policy) (e : End) (injection : Injection) (a : Answer) (ids : List (List ℕ)) (x : ℕ) → known e.ids ≡ ids → expected e.numbers ≡ x → a ≡ injected_if (would_open p e injection.bytes) p e injection
-    → (a ≡ answers.Opens) ↔ (is_some (opens p ids x injection.bytes) ≡ true)
-opens_by p e injection a ids x has expects is =
+-- an end that expects this number answers by it
+opens_by : (p : Policy) (e : End) (injection : Injection) (a : Answer) (x : ℕ) → expected e.numbers ≡ x → a ≡ injected_if (would_open p e injection.bytes) p e injection
+    → (a ≡ answers.Opens) ↔ (is_some (opens p (known e.ids) x injection.bytes) ≡ true)
+opens_by p e injection a x expects is =
     let d : List ℕ = injection.bytes in
-    told_by_answer p e injection a (would_open p e d) (is_some (opens p ids x d)) (ap (λ (xs : List (List ℕ)). is_some (opens p xs (expected e.numbers) d)) has ∙ ap (λ (n : ℕ). is_some (opens p ids n d)) expects) is
+    told_by_answer p e injection a (would_open p e d) (is_some (opens p (known e.ids) x d)) (ap (λ (n : ℕ). is_some (opens p (known e.ids) n d)) expects) is
 
 -- ---- what ACK frames name
 
--- what the ACK frames of a datagram name that was given was taken, where its taker has the mates of its giver's keys, whatever ids
--- and number the taker reads it with
-names_taken : (p q : Policy) (id : List ℕ) (sents : List Sent) (given : List (List ℕ)) (packets : List Packet) → CanOpen p q → IsLawful p → length id ≡ own_id_length → InStep (IsSent p id) sents given → NameTaken sents packets
-    → (ids : List (List ℕ)) (x number : ℕ) (d : List ℕ) → In d given → IsNamedIn (frames_opened (opens q ids x d)) number → IsTaken packets number
-names_taken p q id sents given packets mates lawful long all taken ids x number d i named =
-    by_opening (is_known id ids && expands s.number s.reference x) (subst (λ (o : Option Opening). IsNamedIn (frames_opened o) number) (opens_given p q id s.number s.reference s.frames d g mates lawful long ids x) named)
+-- what the ACK frames of a datagram name that was given was taken, where its taker has the mates of its giver's keys, whatever
+-- number the taker reads it with
+names_taken : (p q : Policy) (sents : List Sent) (given : List (List ℕ)) (packets : List Packet) → CanOpen p q → IsLawful p → InStep (IsSent p) sents given → NameTaken sents packets
+    → (x number : ℕ) (d : List ℕ) → In d given → IsNamedIn (frames_opened (opens_by_key q x d)) number → IsTaken packets number
+names_taken p q sents given packets mates lawful all taken x number d i named =
+    by_opening (expands s.number s.reference x) (subst (λ (o : Option Opening). IsNamedIn (frames_opened o) number) (by_key_given p q s.id s.number s.reference s.frames d g mates lawful x) named)
   where
-    w : (s : Sent) × In s sents × IsSent p id s d
-    w = step_in (IsSent p id) sents given d all i
+    w : (s : Sent) × In s sents × IsSent p s d
+    w = step_in (IsSent p) sents given d all i
 
     s : Sent
     s = w.0
 
-    g : IsSent p id s d
+    g : IsSent p s d
     g = w.2
 
     by_opening : (b : Bool) → IsNamedIn (frames_opened (shown_if b s.number s.reference g.payload)) number → IsTaken packets number
@@ -85,7 +85,7 @@ pub took_is : (r : Run) → IsHonest r → (w : World) (i : ℕ) (side : Side) (
 took_is r honest w i side sents theirs =
     let x : Party = party_at r i w side sents in
     let y : Party = party_at r i w (other_side side) theirs in
-    ap (λ (v : Watch). v.intake) (watch_is r honest w i side sents theirs) ∙ watched_intake (lens x y) x.told (first_watch (x.id ∷ []) x.final x.began x.initial_rtt)
+    ap (λ (v : Watch). v.intake) (watch_is r honest w i side sents theirs) ∙ watched_intake (lens x y) x.told (first_watch x.final x.began x.initial_rtt)
 
 -- what the other took
 pub took_there : (r : Run) → IsHonest r → (w : World) (i : ℕ) (side : Side) (sents theirs : List Sent) → (watch r (other_side side) i).intake ≡ came_to (party_at r i w (other_side side) theirs) (party_at r i w side sents)
@@ -121,22 +121,21 @@ module _ (r : Run) (end : World) (honest : IsHonest r) (side : Side) (i : ℕ) (
   pub named_at : (x number : ℕ) (datagram : List ℕ) → In datagram (given_until r side i) → IsNamedIn (frames_given r side x datagram) number → IsTaken (took r side i) number
   named_at x number datagram was named =
       subst (λ (packets : List Packet). IsTaken packets number) (sym took_here)
-      (names_taken here.policy there.policy there.id at.sents here.given (came_to here there).took at.joined.to_y at.joined.x_lawful at.joined.y_long at.gives.gives.each at.gives.named (known (end_at (other_side side) r.start).ids) x number datagram
+      (names_taken here.policy there.policy at.sents here.given (came_to here there).took at.joined.to_y at.joined.x_lawful at.gives.gives.each at.gives.named x number datagram
       (subst (λ (ds : List (List ℕ)). In datagram ds) given_here was) named)
 
-  -- an injection is answered by what the lists say of ids and numbers
-  pub opens_at : (injection : Injection) (a : Answer) → IsAt r i side (calls.Inject injection) a → (a ≡ answers.Opens) ↔ (would_open_at r side i injection.bytes ≡ true)
+  -- an injection is answered by the ids that the end has, and by the number that the lists say
+  pub opens_at : (injection : Injection) (a : Answer) → IsAt r i side (calls.Inject injection) a → (a ≡ answers.Opens) ↔ (would_open_at r at.world side i injection.bytes ≡ true)
   opens_at injection a is =
-      let came = took_is r honest at.world i side at.sents at.theirs in
-      opens_by here.policy here.end injection a (watch r side i).intake.ids (expected_behind (took r side i)) (at.takes.known ∙ sym (ap (λ (j : Intake). j.ids) came))
+      opens_by here.policy here.end injection a (expected_behind (took r side i))
       (expects_in here.end.closing.state here.end.numbers (came_to here there) at.takes.knows ∙ ap expected_behind (sym took_here))
       (answered r at.world end i side (calls.Inject injection) a at.goes_on is)
 
   -- the numbers of what was given rise, where the observer has what was given as it was sent
-  pub rises_at : sents_until r side i ≡ at.sents → Rise (policy_at side r.keys) (first_id_of_peer r side) 0 (references_until r side i) (given_until r side i)
+  pub rises_at : sents_until r side i ≡ at.sents → Rise (policy_at side r.keys) 0 (references_until r side i) (given_until r side i)
   rises_at own =
-      subst (λ (ds : List (List ℕ)). Rise here.policy there.id 0 (references_until r side i) ds) (sym given_here)
-      (subst (λ (sents : List Sent). Rise here.policy there.id 0 (map (λ s. s.reference) sents) here.given) (sym own) (rise here.policy there.id 0 at.sents here.given at.gives.gives.rising at.gives.gives.each))
+      subst (λ (ds : List (List ℕ)). Rise here.policy 0 (references_until r side i) ds) (sym given_here)
+      (subst (λ (sents : List Sent). Rise here.policy 0 (map (λ s. s.reference) sents) here.given) (sym own) (rise here.policy 0 at.sents here.given at.joined.x_lawful at.gives.gives.rising at.gives.gives.each))
 
 -- ---- the clauses
 
@@ -148,4 +147,7 @@ module _ (r : Run) (end : World) (honest : IsHonest r) (all : (side : Side) (i :
   names_were_taken side i x number datagram served = named_at r end honest side i (all side i served) x number datagram
 
   pub opens_exactly : OpensExactly r
-  opens_exactly side i injection a served = opens_at r end honest side i (all side i served) injection a
+  opens_exactly side i w injection a served leads there =
+      let at = all side i served in
+      let is : w ≡ at.world = (one_run r.keys (take i r.answers) r.start (take i r.events) (take i r.views) (take i r.views) w at.world served leads at.leads).1 in
+      subst (λ (v : World). (a ≡ answers.Opens) ↔ (would_open_at r v side i injection.bytes ≡ true)) (sym is) (opens_at r end honest side i at injection a there)

@@ -22,7 +22,7 @@ use Rattle.quic_headline.specs.Observer.{Sent, Terms, terms_of, Watch, first_wat
 
 -- what the datagram is sent as that an end gives at a moment, if it gives one
 abbrev pub sent_by : End → ℕ → Sent
-sent_by e now = record { number = number_of e; reference = cut_against e.numbers; frames = frames_at e now; moment = max e.closing.clock now; size = datagram_size (draft_at e now) }
+sent_by e now = record { id = e.ids.active.id; number = number_of e; reference = cut_against e.numbers; frames = frames_at e now; moment = max e.closing.clock now; size = datagram_size (draft_at e now) }
 
 -- one more datagram as it was sent, where one was given
 abbrev pub sent_if : Bool → Sent → List Sent
@@ -71,7 +71,7 @@ showing x window = record x { end = with_window x.end window }
 
 -- what came to an end from the other
 abbrev pub came_to : Party → Party → Intake
-came_to y x = folded (and_told y.policy x.final) y.told (nothing_came (y.id ∷ []))
+came_to y x = folded (and_told y.policy x.final) y.told nothing_came
 
 -- how the lists of a run are read for an end: what it gives, the other opens
 abbrev pub lens : Party → Party → Lens
@@ -79,7 +79,7 @@ lens x y = record { taker = y.policy; own = x.policy; peer_gave = y.final; terms
 
 -- what the observer of an end knows
 abbrev pub watch_of : Party → Party → Watch
-watch_of x y = folded (watch_told (lens x y)) x.told (first_watch (x.id ∷ []) x.final x.began x.initial_rtt)
+watch_of x y = folded (watch_told (lens x y)) x.told (first_watch x.final x.began x.initial_rtt)
 
 -- ---- two ends
 

@@ -14,16 +14,17 @@ use Rattle.quic_machine.specs.declared.run.Call.TheVariants as calls
 use Rattle.quic_machine.specs.declared.answers.State.{State}
 use Rattle.quic_machine.specs.declared.run.Answer.{Answer}
 use Rattle.quic_machine.specs.declared.run.View.{View}
-use Rattle.quic_machine.specs.Ids.{known, own_id}
+use Rattle.quic_machine.specs.Ids.{own_id}
 use Rattle.quic_machine.specs.Opens.{own_id_length}
 use Rattle.quic_machine.specs.Policy.{Policy}
 use Rattle.quic_machine.specs.Parts.{Windows}
 use Rattle.quic_machine.specs.End.{End, IsMade, new_end, with_window}
 use Rattle.quic_machine.specs.Control.{Control}
+use Rattle.quic_machine.specs.Heard.{Heard}
 use Rattle.quic_machine.specs.Start.{AreStarted}
 use Rattle.quic_machine.specs.Machine.{World, Policies, IsAnswer, IsLeft, IsStep, after_call, reads_window, end_left, end_at, end_met, control_at, given_by, gives, policy_at, fails, Follows, view_of}
-use Rattle.quic_headline.specs.Runs.{Run, Told, In, given_of, told_by, ids_of, folded, until, state_at, LeadsTo, AreServed}
-use Rattle.quic_headline.specs.Observer.{Sent, terms_of, first_watch, watch_told, lens_of, watch}
+use Rattle.quic_headline.specs.Runs.{Run, Told, In, given_of, told_by, ids_of, until, state_at, LeadsTo, AreServed}
+use Rattle.quic_headline.specs.Observer.{Sent, terms_of, watch}
 use Rattle.quic_headline.specs.Headline.{IsHonest, IsRun, IsAt, used, CodeIsSmall}
 use Rattle.quic_headline.specs.Amounts.{making_at}
 use Rattle.quic_headline.proofs.Places.Parties.{sents_by, told_of, Party, called, watch_of, AreJoined, turned, Beginning, begun_as, AreMade}
@@ -46,12 +47,6 @@ start_is w s Server = made_is Server s.server_making.settings s.server_making.wi
 -- the id that an end is known by first
 abbrev pub first_id : Run → Side → List ℕ
 first_id r side = own_id (end_at side r.start).ids.living
-
--- it is known by it alone
-pub known_first : (r : Run) → IsHonest r → (side : Side) → known (end_at side r.start).ids ≡ first_id r side ∷ []
-known_first r honest side =
-    let made = start_is r.start honest.start side in
-    ap (λ (e : End). known e.ids) made ∙ sym (ap (λ (e : End). own_id e.ids.living ∷ []) made)
 
 -- ---- the ends of a run at a place
 
@@ -96,7 +91,7 @@ first_left (y ∷ xs) zero x q = let same : y ≡ x = cc in ap (λ t. t ∷ xs) 
 first_left (y ∷ xs) (suc i) x q = first_left xs i x q
 
 -- so it is in the list
-stands_in : {X : Type 0} (xs : List X) (i : ℕ) (x : X) → slice_get xs i ≡ Some x → In x xs
+pub stands_in : {X : Type 0} (xs : List X) (i : ℕ) (x : X) → slice_get xs i ≡ Some x → In x xs
 stands_in [] i x q = cc
 stands_in (y ∷ xs) zero x q = let same : y ≡ x = cc in inl (sym same)
 stands_in (y ∷ xs) (suc i) x q = inr (stands_in xs i x q)
@@ -134,11 +129,7 @@ placed_less C G r end side i less at = record {
 
 -- the observer of an end is that of the run
 pub watch_is : (r : Run) (honest : IsHonest r) (w : World) (i : ℕ) (side : Side) (sents theirs : List Sent) → watch r side i ≡ watch_of (party_at r i w side sents) (party_at r i w (other_side side) theirs)
-watch_is r honest w i side sents theirs = by_side side
-  where
-    by_side : (side : Side) → watch r side i ≡ watch_of (party_at r i w side sents) (party_at r i w (other_side side) theirs)
-    by_side side =
-        ap (λ (ids : List (List ℕ)). folded (watch_told (lens_of r side)) (until r side i) (first_watch ids (given_of r side) (end_at side r.start).closing.clock (end_at side r.start).transport.initial_rtt)) (known_first r honest side)
+watch_is r honest w i side sents theirs = refl
 
 -- what was told at one of the ends
 abbrev told_there : Side → List Told → List Told → List Told
@@ -234,12 +225,12 @@ module _ (G : Way) (g : Group Nothing G) (r : Run) (end : World) (honest : IsHon
     where
       -- the client makes a call, and has become this end for it
       client_calls : (call : Call) (met : End) → met.closing.state ≡ w.client.closing.state → Uses (record { side = Client; call = call }) a client server → IsAnswer r.keys.client met w.from_server call a
-          → next ≡ record w { client = after_call r.keys.client met w.from_server call a; from_client = w.from_client ++ gives r.keys.client met call a; client_control = next.client_control }
+          → next ≡ record w { client = after_call r.keys.client met w.from_server call a; from_client = w.from_client ++ gives r.keys.client met call a; client_control = next.client_control; client_heard = next.client_heard }
           → G (party r Client (record w { client = met }) h.client_sents client) (party r Server w h.server_sents server) → G (party r Server w h.server_sents server) (party r Client (record w { client = met }) h.client_sents client)
           → Holds next (client ++ told_of call a w.client.closing.state ∷ []) (server ++ [])
       client_calls call met same uses answer is there back =
           let here : World = record w { client = met } in
-          let after : World = record w { client = after_call r.keys.client met w.from_server call a; from_client = w.from_client ++ gives r.keys.client met call a; client_control = next.client_control } in
+          let after : World = record w { client = after_call r.keys.client met w.from_server call a; from_client = w.from_client ++ gives r.keys.client met call a; client_control = next.client_control; client_heard = next.client_heard } in
           let x : Party = party r Client here h.client_sents client in
           let y : Party = party r Server w h.server_sents server in
           let c : Calls Nothing x y call a =
@@ -256,7 +247,7 @@ module _ (G : Way) (g : Group Nothing G) (r : Run) (end : World) (honest : IsHon
 
       -- the client makes a call, and a poll reads a window first
       client_meets : (call : Call) → Uses (record { side = Client; call = call }) a client server → IsStep r.keys w (record { side = Client; call = call }) a next
-          → next ≡ record w { client = end_left r.keys.client w.client_control w.client w.from_server call a; from_client = w.from_client ++ gives r.keys.client (reads_window w.client_control call w.client) call a; client_control = next.client_control }
+          → next ≡ record w { client = end_left r.keys.client w.client_control w.client w.from_server call a; from_client = w.from_client ++ gives r.keys.client (reads_window w.client_control call w.client) call a; client_control = next.client_control; client_heard = next.client_heard }
           → Holds next (client ++ told_of call a w.client.closing.state ∷ []) (server ++ [])
       client_meets (calls.Poll now) uses step is =
           let window : ℕ = w.client_control [] in
@@ -269,12 +260,12 @@ module _ (G : Way) (g : Group Nothing G) (r : Run) (end : World) (honest : IsHon
 
       -- the server makes a call, and has become this end for it
       server_calls : (call : Call) (met : End) → met.closing.state ≡ w.server.closing.state → Uses (record { side = Server; call = call }) a client server → IsAnswer r.keys.server met w.from_client call a
-          → next ≡ record w { server = after_call r.keys.server met w.from_client call a; from_server = w.from_server ++ gives r.keys.server met call a; server_control = next.server_control }
+          → next ≡ record w { server = after_call r.keys.server met w.from_client call a; from_server = w.from_server ++ gives r.keys.server met call a; server_control = next.server_control; server_heard = next.server_heard }
           → G (party r Server (record w { server = met }) h.server_sents server) (party r Client w h.client_sents client) → G (party r Client w h.client_sents client) (party r Server (record w { server = met }) h.server_sents server)
           → Holds next (client ++ []) (server ++ told_of call a w.server.closing.state ∷ [])
       server_calls call met same uses answer is there back =
           let here : World = record w { server = met } in
-          let after : World = record w { server = after_call r.keys.server met w.from_client call a; from_server = w.from_server ++ gives r.keys.server met call a; server_control = next.server_control } in
+          let after : World = record w { server = after_call r.keys.server met w.from_client call a; from_server = w.from_server ++ gives r.keys.server met call a; server_control = next.server_control; server_heard = next.server_heard } in
           let x : Party = party r Server here h.server_sents server in
           let y : Party = party r Client w h.client_sents client in
           let c : Calls Nothing x y call a =
@@ -291,7 +282,7 @@ module _ (G : Way) (g : Group Nothing G) (r : Run) (end : World) (honest : IsHon
 
       -- the server makes a call, and a poll reads a window first
       server_meets : (call : Call) → Uses (record { side = Server; call = call }) a client server → IsStep r.keys w (record { side = Server; call = call }) a next
-          → next ≡ record w { server = end_left r.keys.server w.server_control w.server w.from_client call a; from_server = w.from_server ++ gives r.keys.server (reads_window w.server_control call w.server) call a; server_control = next.server_control }
+          → next ≡ record w { server = end_left r.keys.server w.server_control w.server w.from_client call a; from_server = w.from_server ++ gives r.keys.server (reads_window w.server_control call w.server) call a; server_control = next.server_control; server_heard = next.server_heard }
           → Holds next (client ++ []) (server ++ told_of call a w.server.closing.state ∷ [])
       server_meets (calls.Poll now) uses step is =
           let window : ℕ = w.server_control [] in
@@ -306,12 +297,14 @@ module _ (G : Way) (g : Group Nothing G) (r : Run) (end : World) (honest : IsHon
           → Holds next (client ++ told_by Client w.client.closing.state (record { side = side; call = call }) a) (server ++ told_by Server w.server.closing.state (record { side = side; call = call }) a)
       go Client call uses step =
           let control : Control = next.client_control in
+          let heard : Heard = next.client_heard in
           let given : List (List ℕ) = w.from_client ++ gives r.keys.client (reads_window w.client_control call w.client) call a in
-          client_meets call uses step (step.others ∙ ap (λ (e : End). record w { client = e; from_client = given; client_control = control }) (left_by r.keys.client w.client_control w.client next.client w.from_server call a served step.end))
+          client_meets call uses step (step.others ∙ ap (λ (e : End). record w { client = e; from_client = given; client_control = control; client_heard = heard }) (left_by r.keys.client w.client_control w.client next.client w.from_server call a served step.end))
       go Server call uses step =
           let control : Control = next.server_control in
+          let heard : Heard = next.server_heard in
           let given : List (List ℕ) = w.from_server ++ gives r.keys.server (reads_window w.server_control call w.server) call a in
-          server_meets call uses step (step.others ∙ ap (λ (e : End). record w { server = e; from_server = given; server_control = control }) (left_by r.keys.server w.server_control w.server next.server w.from_client call a served step.end))
+          server_meets call uses step (step.others ∙ ap (λ (e : End). record w { server = e; from_server = given; server_control = control; server_heard = heard }) (left_by r.keys.server w.server_control w.server next.server w.from_client call a served step.end))
 
   -- before the first event
   holds_first : Holds r.start [] []

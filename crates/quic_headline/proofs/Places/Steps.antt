@@ -76,9 +76,9 @@ poll_answer p e now a (inl is) ok = is
 poll_answer p e now a (inr is) ok = let lacks = ap fails is in cc
 
 -- and so is a timeout
-pub timeout_answer : (e : End) (now : ℕ) (a : Answer) → (a ≡ answers.Timeout (timed_out e now).answer) ⊎ (a ≡ answers.Timeout (Err (record {}))) → fails a ≡ false → a ≡ answers.Timeout (timed_out e now).answer
-timeout_answer e now a (inl is) ok = is
-timeout_answer e now a (inr is) ok = let lacks = ap fails is in cc
+pub timeout_answer : (p : Policy) (e : End) (now : ℕ) (a : Answer) → (a ≡ answers.Timeout (timed_out p e now).answer) ⊎ (a ≡ answers.Timeout (Err (record {}))) → fails a ≡ false → a ≡ answers.Timeout (timed_out p e now).answer
+timeout_answer p e now a (inl is) ok = is
+timeout_answer p e now a (inr is) ok = let lacks = ap fails is in cc
 
 -- as many datagrams are given as the answer says
 pub gives_count : (p : Policy) (e : End) (theirs : List (List ℕ)) (call : Call) (a : Answer) → IsAnswer p e theirs call a → length (gives p e call a) ≡ (if gave a then 1 else 0)

@@ -11,8 +11,8 @@ use Rattle.quic_headline.specs.Resets.{ResetsAreTold}
 use Rattle.quic_headline.specs.Ids.{IdsAreNew, AcceptedWereOpened}
 use Rattle.quic_headline.specs.Polls.{PacerSetsItsTimer, AskingGoesWhereLet, ProbesPass, WindowIsOfHistory}
 use Rattle.quic_headline.specs.Sizes.{SizeIsOfHistory, SizesMove, DatagramsAreSized}
-use Rattle.quic_headline.specs.Telling.{ControllersAreTold}
 use Rattle.quic_headline.specs.Headline.{IsHonest, IsRun, OrderedPrefix, Slices, Once, EndAfterAll, BlockedOnlyWithoutBytes, AcceptsAll, FinishedMeansArrived, AcknowledgedWereTaken, NamesWereTaken, OpensExactly, NewestOpens, NumbersRise}
+use Rattle.quic_headline.specs.ConnectionIds.{SentToFirstId, NoUnknownId, FirstIdStays}
 use Rattle.quic_headline.proofs.Halves.Ready.{Ready, ready_probes, ready_group}
 use Rattle.quic_headline.proofs.Places.Everything as everything
 use Rattle.quic_headline.proofs.Steps.Pacing as pacing
@@ -74,6 +74,15 @@ opens_exactly = everything.opens_exactly Ready ready
 pub newest_opens : (r : Run) (end : World) → IsHonest r → IsRun r end → NewestOpens r
 newest_opens = everything.newest_opens Ready ready
 
+pub sent_to_first_id : (r : Run) (end : World) → IsHonest r → IsRun r end → SentToFirstId r
+sent_to_first_id = everything.sent_to_first_id Ready ready
+
+pub no_unknown_id : (r : Run) (end : World) → IsHonest r → IsRun r end → NoUnknownId r
+no_unknown_id = everything.no_unknown_id Ready ready
+
+pub first_id_stays : (r : Run) (end : World) → IsHonest r → IsRun r end → FirstIdStays r
+first_id_stays = everything.first_id_stays Ready ready
+
 pub numbers_rise : (r : Run) (end : World) → IsHonest r → IsRun r end → NumbersRise r
 numbers_rise = everything.numbers_rise Ready ready
 
@@ -112,9 +121,6 @@ window_is_of_history r end honest run = windows.window_is_of_history r end run
 
 pub size_is_of_history : (r : Run) (end : World) → IsHonest r → IsRun r end → SizeIsOfHistory r
 size_is_of_history r end honest run = resized.size_is_of_history r end run
-
-pub controllers_are_told : (r : Run) (end : World) → IsHonest r → IsRun r end → ControllersAreTold r
-controllers_are_told = everything.controllers_are_told Ready ready
 
 pub asking_goes_where_let : (r : Run) (end : World) → IsHonest r → IsRun r end → AskingGoesWhereLet r
 asking_goes_where_let = everything.asking_goes_where_let Ready ready

@@ -18,20 +18,24 @@ use Rattle.quic_machine.specs.declared.run.View.{View}
 use Rattle.quic_machine.specs.Policy.{Policy}
 use Rattle.quic_machine.specs.Closing.{ticked}
 use Rattle.quic_machine.specs.Start.{AreStarted}
-use Rattle.quic_machine.specs.End.{End, with_closing, closed_by, with_ack_timer, with_loss_timer}
+use Rattle.quic_machine.specs.End.{End, with_closing, closed_by, with_ack_timer}
 use Rattle.quic_machine.specs.Receive.{timers_after}
 use Rattle.quic_spaces.specs.Acknowledging.{ack_due, with_due}
-use Rattle.quic_machine.specs.Poll.{Polled, Draft, polled, draft_as, lazied_as, Leaving, whole, alone, probe, nothing}
-use Rattle.quic_machine.specs.Timeouts.{Expiry, loss_judged, acks_expired, loss_expired, pacing_expired}
+use Rattle.quic_machine.specs.Poll.{Polled, Draft, polled, draft_as, lazied_as, Leaving, whole, alone, nothing}
+use Rattle.quic_machine.specs.Timeouts.{Expiry, loss_judged}
 use Rattle.quic_machine.specs.Machine.{World, Policies, after_call, Follows}
-use Rattle.quic_machine.specs.DraftLaws.{by_leave, MayLeave}
-use Rattle.quic_machine.specs.LeaveCases.{at_expiry}
-use Rattle.quic_machine.specs.CallCases.{by_plain_call}
-use Rattle.quic_machine.specs.FrameCases.{Settling, Receives, named, acked_keeps, losses_keep, frame_keeps, frame_leaves, by_received}
+use Rattle.quic_machine.specs.DraftLaws.{Writing, by_leave, MayLeave}
+use Rattle.quic_machine.specs.Puts as puts
+use Rattle.quic_machine.specs.LeaveCases.{at_expiry, Expired, by_timers}
+use Rattle.quic_machine.specs.CallCases.{Plain, by_plain_call}
+use Rattle.quic_machine.specs.CallCases as cases
+use Rattle.quic_machine.specs.FrameCases.{Settling, Receives, named, acked_keeps, losses_keep, frame_keeps, frame_leaves, by_received, apart_same}
+use Rattle.quic_machine.specs.Steps as steps
 use Rattle.quic_machine.specs.PollCases.{ready_at, ready_leaves, by_poll_to, draft_at, may_leave_at}
 use Rattle.quic_headline.proofs.Places.Placed.{start_is}
 use Rattle.quic_headline.proofs.Timers.BothEnds.{AtBoth, run_keeps}
 use Rattle.quic_headline.proofs.Packets.Probes.{by_going}
+use Rattle.quic_machine.specs.LeaveCases as expiring
 
 -- Where packets that ask were counted, an acknowledgement is due or the timer is set; it was set only for such a packet, and to 25 ms behind the clock at the latest.
 pub record Comes (due : Bool) (asking : ℕ) (since timer : Option ℕ) (clock : ℕ) : Type 0 where
@@ -85,13 +89,14 @@ packet_comes false t p now n s c = c
 
 -- acknowledged and lost packets change neither
 settling : Settling IsAwaited
-settling = record { known = λ n e i. i; reset = λ id e i. i; acked = λ m e i. i; lost = λ m e i. i; again = λ carried e i. i; searched = λ discovery e i. i; shortens = λ most e i. i; tracked = λ t e i. i; measured = λ r first e i. i; marked = λ m marking e i. i }
+settling (steps.known n) e i = i
+settling s e i = i
 
 receives : Receives IsAwaited
 receives = record {
   notes = λ n e i. i;
   begins = λ now n e i opened. later e.acknowledging e.timers.max_ack_delay e.closing.clock now (i opened);
-  frame = frame_keeps IsAwaited (record { ack = λ rises a e i. acked_keeps IsAwaited settling rises a (named a e) i; on_streams = λ f e on i. frame_leaves IsAwaited f e on (λ t. i); message = λ m e i. i });
+  frame = frame_keeps IsAwaited (record { ack = λ rises a e i. acked_keeps IsAwaited settling rises a (named a e) i; on_streams = λ f e on i. frame_leaves IsAwaited f e on (λ t. i); apart = λ f e is i. subst IsAwaited (sym (apart_same f e is)) i; message = λ m e i. i });
   takes = λ n asks mark e i opened.
       packet_comes asks e.timers (with_due (is_congested mark) (after_insert e.acknowledging n e.closing.clock)) e.closing.clock n e.numbers.opened (more_due (is_congested mark) e.acknowledging e.timers.max_ack_delay e.closing.clock (i opened));
   closes = λ reason e i. closed_awaited reason e;
@@ -103,20 +108,15 @@ receives = record {
 lazied_awaited : (leaving : Leaving) (e : End) → IsAwaited e → IsAwaited (lazied_as leaving e)
 lazied_awaited whole e i opened = more_due (nat_lt lazy_threshold e.acknowledging.silent) e.acknowledging e.timers.max_ack_delay e.closing.clock (i opened)
 lazied_awaited alone e i opened = more_due (nat_lt lazy_threshold e.acknowledging.silent) e.acknowledging e.timers.max_ack_delay e.closing.clock (i opened)
-lazied_awaited (probe size) e i opened = i opened
-lazied_awaited (nothing held) e i opened = i opened
+lazied_awaited other e i opened = i opened
 
 -- an ACK that goes answers all, and no other frame changes what is awaited
 draft_awaited : (leaving : Leaving) (e : End) → MayLeave leaving e → IsAwaited e → IsAwaited (draft_as leaving e).end
-draft_awaited leaving e due i = by_leave (λ (d : Draft). IsAwaited d.end) (record {
-  ack = λ d filled may i opened. record { waits = λ some. absurd (omega arith); counted = λ some. cc; known = λ set. cc; soon = λ moment set. cc };
-  ping = λ d i. i;
-  probes = λ f size i. i;
-  drops = λ d kind i. i;
-  control = λ d kind f is i. i;
-  message = λ d m ms is fit i. i;
-  stream = λ d id h room found first some is counts i. i;
-}) leaving e due (lazied_awaited leaving e i)
+draft_awaited leaving e due i = by_leave (λ (d : Draft). IsAwaited d.end) keep leaving e due (lazied_awaited leaving e i)
+  where
+    keep : Writing (λ (d : Draft). IsAwaited d.end)
+    keep puts.ack d may i = λ opened. record { waits = λ some. absurd (omega arith); counted = λ some. cc; known = λ set. cc; soon = λ moment set. cc }
+    keep p d may i = i
 
 ready_awaited : (e : End) (now : ℕ) → IsAwaited e → IsAwaited (ready_at e now).end
 ready_awaited e now i = subst (λ (x : End). IsAwaited x) (sym (ready_leaves e now)) (λ opened. later e.acknowledging e.timers.max_ack_delay e.closing.clock now (i opened))
@@ -126,7 +126,7 @@ polled_awaited p e now i = by_poll_to p e now (λ (q : Polled). IsAwaited q.end)
   silent = i;
   failed = i;
   nothing = λ is none. ready_awaited e now i;
-  used_up = closed_awaited reasons.NumberLimit (ready_at e now).end;
+  closes = closed_awaited reasons.NumberLimit (ready_at e now).end;
   gives = λ is may some. by_going IsAwaited p (draft_at e now) (λ pacing. draft_awaited (ready_at e now).leaving (ready_at e now).end (may_leave_at e now) (ready_awaited e now i));
 })
 
@@ -138,36 +138,22 @@ judged_awaited None e i = i
 judged_awaited (Some moment) e i = losses_keep IsAwaited settling e i
 
 -- where the timer of acknowledgements expires, one is due
-acks_awaited : (acks loss : Bool) (e : End) → IsAwaited e → IsAwaited (acks_expired acks (loss_expired loss e))
-acks_awaited true true e i opened = expired_comes (loss_judged e.tracking.loss_time e).acknowledging (judged_awaited e.tracking.loss_time e i opened)
-  where
-    expired_comes : {timer : Option ℕ} {clock now : ℕ} (p : Pending) → AckComes p timer clock → AckComes (record p { due = nat_lt 0 p.asking }) None now
-    expired_comes p c = record { waits = λ some. inl (lt-ltb 0 p.asking some); counted = c.counted; known = λ set. cc; soon = λ moment set. cc }
-acks_awaited true false e i opened = record { waits = λ some. inl (lt-ltb 0 e.acknowledging.asking some); counted = (i opened).counted; known = λ set. cc; soon = λ moment set. cc }
-acks_awaited false true e i opened = judged_awaited e.tracking.loss_time e i opened
-acks_awaited false false e i opened = i opened
-
-pacing_awaited : (pacing : Bool) (e : End) → IsAwaited e → IsAwaited (with_loss_timer (pacing_expired pacing e))
-pacing_awaited true e i = i
-pacing_awaited false e i = i
+expires_awaited : (s : Expired) (e : End) → IsAwaited e → IsAwaited (expiring.after s e)
+expires_awaited expiring.of_acks e i = λ opened. record { waits = λ some. inl (lt-ltb 0 e.acknowledging.asking some); counted = (i opened).counted; known = λ set. cc; soon = λ moment set. cc }
+expires_awaited s e i = i
 
 expired_awaited : (e : End) (now : ℕ) (expiry : Expiry) → IsAwaited e → IsAwaited (at_expiry e now expiry)
 expired_awaited e now expiry i =
-    let begun : End = with_closing e (ticked e.closing now) in
-    pacing_awaited expiry.pacing (acks_expired expiry.acks (loss_expired expiry.loss begun)) (acks_awaited expiry.acks expiry.loss begun (λ opened. later e.acknowledging e.timers.max_ack_delay e.closing.clock now (i opened)))
+    by_timers IsAwaited IsAwaited judged_awaited expires_awaited (λ f j. j) expiry (with_closing e (ticked e.closing now)) (λ opened. later e.acknowledging e.timers.max_ack_delay e.closing.clock now (i opened))
 
 pub call_awaited : (p : Policy) (e : End) (theirs : List (List ℕ)) (call : Call) (a : Answer) → IsAwaited e → IsAwaited (after_call p e theirs call a)
-call_awaited p e theirs call a i = by_plain_call p e theirs IsAwaited call a (record {
-  same = i;
-  on_streams = λ t. i;
-  on_messages = λ m. i;
-  pings = i;
-  heard = λ path same. i;
-  times = λ now expiry is. expired_awaited e now expiry i;
-  polls = λ now is. polled_awaited p e now i;
-  hears = λ arrival d is. by_received IsAwaited receives p e arrival d i;
-  tells = λ told. i;
-})
+call_awaited p e theirs call a i = by_plain_call p e theirs IsAwaited call a cases_keep
+  where
+    cases_keep : Plain p e call IsAwaited
+    cases_keep (cases.times now expiry) may = expired_awaited e now expiry i
+    cases_keep (cases.polls now) may = polled_awaited p e now i
+    cases_keep (cases.hears arrival d) may = by_received IsAwaited receives p e arrival d i
+    cases_keep c may = i
 
 -- ---- a run
 

@@ -9,14 +9,14 @@ use Rattle.quic_recovery_core.specs.PendingAcks.{is_filled}
 use Rattle.quic_machine.specs.End.{End}
 use Rattle.quic_machine.specs.Poll.{asks_to_go}
 use Rattle.quic_machine.specs.Machine.{World, end_at}
-use Rattle.quic_headline.specs.Runs.{Run as Run_of, Packet, Intake, In, IsNamed, folded, until, given_of}
-use Rattle.quic_headline.specs.Observer.{Sent, Watch, first_watch, lens_of, took, sents_until}
+use Rattle.quic_headline.specs.Runs.{Run as Run_of, Packet, Intake, In, IsNamed, folded}
+use Rattle.quic_headline.specs.Observer.{Sent, Watch, first_watch, took, sents_until}
 use Rattle.quic_headline.specs.Headline.{IsHonest, IsRun}
 use Rattle.quic_headline.specs.Rest.{unanswered_told, none_unanswered, HasNothingLeft, NothingOwedAtRest, IsUnacknowledged}
 use Rattle.quic_headline.proofs.Packets.Watching.{watched_intake}
 use Rattle.quic_headline.proofs.Places.Parties.{Party, came_to, lens}
 use Rattle.quic_headline.proofs.Places.Groups.{Way, Nothing, And, Group, both, over}
-use Rattle.quic_headline.proofs.Places.Placed.{party_at, Placed, placed, known_first, watch_is}
+use Rattle.quic_headline.proofs.Places.Placed.{party_at, Placed, placed, watch_is}
 use Rattle.quic_headline.proofs.Places.Everything as everything
 use Rattle.quic_headline.proofs.Places.Theorems.{ready}
 use Rattle.quic_headline.proofs.Halves.Ready.{Ready}
@@ -88,15 +88,15 @@ nothing_owed_at_rest r end honest run side i p served room rests owed = not_reac
     awaited = awaited_at side at.world (acks_awaited_run r.keys r.start at.world (take i r.events) (take i r.answers) (take i r.views) honest.start at.leads)
 
     -- the packet is one of those that the observer of the end knows
-    since : In p (folded (unanswered_told (lens x y)) x.told (none_unanswered (first_watch (x.id ∷ []) x.final x.began x.initial_rtt))).packets
-    since = subst (λ (ids : List (List ℕ)). In p (folded (unanswered_told (lens_of r side)) (until r side i) (none_unanswered (first_watch ids (given_of r side) (end_at side r.start).closing.clock (end_at side r.start).transport.initial_rtt))).packets) (known_first r honest side) owed.since
+    since : In p (folded (unanswered_told (lens x y)) x.told (none_unanswered (first_watch x.final x.began x.initial_rtt))).packets
+    since = owed.since
 
     owes : Owes x.sents (came_to x y).took x.end p.number
     owes = at.gives.1.owes left.is_open p since
 
     -- what it gave and took is what the observer of the run knows
     took_is : took r side i ≡ (came_to x y).took
-    took_is = ap (λ (w : Watch). w.intake.took) (watch_is r honest at.world i side at.sents at.theirs) ∙ ap (λ (j : Intake). j.took) (watched_intake (lens x y) x.told (first_watch (x.id ∷ []) x.final x.began x.initial_rtt))
+    took_is = ap (λ (w : Watch). w.intake.took) (watch_is r honest at.world i side at.sents at.theirs) ∙ ap (λ (j : Intake). j.took) (watched_intake (lens x y) x.told (first_watch x.final x.began x.initial_rtt))
 
     sents_are : sents_until r side i ≡ x.sents
     sents_are = ap (λ (w : Watch). w.own) (watch_is r honest at.world i side at.sents at.theirs) ∙ at.gives.0.1.own

@@ -12,7 +12,7 @@ use Rattle.quic_machine.specs.End.{End}
 use Rattle.quic_machine.specs.Acked.{without_known, resets_acked, packet_acked, packets_acked, verdict, measured, sampled, without_acked, losses_taken, after_named}
 use Rattle.quic_machine.specs.Sizes.{search_acked}
 use Rattle.quic_machine.specs.Receive.{is_above, names_ungiven, take_frame}
-use Rattle.quic_machine.specs.FrameCases.{named, ack_taken, passed, streams_acked_keep, resets_acked_keep, packets_lost_keep, by_marks, frame_leaves, frames_leave}
+use Rattle.quic_machine.specs.FrameCases.{named, ack_taken, passed, streams_acked_keep, resets_acked_keep, packets_lost_keep, by_marks, frame_leaves, frames_leave, apart_leaves}
 use Rattle.quic_headline.specs.Runs.{Packet, In, IsNamed, names}
 use Rattle.quic_headline.specs.Observer.{Sent}
 use Rattle.quic_headline.specs.InFlight.{first_acknowledged}
@@ -163,6 +163,7 @@ module _ (sents : List Sent) (took : List Packet) (number : ℕ) (frames : List 
       (λ a is. ack_reached (names_ungiven a e) a e (subst (λ (g : FrameValue). In g frames) (sym is) among) tracked i)
       (λ other on. frame_leaves Here f e on (λ t. i))
       (λ other m same. subst Here (sym same) i)
+      (λ other apart. apart_leaves Here f e apart (λ c. i))
 
   -- it stays reached, or is known, behind all frames
   pub frames_reached : (e : End) → AreTracked sents e.tracking.packets → Here e → Here (passed frames e).end

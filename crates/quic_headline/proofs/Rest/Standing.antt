@@ -16,16 +16,19 @@ use Rattle.quic_machine.specs.Policy.{Policy}
 use Rattle.quic_machine.specs.Closing.{ticked}
 use Rattle.quic_machine.specs.Tracking.{lost_by}
 use Rattle.quic_machine.specs.Acked.{verdict}
-use Rattle.quic_machine.specs.End.{End, with_closing, with_loss_timer}
-use Rattle.quic_machine.specs.Poll.{Polled, Draft, polled, draft_as, lazied_as, Leaving, whole, alone, probe, nothing, Ready}
+use Rattle.quic_machine.specs.End.{End, with_closing}
+use Rattle.quic_machine.specs.Poll.{Polled, Draft, polled, draft_as, lazied_as, Leaving, whole, alone, nothing, Ready}
 use Rattle.quic_machine.specs.Receive.{take_frame}
-use Rattle.quic_machine.specs.Timeouts.{Expiry, loss_judged, acks_expired, loss_expired, pacing_expired}
+use Rattle.quic_machine.specs.Timeouts.{Expiry, loss_judged, loss_expired}
 use Rattle.quic_machine.specs.Machine.{IsAnswer, after_call, fails, gave}
-use Rattle.quic_machine.specs.CallCases.{is_delivery, is_poll, by_plain_call}
-use Rattle.quic_machine.specs.LeaveCases.{at_expiry}
-use Rattle.quic_machine.specs.FrameCases.{Settling, named, passed, acked_keeps, frame_keeps, frame_leaves, frames_keep, packets_lost_keep}
+use Rattle.quic_machine.specs.CallCases.{Plain, is_delivery, is_poll, by_plain_call}
+use Rattle.quic_machine.specs.CallCases as cases
+use Rattle.quic_machine.specs.LeaveCases.{at_expiry, others_acknowledge}
+use Rattle.quic_machine.specs.FrameCases.{Settling, named, passed, acked_keeps, frame_keeps, frame_leaves, frames_keep, packets_lost_keep, apart_same}
+use Rattle.quic_machine.specs.Steps as steps
 use Rattle.quic_machine.specs.PollCases.{ready_at, draft_at, frames_at, by_poll_to, may_leave_at}
-use Rattle.quic_machine.specs.DraftLaws.{by_leave, MayLeave}
+use Rattle.quic_machine.specs.DraftLaws.{Writing, by_leave, MayLeave}
+use Rattle.quic_machine.specs.Puts as puts
 use Rattle.quic_headline.specs.Moments.{is_ack, acknowledges}
 use Rattle.quic_headline.proofs.Packets.Searches.{losses_searched}
 use Rattle.quic_headline.proofs.Packets.Probes.{by_going, ready_acks}
@@ -40,24 +43,15 @@ OnlyRuns e f = f.acknowledging ≡ record e.acknowledging { runs = f.acknowledgi
 
 -- so it is where packets are acknowledged or lost
 settling : (e : End) → Settling (OnlyRuns e)
-settling e = record {
-  known = λ n x i. ap (λ (p : Pending). record p { runs = above x.acknowledging.runs n }) i;
-  reset = λ id x i. i;
-  acked = λ m x i. i;
-  lost = λ m x i. i;
-  again = λ carried x i. i;
-  searched = λ discovery x i. i;
-  shortens = λ most x i. i;
-  tracked = λ t x i. i;
-  measured = λ r first x i. i;
-  marked = λ m marking x i. i;
-}
+settling e (steps.known n) x i = ap (λ (p : Pending). record p { runs = above x.acknowledging.runs n }) i
+settling e s x i = i
 
 -- so it is behind a frame
 pub frame_acks : (e : End) (f : FrameValue) (x : End) → OnlyRuns e x → OnlyRuns e (take_frame f x).end
 frame_acks e = frame_keeps (OnlyRuns e) (record {
   ack = λ rises a x i. acked_keeps (OnlyRuns e) (settling e) rises a (named a x) i;
   on_streams = λ f x on i. frame_leaves (OnlyRuns e) f x on (λ t. i);
+  apart = λ f x is i. subst (OnlyRuns e) (sym (apart_same f x is)) i;
   message = λ m x i. i;
 })
 
@@ -75,20 +69,14 @@ judged_acks (Some moment) e = losses_searched (λ (x : End). x.acknowledging ≡
 
 -- so timers change it only where that of acknowledgements expires
 pub expired_acks : (e : End) (now : ℕ) (expiry : Expiry) → (at_expiry e now expiry).acknowledging ≡ (if expiry.acks then after_timeout e.acknowledging else e.acknowledging)
-expired_acks e now expiry = go expiry.acks expiry.loss expiry.pacing
+expired_acks e now expiry = others_acknowledge expiry (loss_expired expiry.loss begins) ∙ ap (λ (p : Pending). if expiry.acks then after_timeout p else p) (lost expiry.loss)
   where
     begins : End
     begins = with_closing e (ticked e.closing now)
 
-    go : (acks loss pacing : Bool) → (with_loss_timer (pacing_expired pacing (acks_expired acks (loss_expired loss begins)))).acknowledging ≡ (if acks then after_timeout e.acknowledging else e.acknowledging)
-    go true true true = ap after_timeout (judged_acks e.tracking.loss_time begins)
-    go true true false = ap after_timeout (judged_acks e.tracking.loss_time begins)
-    go false true true = judged_acks e.tracking.loss_time begins
-    go false true false = judged_acks e.tracking.loss_time begins
-    go true false true = refl
-    go true false false = refl
-    go false false true = refl
-    go false false false = refl
+    lost : (loss : Bool) → (loss_expired loss begins).acknowledging ≡ e.acknowledging
+    lost true = judged_acks e.tracking.loss_time begins
+    lost false = refl
 
 -- ---- a call that gives no ACK frame
 
@@ -109,21 +97,17 @@ module _ (P : Pending → Type 0) (e : End) (same : P e.acknowledging) (lazy : P
   Leaves d = list_any is_ack d.frames ≡ false → P d.end.acknowledging
 
   draft_leaves : (leaving : Leaving) (x : End) → MayLeave leaving x → x.acknowledging ≡ e.acknowledging → Leaves (draft_as leaving x)
-  draft_leaves leaving x due is = by_leave Leaves (record {
-    ack = λ d filled may i none. absurd (let some = (parts d.frames _ none).1 in cc);
-    ping = λ d i none. i (parts d.frames _ none).0;
-    probes = λ f size i none. i refl;
-    drops = λ d kind i. i;
-    control = λ d kind f is i none. i (parts d.frames f none).0;
-    message = λ d m ms is fit i none. i (parts d.frames _ none).0;
-    stream = λ d id h room found first some is counts i none. i (parts d.frames _ none).0;
-  }) leaving x due (λ none. begins leaving)
+  draft_leaves leaving x due is = by_leave Leaves keep leaving x due (λ none. begins leaving)
     where
+      keep : Writing Leaves
+      keep puts.ack d may i = λ none. absurd (let some = (parts d.frames _ none).1 in cc)
+      keep (puts.drops kind) d may i = i
+      keep p d may i = λ none. i (parts d.frames _ none).0
+
       begins : (l : Leaving) → P (lazied_as l x).acknowledging
       begins whole = subst (λ (p : Pending). P (after_lazy p)) (sym is) lazy
       begins alone = subst (λ (p : Pending). P (after_lazy p)) (sym is) lazy
-      begins (probe size) = subst P (sym is) same
-      begins (nothing held) = subst P (sym is) same
+      begins other = subst P (sym is) same
 
   ready_same : (now : ℕ) → P (ready_at e now).end.acknowledging
   ready_same now = subst P (sym (ready_acks e now)) same
@@ -133,7 +117,7 @@ module _ (P : Pending → Type 0) (e : End) (same : P e.acknowledging) (lazy : P
     silent = λ none. same;
     failed = λ none. same;
     nothing = λ is quiet none. ready_same now;
-    used_up = λ none. ready_same now;
+    closes = λ none. ready_same now;
     gives = λ is may some none.
         let g : Ready = ready_at e now in
         by_going (λ (x : End). P x.acknowledging) p (draft_at e now) (λ pacing. draft_leaves g.leaving g.end (may_leave_at e now) (ready_acks e now) (none_padded (draft_at e now).frames _ (or_parts (list_any is_ack (frames_at e now)) false none).0));
@@ -141,21 +125,17 @@ module _ (P : Pending → Type 0) (e : End) (same : P e.acknowledging) (lazy : P
 
   -- one that is no poll either
   quiet_leaves : (p : Policy) (theirs : List (List ℕ)) (call : Call) (a : Answer) → is_delivery call ≡ false → is_poll call ≡ false → P (after_call p e theirs call a).acknowledging
-  quiet_leaves p theirs call a apart silent = by_plain_call p e theirs (λ (x : End). P x.acknowledging) call a (record {
-    same = same;
-    on_streams = λ t. same;
-    on_messages = λ m. same;
-    pings = same;
-    heard = λ path is. same;
-    times = λ now expiry is. subst P (sym (expired_acks e now expiry)) (expired expiry.acks);
-    polls = λ now is. (let clash : true ≡ false = sym is ∙ silent in cc);
-    hears = λ arrival d is. (let clash : true ≡ false = sym is ∙ apart in cc);
-    tells = λ told. same;
-  })
+  quiet_leaves p theirs call a apart silent = by_plain_call p e theirs (λ (x : End). P x.acknowledging) call a keep
     where
       expired : (b : Bool) → P (if b then after_timeout e.acknowledging else e.acknowledging)
       expired true = expires
       expired false = same
+
+      keep : Plain p e call (λ (x : End). P x.acknowledging)
+      keep (cases.times now expiry) may = subst P (sym (expired_acks e now expiry)) (expired expiry.acks)
+      keep (cases.polls now) is = (let clash : true ≡ false = sym is ∙ silent in cc)
+      keep (cases.hears arrival d) is = (let clash : true ≡ false = sym is ∙ apart in cc)
+      keep c may = same
 
   pub call_leaves : (p : Policy) (theirs : List (List ℕ)) (call : Call) (a : Answer) → is_delivery call ≡ false → IsAnswer p e theirs call a → fails a ≡ false → acknowledges (sents_by e call a) ≡ false → P (after_call p e theirs call a).acknowledging
   call_leaves p theirs (calls.Poll now) a apart is served none = polled_leaves p now (ap (λ (b : Answer). acknowledges (sent_if (gave b) (sent_by e now))) (sym (poll_answer p e now a is served)) ∙ none)

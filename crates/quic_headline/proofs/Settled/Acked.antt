@@ -18,6 +18,7 @@ use Rattle.quic_streams_state.specs.State.{Streams, send_done, without_send, don
 use Rattle.quic_streams_state.specs.Writing.{replaced}
 use Rattle.quic_streams_state.specs.Acked.{after_stream_acked, acked_at, finished}
 use Rattle.quic_streams_laws.specs.Keeping.{finishes_in}
+use Rattle.quic_streams_laws.specs.Keeping as changes
 use Rattle.quic_streams_laws.specs.KeepingLaws.{by_option, by_stream_acked, free, at-half, live_sends, finishes_append}
 use Rattle.quic_streams_laws.specs.Shape.{IsShaped}
 use Rattle.quic_streams_laws.specs.ShapeLaws.{shape_any}
@@ -145,7 +146,7 @@ module _ (m : StreamMeta) (k l : Known) (adds : KnowsAcked m k l) where
           }
         where
           by_shape : IsShaped left
-          by_shape = shape_any.queues s m.id h new (has_pending new) (live_sends s m.id h is) tt refl i.shape
+          by_shape = shape_any (changes.queues m.id h new (has_pending new)) s ((live_sends s m.id h is), tt, refl) i.shape
 
       -- all of it is: the stream is told finished
       all_acked : IsShaped (finished left m.id) → Settles l (telling n reset (finished left m.id)) (finished left m.id)
@@ -180,7 +181,7 @@ module _ (m : StreamMeta) (k l : Known) (adds : KnowsAcked m k l) where
               let told : u.times m.id ≡ 1 = omega arith in
               let free_of : reset m.id ≡ false = sym x.2 ∙ ap is_some none in
               let over : DoneSettles u m.id = told ∙ sym (ap times_done free_of) in
-              let shaped : IsShaped left = shape_any.queues s m.id h new (has_pending new) (live_sends s m.id h is) tt refl i.shape in
+              let shaped : IsShaped left = shape_any (changes.queues m.id h new (has_pending new)) s ((live_sends s m.id h is), tt, refl) i.shape in
               let used = shaped.sending.placed m.id _ (at-half s.side s.sending.halves m.id (requeued s.sending.queue m.id new).half) in
               subst (λ (o : Option SendHalf). HalfIs (UnusedSettles l u m.id) (HalfSettles l u m.id) (DoneSettles u m.id) o (has_place left.side left.sending.halves.places m.id)) (sym (at-without left.sending.halves.live m.id shaped.sending.sorted))
               (subst (λ (b : Bool). HalfIs (UnusedSettles l u m.id) (HalfSettles l u m.id) (DoneSettles u m.id) None b) (sym used) over)

@@ -1,7 +1,7 @@
 -- What an observer counts as acknowledged in flight, an open end knows so of its streams; and each stream is told to be finished once, where all of it is. It holds at each
 -- place of an honest run.
 use Rattle.std.proofs.Common.{◌≡◌, ℕ, ◌+◌, ◌<◌, ◌≤◌, Bool, true, false, List, [], ◌∷◌, ◌++◌, append-nil, Option, Some, None, refl, sym, ap, ◌∙◌, subst, inl, inr, arith}
-use Rattle.std.specs.Prelude.{if◌then◌else◌, max, length, option_map}
+use Rattle.std.specs.Prelude.{if◌then◌else◌, max, option_map}
 use Rattle.quic_wire.specs.Value.{FrameValue, StreamValue, stream}
 use Rattle.quic_send_buffer.specs.declared.stream_meta.StreamMeta.{StreamMeta}
 use Rattle.quic_streams_parts.specs.declared.answers.StreamEvent.{StreamEvent}
@@ -40,12 +40,13 @@ use Rattle.quic_machine.specs.Poll.{polled, tracked}
 use Rattle.quic_machine.specs.Machine.{IsAnswer, after_call, gave}
 use Rattle.quic_machine.specs.CallCases.{is_delivery, is_poll, asks_event, by_call}
 use Rattle.quic_machine.specs.LeaveCases.{by_expired}
-use Rattle.quic_machine.specs.FrameCases.{begun}
+use Rattle.quic_machine.specs.FrameCases.{begun, apart_leaves}
 use Rattle.quic_packet.specs.Datagram.{opened_packet}
 use Rattle.quic_machine.specs.Opens.{own_id_length}
 use Rattle.quic_machine.specs.declared.answers.Event.{Event}
+use Rattle.quic_machine.specs.Steps as steps
 use Rattle.quic_headline.specs.Runs.{Told, Packet, Intake, In, acknowledged, and_told, finish_told_by, finishes_told}
-use Rattle.quic_headline.specs.Observer.{Sent, Terms, Flight, HoldsOffset, HoldsEnd, Watch, Lens, first_watch, has_opened, moment_of, clock_behind, after_packets, after_frames, and_sent, and_all_sent, loss_due, is_past, expired_for, sent_as, watch_sent, watch_given, is_timely, watch_moment, watch_came, watch_told}
+use Rattle.quic_headline.specs.Observer.{Sent, Terms, Flight, HoldsOffset, HoldsEnd, Watch, Lens, first_watch, has_opened, moment_of, clock_behind, after_packets, after_frames, and_sent, and_flying, closes_of, and_all_sent, loss_due, is_past, expired_for, sent_as, watch_sent, watch_given, is_timely, watch_moment, watch_came, watch_told}
 use Rattle.quic_headline.specs.InFlight.{all_offsets}
 use Rattle.quic_headline.proofs.Packets.Invariant.{IsSent, AreTracked, WereSent, carried_stream}
 use Rattle.quic_headline.proofs.Packets.Growth.{step_of}
@@ -118,7 +119,6 @@ module _ (arrived : ℕ → ℕ → Type 0) (end_arrived : ℕ → Type 0) (k : 
           on_streams = λ on answer. cc;
           on_messages = λ on answer. i;
           pings = i;
-          heard = λ path same. i;
           times = λ now expiry set. by_expired e now (λ (f : End). Settling arrived end_arrived k n w f.streams) (λ pending tracking timers runs packets. i)
               (λ pending timers runs. expiry_stays (λ (t : Streams). Settling arrived end_arrived k n w t.state) e now (losing e.tracking.packets ends) i pending timers) expiry;
           polls = λ now set. cc;
@@ -164,11 +164,15 @@ acks x y = (watch_of x y).flight.acked
 
 sent_acked : (ss : List Sent) (f : Flight) → (and_all_sent ss f).acked ≡ f.acked
 sent_acked [] f = refl
-sent_acked (s ∷ ss) f = sent_acked ss (and_sent s f)
+sent_acked (s ∷ ss) f = sent_acked ss (and_sent s f) ∙ go (closes_of s)
+  where
+    go : (b : Bool) → (if b then f else and_flying s f).acked ≡ f.acked
+    go true = refl
+    go false = refl
 
 datagram_acked : (taker : Policy) (ds : List (List ℕ)) (w : Watch) → (watch_sent taker ds w).flight.acked ≡ w.flight.acked
 datagram_acked taker [] w = refl
-datagram_acked taker (d ∷ ds) w = sent_acked (sent_as (opened_packet taker.header taker.packet (own_id_length + 1) (acknowledged w.intake.took) d) (acknowledged w.intake.took) w.clock (length d)) w.flight
+datagram_acked taker (d ∷ ds) w = sent_acked (sent_as (opened_packet taker.header taker.packet (own_id_length + 1) (acknowledged w.intake.took) d) (acknowledged w.intake.took) w.clock d) w.flight
 
 given_acked : (b : Bool) (l : Lens) (w : Watch) → (watch_given b l w).flight.acked ≡ w.flight.acked
 given_acked false l w = refl
@@ -192,13 +196,13 @@ module _ (x y : Party) where
   seen = watch_of x y
 
   seen_intake : seen.intake ≡ came_to x y
-  seen_intake = watched_intake (lens x y) x.told (first_watch (x.id ∷ []) x.final x.began x.initial_rtt)
+  seen_intake = watched_intake (lens x y) x.told (first_watch x.final x.began x.initial_rtt)
 
   -- behind a call
   pub acks_behind : (call : Call) (a : Answer) → acks (called x y.given call a) y ≡ acked_with x.terms x.end.closing.state call seen (came_to (called x y.given call a) y)
   acks_behind call a =
       let t : Told = told_of call a x.end.closing.state in
-      ap (λ (w : Watch). w.flight.acked) (folded_more (watch_told (lens x y)) x.told t (first_watch (x.id ∷ []) x.final x.began x.initial_rtt))
+      ap (λ (w : Watch). w.flight.acked) (folded_more (watch_told (lens x y)) x.told t (first_watch x.final x.began x.initial_rtt))
       ∙ given_acked (gave a) (lens x y) (timed_with (lens x y) t seen)
       ∙ moment_acked (is_timely t.state call) x.terms (came_with (lens x y) t seen)
       ∙ ap (λ (i : Intake). acked_with x.terms x.end.closing.state call seen i) (ap (λ (i : Intake). and_told x.policy y.final t i) seen_intake ∙ sym (came_more x y call a))
@@ -300,7 +304,7 @@ module _ (sents : List Sent) (w : ℕ → Wrote) (says : (s : Sent) → In s sen
   open_loses n = record {
     tracked = λ flying acked t e i. i;
     searches = λ flying acked lost e i. search_keeps (λ (x : End). AllSent sents flying × Open sents w n acked x) (λ d x j. j) (λ most x j. j) lost e i;
-    loses = λ flying acked gone left ps e inside stays waits i. (
+    loses = λ flying acked gone left ps e inside stays apart waits i. (
       (λ s j. i.0 s (stays s j)),
       lost_all (λ id o. HoldsOffset acked id o) (λ id. HoldsEnd acked id) (known_of sents acked) n ps e (flying_ended flying gone ps i.0 inside waits) i.1,
     );
@@ -310,11 +314,12 @@ module _ (sents : List Sent) (w : ℕ → Wrote) (says : (s : Sent) → In s sen
   open_flies n frames small = record {
     losing = open_loses n;
     names = λ flying acked a e among i. i;
-    acks = λ flying acked ss left ps e inside stays waits i. ((λ s j. i.0 s (stays s j)), sents_settle n w sents acked ss ps waits e (meta_sent n flying acked ss i.0 inside) i.1);
+    acks = λ flying acked ss left ps e a among inside stays apart waits i. ((λ s j. i.0 s (stays s j)), sents_settle n w sents acked ss ps waits e (meta_sent n flying acked ss i.0 inside) i.1);
     measured = λ flying acked r first e i. i;
     marked = λ flying acked m marking e i. i;
     on_streams = λ flying acked f e among on i. (i.0, settling_frame (λ id o. HoldsOffset acked id o) (λ id. HoldsEnd acked id) (known_of sents acked) n w f e on (small f among) i.1);
     message = λ flying acked m e i. i;
+    apart = λ flying acked f e among apart i. apart_leaves (λ (g : End). AllSent sents flying × Open sents w n acked g) f e apart (λ c. i);
   }
 
 -- ---- a packet of any end, taken or refused
@@ -332,24 +337,16 @@ knows_none : (m : StreamMeta) → KnowsAcked m nothing_known nothing_known
 knows_none m = record { sent = λ id o x. absurd x; end_sent = λ id x. absurd x; acked = λ id o x. absurd x; end_acked = λ id x. absurd x; was_sent = λ o x. absurd x; end_was_sent = λ x. absurd x }
 
 module _ (took : List Packet) (sents : List Sent) (n : ℕ → ℕ) (w : ℕ → Wrote) (says : (s : Sent) → In s sents → (f : FrameValue) → In f s.frames → SaysOf w f) (taken : WereSent sents took) where
+  carried_ended : (c : Carried) (m : StreamMeta) → WasCarried took c → In m c.stream_frames → m.fin ≡ true → (w m.id).ended ≡ true
+  carried_ended c m was among =
+      let at = taken was.packet was.was_taken in
+      sent_ended sents w says at.sent at.is.0 m (subst (λ (fs : List FrameValue). In m (streams_in fs)) (sym at.frames) (carried_stream c was.packet.frames was.is m among))
+
   always_settles : SettlesOn took sents (Always n w)
-  always_settles = record {
-    known = λ c e i. i;
-    reset = λ c r e was among i. reset_holds Any AnyEnd n w nothing_known r.0 e i;
-    acked = λ c m e was among i. acked_holds Any AnyEnd n w nothing_known nothing_known m e (knows_none m) (record { bytes = λ o from below. tt; end = λ fin. tt; ended = carried_ended c m was among }) i;
-    lost = λ c m e was among i. lost_holds Any AnyEnd n w nothing_known m e (sent_ended sents w says was.sent was.among m (carried_stream c was.sent.frames was.is m among)) i;
-    again = λ c e was i. i;
-    searched = λ discovery e i. i;
-    shortens = λ most e i. i;
-    tracked = λ t e i. i;
-    measured = λ r first e i. i;
-    marked = λ m marking e i. i;
-  }
-    where
-      carried_ended : (c : Carried) (m : StreamMeta) → WasCarried took c → In m c.stream_frames → m.fin ≡ true → (w m.id).ended ≡ true
-      carried_ended c m was among =
-          let at = taken was.packet was.was_taken in
-          sent_ended sents w says at.sent at.is.0 m (subst (λ (fs : List FrameValue). In m (streams_in fs)) (sym at.frames) (carried_stream c was.packet.frames was.is m among))
+  always_settles (steps.reset id) e may i = reset_holds Any AnyEnd n w nothing_known id e i
+  always_settles (steps.acked m) e (c, was, among) i = acked_holds Any AnyEnd n w nothing_known nothing_known m e (knows_none m) (record { bytes = λ o from below. tt; end = λ fin. tt; ended = carried_ended c m was among }) i
+  always_settles (steps.lost m) e (c, was, among) i = lost_holds Any AnyEnd n w nothing_known m e (sent_ended sents w says was.sent was.among m (carried_stream c was.sent.frames was.is m among)) i
+  always_settles s e may i = i
 
 -- ---- the group
 
@@ -388,7 +385,7 @@ module _ (B : Way) (b : SettlesOver B) (x y : Party) (call : Call) (a : Answer) 
   done_then q = b.spoken.done x y call a c q
 
   small : (d : Sent) → In d y.sents → (f : FrameValue) → In f d.frames → IsSmallLimit f
-  small d among = let spelled = step_of (IsSent y.policy x.id) y.sents y.given d takes.gives.each among in payload_small d.frames spelled.1.payload spelled.1.spells
+  small d among = let spelled = step_of (IsSent y.policy) y.sents y.given d takes.gives.each among in payload_small d.frames spelled.1.payload spelled.1.spells
 
   -- each case of a delivery, whether the packet is taken or refused
   always_arrives : (now : ℕ) (d : Sent) → In d y.sents → Arrivals x.end now d.number d.frames (came_to x y) (λ (o : Outcome) (i : Intake). Always (told_so x) (wrote x.told) o.end)
@@ -403,6 +400,7 @@ module _ (B : Way) (b : SettlesOver B) (x y : Party) (call : Call) (a : Answer) 
         names = λ ak e i j. j;
         on_streams = λ f e i on j. settling_frame Any AnyEnd nothing_known (told_so x) (wrote x.told) f e on (small d among f i) j;
         message = λ m e j. j;
+        apart = λ f e i apart j. apart_leaves (Always (told_so x) (wrote x.told)) f e apart (λ c. j);
       }) (begun x.end now d.number) (λ ak i k named. takes.named d ak k among i named) gives.tracked s.always
 
   -- of an open end

@@ -2,7 +2,7 @@
 use Rattle.std.proofs.Common.{◌≡◌, ℕ, zero, suc, ◌+◌, ◌<◌, ◌≤◌, Bool, List, [], ◌∷◌, ◌++◌, length, replicate, append-nil, Option, Some, None, refl, sym, ap, ◌∙◌, subst, ◌⊎◌, inl, inr, arith}
 use Rattle.std.specs.Prelude.{◌&&◌}
 use Rattle.std.proofs.lemmas.Bool.{cond_both}
-use Rattle.quic_wire.specs.Value.{FrameValue, StreamValue, stream, padding, datagram}
+use Rattle.quic_wire.specs.Value.{FrameValue, StreamValue, stream, padding}
 use Rattle.quic_send_buffer.specs.Buffered.{IsBuffered}
 use Rattle.quic_send_buffer.proofs.Buffered.Calls.{next_kept, next_bounded, sent_from, sent_within}
 use Rattle.quic_streams_parts.specs.Queue.{Place, Queue}
@@ -24,6 +24,7 @@ use Rattle.quic_machine.specs.End.{End}
 use Rattle.quic_machine.specs.Poll.{Draft, Polled, polled, draft_as, draft_of, Leaving, Ready}
 use Rattle.quic_machine.specs.PollCases.{frames_padded, by_poll, at_poll}
 use Rattle.quic_machine.specs.DraftLaws.{Writing, by_leave, MayLeave}
+use Rattle.quic_machine.specs.Puts as puts
 use Rattle.quic_machine.specs.Machine.{gave}
 use Rattle.quic_headline.specs.Runs.{In}
 use Rattle.quic_headline.specs.Observer.{Sent}
@@ -121,25 +122,20 @@ module _ (arrived : ℕ → ℕ → Type 0) (end_arrived : ℕ → Type 0) (n : 
 
     -- whichever frames go
     pub drafts_write : Writing Drafts
-    drafts_write = record {
-      ack = λ d filled may x. holds_less (K d.frames) (K (d.frames ++ _ ∷ [])) d.end.streams (g.apart d.frames _ tt) x;
-      ping = λ d x. holds_less (K d.frames) (K (d.frames ++ _ ∷ [])) d.end.streams (g.apart d.frames _ tt) x;
-      probes = λ f size x. holds_less (K []) (K ([] ++ _ ∷ [])) f.streams (g.apart [] _ tt) x;
-      drops = λ d kind x. x;
-      control = λ d kind f is x.
-          let s = d.end.streams in
-          let t : Tells = telling n (is_reset w) s in
-          let k : Known = K d.frames in
-          holds_less k (K (d.frames ++ f ∷ [])) (frame_told f s) (g.apart d.frames f (control_apart f (control_of f kind is.of_kind)))
-          ((finished_words arrived end_arrived).tells f w s x.0, retold k n w s (frame_told f s) (same_told s (frame_told f s) (told_queue f s)) (by_told (Settles k t) (settles_kept k t) f s x.1));
-      message = λ d m ms is fit x. holds_less (K d.frames) (K (d.frames ++ datagram m ∷ [])) d.end.streams (g.apart d.frames (datagram m) tt) x;
-      stream = λ d id h room found first some is counts x.
-          let s = d.end.streams in
-          let lawful = (half_arrived arrived end_arrived w s id h (live_sends s id h found) x.0.acked).0.lawful in (
-            (finished_words arrived end_arrived).sends d.end.transport.send_fairness w s id h room found x.0,
-            settles_sent (K d.frames) (K (d.frames ++ stream (frame_of id h room) ∷ [])) (telling n (is_reset w) s) s d.end.transport.send_fairness id h room found lawful (g.stream d.frames (frame_of id h room)) x.1,
-          );
-    }
+    drafts_write (puts.drops kind) d may x = x
+    drafts_write (puts.control kind f) d is x =
+        let s = d.end.streams in
+        let t : Tells = telling n (is_reset w) s in
+        let k : Known = K d.frames in
+        holds_less k (K (d.frames ++ f ∷ [])) (frame_told f s) (g.apart d.frames f (control_apart f (control_of f kind is.of_kind)))
+        ((finished_words arrived end_arrived).tells f w s x.0, retold k n w s (frame_told f s) (same_told s (frame_told f s) (told_queue f s)) (by_told (Settles k t) (settles_kept k t) f s x.1))
+    drafts_write (puts.stream id h room) d (found, first, some, is, counts) x =
+        let s = d.end.streams in
+        let lawful = (half_arrived arrived end_arrived w s id h (live_sends s id h found) x.0.acked).0.lawful in (
+          (finished_words arrived end_arrived).sends d.end.transport.send_fairness w s id h room found x.0,
+          settles_sent (K d.frames) (K (d.frames ++ stream (frame_of id h room) ∷ [])) (telling n (is_reset w) s) s d.end.transport.send_fairness id h room found lawful (g.stream d.frames (frame_of id h room)) x.1,
+        )
+    drafts_write p d may x = holds_less (K d.frames) (K (d.frames ++ _ ∷ [])) d.end.streams (g.apart d.frames _ tt) x
 
     pub draft_settles : (leaving : Leaving) (e : End) → MayLeave leaving e → Settling arrived end_arrived (K []) n w e.streams → Drafts (draft_as leaving e)
     draft_settles leaving e alone i = by_leave Drafts drafts_write leaving e alone i
@@ -155,7 +151,7 @@ nothing_goes = record {
 
 -- a datagram that isn't whole yet, behind those that were sent
 abbrev drafted : List FrameValue → Sent
-drafted fs = record { number = 0; reference = 0; frames = fs; moment = 0; size = 0 }
+drafted fs = record { id = []; number = 0; reference = 0; frames = fs; moment = 0; size = 0 }
 
 no_stream : (f : FrameValue) (g : StreamValue) → IsNoStream f → stream g ≡ f → ⊥
 no_stream f g is same = subst IsNoStream (sym same) is
@@ -236,7 +232,7 @@ module _ (arrived : ℕ → ℕ → Type 0) (end_arrived : ℕ → Type 0) (n : 
     silent = i;
     failed = i;
     nothing = λ c. i;
-    used_up = λ c. i;
+    closes = λ c. i;
     gives = λ leaving c left is may ready some.
         let x : End = at_poll e now c in
         draft_settles arrived end_arrived n w (λ fs. nothing_known) nothing_goes leaving x (may_leave e now leaving x ready) i;
@@ -249,7 +245,7 @@ module _ (arrived : ℕ → ℕ → Type 0) (end_arrived : ℕ → Type 0) (n : 
     silent = same;
     failed = same;
     nothing = λ c. same;
-    used_up = λ c. same;
+    closes = λ c. same;
     gives = λ leaving c left is may ready some.
         let x : End = at_poll e now c in
         let d : Draft = draft_as leaving x in

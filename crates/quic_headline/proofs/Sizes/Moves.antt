@@ -23,7 +23,8 @@ use Rattle.quic_machine.specs.Receive.{Outcome}
 use Rattle.quic_machine.specs.Timeouts.{Expiry}
 use Rattle.quic_machine.specs.Machine.{World, Policies, after_call, reads_window, given_by, end_at, control_at, policy_at, Follows, view_of}
 use Rattle.quic_machine.specs.RunLaws.{one_run}
-use Rattle.quic_machine.specs.CallCases.{is_delivery, by_plain_call}
+use Rattle.quic_machine.specs.CallCases.{Plain, is_delivery, by_plain_call}
+use Rattle.quic_machine.specs.CallCases as cases
 use Rattle.quic_machine.specs.LeaveCases.{at_expiry, by_expired}
 use Rattle.quic_machine.specs.FrameCases.{begun}
 use Rattle.quic_headline.specs.Runs.{Run, Intake, In, state_in, LeadsTo, AreServed}
@@ -101,17 +102,13 @@ expired_falls e now expiry = by_expired e now (Falls e) (λ pending tracking tim
     ]
 
 apart_falls : (p : Policy) (e : End) (theirs : List (List ℕ)) (call : Call) (a : Answer) → is_delivery call ≡ false → Falls e (after_call p e theirs call a)
-apart_falls p e theirs call a apart = by_plain_call p e theirs (Falls e) call a (record {
-  same = inl refl;
-  on_streams = λ t. inl refl;
-  on_messages = λ m. inl refl;
-  pings = inl refl;
-  heard = λ path same. inl (ap (λ (d : Discovery). d.size) same.discovery);
-  times = λ now expiry is. expired_falls e now expiry;
-  polls = λ now is. inl (polled_search (λ (d : Discovery). d.size ≡ e.path.discovery.size) (λ moment number d same. same) p e now refl);
-  hears = λ arrival d is. (let clash : true ≡ false = sym is ∙ apart in cc);
-  tells = λ told. inl refl;
-})
+apart_falls p e theirs call a apart = by_plain_call p e theirs (Falls e) call a keep
+  where
+    keep : Plain p e call (Falls e)
+    keep (cases.times now expiry) may = expired_falls e now expiry
+    keep (cases.polls now) may = inl (polled_search (λ (d : Discovery). d.size ≡ e.path.discovery.size) (λ moment number d same. same) p e now refl)
+    keep (cases.hears arrival d) is = (let clash : true ≡ false = sym is ∙ apart in cc)
+    keep c may = inl refl
 
 -- ---- the clause
 

@@ -12,7 +12,7 @@ use Rattle.quic_machine.specs.Tracking.{TrackedPacket}
 use Rattle.quic_machine.specs.End.{End}
 use Rattle.quic_machine.specs.Acked.{packet_acked, packets_acked}
 use Rattle.quic_machine.specs.Sizes.{after_lost, search_acked}
-use Rattle.quic_machine.specs.FrameCases.{packets_lost_keep, by_searched, frame_leaves}
+use Rattle.quic_machine.specs.FrameCases.{packets_lost_keep, by_searched, frame_leaves, apart_leaves}
 use Rattle.quic_headline.specs.Runs.{In}
 use Rattle.quic_headline.specs.Observer.{Sent}
 use Rattle.quic_headline.proofs.Packets.Waited.{AreWaited}
@@ -128,7 +128,7 @@ module _ (flew : List Sent) (least before : ℕ) where
     searches = λ flying acked lost e m.
         let heard = lost_moving e.closing.clock lost flying acked e.path.discovery m in
         by_searched (after_lost e.closing.clock lost e.path.discovery) e (Moves flying acked) heard (λ most. heard);
-    loses = λ flying acked gone left ps e inside stays w m.
+    loses = λ flying acked gone left ps e inside stays apart w m.
         let same = packets_lost_keep (λ (x : End). x.path.discovery ≡ e.path.discovery) (λ m x i. i) (λ c x i. i) ps e refl in
         subst (λ (d : Discovery). Moving flew least before left acked d) (sym same) (fewer_fly flying left acked e.path.discovery stays m);
   }
@@ -138,9 +138,10 @@ module _ (flew : List Sent) (least before : ℕ) where
   moving_flies frames = record {
     losing = moving_loses;
     names = λ flying acked a e among m. m;
-    acks = λ flying acked ss left ps e inside stays w m. all_moving left acked ss ps e (λ s i. m.inside s (inside s i)) w (fewer_fly flying left acked e.path.discovery stays m);
+    acks = λ flying acked ss left ps e a among inside stays apart w m. all_moving left acked ss ps e (λ s i. m.inside s (inside s i)) w (fewer_fly flying left acked e.path.discovery stays m);
     measured = λ flying acked r first e m. m;
     marked = λ flying acked counts marking e m. m;
     on_streams = λ flying acked f e among on m. frame_leaves (Moves flying acked) f e on (λ t. m);
     message = λ flying acked q e m. m;
+    apart = λ flying acked f e among apart m. apart_leaves (Moves flying acked) f e apart (λ c. m);
   }

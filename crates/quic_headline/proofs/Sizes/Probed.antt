@@ -22,7 +22,8 @@ use Rattle.quic_machine.specs.Poll.{Polled, datagram_size, after_given, probed, 
 use Rattle.quic_machine.specs.Machine.{after_call, gave}
 use Rattle.quic_machine.specs.DraftLaws.{HasRoom}
 use Rattle.quic_machine.specs.FrameCases.{by_searched}
-use Rattle.quic_machine.specs.CallCases.{is_poll, by_plain_call}
+use Rattle.quic_machine.specs.CallCases.{Plain, is_poll, by_plain_call}
+use Rattle.quic_machine.specs.CallCases as cases
 use Rattle.quic_machine.specs.PollCases.{ready_at, draft_at, frames_padded, gate_leaves, probe_leaves, ready_leaves, composes, may_leave_at, by_poll_to}
 use Rattle.quic_headline.specs.Runs.{In}
 use Rattle.quic_headline.specs.Observer.{Sent}
@@ -67,20 +68,16 @@ searching d = record {
 
 -- no other probe is opened
 call_fewer : (p : Policy) (e : End) (theirs : List (List ℕ)) (call : Call) (a : Answer) → is_poll call ≡ false → Fewer e.path.discovery (after_call p e theirs call a).path.discovery
-call_fewer p e theirs call a silent = by_plain_call p e theirs (λ (x : End). Fewer e.path.discovery x.path.discovery) call a (record {
-  same = still;
-  on_streams = λ t. still;
-  on_messages = λ m. still;
-  pings = still;
-  heard = λ path same. subst (λ (d : Discovery). Fewer e.path.discovery d) (sym same.discovery) still;
-  times = λ now expiry is. expired_size (λ s. Fewer e.path.discovery s.discovery) (searching e.path.discovery) e now expiry still;
-  polls = λ now is. (let clash : true ≡ false = sym is ∙ silent in cc);
-  hears = λ arrival d is. received_size (λ s. Fewer e.path.discovery s.discovery) (searching e.path.discovery) p e arrival d still;
-  tells = λ told. still;
-})
+call_fewer p e theirs call a silent = by_plain_call p e theirs (λ (x : End). Fewer e.path.discovery x.path.discovery) call a keep
   where
     still : Fewer e.path.discovery e.path.discovery
     still n size is = is
+
+    keep : Plain p e call (λ (x : End). Fewer e.path.discovery x.path.discovery)
+    keep (cases.times now expiry) may = expired_size (λ s. Fewer e.path.discovery s.discovery) (searching e.path.discovery) e now expiry still
+    keep (cases.polls now) is = (let clash : true ≡ false = sym is ∙ silent in cc)
+    keep (cases.hears arrival d) may = received_size (λ s. Fewer e.path.discovery s.discovery) (searching e.path.discovery) p e arrival d still
+    keep c may = still
 
 -- ---- a poll
 
@@ -203,7 +200,7 @@ module _ (p : Policy) (e : End) (now : ℕ) (sents : List Sent) (room : HasRoom 
           | inl fewer ↦ subst (λ (n : ℕ). IsProbed (sents ++ []) n (ready_at e now).end.path.discovery) (sym next) (fewer_probed (sents ++ []) e.numbers.next e.path.discovery (ready_at e now).end.path.discovery fewer none_goes)
           | inr goes_so ↦ absurd (let clash : true ≡ false = sym (ap goes_as goes_so.1) ∙ none in cc)
         ];
-    used_up = λ opened below. cc;
+    closes = λ opened below. cc;
     gives = λ is may some opened below.
         let f : End = after_given p (draft_at e now) in
         let above : number_of e < f.numbers.next = below (sent_by e now) (in_right (sent_by e now) sents (sent_by e now ∷ []) (inl refl)) in
@@ -237,17 +234,13 @@ falling least = record {
 }
 
 call_floor : (p : Policy) (e : End) (theirs : List (List ℕ)) (call : Call) (a : Answer) (least : ℕ) → e.path.discovery.bursts.least ≡ least → (after_call p e theirs call a).path.discovery.bursts.least ≡ least
-call_floor p e theirs call a least i = by_plain_call p e theirs (λ (x : End). x.path.discovery.bursts.least ≡ least) call a (record {
-  same = i;
-  on_streams = λ t. i;
-  on_messages = λ m. i;
-  pings = i;
-  heard = λ path same. ap (λ (d : Discovery). d.bursts.least) same.discovery ∙ i;
-  times = λ now expiry is. expired_size (λ s. s.discovery.bursts.least ≡ least) (falling least) e now expiry i;
-  polls = λ now is. polled_search (λ (d : Discovery). d.bursts.least ≡ least) (λ moment number d same. same) p e now i;
-  hears = λ arrival d is. received_size (λ s. s.discovery.bursts.least ≡ least) (falling least) p e arrival d i;
-  tells = λ told. i;
-})
+call_floor p e theirs call a least i = by_plain_call p e theirs (λ (x : End). x.path.discovery.bursts.least ≡ least) call a cases_keep
+  where
+    cases_keep : Plain p e call (λ (x : End). x.path.discovery.bursts.least ≡ least)
+    cases_keep (cases.times now expiry) may = expired_size (λ s. s.discovery.bursts.least ≡ least) (falling least) e now expiry i
+    cases_keep (cases.polls now) may = polled_search (λ (d : Discovery). d.bursts.least ≡ least) (λ moment number d same. same) p e now i
+    cases_keep (cases.hears arrival d) may = received_size (λ s. s.discovery.bursts.least ≡ least) (falling least) p e arrival d i
+    cases_keep c may = i
 
 -- at first it is the configured least
 first_floor : (most : ℕ) (t : TransportSettings) → (after_limit most (first_discovery true None t)).bursts.least ≡ t.min_mtu

@@ -21,9 +21,9 @@ use Rattle.quic_streams_state.specs.Control.{Entry, waiting, without_first, fram
 use Rattle.quic_streams_state.specs.ControlLaws.{is_due, any_due, none_due, others_wait, others_same, place, same_place}
 use Rattle.quic_spaces.specs.Numbers.{cut_against}
 use Rattle.quic_machine.specs.End.{End, number_of}
-use Rattle.quic_machine.specs.Parts.{current_mtu}
-use Rattle.quic_machine.specs.Poll.{Draft, no_frames, frame_room, least_room, fits, ping_if, with_control_frames, with_message_frames, with_stream_frames, ack_of, with_ack, composed_if, composed, asking, message_waits, asks_to_go}
-use Rattle.quic_machine.specs.DraftLaws.{by_entries, by_messages, by_streams}
+use Rattle.quic_machine.specs.Parts.{current_mtu, signals_wait}
+use Rattle.quic_machine.specs.Poll.{Draft, no_frames, frame_room, least_room, fits, with_control_frames, with_message_frames, with_stream_frames, ack_of, with_ack, composed_if, composed, asking, message_waits, asks_to_go}
+use Rattle.quic_machine.specs.DraftLaws.{by_entries, by_messages, by_streams, no_signal}
 use Rattle.quic_headline.proofs.Packets.Invariant.{Acks}
 use Rattle.quic_headline.proofs.Packets.Composed.{ack_form}
 
@@ -137,14 +137,14 @@ room_more e =
 -- where nothing waits that asks, a due ACK goes alone
 pub mute_composed : (e : End) → Acks e.acknowledging e.marks.came → can_send e.acknowledging ≡ true → asks_to_go e ≡ false → asking (composed e).frames ≡ false
 mute_composed e acks due none =
-    let ping = or_parts e.waiting.ping (not (is_empty e.waiting.frames e.streams) || (message_waits e || can_send_stream_data e.streams)) none in
-    let empty = or_parts (not (is_empty e.waiting.frames e.streams)) (message_waits e || can_send_stream_data e.streams) ping.1 in
+    let signal = or_parts (signals_wait e.waiting.signals) (not (is_empty e.waiting.frames e.streams) || (message_waits e || can_send_stream_data e.streams)) none in
+    let empty = or_parts (not (is_empty e.waiting.frames e.streams)) (message_waits e || can_send_stream_data e.streams) signal.1 in
     let others = or_parts (message_waits e) (can_send_stream_data e.streams) empty.1 in
     let first = mute_control e (with_ack (no_frames e)) (alone (none_due e.waiting.frames e.streams (not-false (is_empty e.waiting.frames e.streams) empty.0))) in
     let second = mute_messages e others.0 (with_control_frames (with_ack (no_frames e))) first in
     let third = mute_streams e others.1 (with_message_frames (with_control_frames (with_ack (no_frames e)))) second in
     ap (λ (b : Bool). asking (composed_if b e).frames) due
-    ∙ ap (λ (b : Bool). asking (with_stream_frames (with_message_frames (with_control_frames (ping_if b (with_ack (no_frames e)))))).frames) ping.0
+    ∙ ap (λ (d : Draft). asking (with_stream_frames (with_message_frames (with_control_frames d))).frames) (no_signal (with_ack (no_frames e)) signal.0)
     ∙ third.asks
   where
     alone : NoneDue e.waiting.frames e.streams → IsMute e (with_ack (no_frames e))

@@ -15,9 +15,9 @@ use Rattle.quic_machine.specs.declared.run.Answer.{Answer}
 use Rattle.quic_machine.specs.declared.run.View.{View}
 use Rattle.quic_machine.specs.End.{End, with_window}
 use Rattle.quic_machine.specs.Control.{Control}
-use Rattle.quic_machine.specs.Machine.{World, Policies, IsLeft, IsStep, after_call, reads_window, gives, end_at, control_at, given_by, policy_at, changed, fails, Follows}
+use Rattle.quic_machine.specs.Machine.{World, Policies, IsLeft, IsStep, after_call, reads_window, gives, end_at, control_at, heard_at, given_by, policy_at, changed, fails, Follows}
 use Rattle.quic_machine.specs.RunLaws.{one_world, one_run, as_many_views}
-use Rattle.quic_headline.specs.Runs.{Run, Told, given_of, told_by, told_at, until, state_in, state_behind, state_at, AreServed, LeadsTo, folded}
+use Rattle.quic_headline.specs.Runs.{Run, Told, In, given_of, told_by, told_at, until, ids_of, state_in, state_behind, state_at, AreServed, LeadsTo, folded}
 use Rattle.quic_headline.specs.Observer.{Sent, Watch, first_watch, watch_told, watch, sents_until}
 use Rattle.quic_headline.specs.Headline.{IsHonest, IsRun, IsAt, used, CodeIsSmall}
 use Rattle.quic_headline.specs.Polls.{IsMade}
@@ -73,7 +73,7 @@ told_here Server state call a = refl
 -- ---- what was given
 
 -- what a step gives goes behind what was given
-gave_more : (side : Side) (w next : World) (ds : List (List ℕ)) → next ≡ changed side w (end_at side next) ds (control_at side next) → given_by side next ≡ given_by side w ++ ds
+gave_more : (side : Side) (w next : World) (ds : List (List ℕ)) → next ≡ changed side w (end_at side next) ds (control_at side next) (heard_at side next) → given_by side next ≡ given_by side w ++ ds
 gave_more Client w next ds is = ap (λ (v : World). v.from_client) is
 gave_more Server w next ds is = ap (λ (v : World). v.from_server) is
 
@@ -173,9 +173,9 @@ one_more k w end event a events answers [] f = absurd f
 one_more k w end event a events answers (v ∷ views) f = record { next = f.0; views = views; step = f.1; goes_on = f.3 }
 
 module _ (G : Way) (g : Group Nothing G) (r : Run) (end : World) (honest : IsHonest r) (run : IsRun r end) where
-  -- it holds so at each call that was answered and served, which names no stream and has no code
-  pub call_holds : (i : ℕ) (side : Side) (call : Call) (a : Answer) (w next : World) → ((id : ℕ) → used call ≡ Some id → ⊥) → CodeIsSmall call → IsMade r i side call a w next → CallHolds G r i side call a w
-  call_holds i side call a w next unused small m = record {
+  -- it holds so at each call that was answered and served, which names a stream of its end if any, and a code
+  pub call_holds : (i : ℕ) (side : Side) (call : Call) (a : Answer) (w next : World) → ((id : ℕ) → used call ≡ Some id → In id (ids_of (until r side i))) → CodeIsSmall call → IsMade r i side call a w next → CallHolds G r i side call a w
+  call_holds i side call a w next uses small m = record {
     sents = at.sents;
     theirs = at.theirs;
     joined = joined;
@@ -183,7 +183,7 @@ module _ (G : Way) (g : Group Nothing G) (r : Run) (end : World) (honest : IsHon
     takes = takes_now;
     behind = g.writer x y call a c gives_now takes_now;
     seen = watch_is r honest w i side at.sents at.theirs;
-    seen_behind = watch_is r honest w (suc i) side at.sents at.theirs ∙ ap (λ (ts : List Told). folded (watch_told (lens x y)) ts (first_watch (x.id ∷ []) x.final x.began x.initial_rtt)) told_more;
+    seen_behind = watch_is r honest w (suc i) side at.sents at.theirs ∙ ap (λ (ts : List Told). folded (watch_told (lens x y)) ts (first_watch x.final x.began x.initial_rtt)) told_more;
   }
     where
       event : RunEvent
@@ -268,7 +268,7 @@ module _ (G : Way) (g : Group Nothing G) (r : Run) (end : World) (honest : IsHon
         joined = joined;
         answer = m.step.answer;
         served = made_served r i side call a w next m;
-        uses = λ id is. absurd (unused id is);
+        uses = uses;
         codes = small;
         joined_behind = joined_behind;
         gives = tt;

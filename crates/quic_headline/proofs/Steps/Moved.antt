@@ -11,6 +11,7 @@ use Rattle.quic_spaces.specs.Records.{first_record}
 use Rattle.quic_machine.specs.Tracking.{TrackedPacket}
 use Rattle.quic_machine.specs.End.{End}
 use Rattle.quic_machine.specs.Poll.{record_moved, probe_filled, probe_if, probed}
+use Rattle.quic_machine.specs.Parts.{signals_wait}
 
 -- ---- a probe
 
@@ -24,9 +25,9 @@ first_has s (q ∷ ps) p is = go (is_empty q.1.carried.retransmits s) refl is (f
     go true empty goes others = others goes
     go false filled goes others = let same : q ≡ p = cc in subst (λ (x : ℕ × TrackedPacket). is_empty x.1.carried.retransmits s ≡ false) same filled
 
--- whether PING waits, or what has to be told of streams
+-- whether a signal waits, or what has to be told of streams
 abbrev pub has_probe : End → Bool
-has_probe e = e.waiting.ping || not (is_empty e.waiting.frames e.streams)
+has_probe e = signals_wait e.waiting.signals || not (is_empty e.waiting.frames e.streams)
 
 -- where a probe waits, one of them does
 pub probe_has : (e : End) → nat_lt 0 e.tracking.probes ≡ true → has_probe (probed e) ≡ true
@@ -34,8 +35,8 @@ probe_has e waits = subst (λ (b : Bool). has_probe (probe_if b e) ≡ true) (sy
   where
     moved : (o : Option (ℕ × TrackedPacket)) → first_record e.streams e.tracking.packets ≡ o → has_probe (record_moved o e) ≡ true
     moved None is = refl
-    moved (Some p) is = or_right e.waiting.ping (not (is_empty (merged e.waiting.frames p.1.carried.retransmits) e.streams)) (ap not (merged_fills e.waiting.frames p.1.carried.retransmits e.streams (first_has e.streams e.tracking.packets p is)))
+    moved (Some p) is = or_right (signals_wait e.waiting.signals) (not (is_empty (merged e.waiting.frames p.1.carried.retransmits) e.streams)) (ap not (merged_fills e.waiting.frames p.1.carried.retransmits e.streams (first_has e.streams e.tracking.packets p is)))
 
     filled : (b : Bool) → is_empty e.waiting.frames e.streams ≡ b → has_probe (probe_filled b e) ≡ true
     filled true is = moved (first_record e.streams e.tracking.packets) refl
-    filled false is = or_right e.waiting.ping (not (is_empty e.waiting.frames e.streams)) (ap not is)
+    filled false is = or_right (signals_wait e.waiting.signals) (not (is_empty e.waiting.frames e.streams)) (ap not is)

@@ -15,20 +15,24 @@ use Rattle.quic_machine.specs.declared.run.Answer.{Answer}
 use Rattle.quic_machine.specs.Policy.{Policy}
 use Rattle.quic_machine.specs.Closing.{ticked}
 use Rattle.quic_spaces.specs.Numbers.{can_number}
-use Rattle.quic_machine.specs.End.{End, with_closing, with_ack_timer, with_loss_timer, with_window}
+use Rattle.quic_machine.specs.End.{End, with_closing, with_ack_timer, with_window}
 use Rattle.quic_machine.specs.Control.{Gated, paced_until, with_pacing_timer}
-use Rattle.quic_machine.specs.Timeouts.{acks_expired, loss_judged, loss_expired, pacing_expired}
+use Rattle.quic_machine.specs.Timeouts.{loss_judged}
 use Rattle.quic_machine.specs.Poll.{gated, probed, goes, sends, polled_if, polled_in, polled, Ready}
 use Rattle.quic_machine.specs.Receive.{timers_after}
 use Rattle.quic_spaces.specs.Acknowledging.{with_due}
 use Rattle.quic_machine.specs.Machine.{after_call, end_at, control_at, given_by, policy_at}
-use Rattle.quic_machine.specs.CallCases.{is_poll, by_plain_call}
-use Rattle.quic_machine.specs.FrameCases.{Settling, Receives, named, acked_keeps, losses_keep, frame_keeps, frame_leaves, by_received}
+use Rattle.quic_machine.specs.CallCases.{Plain, is_poll, by_plain_call}
+use Rattle.quic_machine.specs.CallCases as cases
+use Rattle.quic_machine.specs.FrameCases.{Settling, Receives, named, acked_keeps, losses_keep, frame_keeps, frame_leaves, by_received, apart_leaves}
+use Rattle.quic_machine.specs.Steps as steps
 use Rattle.quic_machine.specs.PollCases.{ready_at, draft_at, probe_leaves, by_gate, search_leaves, composes, may_leave_at}
 use Rattle.quic_headline.specs.Runs.{Run}
 use Rattle.quic_headline.specs.Polls.{PacerSetsItsTimer, pacing_at, pacer_names}
 use Rattle.quic_headline.proofs.Packets.Probes.{by_going}
 use Rattle.quic_headline.proofs.Steps.Made.{made_end}
+use Rattle.quic_machine.specs.LeaveCases.{Expired, by_timers}
+use Rattle.quic_machine.specs.LeaveCases as expiring
 
 -- the timer isn't set, or is set as this says
 abbrev Paces : Option ℕ → End → Type 0
@@ -88,14 +92,15 @@ pacing_after t p now n asks s = go (packet_starts_wait p n asks s)
 module _ (o : Option ℕ) where
   -- acknowledged and lost packets leave the timer
   settling : Settling (Paces o)
-  settling = record { known = λ n e i. i; reset = λ id e i. i; acked = λ m e i. i; lost = λ m e i. i; again = λ carried e i. i; searched = λ discovery e i. i; shortens = λ most e i. i; tracked = λ t e i. i; measured = λ r first e i. i; marked = λ m marking e i. i }
+  settling (steps.known n) e i = i
+  settling s e i = i
 
   -- a datagram that comes does, and stops it where the end closes
   receives : Receives (Paces o)
   receives = record {
     notes = λ n e i. i;
     begins = λ now n e i. i;
-    frame = frame_keeps (Paces o) (record { ack = λ rises a e i. acked_keeps (Paces o) settling rises a (named a e) i; on_streams = λ f e on i. frame_leaves (Paces o) f e on (λ t. i); message = λ m e i. i });
+    frame = frame_keeps (Paces o) (record { ack = λ rises a e i. acked_keeps (Paces o) settling rises a (named a e) i; on_streams = λ f e on i. frame_leaves (Paces o) f e on (λ t. i); apart = λ f e is i. apart_leaves (Paces o) f e is (λ c. i); message = λ m e i. i });
     takes = λ n asks mark e i. subst (λ (q : Option ℕ). (q ≡ None) ⊎ (q ≡ o)) (sym (pacing_after e.timers (with_due (is_congested mark) (after_insert e.acknowledging n e.closing.clock)) e.closing.clock n asks e.numbers.opened)) i;
     closes = λ reason e i. inl refl;
   }
@@ -105,34 +110,20 @@ module _ (o : Option ℕ) where
   judged_paces None e i = i
   judged_paces (Some moment) e i = losses_keep (Paces o) settling e i
 
-  -- the timer of losses expires or doesn't
-  lost_paces : (loss : Bool) (e : End) → Paces o e → Paces o (loss_expired loss e)
-  lost_paces true e i = judged_paces e.tracking.loss_time e i
-  lost_paces false e i = i
-
-  -- so does that of acknowledgements
-  acks_pace : (acks : Bool) (e : End) → Paces o e → Paces o (acks_expired acks e)
-  acks_pace true e i = i
-  acks_pace false e i = i
-
-  -- and that of the pacer, which is stopped then
-  expired_paces : (pacing : Bool) (e : End) → Paces o e → Paces o (with_loss_timer (pacing_expired pacing e))
-  expired_paces true e i = inl refl
-  expired_paces false e i = i
+  -- so does that of acknowledgements; that of the pacer is stopped
+  expires_paces : (s : Expired) (e : End) → Paces o e → Paces o (expiring.after s e)
+  expires_paces expiring.of_pacer e i = inl refl
+  expires_paces s e i = i
 
   -- so any call but a poll leaves the timer, or stops it
   other_paces : (p : Policy) (e : End) (theirs : List (List ℕ)) (call : Call) (a : Answer) → is_poll call ≡ false → Paces o e → Paces o (after_call p e theirs call a)
-  other_paces p e theirs call a other i = by_plain_call p e theirs (Paces o) call a (record {
-    same = i;
-    on_streams = λ t. i;
-    on_messages = λ m. i;
-    pings = i;
-    heard = λ path same. i;
-    times = λ now expiry is. expired_paces expiry.pacing (acks_expired expiry.acks (loss_expired expiry.loss (with_closing e (ticked e.closing now)))) (acks_pace expiry.acks (loss_expired expiry.loss (with_closing e (ticked e.closing now))) (lost_paces expiry.loss (with_closing e (ticked e.closing now)) i));
-    polls = λ now is. cc;
-    hears = λ arrival d is. by_received (Paces o) receives p e arrival d i;
-    tells = λ told. i;
-  })
+  other_paces p e theirs call a other i = by_plain_call p e theirs (Paces o) call a keep
+    where
+      keep : Plain p e call (Paces o)
+      keep (cases.times now expiry) may = by_timers (Paces o) (Paces o) judged_paces expires_paces (λ f j. j) expiry (with_closing e (ticked e.closing now)) i
+      keep (cases.polls now) is = cc
+      keep (cases.hears arrival d) may = by_received (Paces o) receives p e arrival d i
+      keep c may = i
 
 -- ---- the clause
 

@@ -5,11 +5,10 @@ use Rattle.std.proofs.lemmas.Bool.{lt-ltb, or_left, or_right, and_right, and_par
 use Rattle.std.proofs.lemmas.List.{length-append}
 use Rattle.std.proofs.lemmas.List.Folds.{list_any-append}
 use Rattle.quic_wire_core.specs.StreamId.{other_side}
-use Rattle.quic_wire.specs.Value.{FrameValue, padding, ack, ping, stream, connection_close, application_close, datagram, asks}
+use Rattle.quic_wire.specs.Value.{FrameValue, padding, ack, connection_close, application_close, asks}
 use Rattle.quic_recovery_core.specs.PendingAcks.{Pending, is_filled, can_send}
 use Rattle.quic_retransmits.specs.Retransmits.{nothing_waits}
 use Rattle.quic_streams_parts.specs.Table.{added}
-use Rattle.quic_streams_parts.specs.SendHalf.{frame_of}
 use Rattle.quic_streams_state.specs.State.{Streams}
 use Rattle.quic_streams_state.specs.Waiting.{is_empty, can_send_stream_data}
 use Rattle.quic_streams_state.specs.Control as control
@@ -20,16 +19,17 @@ use Rattle.quic_machine.specs.declared.answers.Transmit.{Transmit}
 use Rattle.quic_machine.specs.declared.run.Call.TheVariants as calls
 use Rattle.quic_machine.specs.declared.run.Answer.{Answer}
 use Rattle.quic_machine.specs.declared.run.Answer.TheVariants as answers
-use Rattle.quic_machine.specs.Parts.{current_mtu}
+use Rattle.quic_machine.specs.Parts.{current_mtu, signals_wait}
 use Rattle.quic_machine.specs.Policy.{Policy}
 use Rattle.quic_machine.specs.Closing.{ticked}
 use Rattle.quic_machine.specs.Ids.{Ids}
 use Rattle.quic_machine.specs.Tracking.{Tracking, TrackedPacket, forgotten, without_packet, asking_sent, after_sent}
 use Rattle.quic_machine.specs.End.{End, number_of, with_closing, with_window, streams_at}
 use Rattle.quic_machine.specs.Control.{Gated, lets, gated_if, with_pacing_timer}
-use Rattle.quic_machine.specs.Poll.{gated, mark_of, Polled, Draft, no_frames, frame_room, ping_if, with_control_frames, with_message_frames, with_stream_frames, with_asking, ack_of, with_ack, ack_fits, ack_if, composed_if, composed, datagram_of, asking, packet_of, probed, lazied, message_waits, asks_to_go, draft_of, sends, polled_if, polled_in, polled, whole, with_least, Ready, leaves, free_if, waits, goes}
+use Rattle.quic_machine.specs.Poll.{gated, mark_of, Polled, Draft, no_frames, frame_room, with_control_frames, with_message_frames, with_stream_frames, with_asking, ack_of, with_ack, ack_fits, ack_if, composed_if, composed, datagram_of, asking, packet_of, probed, lazied, message_waits, asks_to_go, draft_of, sends, polled_if, polled_in, polled, whole, Ready, leaves, free_if, waits, goes, with_signal_frames}
 use Rattle.quic_machine.specs.Machine.{World, end_at, control_at, policy_at}
-use Rattle.quic_machine.specs.DraftLaws.{Writing, HasRoom, room_most, by_entries, by_messages, by_streams}
+use Rattle.quic_machine.specs.DraftLaws.{Writing, drops_of, entry_of, half_of, message_of, HasRoom, room_most, by_entries, by_messages, by_streams, signal_asks, by_some_signal, no_signal}
+use Rattle.quic_machine.specs.Puts as puts
 use Rattle.quic_machine.specs.PollCases.{ready_at, frames_padded, frames_at, by_probed, composes}
 use Rattle.quic_headline.specs.Runs.{Run}
 use Rattle.quic_headline.specs.Headline.{IsHonest, IsRun, IsAt}
@@ -68,16 +68,9 @@ pub last_asks : (d : Draft) (f : FrameValue) → asks f ≡ true → asking (d.f
 last_asks d f is = list_any-append asks d.frames (f ∷ []) ∙ or_right (asking d.frames) (asking (f ∷ [])) (or_left (asks f) false is)
 
 -- whichever frames go behind
-asks_stay : Writing Asks
-asks_stay = record {
-  ack = λ d filled may is. still_asks d (ack (ack_of d.end)) is;
-  ping = λ d is. still_asks d ping is;
-  probes = λ f size is. still_asks (with_least (no_frames f) size) ping is;
-  drops = λ d kind is. is;
-  control = λ d kind f is asked. still_asks d f asked;
-  message = λ d m ms first fit is. still_asks d (datagram m) is;
-  stream = λ d id h room found first left at counts is. still_asks d (stream (frame_of id h room)) is;
-}
+pub asks_stay : Writing Asks
+asks_stay (puts.drops kind) d may is = is
+asks_stay p d may is = still_asks d _ is
 
 -- a frame of control asks
 pub control_asks : (f : FrameValue) → IsControl f → asks f ≡ true
@@ -94,7 +87,7 @@ control_or_none d = by_entries (λ (x : Draft). Asks x ⊎ (length x.frames ≡ 
 
 -- messages and frames of streams go behind them
 more_ask : (d : Draft) → Asks d → Asks (with_stream_frames (with_message_frames d))
-more_ask d is = by_streams Asks asks_stay.stream (with_message_frames d) (by_messages Asks asks_stay.message d is)
+more_ask d is = by_streams Asks (half_of Asks asks_stay) (with_message_frames d) (by_messages Asks (message_of Asks asks_stay) d is)
 
 module _ (K : Streams → Type 0) (k : Spelling K) (c : Bringing K) where
   -- frames of control go behind a draft that leaves room for one, where something waits beside the bytes of streams
@@ -111,14 +104,16 @@ module _ (K : Streams → Type 0) (k : Spelling K) (c : Bringing K) where
 
   -- so what asks does, where something waits for a probe
   with_asking_asks : (d : Draft) → length d.bytes + 25 ≤ frame_room d.end → K (streams_at d.end) → has_probe d.end ≡ true → Asks (with_asking d)
-  with_asking_asks d room i waits = pinged d.end.waiting.ping waits
+  with_asking_asks d room i waits = signalled (signals_wait d.end.waiting.signals) refl waits
     where
-      pinged : (b : Bool) → (b || not (is_empty d.end.waiting.frames d.end.streams)) ≡ true → Asks (with_stream_frames (with_message_frames (with_control_frames (ping_if b d))))
-      pinged true on = more_ask (with_control_frames (ping_if true d)) (by_entries Asks asks_stay.drops asks_stay.control (ping_if true d) (last_asks d ping refl))
-      pinged false on = more_ask (with_control_frames d) (control_frames_ask d room i (not-true _ on))
+      signalled : (b : Bool) → signals_wait d.end.waiting.signals ≡ b → (b || not (is_empty d.end.waiting.frames d.end.streams)) ≡ true → Asks (with_asking d)
+      signalled true some on =
+          let x : Draft = with_signal_frames d in
+          more_ask (with_control_frames x) (by_entries Asks (drops_of Asks asks_stay) (entry_of Asks asks_stay) x (by_some_signal Asks (λ y f left is. last_asks y f (signal_asks f is)) d some))
+      signalled false none on = subst (λ (x : Draft). Asks (with_stream_frames (with_message_frames (with_control_frames x)))) (sym (no_signal d none)) (more_ask (with_control_frames d) (control_frames_ask d room i (not-true _ on)))
 
   -- and what is composed
-  composed_asks : (e : End) → Acks e.acknowledging e.marks.came → HasRoom e → K (streams_at e) → has_probe e ≡ true → Asks (composed e)
+  pub composed_asks : (e : End) → Acks e.acknowledging e.marks.came → HasRoom e → K (streams_at e) → has_probe e ≡ true → Asks (composed e)
   composed_asks e acks short i waits = go (can_send e.acknowledging) refl
     where
       late : (b : Bool) (d : Draft) → Asks d → Asks (ack_if b d)
@@ -153,7 +148,7 @@ module _ (e : End) (now : ℕ) (probes : 0 < e.tracking.probes) where
 
   readied_waits : waits readied ≡ true
   readied_waits =
-      or_right (can_send readied.acknowledging) (asks_to_go readied) (asks_more readied.waiting.ping (not (is_empty readied.waiting.frames readied.streams)) (message_waits readied || can_send_stream_data readied.streams) readied_has)
+      or_right (can_send readied.acknowledging) (asks_to_go readied) (asks_more (signals_wait readied.waiting.signals) (not (is_empty readied.waiting.frames readied.streams)) (message_waits readied || can_send_stream_data readied.streams) readied_has)
     where
       asks_more : (a b d : Bool) → (a || b) ≡ true → (a || (b || d)) ≡ true
       asks_more true b d is = refl
@@ -221,7 +216,7 @@ module _ (K : Streams → Type 0) (k : Spelling K) (c : Bringing K) (p : Policy)
   fewer : (sends true p all_goes).end.tracking.probes + 1 ≡ e.tracking.probes
   fewer =
       let d : Draft = composed (lazied x) in
-      let tracking : d.end.tracking ≡ x.tracking = (composes whole x (λ alone. cc)).tracking in
+      let tracking : d.end.tracking ≡ x.tracking = (composes whole x tt).tracking in
       let there : d.end.tracking.probes ≡ x.tracking.probes = ap (λ (t : Tracking). t.probes) tracking in
       let same = readied_probes e now probes in
       by_going (λ (z : End). z.tracking.probes + 1 ≡ e.tracking.probes) p d (λ pacing. (let one = one_fewer d.end.tracking (number_of d.end) (packet_of d) goes_asks in omega arith))

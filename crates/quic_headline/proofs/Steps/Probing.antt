@@ -20,7 +20,7 @@ use Rattle.quic_machine.specs.declared.run.Answer.{Answer}
 use Rattle.quic_machine.specs.declared.run.Answer.TheVariants as answers
 use Rattle.quic_machine.specs.declared.run.EndView.{EndView}
 use Rattle.quic_machine.specs.Policy.{Policy}
-use Rattle.quic_machine.specs.Parts.{current_mtu}
+use Rattle.quic_machine.specs.Parts.{current_mtu, signals_wait}
 use Rattle.quic_machine.specs.Closing.{Closing, ticked}
 use Rattle.quic_machine.specs.End.{End, number_of, with_window}
 use Rattle.quic_machine.specs.Control.{bytes_in_flight, pacer_asked, with_pacing_timer, Gated, lets, holds}
@@ -73,7 +73,7 @@ giving p e now t = by_poll_to p e now (λ (q : Polled). q.answer ≡ Ok (Some t)
   silent = λ is. cc;
   failed = λ is. cc;
   nothing = λ opened none is. cc;
-  used_up = λ is. cc;
+  closes = λ is. cc;
   gives = λ opened may some is. record { opened = opened; may = may; some = some; size = same_bytes (record { size = length (datagram_of p (draft_at e now)); ecn = mark_of (after_given p (draft_at e now)).path.marking }) t is; left = refl };
 })
 
@@ -146,7 +146,7 @@ probe_goes e now size is = go e.tracking.probes refl
     go zero none = subst (λ (z : End). IsProbing z (ready_at e now)) (unprobed (begun e now) none) found
     go (suc n) some =
         let one : 0 < e.tracking.probes = omega arith in
-        absurd (waiting y (more y.waiting.ping (not (is_empty y.waiting.frames y.streams)) (message_waits y || can_send_stream_data y.streams) (probe_has (begun e now) (lt-ltb 0 e.tracking.probes one))) found.idle)
+        absurd (waiting y (more (signals_wait y.waiting.signals) (not (is_empty y.waiting.frames y.streams)) (message_waits y || can_send_stream_data y.streams) (probe_has (begun e now) (lt-ltb 0 e.tracking.probes one))) found.idle)
 
 -- a probe of a size has that size
 pub probe_size : (size : ℕ) (e : End) → HasRoom e → current_mtu e.path ≤ size → datagram_size (probing size e) ≡ size

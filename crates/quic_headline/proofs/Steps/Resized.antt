@@ -43,16 +43,17 @@ use Rattle.quic_machine.specs.Ids.{known}
 use Rattle.quic_machine.specs.Opens.{own_id_length}
 use Rattle.quic_machine.specs.Tracking.{TrackedPacket, lost_by, acked_by}
 use Rattle.quic_machine.specs.Arrival.{Arrival, delivered_by}
-use Rattle.quic_machine.specs.End.{End, with_closing, with_numbers, with_loss_timer}
+use Rattle.quic_machine.specs.End.{End, with_closing, with_numbers}
 use Rattle.quic_machine.specs.Control.{Control, flies, told_sent, told_packet, told_acks_ended, last_sent}
 use Rattle.quic_machine.specs.Sizes.{is_resized, told_if_resized, told_size, with_acked, search_acked, told_packets, others_of, after_lost, is_persistent, told_congested, told_losses}
 use Rattle.quic_machine.specs.Acked.{packet_acked, packets_acked, losses_detected, after_named, verdict, told_detected, told_grown, told_taken, told_seen, told_marks, told_of_losses, told_named, told_acked, counts_answer, sampled, measured, without_acked, losses_taken}
 use Rattle.quic_machine.specs.Receive.{Fault, violation, Progress, message_judged, take_frame, unless_fault, take_items, take_payload, ends_as, asks_in, dropped, by_state, opened_to, opened_as, headed, received_in, is_above, names_ungiven, is_empty, take_item, told_ack, told_item, told_unless, told_items, told_payload, told_by_state, told_opened, told_opened_as, told_headed, told_received_in, opening}
 use Rattle.quic_machine.specs.Poll.{Ready, polled, ready, goes, asking, datagram_size, draft_of, told_if, told_polled_in}
 use Rattle.quic_machine.specs.End.{number_of}
-use Rattle.quic_machine.specs.Timeouts.{Expiry, expiry_at, acks_expired, loss_judged, loss_expired, pacing_expired, timed_out_in, told_judged, told_expired, told_timed_out_in}
+use Rattle.quic_machine.specs.Timeouts.{Expiry, expiry_at, loss_judged, loss_expired, timed_out_in, told_judged, told_expired, told_timed_out_in}
 use Rattle.quic_machine.specs.FrameCases.{named, ack_taken, by_marks}
-use Rattle.quic_machine.specs.CallCases.{is_delivery, is_poll, is_timeout, by_plain_call}
+use Rattle.quic_machine.specs.CallCases.{Plain, is_delivery, is_poll, is_timeout, by_plain_call}
+use Rattle.quic_machine.specs.CallCases as cases
 use Rattle.quic_machine.specs.Machine.{World, Policies, IsStep, IsLeft, after_delivered, after_call, reads_window, end_left, fails, tells, told_delivered, view_of}
 use Rattle.quic_headline.specs.Runs.{Run}
 use Rattle.quic_headline.specs.Headline.{IsRun}
@@ -62,6 +63,8 @@ use Rattle.quic_headline.proofs.Packets.Searches.{losses_search}
 use Rattle.quic_headline.proofs.Packets.Sizes.{Sizing, sized_lost, same_size, carried_same, polled_search}
 use Rattle.quic_headline.proofs.Places.Moments.{last_view}
 use Rattle.quic_headline.proofs.Steps.Windows.{history, first_lead}
+use Rattle.quic_machine.specs.LeaveCases.{Expired, by_expiring}
+use Rattle.quic_machine.specs.LeaveCases as expiring
 
 -- ---- what tells no size
 
@@ -327,8 +330,8 @@ expired_tells : (b : Bool) (e : End) → Tells e.path.discovery (told_expired b 
 expired_tells true e = judged_tells e.tracking.loss_time e
 expired_tells false e = still e.path.discovery [] tt
 
-timed_out_tells : (s : State) (e : End) (now : ℕ) → Tells e.path.discovery (told_timed_out_in s e now) (timed_out_in s e now).end.path.discovery
-timed_out_tells states.Open e now = others x.acks x.pacing
+timed_out_tells : (s : State) (p : Policy) (e : End) (now : ℕ) → Tells e.path.discovery (told_timed_out_in s e now) (timed_out_in s p e now).end.path.discovery
+timed_out_tells states.Open p e now = by_expiring TellsSo TellsSo others (λ f i. i) x (loss_expired x.loss begun) (expired_tells x.loss begun)
   where
     begun : End
     begun = with_closing e (ticked e.closing now)
@@ -336,15 +339,16 @@ timed_out_tells states.Open e now = others x.acks x.pacing
     x : Expiry
     x = expiry_at begun.closing.clock begun.timers
 
+    TellsSo : End → Type 0
+    TellsSo f = Tells e.path.discovery (told_expired x.loss begun) f.path.discovery
+
     -- the other timers leave the search
-    others : (acks pacing : Bool) → Tells e.path.discovery (told_expired x.loss begun) (with_loss_timer (pacing_expired pacing (acks_expired acks (loss_expired x.loss begun)))).path.discovery
-    others true true = expired_tells x.loss begun
-    others true false = expired_tells x.loss begun
-    others false true = expired_tells x.loss begun
-    others false false = expired_tells x.loss begun
-timed_out_tells states.Closing e now = still e.path.discovery [] tt
-timed_out_tells states.Drained e now = still e.path.discovery [] tt
-timed_out_tells states.Failed e now = still e.path.discovery [] tt
+    others : (s : Expired) (f : End) → TellsSo f → TellsSo (expiring.after s f)
+    others expiring.of_acks f i = i
+    others s f i = i
+timed_out_tells states.Closing p e now = still e.path.discovery [] tt
+timed_out_tells states.Drained p e now = still e.path.discovery [] tt
+timed_out_tells states.Failed p e now = still e.path.discovery [] tt
 
 -- an end is polled
 polled_tells : (p : Policy) (e : End) (now : ℕ) → Tells e.path.discovery (told_polled_in e.closing.state e now) (polled p e now).end.path.discovery
@@ -354,17 +358,13 @@ polled_tells p e now = quiet e.path.discovery (polled p e now).end.path.discover
 
 -- the search stays behind other calls
 pub others_leave : (p : Policy) (e : End) (theirs : List (List ℕ)) (call : Call) (a : Answer) → is_delivery call ≡ false → is_poll call ≡ false → is_timeout call ≡ false → (after_call p e theirs call a).path.discovery ≡ e.path.discovery
-others_leave p e theirs call a apart silent timeless = by_plain_call p e theirs (λ (x : End). x.path.discovery ≡ e.path.discovery) call a (record {
-  same = refl;
-  on_streams = λ t. refl;
-  on_messages = λ m. refl;
-  pings = refl;
-  heard = λ path same. same.discovery;
-  times = λ now expiry is. (let clash : true ≡ false = sym is ∙ timeless in cc);
-  polls = λ now is. (let clash : true ≡ false = sym is ∙ silent in cc);
-  hears = λ arrival d is. (let clash : true ≡ false = sym is ∙ apart in cc);
-  tells = λ told. refl;
-})
+others_leave p e theirs call a apart silent timeless = by_plain_call p e theirs (λ (x : End). x.path.discovery ≡ e.path.discovery) call a keep
+  where
+    keep : Plain p e call (λ (x : End). x.path.discovery ≡ e.path.discovery)
+    keep (cases.times now expiry) is = (let clash : true ≡ false = sym is ∙ timeless in cc)
+    keep (cases.polls now) is = (let clash : true ≡ false = sym is ∙ silent in cc)
+    keep (cases.hears arrival d) is = (let clash : true ≡ false = sym is ∙ apart in cc)
+    keep c may = refl
 
 other_tells : (p : Policy) (e : End) (theirs : List (List ℕ)) (call : Call) (a : Answer) → is_delivery call ≡ false → is_poll call ≡ false → is_timeout call ≡ false → Tells e.path.discovery [] (after_call p e theirs call a).path.discovery
 other_tells p e theirs call a apart silent timeless = subst (λ (f : Discovery). Tells e.path.discovery [] f) (sym (others_leave p e theirs call a apart silent timeless)) (still e.path.discovery [] tt)
@@ -372,7 +372,7 @@ other_tells p e theirs call a apart silent timeless = subst (λ (f : Discovery).
 -- what a call tells
 pub call_tells : (p : Policy) (e : End) (theirs : List (List ℕ)) (call : Call) (a : Answer) → Tells e.path.discovery (tells p e theirs call) (after_call p e theirs call a).path.discovery
 call_tells p e theirs (calls.Poll now) a = polled_tells p e now
-call_tells p e theirs (calls.Timeout now) a = timed_out_tells e.closing.state e now
+call_tells p e theirs (calls.Timeout now) a = timed_out_tells e.closing.state p e now
 call_tells p e theirs (calls.Deliver delivery) a = delivered_tells p e delivery (slice_get theirs delivery.index)
 call_tells p e theirs call a = other_tells p e theirs call a refl refl refl
 

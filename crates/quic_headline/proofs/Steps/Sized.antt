@@ -14,7 +14,7 @@ use Rattle.quic_machine.specs.Ids.{Ids}
 use Rattle.quic_machine.specs.End.{End, number_of, with_window}
 use Rattle.quic_machine.specs.Policy.{Policy}
 use Rattle.quic_machine.specs.Start.{IsLawful, AreKeys}
-use Rattle.quic_machine.specs.Poll.{Draft, asking, number_width, overhead, frame_room, zeros_behind, payload_of, datagram_of, datagram_size, Leaving, whole, alone, probe, nothing, least_left, polled}
+use Rattle.quic_machine.specs.Poll.{Draft, asking, number_width, overhead, frame_room, zeros_behind, payload_of, datagram_of, datagram_size, Leaving, whole, alone, probe, nothing, least_left, polled, closing}
 use Rattle.quic_machine.specs.Machine.{World, Policies, policy_at, end_at, control_at}
 use Rattle.quic_machine.specs.DraftLaws.{HasRoom, width_few}
 use Rattle.quic_machine.specs.PollCases.{ready_at, draft_at, ready_leaves, may_leave_at, Composes, composes}
@@ -115,6 +115,7 @@ module _ (H : Way) (s : Spells H) (g : Group Nothing (And (And PacketsHold H) Si
     fits : (leaving : Leaving) → (ready_at e now).leaving ≡ leaving → (gave.sent.size ≤ (seen_at r side i).current_mtu) ⊎ IsSizeProbe r side i gave.sent
     fits whole is = inl (ordinary whole is refl)
     fits alone is = inl (ordinary alone is refl)
+    fits (closing f) is = inl (ordinary (closing f) is refl)
     fits (probe n) is = inr (probing.is_probe H g r end honest run side i now gave w next m (probe_goes e now n is) leads)
     fits (nothing held) is = inl (ordinary (nothing held) is refl)
 

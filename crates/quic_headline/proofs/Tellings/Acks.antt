@@ -7,7 +7,7 @@ use Rattle.std.proofs.lemmas.Bool.{eq-eqb, ltb-true}
 use Rattle.std.proofs.lemmas.List.{append_assoc}
 use Rattle.quic_time.specs.Rtt.{Rtt, sampled_rtt, with_sample}
 use Rattle.quic_time.specs.Clocks.{saturated}
-use Rattle.quic_wire.specs.Value.{FrameValue, AckValue}
+use Rattle.quic_wire.specs.Value.{FrameValue, AckValue, ack}
 use Rattle.quic_config.specs.Transport.{TransportSettings}
 use Rattle.quic_congestion.specs.Congestion.{Told, Acked, AcksEnded, Congested, Resized}
 use Rattle.quic_congestion.specs.Search.{Search, Plan, Discovery, is_number, search_in, probed_by, acknowledged_probe, after_ack}
@@ -24,7 +24,7 @@ use Rattle.quic_machine.specs.Control.{bytes_in_flight, last_sent, told_packet, 
 use Rattle.quic_machine.specs.Sizes.{is_resized, search_acked, told_packets, told_probe}
 use Rattle.quic_machine.specs.Acked.{packets_acked, verdict, losses_detected, told_delay, first_measured, after_named, counts_answer, told_grown, told_seen, told_marks, told_detected, told_of_losses, told_named, measured, sampled, without_acked, losses_taken}
 use Rattle.quic_machine.specs.Receive.{take_frame}
-use Rattle.quic_machine.specs.FrameCases.{packets_lost_keep, by_marks, named, frame_keeps, frame_leaves}
+use Rattle.quic_machine.specs.FrameCases.{packets_lost_keep, by_marks, named, frame_keeps, frame_leaves, apart_leaves}
 use Rattle.quic_headline.specs.Runs.{In}
 use Rattle.quic_headline.specs.Observer.{Sent, asks_of, Flight, latest, is_greatest}
 use Rattle.quic_headline.specs.Telling.{Judging, measured_first, told_if, IsPinged, MayProbe, bytes_asking, last_moment, TellsAcked, acked_flight, MayMark, TellsSettled, TellsNamed}
@@ -136,17 +136,19 @@ marks_told f now rises ss ps a e clock is w = go e.path.marking rises is a.ecn r
 -- ---- an ACK frame
 
 -- the parts of an end that what is told of losses rests on: its place, its settings, the number
--- that goes next, and the one that did as a round trip was first measured, with how long one takes
+-- that goes next, the one that did as a round trip was first measured, with how long one takes, and
+-- whether the end counts as having nothing more to send
 pub record Setting : Type 0 where
   pub generation : ℕ
   pub transport : TransportSettings
   pub next : ℕ
   pub first : Option ℕ
   pub rtt : Rtt
+  pub limited : Bool
 
 -- those of an end
 abbrev pub setting : End → Setting
-setting e = record { generation = e.path.generation; transport = e.transport; next = e.numbers.next; first = e.path.first_after_rtt; rtt = e.path.rtt }
+setting e = record { generation = e.path.generation; transport = e.transport; next = e.numbers.next; first = e.path.first_after_rtt; rtt = e.path.rtt; limited = e.path.app_limited }
 
 -- They are on the first path, and as its losses are judged.
 pub record IsJudged (j : Judging) (s : Setting) : Type 0 where
@@ -154,6 +156,7 @@ pub record IsJudged (j : Judging) (s : Setting) : Type 0 where
   pub settings : s.transport ≡ j.settings
   pub next : s.next ≡ j.next
   pub measured : s.first ≡ measured_first j.first j.next s.rtt.smoothed
+  pub limited : s.limited ≡ j.limited
 
 -- so it is of an end
 abbrev pub IsSet : Judging → End → Type 0
@@ -200,6 +203,7 @@ timed_set j ps rises a e i = go (measured rises a ps)
               ap (λ (n : ℕ). first_measured left.path.first_after_rtt n) stays.next
               ∙ measured_now j.first j.next left.path.rtt.smoothed sample.0 left.path.first_after_rtt stays.measured
               ∙ ap (λ (o : Option ℕ). measured_first j.first j.next o) (sym sample.1);
+          limited = stays.limited;
         }
 
 -- so does an ACK frame that names these
@@ -215,6 +219,7 @@ pub frame_set : (j : Judging) (f : FrameValue) (e : End) → IsSet j e → IsSet
 frame_set j = frame_keeps (IsSet j) (record {
   ack = λ rises a e i. named_set j (acked_by a (named a e).tracking.packets) rises a (named a e) i;
   on_streams = λ f e on i. frame_leaves (IsSet j) f e on (λ t. i);
+  apart = λ f e is i. apart_leaves (IsSet j) f e is (λ c. i);
   message = λ m e i. i;
 })
 
@@ -229,12 +234,11 @@ timed_moves flew least before flying acked ps rises a e m = go (measured rises a
 module _ (j : Judging) (now : ℕ) (flew : List Sent) (before : ℕ) where
   -- an ACK frame that names these
   settled_told : (ss others : List Sent) (ps : Table TrackedPacket) (rises : Bool) (a : AckValue) (f : Flight) (e : End) → rises ≡ is_greatest f.named a.largest → ((s : Sent) → In s ss → In s f.flying) → ((s : Sent) → In s others → In s f.flying)
-      → AreWaited ss ps → AreWaited others (not_acked_by a e.tracking.packets) → Tells j.terms now (counted a f) (held e) → IsSet j e → Moves flew j.settings.min_mtu before f.flying f.acked e
+      → ((s : Sent) → In s ss → In s others → ⊥) → AreWaited ss ps → AreWaited others (not_acked_by a e.tracking.packets) → Tells j.terms now (counted a f) (held e) → IsSet j e → Moves flew j.settings.min_mtu before f.flying f.acked e
       → TellsSettled j now a ss others f (told_of_losses ps rises a e ++ told_marks rises ps a (losses_taken ps rises a e))
-  settled_told ss others ps rises a f e is inside stays acked stay w set moves = record {
-    app_limited = e.path.app_limited;
+  settled_told ss others ps rises a f e is inside stays apart acked stay w set moves = record {
     each = told_packets e ps;
-    acks = subst (λ (r : Rtt). TellsAcked j.settings.min_mtu now e.path.app_limited r ss (told_packets e ps)) (sym w.rtt) (acked_told j.settings.min_mtu now ss ps e w.clock acked moves.sized (λ s i size shown. moves.probes s (moves.inside s (inside s i)) size shown));
+    acks = subst (λ (b : Bool). TellsAcked j.settings.min_mtu now b f.rtt ss (told_packets e ps)) set.limited (subst (λ (r : Rtt). TellsAcked j.settings.min_mtu now e.path.app_limited r ss (told_packets e ps)) (sym w.rtt) (acked_told j.settings.min_mtu now ss ps e w.clock acked moves.sized (λ s i size shown. moves.probes s (moves.inside s (inside s i)) size shown)));
     lost = told_detected true x;
     losses = losses_told j now true (acked_flight j.terms now a ss others f) x told (timed_set j ps rises a e set).first (timed_set j ps rises a e set).settings measured after.floor (λ s i size shown. may_probe j.settings.min_mtu x.path.discovery s after.sized size shown (after.probes s (after.inside s i) size shown));
     marks = marked.0;
@@ -242,7 +246,7 @@ module _ (j : Judging) (now : ℕ) (flew : List Sent) (before : ℕ) where
     is =
         ap (λ (ts : List Told). ts ++ told_marks rises ps a (losses_taken ps rises a e)) (append_assoc (told_packets e ps) (told_acks_ended left) (told_detected true x))
         ∙ ap (λ (y : Told). told_packets e ps ++ y ∷ told_detected true x ++ told_marks rises ps a (losses_taken ps rises a e)) ended
-        ∙ ap (λ (ts : List Told). told_packets e ps ++ AcksEnded now (min (bytes_asking others) latest) e.path.app_limited (Some (greatest_of f.named a.largest)) ∷ told_detected true x ++ ts) marked.2;
+        ∙ ap (λ (ts : List Told). told_packets e ps ++ AcksEnded now (min (bytes_asking others) latest) j.limited (Some (greatest_of f.named a.largest)) ∷ told_detected true x ++ ts) marked.2;
   }
     where
       left : End
@@ -255,7 +259,7 @@ module _ (j : Judging) (now : ℕ) (flew : List Sent) (before : ℕ) where
       told = timed_tells j.terms now ss others ps rises a f e is acked stay w
 
       after : Moves flew j.settings.min_mtu before others (f.acked ++ ss) x
-      after = timed_moves flew j.settings.min_mtu before others (f.acked ++ ss) ps rises a e ((moving_flies flew j.settings.min_mtu before []).acks f.flying f.acked ss others ps e inside stays acked moves)
+      after = timed_moves flew j.settings.min_mtu before others (f.acked ++ ss) ps rises a e ((moving_flies flew j.settings.min_mtu before (ack a ∷ [])).acks f.flying f.acked ss others ps e a (inl refl) inside stays apart acked moves)
 
       -- the observer measures the same round trip
       measured : x.path.first_after_rtt ≡ measured_first j.first j.next (acked_flight j.terms now a ss others f).rtt.smoothed
@@ -267,17 +271,17 @@ module _ (j : Judging) (now : ℕ) (flew : List Sent) (before : ℕ) where
       marked : (marks : Bool) × (marks ≡ true → MayMark f.named a) × (told_marks rises ps a (losses_taken ps rises a e) ≡ told_if marks (Congested now (last_moment ss) false 0))
       marked = marks_told f now rises ss ps a (losses_taken ps rises a e) clock is acked
 
-      ended : AcksEnded left.closing.clock (saturated (bytes_in_flight left)) left.path.app_limited left.numbers.largest_acked ≡ AcksEnded now (min (bytes_asking others) latest) e.path.app_limited (Some (greatest_of f.named a.largest))
+      ended : AcksEnded left.closing.clock (saturated (bytes_in_flight left)) left.path.app_limited left.numbers.largest_acked ≡ AcksEnded now (min (bytes_asking others) latest) j.limited (Some (greatest_of f.named a.largest))
       ended =
           ap (λ (n : ℕ). AcksEnded n (saturated (bytes_in_flight left)) left.path.app_limited left.numbers.largest_acked) (ap (λ (h : Held). h.closing.clock) (acked_held ps e) ∙ sym w.clock)
           ∙ ap (λ (n : ℕ). AcksEnded now (saturated n) left.path.app_limited left.numbers.largest_acked) (bytes_of_end left others (ap (λ (h : Held). h.generation) (acked_held ps e) ∙ set.first) stay)
-          ∙ ap (λ (b : Bool). AcksEnded now (min (bytes_asking others) latest) b left.numbers.largest_acked) (acked_limited ps e)
-          ∙ ap (λ (o : Option ℕ). AcksEnded now (min (bytes_asking others) latest) e.path.app_limited o) (ap (λ (h : Held). h.numbers.largest_acked) (acked_held ps e) ∙ sym w.named)
+          ∙ ap (λ (b : Bool). AcksEnded now (min (bytes_asking others) latest) b left.numbers.largest_acked) (acked_limited ps e ∙ set.limited)
+          ∙ ap (λ (o : Option ℕ). AcksEnded now (min (bytes_asking others) latest) j.limited o) (ap (λ (h : Held). h.numbers.largest_acked) (acked_held ps e) ∙ sym w.named)
 
   -- one that names these, or none
   pub named_told : (ss others : List Sent) (ps : Table TrackedPacket) (rises : Bool) (a : AckValue) (f : Flight) (e : End) → rises ≡ is_greatest f.named a.largest → ((s : Sent) → In s ss → In s f.flying) → ((s : Sent) → In s others → In s f.flying)
-      → AreWaited ss ps → AreWaited others (not_acked_by a e.tracking.packets) → Tells j.terms now (counted a f) (held e) → IsSet j e → Moves flew j.settings.min_mtu before f.flying f.acked e → TellsNamed j now a ss others f (told_named ps rises a e)
-  named_told [] others [] rises a f e is inside stays acked stay w set moves = refl
-  named_told (s ∷ ss) others (p ∷ ps) rises a f e is inside stays acked stay w set moves = settled_told (s ∷ ss) others (p ∷ ps) rises a f e is inside stays acked stay w set moves
-  named_told [] others (p ∷ ps) rises a f e is inside stays acked stay w set moves = absurd acked
-  named_told (s ∷ ss) others [] rises a f e is inside stays acked stay w set moves = absurd acked
+      → ((s : Sent) → In s ss → In s others → ⊥) → AreWaited ss ps → AreWaited others (not_acked_by a e.tracking.packets) → Tells j.terms now (counted a f) (held e) → IsSet j e → Moves flew j.settings.min_mtu before f.flying f.acked e → TellsNamed j now a ss others f (told_named ps rises a e)
+  named_told [] others [] rises a f e is inside stays apart acked stay w set moves = refl
+  named_told (s ∷ ss) others (p ∷ ps) rises a f e is inside stays apart acked stay w set moves = settled_told (s ∷ ss) others (p ∷ ps) rises a f e is inside stays apart acked stay w set moves
+  named_told [] others (p ∷ ps) rises a f e is inside stays apart acked stay w set moves = absurd acked
+  named_told (s ∷ ss) others [] rises a f e is inside stays apart acked stay w set moves = absurd acked

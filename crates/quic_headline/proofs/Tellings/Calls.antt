@@ -54,20 +54,20 @@ use Rattle.quic_headline.proofs.Tellings.Hearing.{Hearings, by_hearing, closed_t
 -- ---- calls at which nothing comes
 
 -- what is told by one
-plain_call : (l : Lens) (c : TransportSettings) (first : Option ℕ) (w : Watch) (t : Told) (late : List congestion.Told) (went : List Sent) → and_told l.own l.peer_gave t w.intake ≡ w.intake
-    → (let clock = clock_behind w.clock (moment_of t.state false t.call) in TellsMoment (is_timely t.state t.call && is_past (loss_due l.terms w.flight) clock) (judging l c first w) clock w.flight late)
-    → (watch_told l t w).own ≡ w.own ++ went → TellsCall l c first w t (late ++ told_gone went)
-plain_call l c first w t late went same told own = record {
+plain_call : (l : Lens) (c : TransportSettings) (first : Option ℕ) (limited : Bool) (w : Watch) (t : Told) (late : List congestion.Told) (went : List Sent) → and_told l.own l.peer_gave t w.intake ≡ w.intake
+    → (let clock = clock_behind w.clock (moment_of t.state false t.call) in TellsMoment (is_timely t.state t.call && is_past (loss_due l.terms w.flight) clock) (judging l c first limited w) clock w.flight late)
+    → (watch_told l t w).own ≡ w.own ++ went → TellsCall l c first limited w t (late ++ told_gone went)
+plain_call l c first limited w t late went same told own = record {
   after = w.intake;
   came = sym same;
   clock = clock;
   moment = ap (λ (b : Bool). clock_behind w.clock (moment_of t.state b t.call)) (sym (none_opened w.intake));
   taken = [];
-  takes = subst (λ (ps : List Packet). TellsPackets (judging l c first w) clock ps w.flight []) (sym (none_new w.intake)) refl;
+  takes = subst (λ (ps : List Packet). TellsPackets (judging l c first limited w) clock ps w.flight []) (sym (none_new w.intake)) refl;
   refused = [];
-  refuses = subst (λ (b : Bool). TellsPart (judging l c first w) clock (b && is_refused t.answer) w.intake.part w.flight []) (sym (none_opened w.intake)) refl;
+  refuses = subst (λ (b : Bool). TellsPart (judging l c first limited w) clock (b && is_refused t.answer) w.intake.part w.flight []) (sym (none_opened w.intake)) refl;
   late = late;
-  expires = subst (λ (ps : List Packet). let f = after_packets l.terms clock ps w.flight in TellsMoment (is_timely t.state t.call && is_past (loss_due l.terms f) clock) (judging l c first w) clock f late) (sym (none_new w.intake)) told;
+  expires = subst (λ (ps : List Packet). let f = after_packets l.terms clock ps w.flight in TellsMoment (is_timely t.state t.call && is_past (loss_due l.terms f) clock) (judging l c first limited w) clock f late) (sym (none_new w.intake)) told;
   went = went;
   gave = own;
   is = refl;
@@ -77,10 +77,10 @@ plain_call l c first w t late went same told own = record {
     clock = clock_behind w.clock (moment_of t.state false t.call)
 
 -- by one that tells no moment and gives nothing
-pub quiet_call : (l : Lens) (c : TransportSettings) (first : Option ℕ) (w : Watch) (t : Told) → and_told l.own l.peer_gave t w.intake ≡ w.intake → is_timely t.state t.call ≡ false → gave t.answer ≡ false → TellsCall l c first w t []
-quiet_call l c first w t same untimed none =
+pub quiet_call : (l : Lens) (c : TransportSettings) (first : Option ℕ) (limited : Bool) (w : Watch) (t : Told) → and_told l.own l.peer_gave t w.intake ≡ w.intake → is_timely t.state t.call ≡ false → gave t.answer ≡ false → TellsCall l c first limited w t []
+quiet_call l c first limited w t same untimed none =
     let clock : ℕ = clock_behind w.clock (moment_of t.state false t.call) in
-    plain_call l c first w t [] [] same (subst (λ (b : Bool). TellsMoment (b && is_past (loss_due l.terms w.flight) clock) (judging l c first w) clock w.flight []) (sym untimed) refl) (told_own l t w none ∙ sym (append-nil w.own))
+    plain_call l c first limited w t [] [] same (subst (λ (b : Bool). TellsMoment (b && is_past (loss_due l.terms w.flight) clock) (judging l c first limited w) clock w.flight []) (sym untimed) refl) (told_own l t w none ∙ sym (append-nil w.own))
 
 -- ---- a poll
 
@@ -133,7 +133,7 @@ poll_told p e now = state_case e.closing.state
 
 -- ---- any call
 
-module _ (x y : Party) (joined : AreJoined x y) (meets : Meets y x) (sight : Sight x y) (search : KnowsSearch x y) (quiet : Unnamed x y) (next : x.end.numbers.next ≡ next_number x.sents) (first : Option ℕ)
+module _ (x y : Party) (joined : AreJoined x y) (meets : Meets y x) (sight : Sight x y) (search : KnowsSearch x y) (quiet : Unnamed x y) (next : x.end.numbers.next ≡ next_number x.sents) (first : Option ℕ) (limited : Bool) (counts : x.end.path.app_limited ≡ limited)
     (settings : x.end.transport ≡ x.made.transport) (measured : x.end.closing.state ≡ states.Open → x.end.path.first_after_rtt ≡ measured_first first (next_number x.sents) x.end.path.rtt.smoothed) where
   abbrev c : TransportSettings
   c = x.made.transport
@@ -141,9 +141,9 @@ module _ (x y : Party) (joined : AreJoined x y) (meets : Meets y x) (sight : Sig
   abbrev seen : Watch
   seen = watch_of x y
 
-  -- by what its losses are judged
+  -- by what its acknowledgements and losses are judged
   abbrev j : Judging
-  j = judging (lens x y) c first seen
+  j = judging (lens x y) c first limited seen
 
   set : x.end.closing.state ≡ states.Open → IsSet j x.end
   set opened = record {
@@ -151,6 +151,7 @@ module _ (x y : Party) (joined : AreJoined x y) (meets : Meets y x) (sight : Sig
     settings = settings;
     next = next ∙ ap next_number (sym sight.own);
     measured = measured opened ∙ ap (λ (ss : List Sent). measured_first first (next_number ss) x.end.path.rtt.smoothed) (sym sight.own);
+    limited = counts;
   }
 
   seen_intake : seen.intake ≡ came_to x y
@@ -180,35 +181,35 @@ module _ (x y : Party) (joined : AreJoined x y) (meets : Meets y x) (sight : Sig
       go None = refl
       go (Some moment) = losses_told j clock false seen.flight begins waits.tells (set opened).first (set opened).settings ((set opened).measured ∙ ap (λ (r : Rtt). measured_first j.first j.next r.smoothed) (sym waits.tells.rtt)) moves.floor (λ s i size shown. may_probe c.min_mtu begins.path.discovery s moves.sized size shown (moves.probes s i size shown))
 
-  pub timeout_told : (now : ℕ) (a : Answer) → IsAnswer x.policy x.end y.given (calls.Timeout now) a → TellsCall (lens x y) c first seen (told_of (calls.Timeout now) a x.end.closing.state) (told_timed_out x.end now)
+  pub timeout_told : (now : ℕ) (a : Answer) → IsAnswer x.policy x.end y.given (calls.Timeout now) a → TellsCall (lens x y) c first limited seen (told_of (calls.Timeout now) a x.end.closing.state) (told_timed_out x.end now)
   timeout_told now a is = go x.end.closing.state refl
     where
       silent : gave a ≡ false
       silent = only_polls_give x.policy x.end y.given (calls.Timeout now) a refl is
 
-      go : (s : State) → x.end.closing.state ≡ s → TellsCall (lens x y) c first seen (told_of (calls.Timeout now) a s) (told_timed_out_in s x.end now)
+      go : (s : State) → x.end.closing.state ≡ s → TellsCall (lens x y) c first limited seen (told_of (calls.Timeout now) a s) (told_timed_out_in s x.end now)
       go states.Open opened =
           let t : Told = told_of (calls.Timeout now) a states.Open in
           let late : List congestion.Told = told_timed_out_in states.Open x.end now in
-          subst (λ (ts : List congestion.Told). TellsCall (lens x y) c first seen t ts) (append-nil late)
-          (plain_call (lens x y) c first seen t late [] (none_comes (lens x y) t seen.intake refl)
+          subst (λ (ts : List congestion.Told). TellsCall (lens x y) c first limited seen t ts) (append-nil late)
+          (plain_call (lens x y) c first limited seen t late [] (none_comes (lens x y) t seen.intake refl)
           (subst (λ (b : Bool). TellsMoment b j (max seen.clock now) seen.flight late) (timer_expires x.terms seen x.end now (sight.stands opened) (sight.watched.flight opened)) (expired_told now opened (has_come x.end.timers.loss_detection (max x.end.closing.clock now))))
           (told_own (lens x y) t seen silent ∙ sym (append-nil seen.own)))
-      go states.Closing closed = let t : Told = told_of (calls.Timeout now) a states.Closing in quiet_call (lens x y) c first seen t (none_comes (lens x y) t seen.intake refl) refl silent
-      go states.Drained closed = let t : Told = told_of (calls.Timeout now) a states.Drained in quiet_call (lens x y) c first seen t (none_comes (lens x y) t seen.intake refl) refl silent
-      go states.Failed closed = let t : Told = told_of (calls.Timeout now) a states.Failed in quiet_call (lens x y) c first seen t (none_comes (lens x y) t seen.intake refl) refl silent
+      go states.Closing closed = let t : Told = told_of (calls.Timeout now) a states.Closing in quiet_call (lens x y) c first limited seen t (none_comes (lens x y) t seen.intake refl) refl silent
+      go states.Drained closed = let t : Told = told_of (calls.Timeout now) a states.Drained in quiet_call (lens x y) c first limited seen t (none_comes (lens x y) t seen.intake refl) refl silent
+      go states.Failed closed = let t : Told = told_of (calls.Timeout now) a states.Failed in quiet_call (lens x y) c first limited seen t (none_comes (lens x y) t seen.intake refl) refl silent
 
   -- ---- a poll
 
   pub poll_call : (now : ℕ) (a : Answer) → IsAnswer x.policy x.end y.given (calls.Poll now) a → fails a ≡ false → (watch_of (called x y.given (calls.Poll now) a) y).own ≡ x.sents ++ sents_by x.end (calls.Poll now) a
-      → TellsCall (lens x y) c first seen (told_of (calls.Poll now) a x.end.closing.state) (told_polled x.end now)
+      → TellsCall (lens x y) c first limited seen (told_of (calls.Poll now) a x.end.closing.state) (told_polled x.end now)
   poll_call now a is served behind =
       let t : Told = told_of (calls.Poll now) a x.end.closing.state in
       let clock : ℕ = clock_behind seen.clock (moment_of t.state false t.call) in
       let went : List Sent = sents_by x.end (calls.Poll now) a in
       let told : told_polled x.end now ≡ told_gone went = poll_told x.policy x.end now ∙ ap (λ (b : Answer). told_gone (sent_if (gave b) (sent_by x.end now))) (sym (poll_answer x.policy x.end now a is served)) in
-      subst (λ (ts : List congestion.Told). TellsCall (lens x y) c first seen t ts) (sym told)
-      (plain_call (lens x y) c first seen t [] went (none_comes (lens x y) t seen.intake refl)
+      subst (λ (ts : List congestion.Told). TellsCall (lens x y) c first limited seen t ts) (sym told)
+      (plain_call (lens x y) c first limited seen t [] went (none_comes (lens x y) t seen.intake refl)
       (subst (λ (b : Bool). TellsMoment (b && is_past (loss_due x.terms seen.flight) clock) j clock seen.flight []) (sym (untimely t.state t.call refl)) refl)
       (sym (ap (λ (w : Watch). w.own) (folded_more (watch_told (lens x y)) x.told t _)) ∙ behind ∙ ap (λ (ss : List Sent). ss ++ went) (sym sight.own)))
 
@@ -278,7 +279,7 @@ module _ (x y : Party) (joined : AreJoined x y) (meets : Meets y x) (sight : Sig
 
     -- an open end is handed a datagram
     open_call : x.end.closing.state ≡ states.Open → (d : List ℕ) → slice_get y.given delivery.index ≡ Some d → (a : Answer) → a ≡ answers.Deliver (received x.policy x.end (delivered_by delivery) d).answer
-        → TellsCall (lens x y) c first seen (told_of (calls.Deliver delivery) a states.Open) (told_received x.policy x.end delivery.now d)
+        → TellsCall (lens x y) c first limited seen (told_of (calls.Deliver delivery) a states.Open) (told_received x.policy x.end delivery.now d)
     open_call opened d at a is = record {
       after = after;
       came = came;
@@ -311,29 +312,29 @@ module _ (x y : Party) (joined : AreJoined x y) (meets : Meets y x) (sight : Sig
 
         heard : BringsBy a (told_received x.policy x.end delivery.now d) after
         heard = subst (λ (b : Answer). BringsBy b (told_received x.policy x.end delivery.now d) after) (sym is)
-            (by_hearing x.policy x.end (delivered_by delivery) seen.intake d BringsBy (meets.known ∙ ap (λ (i : Intake). i.ids) (sym seen_intake)) knows opened (hearings opened))
+            (by_hearing x.policy x.end (delivered_by delivery) seen.intake d BringsBy knows opened (hearings opened))
 
     pub delivery_told : (a : Answer) → IsAnswer x.policy x.end y.given (calls.Deliver delivery) a → fails a ≡ false
-        → TellsCall (lens x y) c first seen (told_of (calls.Deliver delivery) a x.end.closing.state) (told_delivered x.policy x.end delivery.now (slice_get y.given delivery.index))
+        → TellsCall (lens x y) c first limited seen (told_of (calls.Deliver delivery) a x.end.closing.state) (told_delivered x.policy x.end delivery.now (slice_get y.given delivery.index))
     delivery_told a is served = go (slice_get y.given delivery.index) refl is
       where
         silent : gave a ≡ false
         silent = only_polls_give x.policy x.end y.given (calls.Deliver delivery) a refl is
 
-        go : (o : Option (List ℕ)) → slice_get y.given delivery.index ≡ o → IsDelivered x.policy x.end delivery o a → TellsCall (lens x y) c first seen (told_of (calls.Deliver delivery) a x.end.closing.state) (told_delivered x.policy x.end delivery.now o)
+        go : (o : Option (List ℕ)) → slice_get y.given delivery.index ≡ o → IsDelivered x.policy x.end delivery o a → TellsCall (lens x y) c first limited seen (told_of (calls.Deliver delivery) a x.end.closing.state) (told_delivered x.policy x.end delivery.now o)
         go None at none =
-            quiet_call (lens x y) c first seen (told_of (calls.Deliver delivery) a x.end.closing.state)
+            quiet_call (lens x y) c first limited seen (told_of (calls.Deliver delivery) a x.end.closing.state)
             (ap (λ (b : Answer). and_handed x.end.closing.state (handed y.final (calls.Deliver delivery) b) x.policy a seen.intake) none ∙ nothing_handed x.end.closing.state x.policy a seen.intake)
             (untimely x.end.closing.state (calls.Deliver delivery) refl) silent
         go (Some d) at (inr failed) = cc
         go (Some d) at (inl said) = by_state x.end.closing.state refl
           where
-            none : (s : State) → x.end.closing.state ≡ s → (s ≡ states.Open → ⊥) → and_told x.policy y.final (told_of (calls.Deliver delivery) a s) seen.intake ≡ seen.intake → TellsCall (lens x y) c first seen (told_of (calls.Deliver delivery) a s) (told_received x.policy x.end delivery.now d)
+            none : (s : State) → x.end.closing.state ≡ s → (s ≡ states.Open → ⊥) → and_told x.policy y.final (told_of (calls.Deliver delivery) a s) seen.intake ≡ seen.intake → TellsCall (lens x y) c first limited seen (told_of (calls.Deliver delivery) a s) (told_received x.policy x.end delivery.now d)
             none s closed shut same =
-                subst (λ (ts : List congestion.Told). TellsCall (lens x y) c first seen (told_of (calls.Deliver delivery) a s) ts) (sym (closed_told x.policy x.end delivery.now d x.end.closing.state refl (λ opened. shut (sym closed ∙ opened))))
-                (quiet_call (lens x y) c first seen (told_of (calls.Deliver delivery) a s) same (untimely s (calls.Deliver delivery) refl) silent)
+                subst (λ (ts : List congestion.Told). TellsCall (lens x y) c first limited seen (told_of (calls.Deliver delivery) a s) ts) (sym (closed_told x.policy x.end delivery.now d x.end.closing.state refl (λ opened. shut (sym closed ∙ opened))))
+                (quiet_call (lens x y) c first limited seen (told_of (calls.Deliver delivery) a s) same (untimely s (calls.Deliver delivery) refl) silent)
 
-            by_state : (s : State) → x.end.closing.state ≡ s → TellsCall (lens x y) c first seen (told_of (calls.Deliver delivery) a s) (told_received x.policy x.end delivery.now d)
+            by_state : (s : State) → x.end.closing.state ≡ s → TellsCall (lens x y) c first limited seen (told_of (calls.Deliver delivery) a s) (told_received x.policy x.end delivery.now d)
             by_state states.Open opened = open_call opened d at a said
             by_state states.Closing closed = none states.Closing closed (λ opened. cc) refl
             by_state states.Drained closed = none states.Drained closed (λ opened. cc) refl

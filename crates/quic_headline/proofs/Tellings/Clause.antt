@@ -1,9 +1,10 @@
 -- At each place of an honest run, what a controller was told so far is what may be told, by what
 -- the observer of its end knows; and the window and the size that a view shows are those that the
 -- controller shows, and was told last.
-use Rattle.std.proofs.Common.{◌≡◌, ℕ, zero, suc, List, [], ◌∷◌, ◌++◌, take, Bool, false, Option, Some, None, refl, sym, ap, ◌∙◌, subst}
+use Rattle.std.proofs.Common.{◌≡◌, ℕ, zero, suc, List, [], ◌∷◌, ◌++◌, ◌+◌, ◌≤◌, length, take, Bool, false, Option, Some, None, refl, sym, ap, ◌∙◌, subst, arith}
 use Rattle.std.specs.Prelude.{if◌then◌else◌, slice_get}
 use Rattle.std.proofs.lemmas.List.{append_assoc, append-nil}
+use Rattle.std.proofs.lemmas.Option.{slice_get_within}
 use Rattle.quic_wire_core.specs.declared.stream_id.Side.{Side}
 use Rattle.quic_wire_core.specs.declared.stream_id.Side.TheVariants.{Client, Server}
 use Rattle.quic_wire_core.specs.StreamId.{other_side}
@@ -26,6 +27,7 @@ use Rattle.quic_headline.specs.Runs.{Run, Told, same_side, given_of, told_by, un
 use Rattle.quic_headline.specs.Observer.{Sent, Watch, Lens, watch_told, lens_of, watch_from, watch, next_number}
 use Rattle.quic_headline.specs.Headline.{IsHonest, IsRun}
 use Rattle.quic_headline.specs.Polls.{window_in, mtu_in, search_at, told_by_step, IsMade}
+use Rattle.quic_headline.specs.AppLimited.{MayCount, CountsAt}
 use Rattle.quic_headline.specs.Telling.{Judging, measured_first, first_behind, TellsCall, TellsCalls, MayTell, ControllersAreTold}
 use Rattle.quic_headline.proofs.Packets.Intakes.{folded_more}
 use Rattle.quic_headline.proofs.Packets.Stays.{placed_call}
@@ -61,20 +63,22 @@ first_more : (l : Lens) (first : Option ℕ) (w : Watch) (ts : List Told) (t : T
 first_more l first w [] t = refl
 first_more l first w (u ∷ ts) t = first_more l (first_behind first (watch_told l u w)) (watch_told l u w) ts t
 
--- what calls tell, and one more
-tells_more : (l : Lens) (c : TransportSettings) (first : Option ℕ) (w : Watch) (ts : List Told) (t : Told) (told now : List congestion.Told) → TellsCalls l c first w ts told → TellsCall l c (first_after l first w ts) (folded (watch_told l) ts w) t now
-    → TellsCalls l c first w (ts ++ t ∷ []) (told ++ now)
-tells_more l c first w [] t told now before here = (now, [], here, refl, ap (λ (us : List congestion.Told). us ++ now) before ∙ sym (append-nil now))
-tells_more l c first w (u ∷ ts) t told now before here = (
+-- what calls tell, and one more, at which the end may count so
+tells_more : (l : Lens) (c : TransportSettings) (may : ℕ → Bool → Type 0) (n : ℕ) (first : Option ℕ) (w : Watch) (ts : List Told) (t : Told) (told now : List congestion.Told) (limited : Bool) → TellsCalls l c may n first w ts told
+    → (t.state ≡ states.Open → (m : ℕ) → m ≡ n + length ts → may m limited) → TellsCall l c (first_after l first w ts) limited (folded (watch_told l) ts w) t now → TellsCalls l c may n first w (ts ++ t ∷ []) (told ++ now)
+tells_more l c may n first w [] t told now limited before so here = (limited, now, [], (λ opened. so opened n (omega arith)), here, refl, ap (λ (us : List congestion.Told). us ++ now) before ∙ sym (append-nil now))
+tells_more l c may n first w (u ∷ ts) t told now limited before so here = (
   before.0,
-  before.1 ++ now,
-  before.2,
-  tells_more l c (first_behind first (watch_told l u w)) (watch_told l u w) ts t before.1 now before.3 here,
-  ap (λ (us : List congestion.Told). us ++ now) before.4 ∙ append_assoc before.0 before.1 now,
+  before.1,
+  before.2 ++ now,
+  before.3,
+  before.4,
+  tells_more l c may (suc n) (first_behind first (watch_told l u w)) (watch_told l u w) ts t before.2 now limited before.5 (λ opened m is. so opened m (omega (arith, is))) here,
+  ap (λ (us : List congestion.Told). us ++ now) before.6 ∙ append_assoc before.1 before.2 now,
 )
 
 -- a place has one before it
-view_before : (i : ℕ) (views : List View) (v : View) → slice_get views (suc i) ≡ Some v → (u : View) × (slice_get views i ≡ Some u)
+pub view_before : (i : ℕ) (views : List View) (v : View) → slice_get views (suc i) ≡ Some v → (u : View) × (slice_get views i ≡ Some u)
 view_before i [] v there = cc
 view_before zero (u ∷ views) v there = (u, refl)
 view_before (suc i) (u ∷ views) v there = view_before i views v there
@@ -85,7 +89,8 @@ reads_same control (calls.Poll now) e = (refl, refl, (refl, refl))
 reads_same control call e = (refl, refl, (refl, refl))
 
 module _ (G : Way) (g : Group Nothing G) (packets : (x y : Party) → G x y → PacketsHold x y) (sight : (x y : Party) → G x y → Sight x y) (search : (x y : Party) → G x y → KnowsSearch x y) (quiet : (x y : Party) → G x y → Unnamed x y)
-    (r : Run) (end : World) (honest : IsHonest r) (run : IsRun r end) where
+    (r : Run) (end : World) (honest : IsHonest r) (run : IsRun r end)
+    (counts : (i : ℕ) (side : Side) (w : World) → i ≤ length r.views → LeadsTo r i w → AreServed r i → (end_at side w).closing.state ≡ states.Open → MayCount r side i (end_at side w).path.app_limited) where
   -- the settings of an end as the run began
   abbrev settings : Side → TransportSettings
   settings side = (end_at side r.start).transport
@@ -110,30 +115,30 @@ module _ (G : Way) (g : Group Nothing G) (packets : (x y : Party) → G x y → 
 
     -- what may be told by a call
     abbrev Told_by : Call → Type 0
-    Told_by call = TellsCall (lens_of r side) (settings side) (first_at side i) (watch r side i) (told_of call a (met call).closing.state) (tells policy (met call) theirs call)
+    Told_by call = TellsCall (lens_of r side) (settings side) (first_at side i) (end_at side w).path.app_limited (watch r side i) (told_of call a (met call).closing.state) (tells policy (met call) theirs call)
 
     own_tells : (call : Call) → IsMade r i side call a w next → Told_by call
     own_tells (calls.Deliver delivery) m =
         let h = call_holds G g r end honest run i side (calls.Deliver delivery) a w next (λ id is. cc) tt m in
         let x : Party = calling r i w side (calls.Deliver delivery) h.sents in
         let y : Party = party_at r i w (other_side side) h.theirs in
-        subst (λ (v : Watch). TellsCall (lens_of r side) (settings side) (first_at side i) v (told_of (calls.Deliver delivery) a (end_at side w).closing.state) (tells policy (end_at side w) theirs (calls.Deliver delivery))) (sym h.seen)
-        (delivery_told x y h.joined (meets y x (packets y x h.takes)) (sight x y h.gives) (search x y h.gives) (quiet x y h.gives) (packets x y h.gives).gives.next (first_at side i) same (λ opened. first_measured (first_at side i) (next_number x.sents) x.end.path (first opened)) delivery a m.step.answer (made_served r i side (calls.Deliver delivery) a w next m))
+        subst (λ (v : Watch). TellsCall (lens_of r side) (settings side) (first_at side i) (end_at side w).path.app_limited v (told_of (calls.Deliver delivery) a (end_at side w).closing.state) (tells policy (end_at side w) theirs (calls.Deliver delivery))) (sym h.seen)
+        (delivery_told x y h.joined (meets y x (packets y x h.takes)) (sight x y h.gives) (search x y h.gives) (quiet x y h.gives) (packets x y h.gives).gives.next (first_at side i) (end_at side w).path.app_limited refl same (λ opened. first_measured (first_at side i) (next_number x.sents) x.end.path (first opened)) delivery a m.step.answer (made_served r i side (calls.Deliver delivery) a w next m))
     own_tells (calls.Timeout now) m =
         let h = call_holds G g r end honest run i side (calls.Timeout now) a w next (λ id is. cc) tt m in
         let x : Party = calling r i w side (calls.Timeout now) h.sents in
         let y : Party = party_at r i w (other_side side) h.theirs in
-        subst (λ (v : Watch). TellsCall (lens_of r side) (settings side) (first_at side i) v (told_of (calls.Timeout now) a (end_at side w).closing.state) (tells policy (end_at side w) theirs (calls.Timeout now))) (sym h.seen)
-        (timeout_told x y h.joined (meets y x (packets y x h.takes)) (sight x y h.gives) (search x y h.gives) (quiet x y h.gives) (packets x y h.gives).gives.next (first_at side i) same (λ opened. first_measured (first_at side i) (next_number x.sents) x.end.path (first opened)) now a m.step.answer)
+        subst (λ (v : Watch). TellsCall (lens_of r side) (settings side) (first_at side i) (end_at side w).path.app_limited v (told_of (calls.Timeout now) a (end_at side w).closing.state) (tells policy (end_at side w) theirs (calls.Timeout now))) (sym h.seen)
+        (timeout_told x y h.joined (meets y x (packets y x h.takes)) (sight x y h.gives) (search x y h.gives) (quiet x y h.gives) (packets x y h.gives).gives.next (first_at side i) (end_at side w).path.app_limited refl same (λ opened. first_measured (first_at side i) (next_number x.sents) x.end.path (first opened)) now a m.step.answer)
     own_tells (calls.Poll now) m =
         let h = call_holds G g r end honest run i side (calls.Poll now) a w next (λ id is. cc) tt m in
         let x : Party = calling r i w side (calls.Poll now) h.sents in
         let y : Party = party_at r i w (other_side side) h.theirs in
-        subst (λ (v : Watch). TellsCall (lens_of r side) (settings side) (first_at side i) v (told_of (calls.Poll now) a (met (calls.Poll now)).closing.state) (tells policy (met (calls.Poll now)) theirs (calls.Poll now))) (sym h.seen)
-        (poll_call x y h.joined (meets y x (packets y x h.takes)) (sight x y h.gives) (search x y h.gives) (quiet x y h.gives) (packets x y h.gives).gives.next (first_at side i) same (λ opened. first_measured (first_at side i) (next_number x.sents) x.end.path (record { is = (first opened).is; none = (first opened).none })) now a m.step.answer (made_served r i side (calls.Poll now) a w next m) (sight _ y h.behind).own)
+        subst (λ (v : Watch). TellsCall (lens_of r side) (settings side) (first_at side i) (end_at side w).path.app_limited v (told_of (calls.Poll now) a (met (calls.Poll now)).closing.state) (tells policy (met (calls.Poll now)) theirs (calls.Poll now))) (sym h.seen)
+        (poll_call x y h.joined (meets y x (packets y x h.takes)) (sight x y h.gives) (search x y h.gives) (quiet x y h.gives) (packets x y h.gives).gives.next (first_at side i) (end_at side w).path.app_limited refl same (λ opened. first_measured (first_at side i) (next_number x.sents) x.end.path (record { is = (first opened).is; none = (first opened).none })) now a m.step.answer (made_served r i side (calls.Poll now) a w next m) (sight _ y h.behind).own)
     own_tells call m =
         let t : Told = told_of call a (end_at side w).closing.state in
-        quiet_call (lens_of r side) (settings side) (first_at side i) (watch r side i) t (none_comes (lens_of r side) t (watch r side i).intake refl) (untimely t.state call refl) (only_polls_give policy (end_at side w) theirs call a refl m.step.answer)
+        quiet_call (lens_of r side) (settings side) (first_at side i) (end_at side w).path.app_limited (watch r side i) t (none_comes (lens_of r side) t (watch r side i).intake refl) (untimely t.state call refl) (only_polls_give policy (end_at side w) theirs call a refl m.step.answer)
 
   -- ---- what is measured
 
@@ -199,7 +204,7 @@ module _ (G : Way) (g : Group Nothing G) (packets : (x y : Party) → G x y → 
 
     -- by what its losses are judged
     abbrev judged : Judging
-    judged = record { terms = l.terms; settings = settings side; next = next_number (watch r side i).own; first = first_at side i }
+    judged = record { terms = l.terms; settings = settings side; next = next_number (watch r side i).own; first = first_at side i; limited = e.path.app_limited }
 
     set : IsSet judged e
     set =
@@ -211,6 +216,7 @@ module _ (G : Way) (g : Group Nothing G) (packets : (x y : Party) → G x y → 
           settings = same;
           next = sym (ap (λ (v : World). (end_at side v).numbers.next) here) ∙ (packets x y at.gives).gives.next ∙ ap next_number (sym own);
           measured = first_measured (first_at side i) (next_number (watch r side i).own) e.path (known was);
+          limited = refl;
         }
 
     -- what the end measured behind the call
@@ -260,7 +266,7 @@ module _ (G : Way) (g : Group Nothing G) (packets : (x y : Party) → G x y → 
   at_first : (side : Side) (w : World) → w ≡ r.start → Was side zero w
   at_first side w is = subst (λ (v : World). Was side zero v) (sym is) (record {
     told = [];
-    may = subst (λ (ts : List Told). TellsCalls (lens_of r side) (settings side) None (watch_from (end_at side r.start) (given_of r side)) ts []) (sym (told_none side r.events r.views (end_at side r.start).closing.state)) refl;
+    may = subst (λ (ts : List Told). TellsCalls (lens_of r side) (settings side) (CountsAt r side) 0 None (watch_from (end_at side r.start) (given_of r side)) ts []) (sym (told_none side r.events r.views (end_at side r.start).closing.state)) refl;
     shows = λ more. refl;
     sized = still (search_at side r.start) [] tt;
     same = refl;
@@ -325,25 +331,29 @@ module _ (G : Way) (g : Group Nothing G) (packets : (x y : Party) → G x y → 
           (subst (λ (v : World). IsFirst (first_at Server i) v.server.path) (sym m.step.others) (known (sym (ap (λ (v : World). v.server.closing.state) m.step.others) ∙ opened)))
 
       may : MayTell r side (suc i) (b.told ++ now)
-      may = subst (λ (ts : List Told). TellsCalls (lens_of r side) (settings side) None (watch_from (end_at side r.start) (given_of r side)) ts (b.told ++ now)) (sym more) (go side by call m b.told b.may b.same b.first state)
+      may = subst (λ (ts : List Told). TellsCalls (lens_of r side) (settings side) (CountsAt r side) 0 None (watch_from (end_at side r.start) (given_of r side)) ts (b.told ++ now)) (sym more) (go side by call m b.told b.may b.same b.first state)
         where
           -- its own call
           mine : (side : Side) (call : Call) → IsMade r i side call a w next → (told : List congestion.Told) → MayTell r side i told → (end_at side w).transport ≡ settings side → ((end_at side w).closing.state ≡ states.Open → IsFirst (first_at side i) (end_at side w).path) → state_at r side i ≡ (end_at side w).closing.state
-              → TellsCalls (lens_of r side) (settings side) None (watch_from (end_at side r.start) (given_of r side)) (until r side i ++ told_of call a (state_at r side i) ∷ []) (told ++ tells (policy_at side r.keys) (reads_window (control_at side w) call (end_at side w)) (given_by (other_side side) w) call)
+              → TellsCalls (lens_of r side) (settings side) (CountsAt r side) 0 None (watch_from (end_at side r.start) (given_of r side)) (until r side i ++ told_of call a (state_at r side i) ∷ []) (told ++ tells (policy_at side r.keys) (reads_window (control_at side w) call (end_at side w)) (given_by (other_side side) w) call)
           mine side call m told may same first state =
+              let place = slice_get_within r.answers i a m.at.answer in
+              let many = as_many_views r.keys r.start end r.events r.answers r.views run.follows in
+              let within : i ≤ length r.views = omega (arith, place, many) in
               let met : End = reads_window (control_at side w) call (end_at side w) in
               let said : List congestion.Told = tells (policy_at side r.keys) met (given_by (other_side side) w) call in
-              subst (λ (s : State). TellsCalls (lens_of r side) (settings side) None (watch_from (end_at side r.start) (given_of r side)) (until r side i ++ told_of call a s ∷ []) (told ++ said)) ((reads_same (control_at side w) call (end_at side w)).0 ∙ sym state)
-              (tells_more (lens_of r side) (settings side) None (watch_from (end_at side r.start) (given_of r side)) (until r side i) (told_of call a met.closing.state) told said may (own_tells i side a w next same first call m))
+              subst (λ (s : State). TellsCalls (lens_of r side) (settings side) (CountsAt r side) 0 None (watch_from (end_at side r.start) (given_of r side)) (until r side i ++ told_of call a s ∷ []) (told ++ said)) ((reads_same (control_at side w) call (end_at side w)).0 ∙ sym state)
+              (tells_more (lens_of r side) (settings side) (CountsAt r side) 0 None (watch_from (end_at side r.start) (given_of r side)) (until r side i) (told_of call a met.closing.state) told said (end_at side w).path.app_limited may
+              (λ opened n is. record { place = i; as_many = omega (arith, is); counts = counts i side w within m.leads (served_before r.answers i m.served) (sym (reads_same (control_at side w) call (end_at side w)).0 ∙ opened) }) (own_tells i side a w next same first call m))
 
           -- a call of the other end
-          theirs : (side : Side) (told : List congestion.Told) → MayTell r side i told → TellsCalls (lens_of r side) (settings side) None (watch_from (end_at side r.start) (given_of r side)) (until r side i ++ []) (told ++ [])
+          theirs : (side : Side) (told : List congestion.Told) → MayTell r side i told → TellsCalls (lens_of r side) (settings side) (CountsAt r side) 0 None (watch_from (end_at side r.start) (given_of r side)) (until r side i ++ []) (told ++ [])
           theirs side told may =
-              subst (λ (ts : List Told). TellsCalls (lens_of r side) (settings side) None (watch_from (end_at side r.start) (given_of r side)) ts (told ++ [])) (sym (append-nil (until r side i)))
+              subst (λ (ts : List Told). TellsCalls (lens_of r side) (settings side) (CountsAt r side) 0 None (watch_from (end_at side r.start) (given_of r side)) ts (told ++ [])) (sym (append-nil (until r side i)))
               (subst (λ (us : List congestion.Told). MayTell r side i us) (sym (append-nil told)) may)
 
           go : (side by : Side) (call : Call) → IsMade r i by call a w next → (told : List congestion.Told) → MayTell r side i told → (end_at side w).transport ≡ settings side → ((end_at side w).closing.state ≡ states.Open → IsFirst (first_at side i) (end_at side w).path) → state_at r side i ≡ (end_at side w).closing.state
-              → TellsCalls (lens_of r side) (settings side) None (watch_from (end_at side r.start) (given_of r side)) (until r side i ++ told_by side (state_at r side i) (record { side = by; call = call }) a) (told ++ told_by_step side r.keys w (record { side = by; call = call }))
+              → TellsCalls (lens_of r side) (settings side) (CountsAt r side) 0 None (watch_from (end_at side r.start) (given_of r side)) (until r side i ++ told_by side (state_at r side i) (record { side = by; call = call }) a) (told ++ told_by_step side r.keys w (record { side = by; call = call }))
           go Client Client call m told may same first state = mine Client call m told may same first state
           go Server Server call m told may same first state = mine Server call m told may same first state
           go Client Server call m told may same first state = theirs Client told may

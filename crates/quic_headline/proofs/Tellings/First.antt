@@ -14,7 +14,8 @@ use Rattle.quic_machine.specs.Acked.{verdict, losses_detected}
 use Rattle.quic_machine.specs.Poll.{Polled}
 use Rattle.quic_machine.specs.Timeouts.{Expiry}
 use Rattle.quic_machine.specs.Machine.{after_delivered, after_call}
-use Rattle.quic_machine.specs.CallCases.{is_delivery, by_plain_call}
+use Rattle.quic_machine.specs.CallCases.{Plain, is_delivery, by_plain_call}
+use Rattle.quic_machine.specs.CallCases as cases
 use Rattle.quic_machine.specs.LeaveCases.{at_expiry, by_expired}
 use Rattle.quic_machine.specs.FrameCases.{packets_lost_keep, by_received}
 use Rattle.quic_machine.specs.PollCases.{at_poll, by_poll, composes}
@@ -38,26 +39,22 @@ expired_measured e now = by_expired e now (λ (x : End). Measured e.path x.path)
 
 -- and so does each such call
 pub call_measured : (p : Policy) (e : End) (theirs : List (List ℕ)) (call : Call) (a : Answer) → is_delivery call ≡ false → Measured e.path (after_call p e theirs call a).path
-call_measured p e theirs call a apart = by_plain_call p e theirs (λ (x : End). Measured e.path x.path) call a (record {
-  same = (refl, refl);
-  on_streams = λ t. (refl, refl);
-  on_messages = λ m. (refl, refl);
-  pings = (refl, refl);
-  heard = λ path same. (same.first_after_rtt, same.rtt);
-  times = λ now expiry is. expired_measured e now expiry;
-  polls = λ now is. by_poll p e now (λ (q : Polled). Measured e.path q.end.path) (record {
-    silent = (refl, refl);
-    failed = (refl, refl);
-    nothing = λ c. (refl, refl);
-    used_up = λ c. (refl, refl);
-    gives = λ leaving c left is may ready some.
-        let x : End = at_poll e now c in
-        let path = (composes leaving x (may_leave e now leaving x ready)).path in
-        (ap (λ (q : Path). q.first_after_rtt) path, ap (λ (q : Path). q.rtt) path);
-  });
-  hears = λ arrival d is. cc;
-  tells = λ told. (refl, refl);
-})
+call_measured p e theirs call a apart = by_plain_call p e theirs (λ (x : End). Measured e.path x.path) call a keep
+  where
+    keep : Plain p e call (λ (x : End). Measured e.path x.path)
+    keep (cases.times now expiry) may = expired_measured e now expiry
+    keep (cases.polls now) may = by_poll p e now (λ (q : Polled). Measured e.path q.end.path) (record {
+      silent = (refl, refl);
+      failed = (refl, refl);
+      nothing = λ c. (refl, refl);
+      closes = λ c. (refl, refl);
+      gives = λ leaving c left is may ready some.
+          let x : End = at_poll e now c in
+          let path = (composes leaving x (may_leave e now leaving x ready)).path in
+          (ap (λ (q : Path). q.first_after_rtt) path, ap (λ (q : Path). q.rtt) path);
+    })
+    keep (cases.hears arrival d) is = cc
+    keep c may = (refl, refl)
 
 -- ---- a delivery
 

@@ -16,7 +16,7 @@ use Rattle.quic_headline.specs.Observer.{Sent, Flight, is_greatest, after_frames
 use Rattle.quic_headline.specs.Telling.{Judging, TellsAck, TellsFrames}
 use Rattle.quic_headline.proofs.Packets.Named.{in_filter}
 use Rattle.quic_headline.proofs.Packets.Waited.{AreWaited, waited_filter}
-use Rattle.quic_headline.proofs.Packets.Flying.{Tells, Waits, held, above_same, counted, frames_fly}
+use Rattle.quic_headline.proofs.Packets.Flying.{Tells, Waits, held, apart_filter, above_same, counted, frames_fly}
 use Rattle.quic_headline.proofs.Sizes.Moving.{Moves, moving_flies}
 use Rattle.quic_headline.proofs.Tellings.Acks.{IsSet, frame_set, named_told}
 
@@ -88,7 +88,7 @@ module _ (j : Judging) (now : ℕ) (flew : List Sent) (before : ℕ) where
 
       go : (b : Bool) → (ack_taken b a e).fault ≡ None → TellsAck j now a x (if b then [] else told_acked rises a (named a e))
       go true none = cc
-      go false none = named_told j now flew before acked others (acked_by a e.tracking.packets) rises a x (named a e) is (λ s i. in_filter (λ u. names a u.number) s x.flying i) (λ s i. in_filter (λ u. not (names a u.number)) s x.flying i) first second counts set r.moves
+      go false none = named_told j now flew before acked others (acked_by a e.tracking.packets) rises a x (named a e) is (λ s i. in_filter (λ u. names a u.number) s x.flying i) (λ s i. in_filter (λ u. not (names a u.number)) s x.flying i) (apart_filter (λ u. names a u.number) x.flying) first second counts set r.moves
 
   -- a frame that is taken, and what is told of others behind it
   frame_told : (f : FrameValue) (x : Flight) (e : End) → (take_frame f e).fault ≡ None → Reads x e → (fs : List FrameValue) (later : List Told) → TellsFrames j now fs (after_frames j.terms now (f ∷ []) x) later → TellsFrames j now (f ∷ fs) x (told_item (Ok f) e ++ later)

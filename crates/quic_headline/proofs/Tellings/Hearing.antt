@@ -21,14 +21,15 @@ use Rattle.quic_machine.specs.declared.run.Answer.TheVariants as answers
 use Rattle.quic_machine.specs.Arrival.{Arrival}
 use Rattle.quic_machine.specs.Ids.{known}
 use Rattle.quic_machine.specs.Policy.{Policy}
-use Rattle.quic_machine.specs.Opens.{own_id_length, in_phase, opens_behind, opens}
+use Rattle.quic_machine.specs.Opens.{own_id_length, in_phase, opens_behind}
 use Rattle.quic_machine.specs.End.{End, with_numbers}
 use Rattle.quic_machine.specs.Receive.{Fault, Progress, Outcome, error_of, violation, asks_in, is_empty, take_items, dropped, ends_as, by_state, headed, opened_as, received_in, received, opening, told_items, told_by_state, told_opened_as, told_headed, told_received_in, told_received}
 use Rattle.quic_machine.specs.FrameCases.{begun}
-use Rattle.quic_headline.specs.Runs.{Intake, frames_of, is_again, is_refused, packet_of, expected_behind, and_opened, and_handed}
+use Rattle.quic_headline.specs.Runs.{Intake, frames_of, is_again, is_refused, packet_of, came_open, and_opened, and_handed}
 use Rattle.quic_headline.proofs.Packets.Invariant.{Knows}
 use Rattle.quic_headline.proofs.Packets.Window.{is_duplicate-is}
 use Rattle.quic_headline.proofs.Packets.Delivered.{with_taken, with_refused}
+use Rattle.quic_headline.proofs.Packets.ByKey.{came_open_is}
 
 -- the cases of a datagram that comes to an open end: P of the answer, of what its controller is
 -- told, and of what came then
@@ -42,7 +43,7 @@ pub record Hearings (e : End) (now : ℕ) (i : Intake) (P : Answer → List Told
   -- or as a whole
   pub whole : (fault : Fault) (n : ℕ) (frames : List FrameValue) → P (answers.Deliver (Closed (error_of fault))) [] (with_refused i n frames)
 
-module _ (q : Policy) (e : End) (arrival : Arrival) (i : Intake) (d : List ℕ) (P : Answer → List Told → Intake → Type 0) (ids : known e.ids ≡ i.ids) (k : Knows e.numbers i) (opened : e.closing.state ≡ states.Open) (cases : Hearings e arrival.now i P) where
+module _ (q : Policy) (e : End) (arrival : Arrival) (i : Intake) (d : List ℕ) (P : Answer → List Told → Intake → Type 0) (k : Knows e.numbers i) (opened : e.closing.state ≡ states.Open) (cases : Hearings e arrival.now i P) where
   module _ (o : Opening) where
     -- the end once its number is noted
     abbrev noted : End
@@ -51,7 +52,6 @@ module _ (q : Policy) (e : End) (arrival : Arrival) (i : Intake) (d : List ℕ) 
     -- what came by a packet that is new
     abbrev came_new : Answer → Intake
     came_new a = record {
-      ids = i.ids;
       opened = o.number ∷ i.opened;
       took = if is_refused a then i.took else packet_of o ∷ i.took;
       part = if is_refused a then Some (packet_of o) else i.part;
@@ -109,16 +109,15 @@ module _ (q : Policy) (e : End) (arrival : Arrival) (i : Intake) (d : List ℕ) 
   header_case (Err error) = cases.nothing (answers.Deliver (headed (Err error) q e arrival d).answer)
   header_case (Ok id) = opening_case (opening q e d)
 
-  at_open : P (answers.Deliver (received_in states.Open q e arrival d).answer) (told_received_in states.Open q e arrival.now d) (and_opened (opens q i.ids (expected_behind i.took) d) (answers.Deliver (received_in states.Open q e arrival d).answer) i)
+  at_open : P (answers.Deliver (received_in states.Open q e arrival d).answer) (told_received_in states.Open q e arrival.now d) (and_opened (came_open q i.took (answers.Deliver (received_in states.Open q e arrival d).answer) d) (answers.Deliver (received_in states.Open q e arrival d).answer) i)
   at_open =
       let a : Answer = answers.Deliver (received_in states.Open q e arrival d).answer in
       let told : List Told = told_received_in states.Open q e arrival.now d in
-      subst (λ (xs : List (List ℕ)). P a told (and_opened (opens q xs (expected_behind i.took) d) a i)) ids
-      (subst (λ (n : ℕ). P a told (and_opened (opens q (known e.ids) n d) a i)) k.expected (header_case (decoded (fixed_length_id own_id_length) (known e.ids) d)))
+      subst (λ (o : Option Opening). P a told (and_opened o a i)) (sym (came_open_is q e arrival d i.took k.expected)) (header_case (decoded (fixed_length_id own_id_length) (known e.ids) d))
 
   -- what holds in each case holds of the datagram
   pub by_hearing : P (answers.Deliver (received q e arrival d).answer) (told_received q e arrival.now d) (and_handed states.Open (Some d) q (answers.Deliver (received q e arrival d).answer) i)
-  by_hearing = subst (λ (s : State). P (answers.Deliver (received_in s q e arrival d).answer) (told_received_in s q e arrival.now d) (and_opened (opens q i.ids (expected_behind i.took) d) (answers.Deliver (received_in s q e arrival d).answer) i)) (sym opened) at_open
+  by_hearing = subst (λ (s : State). P (answers.Deliver (received_in s q e arrival d).answer) (told_received_in s q e arrival.now d) (and_opened (came_open q i.took (answers.Deliver (received_in s q e arrival d).answer) d) (answers.Deliver (received_in s q e arrival d).answer) i)) (sym opened) at_open
 
 -- ---- an end that isn't open
 

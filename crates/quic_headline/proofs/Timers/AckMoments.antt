@@ -6,7 +6,7 @@ use Rattle.std.specs.List.{list_any}
 use Rattle.quic_wire_core.specs.declared.shared.EcnCodepoint.{EcnCodepoint}
 use Rattle.quic_spaces.specs.Marks.{is_congested}
 use Rattle.quic_wire_core.specs.declared.stream_id.Side.{Side}
-use Rattle.quic_wire.specs.Value.{FrameValue, ack, ping, asks, padding, datagram}
+use Rattle.quic_wire.specs.Value.{FrameValue, ack, asks, padding}
 use Rattle.quic_recovery_core.specs.PendingAcks.{Pending, after_insert, starts_wait, asking_counted, after_acks_sent}
 use Rattle.quic_machine.specs.declared.answers.State.TheVariants as states
 use Rattle.quic_machine.specs.declared.run.Call.{Call}
@@ -16,19 +16,22 @@ use Rattle.quic_machine.specs.declared.run.Answer.TheVariants as answers
 use Rattle.quic_spaces.specs.Acknowledging.{ack_due}
 use Rattle.quic_machine.specs.Policy.{Policy}
 use Rattle.quic_machine.specs.Closing.{ticked}
-use Rattle.quic_machine.specs.End.{End, with_closing, with_ack_timer, with_loss_timer}
+use Rattle.quic_machine.specs.End.{End, with_closing, with_ack_timer}
 use Rattle.quic_machine.specs.Receive.{asks_in, after_taken, Outcome}
 use Rattle.quic_spaces.specs.Acknowledging.{with_due}
 use Rattle.quic_machine.specs.Poll.{Polled, Draft, polled, draft_as, Leaving}
-use Rattle.quic_machine.specs.Timeouts.{Expiry, loss_judged, acks_expired, loss_expired, pacing_expired}
-use Rattle.quic_machine.specs.Machine.{World, IsAnswer, after_call, fails, gave, end_at}
-use Rattle.quic_machine.specs.CallCases.{is_delivery, by_plain_call}
-use Rattle.quic_machine.specs.LeaveCases.{at_expiry}
-use Rattle.quic_machine.specs.FrameCases.{Settling, named, begun, passed, acked_keeps, losses_keep, frame_keeps, frame_leaves, frames_keep}
+use Rattle.quic_machine.specs.Timeouts.{Expiry, loss_judged}
+use Rattle.quic_machine.specs.Machine.{World, IsAnswer, after_call, fails, gave}
+use Rattle.quic_machine.specs.CallCases.{Plain, is_delivery, by_plain_call}
+use Rattle.quic_machine.specs.CallCases as cases
+use Rattle.quic_machine.specs.LeaveCases.{at_expiry, Expired, by_timers}
+use Rattle.quic_machine.specs.FrameCases.{Settling, named, begun, passed, acked_keeps, losses_keep, frame_keeps, frame_leaves, frames_keep, apart_leaves}
+use Rattle.quic_machine.specs.Steps as steps
 use Rattle.quic_machine.specs.PollCases.{ready_at, ready_leaves, draft_at, frames_at, by_poll_to, may_leave_at}
-use Rattle.quic_machine.specs.DraftLaws.{by_leave, MayLeave}
-use Rattle.quic_headline.specs.Runs.{Run, Told, Packet, Intake, In, given_of, until, folded, AreServed}
-use Rattle.quic_headline.specs.Observer.{Watch, first_watch, news, Lens, watch_told, lens_of}
+use Rattle.quic_machine.specs.DraftLaws.{Writing, by_leave, MayLeave}
+use Rattle.quic_machine.specs.Puts as puts
+use Rattle.quic_headline.specs.Runs.{Run, Told, Packet, Intake, In, folded, AreServed}
+use Rattle.quic_headline.specs.Observer.{Watch, first_watch, news, Lens, watch_told}
 use Rattle.quic_headline.specs.Headline.{IsHonest}
 use Rattle.quic_headline.specs.Moments.{is_ack, acknowledges, went, arrivals_of, Debt, arrivals_behind, debt_told, first_debt, IsDueFor, AckMoments}
 use Rattle.quic_headline.specs.Waited.{one_asks}
@@ -42,10 +45,11 @@ use Rattle.quic_headline.proofs.Places.Steps.{poll_answer}
 use Rattle.quic_headline.proofs.Places.Parties.{sent_by, sent_if, sents_by, told_of, Party, called, came_to, lens, watch_of}
 use Rattle.quic_headline.proofs.Places.Groups.{And, Calls, Group}
 use Rattle.quic_headline.proofs.Places.Coming.{by_coming}
-use Rattle.quic_headline.proofs.Places.Placed.{Placed, party_at, known_first}
+use Rattle.quic_headline.proofs.Places.Placed.{Placed, party_at}
 use Rattle.quic_headline.proofs.Timers.Still.{was_open}
 use Rattle.quic_headline.proofs.Timers.Watched.{Observed, watched_behind, timers_behind, open_behind, went_behind, came_before, came_behind}
 use Rattle.quic_headline.proofs.Packets.Probes.{by_going}
+use Rattle.quic_machine.specs.LeaveCases as expiring
 
 -- ---- what goes
 
@@ -83,15 +87,13 @@ module _ (Q : Pending → Option ℕ → Type 0) (acked : (p : Pending) → Q (a
   Answered d = list_any is_ack d.frames ≡ true → Q d.end.acknowledging d.end.timers.max_ack_delay
 
   draft_answered : (leaving : Leaving) (e : End) → MayLeave leaving e → Answered (draft_as leaving e)
-  draft_answered leaving e alone = by_leave Answered (record {
-    ack = λ d filled may i is. acked d.end.acknowledging;
-    ping = λ d i some. i (any_more d.frames _ refl some);
-    probes = λ f size i some. i (any_more [] ping refl some);
-    drops = λ d kind i. i;
-    control = λ d kind f is i some. i (any_more d.frames f (control_not f (control_of f kind is.of_kind)) some);
-    message = λ d m ms is fit i acks. i (any_more d.frames (datagram m) refl acks);
-    stream = λ d id h room found first some is counts i acks. i (any_more d.frames _ refl acks);
-  }) leaving e alone (λ is. cc)
+  draft_answered leaving e alone = by_leave Answered keep leaving e alone (λ is. cc)
+    where
+      keep : Writing Answered
+      keep puts.ack d may i = λ is. acked d.end.acknowledging
+      keep (puts.drops kind) d may i = i
+      keep (puts.control kind f) d is i = λ some. i (any_more d.frames f (control_not f (control_of f kind is.of_kind)) some)
+      keep p d may i = λ some. i (any_more d.frames _ refl some)
 
   -- so it is behind a poll that gives one
   polled_answered : (p : Policy) (e : End) (now : ℕ) → acknowledges (sent_if (gave (answers.Poll (polled p e now).answer)) (sent_by e now)) ≡ true → Q (polled p e now).end.acknowledging (polled p e now).end.timers.max_ack_delay
@@ -99,7 +101,7 @@ module _ (Q : Pending → Option ℕ → Type 0) (acked : (p : Pending) → Q (a
     silent = λ some. cc;
     failed = λ some. cc;
     nothing = λ is none some. cc;
-    used_up = λ some. cc;
+    closes = λ some. cc;
     gives = λ is may some acks. by_going (λ (x : End). Q x.acknowledging x.timers.max_ack_delay) p (draft_at e now) (λ pacing. draft_answered (ready_at e now).leaving (ready_at e now).end (may_leave_at e now) (sym (any_padded (draft_at e now).frames _) ∙ first_only (list_any is_ack (frames_at e now)) acks));
   })
     where
@@ -120,7 +122,8 @@ HasTimer o e = e.timers.max_ack_delay ≡ o
 
 -- packets that are acknowledged or lost leave it
 timer_settles : (o : Option ℕ) → Settling (HasTimer o)
-timer_settles o = record { known = λ n y j. j; reset = λ id y j. j; acked = λ m y j. j; lost = λ m y j. j; again = λ carried y j. j; searched = λ discovery y j. j; shortens = λ most y j. j; tracked = λ t y j. j; measured = λ r first y j. j; marked = λ m marking y j. j }
+timer_settles o (steps.known n) y j = j
+timer_settles o s y j = j
 
 abbrev SetsNone : End → End → Type 0
 SetsNone e f = (moment : ℕ) → f.timers.max_ack_delay ≡ Some moment → e.timers.max_ack_delay ≡ Some moment
@@ -130,21 +133,20 @@ pub judged_none : (o : Option ℕ) (e : End) → (loss_judged o e).timers.max_ac
 judged_none None e = refl
 judged_none (Some moment) e = losses_keep (HasTimer e.timers.max_ack_delay) (timer_settles e.timers.max_ack_delay) e refl
 
-acks_none : (e : End) (now : ℕ) (acks loss : Bool) → SetsNone e (acks_expired acks (loss_expired loss (with_closing e (ticked e.closing now))))
-acks_none e now true loss moment set = cc
-acks_none e now false true moment set = sym (judged_none e.tracking.loss_time (with_closing e (ticked e.closing now))) ∙ set
-acks_none e now false false moment set = set
-
--- nor does that of the pacer
-pacing_none : (pacing : Bool) (e : End) → (with_loss_timer (pacing_expired pacing e)).timers.max_ack_delay ≡ e.timers.max_ack_delay
-pacing_none true e = refl
-pacing_none false e = refl
-
+-- nor does a timer that expires but that of acknowledgements
 expired_none : (e : End) (now : ℕ) (expiry : Expiry) → SetsNone e (at_expiry e now expiry)
-expired_none e now expiry moment set = acks_none e now expiry.acks expiry.loss moment (sym (pacing_none expiry.pacing (acks_expired expiry.acks (loss_expired expiry.loss (with_closing e (ticked e.closing now))))) ∙ set)
+expired_none e now expiry = by_timers (SetsNone e) (SetsNone e) (λ o f i moment set. i moment (sym (judged_none o f) ∙ set)) each (λ f i. i) expiry (with_closing e (ticked e.closing now)) (λ moment set. set)
+  where
+    each : (s : Expired) (f : End) → SetsNone e f → SetsNone e (expiring.after s f)
+    each expiring.of_acks f i = λ moment set. cc
+    each s f i = i
 
 draft_none : (leaving : Leaving) (e : End) → MayLeave leaving e → SetsNone e (draft_as leaving e).end
-draft_none leaving e alone = by_leave (λ (d : Draft). SetsNone e d.end) (record { ack = λ d filled may i moment set. cc; ping = λ d i. i; probes = λ f size i. i; drops = λ d kind i. i; control = λ d kind f is i. i; message = λ d m ms is fit i. i; stream = λ d id h room found first some is counts i. i }) leaving e alone (λ moment set. set)
+draft_none leaving e alone = by_leave (λ (d : Draft). SetsNone e d.end) put_keeps leaving e alone (λ moment set. set)
+  where
+    put_keeps : Writing (λ (d : Draft). SetsNone e d.end)
+    put_keeps puts.ack d may i = λ moment set. cc
+    put_keeps p d may i = i
 
 -- nor does an end that is made ready
 ready_none : (e : End) (now : ℕ) → SetsNone e (ready_at e now).end
@@ -155,7 +157,7 @@ polled_none p e now = by_poll_to p e now (λ (q : Polled). SetsNone e q.end) (re
   silent = λ moment set. set;
   failed = λ moment set. set;
   nothing = λ is none. ready_none e now;
-  used_up = λ moment set. none_set moment set;
+  closes = λ moment set. none_set moment set;
   gives = λ is may some. by_going (SetsNone e) p (draft_at e now) (λ pacing moment set. ready_none e now moment (draft_none (ready_at e now).leaving (ready_at e now).end (may_leave_at e now) moment set));
 })
   where
@@ -163,17 +165,13 @@ polled_none p e now = by_poll_to p e now (λ (q : Polled). SetsNone e q.end) (re
     none_set moment clash = cc
 
 call_none : (p : Policy) (e : End) (theirs : List (List ℕ)) (call : Call) (a : Answer) → is_delivery call ≡ false → SetsNone e (after_call p e theirs call a)
-call_none p e theirs call a apart = by_plain_call p e theirs (SetsNone e) call a (record {
-  same = λ moment set. set;
-  on_streams = λ t moment set. set;
-  on_messages = λ m moment set. set;
-  pings = λ moment set. set;
-  heard = λ path same moment set. set;
-  times = λ now expiry is. expired_none e now expiry;
-  polls = λ now is. polled_none p e now;
-  hears = λ arrival d is. (let clash : true ≡ false = sym is ∙ apart in cc);
-  tells = λ told moment set. set;
-})
+call_none p e theirs call a apart = by_plain_call p e theirs (SetsNone e) call a cases_keep
+  where
+    cases_keep : Plain p e call (SetsNone e)
+    cases_keep (cases.times now expiry) may = expired_none e now expiry
+    cases_keep (cases.polls now) may = polled_none p e now
+    cases_keep (cases.hears arrival d) is = (let clash : true ≡ false = sym is ∙ apart in cc)
+    cases_keep c may = λ moment set. set
 
 -- ---- a delivery
 
@@ -186,6 +184,7 @@ pub frames_timer : (fs : List FrameValue) (e : End) → HasTimer e.timers.max_ac
 frames_timer fs e = frames_keep (HasTimer e.timers.max_ack_delay) (frame_keeps (HasTimer e.timers.max_ack_delay) (record {
   ack = λ rises a x i. acked_keeps (HasTimer e.timers.max_ack_delay) (timer_settles e.timers.max_ack_delay) rises a (named a x) i;
   on_streams = λ f x on i. frame_leaves (HasTimer e.timers.max_ack_delay) f x on (λ t. i);
+  apart = λ f x is i. apart_leaves (HasTimer e.timers.max_ack_delay) f x is (λ c. i);
   message = λ m x i. i;
 })) fs e refl
 
@@ -258,13 +257,13 @@ comes_due d after moment none due some =
 
 -- ---- the group
 
--- nothing came to an end that is known by an id, gives these datagrams in all, and was made at a moment
-abbrev debt_first : List ℕ → List (List ℕ) → ℕ → ℕ → Debt
-debt_first own final start initial_rtt = first_debt (first_watch (own ∷ []) final start initial_rtt)
+-- nothing came to an end that gives these datagrams in all, and was made at a moment
+abbrev debt_first : List (List ℕ) → ℕ → ℕ → Debt
+debt_first final start initial_rtt = first_debt (first_watch final start initial_rtt)
 
 -- what the observer of x knows
 abbrev pub debt_of : Party → Party → Debt
-debt_of x y = folded (debt_told (lens x y)) x.told (debt_first x.id x.final x.began x.initial_rtt)
+debt_of x y = folded (debt_told (lens x y)) x.told (debt_first x.final x.began x.initial_rtt)
 
 -- the watch within the debt is the observer's
 pub owed_watch : (l : Lens) (told : List Told) (d : Debt) → (folded (debt_told l) told d).watch ≡ folded (watch_told l) told d.watch
@@ -286,7 +285,7 @@ debt_step x y call a c i = record { owes = owes }
     t = told_of call a x.end.closing.state
 
     same : d.watch ≡ watch_of x y
-    same = owed_watch (lens x y) x.told (debt_first x.id x.final x.began x.initial_rtt)
+    same = owed_watch (lens x y) x.told (debt_first x.final x.began x.initial_rtt)
 
     after : Watch
     after = watch_told (lens x y) t d.watch
@@ -322,7 +321,7 @@ debt_step x y call a c i = record { owes = owes }
 
     owes : (called x y.given call a).end.closing.state ≡ states.Open → Owes (debt_of (called x y.given call a) y) (called x y.given call a).end
     owes still =
-        subst (λ (b : Debt). Owes b (called x y.given call a).end) (sym (folded_more (debt_told (lens x y)) x.told t (debt_first x.id x.final x.began x.initial_rtt)))
+        subst (λ (b : Debt). Owes b (called x y.given call a).end) (sym (folded_more (debt_told (lens x y)) x.told t (debt_first x.final x.began x.initial_rtt)))
         (by_acks (acknowledges (sents_by x.end call a)) refl still)
 
 -- over the packets and what observers know of them
@@ -344,5 +343,4 @@ ack_moments r end honest all side i moment v served there opened timer =
     let now_open : x.end.closing.state ≡ states.Open = open_behind r at.world i v side at.leads there opened in
     let set : Some x.end.timers.max_ack_delay ≡ Some (Some moment) = sym (ap (λ (ts : List (Option ℕ)). slice_get ts 8) (timers_behind r at.world i v side at.leads there)) ∙ timer in
     let is : x.end.timers.max_ack_delay ≡ Some moment = cc in
-    subst (λ (ids : List (List ℕ)). IsDueFor (folded (debt_told (lens_of r side)) (until r side (suc i)) (first_debt (first_watch ids (given_of r side) (end_at side r.start).closing.clock (end_at side r.start).transport.initial_rtt))).arrivals moment) (sym (known_first r honest side))
-    (at.gives.1.owes now_open moment is)
+    at.gives.1.owes now_open moment is

@@ -14,20 +14,24 @@ use Rattle.quic_machine.specs.declared.run.Answer.{Answer}
 use Rattle.quic_machine.specs.declared.run.View.{View}
 use Rattle.quic_machine.specs.Policy.{Policy}
 use Rattle.quic_machine.specs.Closing.{ticked}
-use Rattle.quic_machine.specs.End.{End, with_closing, closed_by, with_loss_timer}
+use Rattle.quic_machine.specs.End.{End, with_closing, closed_by}
 use Rattle.quic_machine.specs.Receive.{timers_after}
 use Rattle.quic_spaces.specs.Acknowledging.{with_due}
-use Rattle.quic_machine.specs.Poll.{Polled, Draft, with_ack, polled, lazied_as, draft_as, Leaving, whole, alone, probe, nothing}
-use Rattle.quic_machine.specs.Timeouts.{Expiry, loss_judged, acks_expired, loss_expired, pacing_expired}
+use Rattle.quic_machine.specs.Poll.{Polled, Draft, with_ack, polled, lazied_as, draft_as, Leaving, whole, nothing}
+use Rattle.quic_machine.specs.Timeouts.{Expiry, loss_judged, acks_expired}
 use Rattle.quic_machine.specs.Machine.{World, Policies, after_call, Follows}
 use Rattle.quic_headline.specs.Headline.{AckTimerFollows, AckTimersFollow}
-use Rattle.quic_machine.specs.DraftLaws.{by_leave, MayLeave}
-use Rattle.quic_machine.specs.LeaveCases.{at_expiry}
-use Rattle.quic_machine.specs.CallCases.{by_plain_call}
-use Rattle.quic_machine.specs.FrameCases.{Settling, Receives, named, acked_keeps, losses_keep, frame_keeps, frame_leaves, by_received}
+use Rattle.quic_machine.specs.DraftLaws.{Writing, by_leave, MayLeave}
+use Rattle.quic_machine.specs.Puts as puts
+use Rattle.quic_machine.specs.LeaveCases.{at_expiry, Expired, by_timers}
+use Rattle.quic_machine.specs.CallCases.{Plain, by_plain_call}
+use Rattle.quic_machine.specs.CallCases as cases
+use Rattle.quic_machine.specs.FrameCases.{Settling, Receives, named, acked_keeps, losses_keep, frame_keeps, frame_leaves, by_received, apart_same}
+use Rattle.quic_machine.specs.Steps as steps
 use Rattle.quic_machine.specs.PollCases.{ready_at, ready_leaves, by_poll_to, draft_at, may_leave_at}
 use Rattle.quic_headline.proofs.Timers.BothEnds.{run_keeps}
 use Rattle.quic_headline.proofs.Packets.Probes.{by_going}
+use Rattle.quic_machine.specs.LeaveCases as expiring
 
 -- no timer is set
 unset_follows : (e : End) → e.timers.max_ack_delay ≡ None → AckTimerFollows e
@@ -41,7 +45,8 @@ closed_follows reason e = unset_follows (closed_by reason e) refl
 
 -- acknowledged and lost packets leave the timer, and the packets that ask count on
 settling : Settling AckTimerFollows
-settling = record { known = λ n e i. i; reset = λ id e i. i; acked = λ m e i. i; lost = λ m e i. i; again = λ carried e i. i; searched = λ discovery e i. i; shortens = λ most e i. i; tracked = λ t e i. i; measured = λ r first e i. i; marked = λ m marking e i. i }
+settling (steps.known n) e i = i
+settling s e i = i
 
 -- the timer waits or is left: the count stays
 wait_counts : (b : Bool) (p : Pending) (now : ℕ) → (cond b (record p { since = Some now }) p).asking ≡ p.asking
@@ -60,7 +65,7 @@ receives : Receives AckTimerFollows
 receives = record {
   notes = λ n e i. i;
   begins = λ now n e i. i;
-  frame = frame_keeps AckTimerFollows (record { ack = λ rises a e i. acked_keeps AckTimerFollows settling rises a (named a e) i; on_streams = λ f e on i. frame_leaves AckTimerFollows f e on (λ t. i); message = λ m e i. i });
+  frame = frame_keeps AckTimerFollows (record { ack = λ rises a e i. acked_keeps AckTimerFollows settling rises a (named a e) i; on_streams = λ f e on i. frame_leaves AckTimerFollows f e on (λ t. i); apart = λ f e is i. subst AckTimerFollows (sym (apart_same f e is)) i; message = λ m e i. i });
   takes = λ n asks mark e i opened. packet_counts asks e.timers (with_due (is_congested mark) (after_insert e.acknowledging n e.closing.clock)) e.closing.clock n e.numbers.opened (i opened);
   closes = λ reason e i. closed_follows reason e;
 }
@@ -70,21 +75,15 @@ receives = record {
 -- an acknowledgement that became due leaves it
 lazied_follows : (leaving : Leaving) (e : End) → AckTimerFollows e → AckTimerFollows (lazied_as leaving e)
 lazied_follows whole e i = i
-lazied_follows alone e i = i
-lazied_follows (probe size) e i = i
-lazied_follows (nothing held) e i = i
+lazied_follows other e i = i
 
 -- an ACK that goes stops the timer, and no other frame changes it
 draft_follows : (leaving : Leaving) (e : End) → MayLeave leaving e → AckTimerFollows e → AckTimerFollows (draft_as leaving e).end
-draft_follows leaving e due i = by_leave (λ (d : Draft). AckTimerFollows d.end) (record {
-  ack = λ d filled may i. unset_follows (with_ack d).end refl;
-  ping = λ d i. i;
-  probes = λ f size i. i;
-  drops = λ d kind i. i;
-  control = λ d kind f is i. i;
-  message = λ d m ms is fit i. i;
-  stream = λ d id h room found first some is counts i. i;
-}) leaving e due (lazied_follows leaving e i)
+draft_follows leaving e due i = by_leave (λ (d : Draft). AckTimerFollows d.end) keep leaving e due (lazied_follows leaving e i)
+  where
+    keep : Writing (λ (d : Draft). AckTimerFollows d.end)
+    keep puts.ack d may i = unset_follows (with_ack d).end refl
+    keep p d may i = i
 
 -- what changes where an end is made ready leaves the timer
 ready_follows : (e : End) (now : ℕ) → AckTimerFollows e → AckTimerFollows (ready_at e now).end
@@ -95,7 +94,7 @@ polled_follows p e now i = by_poll_to p e now (λ (q : Polled). AckTimerFollows 
   silent = i;
   failed = i;
   nothing = λ is none. ready_follows e now i;
-  used_up = closed_follows reasons.NumberLimit (ready_at e now).end;
+  closes = closed_follows reasons.NumberLimit (ready_at e now).end;
   gives = λ is may some. by_going AckTimerFollows p (draft_at e now) (λ pacing. draft_follows (ready_at e now).leaving (ready_at e now).end (may_leave_at e now) (ready_follows e now i));
 })
 
@@ -106,33 +105,22 @@ judged_follows : (o : Option ℕ) (e : End) → AckTimerFollows e → AckTimerFo
 judged_follows None e i = i
 judged_follows (Some moment) e i = losses_keep AckTimerFollows settling e i
 
-acks_follow : (acks loss : Bool) (e : End) → AckTimerFollows e → AckTimerFollows (acks_expired acks (loss_expired loss e))
-acks_follow true loss e i = unset_follows (acks_expired true (loss_expired loss e)) refl
-acks_follow false true e i = judged_follows e.tracking.loss_time e i
-acks_follow false false e i = i
-
-pacing_follows : (pacing : Bool) (e : End) → AckTimerFollows e → AckTimerFollows (with_loss_timer (pacing_expired pacing e))
-pacing_follows true e i = i
-pacing_follows false e i = i
+expires_follows : (s : Expired) (e : End) → AckTimerFollows e → AckTimerFollows (expiring.after s e)
+expires_follows expiring.of_acks e i = unset_follows (acks_expired true e) refl
+expires_follows s e i = i
 
 expired_follows : (e : End) (now : ℕ) (expiry : Expiry) → AckTimerFollows e → AckTimerFollows (at_expiry e now expiry)
-expired_follows e now expiry i =
-    let begun : End = with_closing e (ticked e.closing now) in
-    pacing_follows expiry.pacing (acks_expired expiry.acks (loss_expired expiry.loss begun)) (acks_follow expiry.acks expiry.loss begun i)
+expired_follows e now expiry i = by_timers AckTimerFollows AckTimerFollows judged_follows expires_follows (λ f j. j) expiry (with_closing e (ticked e.closing now)) i
 
 -- what any call leaves
 call_follows : (p : Policy) (e : End) (theirs : List (List ℕ)) (call : Call) (a : Answer) → AckTimerFollows e → AckTimerFollows (after_call p e theirs call a)
-call_follows p e theirs call a i = by_plain_call p e theirs AckTimerFollows call a (record {
-  same = i;
-  on_streams = λ t. i;
-  on_messages = λ m. i;
-  pings = i;
-  heard = λ path same. i;
-  times = λ now expiry is. expired_follows e now expiry i;
-  polls = λ now is. polled_follows p e now i;
-  hears = λ arrival d is. by_received AckTimerFollows receives p e arrival d i;
-  tells = λ told. i;
-})
+call_follows p e theirs call a i = by_plain_call p e theirs AckTimerFollows call a cases_keep
+  where
+    cases_keep : Plain p e call AckTimerFollows
+    cases_keep (cases.times now expiry) may = expired_follows e now expiry i
+    cases_keep (cases.polls now) may = polled_follows p e now i
+    cases_keep (cases.hears arrival d) may = by_received AckTimerFollows receives p e arrival d i
+    cases_keep c may = i
 
 -- a run
 pub ack_timers_follow : (k : Policies) (w end : World) (events : List RunEvent) (told : List Answer) (views : List View) → Follows k w events told views end → AckTimersFollow w → AckTimersFollow end

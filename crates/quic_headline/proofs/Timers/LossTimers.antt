@@ -8,8 +8,6 @@ use Rattle.std.proofs.lemmas.Bool.{le-ltb}
 use Rattle.quic_wire_core.specs.declared.shared.EcnCodepoint.{EcnCodepoint}
 use Rattle.quic_recovery_core.specs.Duplicates.{is_duplicate}
 use Rattle.quic_time.specs.Clocks.{saturated}
-use Rattle.quic_time.specs.Rtt.{Rtt}
-use Rattle.quic_time.specs.Rtt.{probe_timeout as rtt_timeout}
 use Rattle.quic_packet.specs.Header.{key_phase, reserved_bits}
 use Rattle.quic_packet.specs.Destination.{decoded, fixed_length_id}
 use Rattle.quic_packet.specs.Datagram.{Opening}
@@ -34,15 +32,17 @@ use Rattle.quic_machine.specs.Opens.{own_id_length}
 use Rattle.quic_machine.specs.Closing.{Closing, ticked}
 use Rattle.quic_spaces.specs.Numbers.{Numbers, number_opened}
 use Rattle.quic_machine.specs.Tracking.{after_answered, Tracking, TrackedPacket, asks_any, without_record, is_behind, tail_of, forgets, forgotten, oldest, without_packet, asking_sent, after_sent, Verdict, is_lost, kept_by, loss_moment, moment_or, probe_moment, after_detection, acked_by, not_acked_by, names}
-use Rattle.quic_machine.specs.End.{End, with_closing, closed_by, with_numbers, number_of, with_ping, peer_delay, probe_timeout, with_loss_timer, with_window}
+use Rattle.quic_machine.specs.End.{End, with_closing, closed_by, with_numbers, number_of, with_ping, probe_timeout, with_window}
 use Rattle.quic_machine.specs.Acked.{verdict, losses_detected, measured, sampled, without_acked, after_named, after_acked, losses_taken}
 use Rattle.quic_machine.specs.Receive.{Fault, violation, reason_of, take_frame, take_items, take_payload, is_empty, asks_in, after_taken, dropped, ends_as, by_state, opened_to, opened_as, opening, headed, received_in, received}
 use Rattle.quic_machine.specs.Poll.{Polled, Draft, packet_of, after_given, record_moved, draft_as, polled, Leaving, Ready}
-use Rattle.quic_machine.specs.Timeouts.{Expiry, acks_expired, loss_judged, loss_expired, pacing_expired}
+use Rattle.quic_machine.specs.Timeouts.{Expiry, loss_judged}
 use Rattle.quic_machine.specs.Machine.{World, Policies, after_call, Follows}
-use Rattle.quic_machine.specs.LeaveCases.{at_expiry}
-use Rattle.quic_machine.specs.CallCases.{by_plain_call}
-use Rattle.quic_machine.specs.FrameCases.{Settling, named, begun, acked_keeps, losses_keep, frame_keeps, frame_leaves, items_keep, by_marks}
+use Rattle.quic_machine.specs.LeaveCases.{at_expiry, Expired, by_timers}
+use Rattle.quic_machine.specs.CallCases.{Plain, by_plain_call}
+use Rattle.quic_machine.specs.CallCases as cases
+use Rattle.quic_machine.specs.FrameCases.{Settling, named, begun, acked_keeps, losses_keep, frame_keeps, frame_leaves, items_keep, by_marks, apart_leaves}
+use Rattle.quic_machine.specs.Steps as steps
 use Rattle.quic_machine.specs.PollCases.{ready_at, by_poll_to, Composes, composes, may_leave_at}
 use Rattle.quic_headline.specs.Runs.{In}
 use Rattle.quic_headline.specs.Headline.{LossTimerFollows, LossTimersFollow}
@@ -54,6 +54,7 @@ use Rattle.quic_headline.proofs.Packets.Growth.{in_more}
 use Rattle.quic_headline.proofs.Packets.Numbered.{Lies, lies_below, lies_filter, lies_remove, lies_put, lies_push, one_key, added_last, in_remove, oldest_in, asks_last, asks_remove, asks_put, late_asks, is_at_same}
 use Rattle.quic_headline.proofs.Timers.BothEnds.{AtBoth, run_keeps}
 use Rattle.quic_machine.specs.DraftLaws.{MayLeave}
+use Rattle.quic_machine.specs.LeaveCases as expiring
 
 -- ---- a datagram, where frames keep less
 
@@ -233,18 +234,8 @@ record IsQuiet (e f : End) : Type 0 where
 
 -- packets that are acknowledged or lost leave them
 quiet_settles : (e : End) → Settling (IsQuiet e)
-quiet_settles e = record {
-  known = λ n x q. record { numbers = q.numbers; closing = q.closing };
-  reset = λ id x q. record { numbers = q.numbers; closing = q.closing };
-  acked = λ m x q. record { numbers = q.numbers; closing = q.closing };
-  lost = λ m x q. record { numbers = q.numbers; closing = q.closing };
-  again = λ c x q. record { numbers = q.numbers; closing = q.closing };
-  searched = λ discovery x q. record { numbers = q.numbers; closing = q.closing };
-  shortens = λ most x q. record { numbers = q.numbers; closing = q.closing };
-  tracked = λ t x q. record { numbers = q.numbers; closing = q.closing };
-  measured = λ r first x q. record { numbers = q.numbers; closing = q.closing };
-  marked = λ m marking x q. record { numbers = q.numbers; closing = q.closing };
-}
+quiet_settles e (steps.known n) x q = record { numbers = q.numbers; closing = q.closing }
+quiet_settles e s x q = record { numbers = q.numbers; closing = q.closing }
 
 -- a round trip that is measured leaves what is tracked
 sampled_tracking : (o : Option TrackedPacket) (a : AckValue) (e : End) → (sampled o a e).tracking ≡ e.tracking
@@ -282,7 +273,7 @@ hears : Hears LossStands FrameStands
 hears = record {
   notes = λ n e i opened. (let s = i opened in record { stands = record { lies = s.stands.lies; asked = s.stands.asked; late = s.stands.late }; set = s.set });
   begins = λ now n e i opened. (i opened).stands;
-  frame = frame_keeps FrameStands (record { ack = ack_stands; on_streams = λ f e on i. frame_leaves FrameStands f e on (λ t. i); message = λ m e i. i });
+  frame = frame_keeps FrameStands (record { ack = ack_stands; on_streams = λ f e on i. frame_leaves FrameStands f e on (λ t. i); apart = λ f e is i. apart_leaves FrameStands f e is (λ c. i); message = λ m e i. i });
   takes = λ n asks mark e i opened. record { stands = i opened; set = refl };
   closes = λ reason e i. closed_stands reason e;
 }
@@ -348,7 +339,7 @@ polled_stands p e now i = by_poll_to p e now (λ (q : Polled). LossStands q.end)
   silent = i;
   failed = i;
   nothing = λ is none opened. (let s = ready_stands e now i opened in record { stands = s.stands; set = s.set });
-  used_up = closed_stands reasons.NumberLimit (ready_at e now).end;
+  closes = closed_stands reasons.NumberLimit (ready_at e now).end;
   gives = λ is may some.
       let g : Ready = ready_at e now in
       given_stands p g.leaving g.end (may_leave_at e now) (λ opened. (let s = ready_stands e now i opened in record { stands = s.stands; set = s.set }));
@@ -365,36 +356,22 @@ judged_stands e (Some moment) i opened =
     subst (λ (n : Numbers). Stands n.next (losses_detected e).tracking) (sym quiet.numbers) (by_losses (λ (x : End). Stands e.numbers.next x.tracking) e (λ discovery queues. stands_detected e.numbers.next (verdict e) e.tracking s.lies s.asked))
 
 expired_stands : (e : End) (now : ℕ) (expiry : Expiry) → LossStands e → LossStands (at_expiry e now expiry)
-expired_stands e now expiry i = after expiry.pacing (acks_expired expiry.acks (loss_expired expiry.loss begun)) (acked expiry.acks (loss_expired expiry.loss begun) (judged expiry.loss))
+expired_stands e now expiry i = by_timers FrameStands LossStands (λ o f. judged_stands f o) each (λ f j opened. record { stands = j opened; set = refl }) expiry (with_closing e (ticked e.closing now)) (λ opened. (i opened).stands)
   where
-    begun : End
-    begun = with_closing e (ticked e.closing now)
-
-    judged : (loss : Bool) → FrameStands (loss_expired loss begun)
-    judged true = judged_stands begun e.tracking.loss_time (λ opened. (i opened).stands)
-    judged false = λ opened. (i opened).stands
-
-    acked : (acks : Bool) (f : End) → FrameStands f → FrameStands (acks_expired acks f)
-    acked true f j opened = let s = j opened in record { lies = s.lies; asked = s.asked; late = s.late }
-    acked false f j opened = j opened
-
-    after : (pacing : Bool) (f : End) → FrameStands f → LossStands (with_loss_timer (pacing_expired pacing f))
-    after true f j opened = record { stands = j opened; set = refl }
-    after false f j opened = record { stands = j opened; set = refl }
+    each : (s : Expired) (f : End) → FrameStands f → FrameStands (expiring.after s f)
+    each expiring.of_acks f j = j
+    each s f j = j
 
 -- what any call leaves
 pub call_stands : (p : Policy) (e : End) (theirs : List (List ℕ)) (call : Call) (a : Answer) → LossStands e → LossStands (after_call p e theirs call a)
-call_stands p e theirs call a i = by_plain_call p e theirs LossStands call a (record {
-  same = i;
-  on_streams = λ t opened. (let s = i opened in record { stands = s.stands; set = s.set });
-  on_messages = λ m opened. (let s = i opened in record { stands = s.stands; set = s.set });
-  pings = λ opened. (let s = i opened in record { stands = s.stands; set = s.set });
-  heard = λ path same opened. (let s = i opened in record { stands = s.stands; set = s.set ∙ ap (λ (r : Rtt). loss_moment (saturated (rtt_timeout r + peer_delay e)) e.tracking) (sym same.rtt) });
-  times = λ now expiry is. expired_stands e now expiry i;
-  polls = λ now is. polled_stands p e now i;
-  hears = λ arrival d is. by_hearing LossStands FrameStands hears p e arrival d i;
-  tells = λ told opened. (let s = i opened in record { stands = s.stands; set = s.set });
-})
+call_stands p e theirs call a i = by_plain_call p e theirs LossStands call a cases_keep
+  where
+    cases_keep : Plain p e call LossStands
+    cases_keep cases.same may = i
+    cases_keep (cases.times now expiry) may = expired_stands e now expiry i
+    cases_keep (cases.polls now) may = polled_stands p e now i
+    cases_keep (cases.hears arrival d) may = by_hearing LossStands FrameStands hears p e arrival d i
+    cases_keep c may = λ opened. (let s = i opened in record { stands = s.stands; set = s.set })
 
 -- whichever window is shown
 pub stands_shown : (window : ℕ) (e : End) → LossStands e → LossStands (with_window e window)

@@ -14,11 +14,11 @@ use Rattle.quic_machine.specs.declared.run.Call.{Call}
 use Rattle.quic_machine.specs.declared.run.Call.TheVariants as calls
 use Rattle.quic_machine.specs.declared.run.Answer.{Answer}
 use Rattle.quic_machine.specs.Policy.{Policy}
-use Rattle.quic_machine.specs.Opens.{own_id_length, opens}
+use Rattle.quic_machine.specs.Opens.{own_id_length}
 use Rattle.quic_machine.specs.End.{End}
 use Rattle.quic_machine.specs.Machine.{World, gave}
-use Rattle.quic_headline.specs.Runs.{Run, Told, Packet, Intake, In, IsTaken, IsNamed, names, acknowledged, handed, is_again, is_refused, packet_of, expected_behind, and_opened, and_handed, AreServed}
-use Rattle.quic_headline.specs.Observer.{Sent, asks_of, Terms, Flight, is_lost, late_by, after_losses, settled_by, after_ack, after_frames, after_packets, without_number, without_oldest, unasked, kept_flying, and_sent, loss_due, is_past, expired_for, Watch, first_watch, news, sent_as, and_all_sent, watch_sent, Lens, watch_given, is_timely, watch_moment, watch_told, watch}
+use Rattle.quic_headline.specs.Runs.{Run, Told, Packet, Intake, In, IsTaken, IsNamed, names, acknowledged, handed, is_again, is_refused, packet_of, came_open, and_opened, and_handed, AreServed}
+use Rattle.quic_headline.specs.Observer.{Sent, asks_of, Terms, Flight, is_lost, late_by, after_losses, settled_by, after_ack, after_frames, after_packets, without_number, without_oldest, unasked, kept_flying, and_sent, loss_due, is_past, expired_for, Watch, first_watch, news, sent_as, and_all_sent, watch_sent, Lens, watch_given, is_timely, watch_moment, watch_told, watch, and_flying, closes_of}
 use Rattle.quic_headline.specs.Headline.{IsHonest}
 use Rattle.quic_headline.specs.Moments.{LossTimerQuiet}
 use Rattle.quic_headline.proofs.Packets.Named.{in_filter, filter_chose}
@@ -135,12 +135,16 @@ kept_leaves asks f s i = go (not asks && nat_lt 1000 (length (unasked f))) (unas
 sent_leaves : (ss : List Sent) (f : Flight) (s : Sent) → In s (and_all_sent ss f).flying → In s f.flying ⊎ In s ss
 sent_leaves [] f s i = inl i
 sent_leaves (u ∷ ss) f s i = elim (sent_leaves ss (and_sent u f) s i) [
-  | inl before ↦ elim (in_append s (kept_flying (asks_of u) f) (u ∷ []) before) [
-    | inl kept ↦ inl (kept_leaves (asks_of u) f s kept)
-    | inr new ↦ elim new [ inl same ↦ inr (inl same) | inr none ↦ absurd none ]
-  ]
+  | inl before ↦ one (closes_of u) before
   | inr more ↦ inr (inr more)
 ]
+  where
+    one : (b : Bool) → In s (if b then f else and_flying u f).flying → In s f.flying ⊎ In s (u ∷ ss)
+    one true before = inl before
+    one false before = elim (in_append s (kept_flying (asks_of u) f) (u ∷ []) before) [
+      | inl kept ↦ inl (kept_leaves (asks_of u) f s kept)
+      | inr new ↦ elim new [ inl same ↦ inr (inl same) | inr none ↦ absurd none ]
+    ]
 
 -- ---- one call more
 
@@ -154,7 +158,7 @@ record Leaves (before after : Watch) : Type 0 where
 goes_leave : (taker : Policy) (ds : List (List ℕ)) (w v : Watch) → w.own ≡ v.own → ((s : Sent) → In s v.flight.flying → In s w.flight.flying × ((p : Packet) → In p (news w.intake v.intake) → NamedIn p.frames s.number → ⊥)) → Leaves w (watch_sent taker ds v)
 goes_leave taker [] w v own flying = record { more = []; own = sym own ∙ sym (append-nil w.own); flying = λ s i. inl (flying s i) }
 goes_leave taker (d ∷ ds) w v own flying =
-    let sent : List Sent = sent_as (opened_packet taker.header taker.packet (own_id_length + 1) (acknowledged v.intake.took) d) (acknowledged v.intake.took) v.clock (length d) in
+    let sent : List Sent = sent_as (opened_packet taker.header taker.packet (own_id_length + 1) (acknowledged v.intake.took) d) (acknowledged v.intake.took) v.clock d in
     record {
       more = sent;
       own = ap (λ (ss : List Sent). ss ++ sent) (sym own);
@@ -200,13 +204,13 @@ opened_more : (o : Option Opening) (a : Answer) (i : Intake) → IsMore i.took (
 opened_more None a i = more_first [] i.took
 opened_more (Some o) a i = go (is_again o.number i.opened) (is_refused a)
   where
-    go : (again refused : Bool) → IsMore i.took (if again then i else record { ids = i.ids; opened = o.number ∷ i.opened; took = (if refused then i.took else packet_of o ∷ i.took); part = (if refused then Some (packet_of o) else i.part) }).took
+    go : (again refused : Bool) → IsMore i.took (if again then i else record { opened = o.number ∷ i.opened; took = (if refused then i.took else packet_of o ∷ i.took); part = (if refused then Some (packet_of o) else i.part) }).took
     go true refused = more_first [] i.took
     go false true = more_first [] i.took
     go false false = more_first (packet_of o ∷ []) i.took
 
 handed_more : (state : State) (d : Option (List ℕ)) (p : Policy) (a : Answer) (i : Intake) → IsMore i.took (and_handed state d p a i).took
-handed_more states.Open (Some d) p a i = opened_more (opens p i.ids (expected_behind i.took) d) a i
+handed_more states.Open (Some d) p a i = opened_more (came_open p i.took a d) a i
 handed_more states.Open None p a i = more_first [] i.took
 handed_more states.Closing d p a i = more_first [] i.took
 handed_more states.Drained d p a i = more_first [] i.took
@@ -279,7 +283,7 @@ quiet_step x y call a c before = record { quiet = subst (λ (v : Watch). IsQuiet
     ])
 
     came : after.intake ≡ came_to (called x y.given call a) y
-    came = ap (λ (v : Watch). v.intake) (sym (behind_is x y call a c w refl)) ∙ watched_intake (lens x y) (x.told ++ t ∷ []) (first_watch (x.id ∷ []) x.final x.began x.initial_rtt)
+    came = ap (λ (v : Watch). v.intake) (sym (behind_is x y call a c w refl)) ∙ watched_intake (lens x y) (x.told ++ t ∷ []) (first_watch x.final x.began x.initial_rtt)
 
     unnamed : (s : Sent) → In s after.flight.flying → IsNamed after.intake.took s.number → ⊥
     unnamed s i named = elim (leaves.flying s i) [

@@ -9,9 +9,10 @@ use Rattle.quic_machine.specs.Closing.{Closing, ticked}
 use Rattle.quic_machine.specs.End.{End, with_closing}
 use Rattle.quic_machine.specs.Poll.{Polled, polled}
 use Rattle.quic_machine.specs.Machine.{after_call}
-use Rattle.quic_machine.specs.CallCases.{by_plain_call}
+use Rattle.quic_machine.specs.CallCases.{Plain, by_plain_call}
+use Rattle.quic_machine.specs.CallCases as cases
 use Rattle.quic_machine.specs.LeaveCases.{at_expiry, by_expired}
-use Rattle.quic_machine.specs.FrameCases.{Receives, named, frame_keeps, frame_leaves, by_received}
+use Rattle.quic_machine.specs.FrameCases.{Receives, named, frame_keeps, frame_leaves, by_received, apart_leaves}
 use Rattle.quic_machine.specs.PollCases.{at_poll, by_poll, composes}
 use Rattle.quic_headline.proofs.Packets.Probes.{may_leave}
 use Rattle.quic_headline.proofs.Packets.Stays.{settles_ack, settles_losses}
@@ -27,6 +28,7 @@ opened_receives e = record {
   frame = frame_keeps (WasOpen e) (record {
     ack = λ rises a f i opened. i (ap (λ (c : Closing). c.state) (sym (settles_ack rises a (named a f)).closing) ∙ opened);
     on_streams = λ f g on i. frame_leaves (WasOpen e) f g on (λ t. i);
+    apart = λ f g is i. apart_leaves (WasOpen e) f g is (λ c. i);
     message = λ m f i. i;
   });
   takes = λ n asks mark f i. i;
@@ -41,7 +43,7 @@ opened_polled p e now = by_poll p e now (λ (q : Polled). WasOpen e q.end) (reco
   silent = λ opened. opened;
   failed = λ opened. opened;
   nothing = λ c opened. opened;
-  used_up = λ c opened. cc;
+  closes = λ c opened. cc;
   gives = λ leaving c left is may ready some opened.
       let x : End = at_poll e now c in
       ap (λ (c : Closing). c.state) (sym (composes leaving x (may_leave e now leaving x ready)).closing) ∙ opened;
@@ -49,14 +51,10 @@ opened_polled p e now = by_poll p e now (λ (q : Polled). WasOpen e q.end) (reco
 
 -- behind any call
 pub was_open : (p : Policy) (e : End) (theirs : List (List ℕ)) (call : Call) (a : Answer) → WasOpen e (after_call p e theirs call a)
-was_open p e theirs call a = by_plain_call p e theirs (WasOpen e) call a (record {
-  same = λ opened. opened;
-  on_streams = λ t opened. opened;
-  on_messages = λ m opened. opened;
-  pings = λ opened. opened;
-  heard = λ path same opened. opened;
-  times = λ now expiry is. opened_expired e now expiry;
-  polls = λ now is. opened_polled p e now;
-  hears = λ arrival d is. by_received (WasOpen e) (opened_receives e) p e arrival d (λ opened. opened);
-  tells = λ told opened. opened;
-})
+was_open p e theirs call a = by_plain_call p e theirs (WasOpen e) call a keep
+  where
+    keep : Plain p e call (WasOpen e)
+    keep (cases.times now expiry) may = opened_expired e now expiry
+    keep (cases.polls now) may = opened_polled p e now
+    keep (cases.hears arrival d) may = by_received (WasOpen e) (opened_receives e) p e arrival d (λ opened. opened)
+    keep c may = λ opened. opened

@@ -18,6 +18,7 @@ use Rattle.quic_streams_state.specs.State.{Receiving, consumed, is_opened, recei
 use Rattle.quic_streams_state.specs.Opening.{opened_by, beyond}
 use Rattle.quic_streams_state.specs.Control.{limit_told}
 use Rattle.quic_streams_laws.specs.Keeping.{EndsThere, ReceivesOn}
+use Rattle.quic_streams_laws.specs.Keeping as changes
 use Rattle.quic_streams_laws.specs.KeepingLaws.{live_receives, by_opened, by_read_begun, by_next, by_stop, by_received_reset}
 use Rattle.quic_streams_laws.specs.ContentLaws.{by_next_answer}
 use Rattle.quic_streams_laws.specs.Each.{HalfIs}
@@ -61,7 +62,7 @@ module _ (before : StreamsState) where
   }
 
   pub known_with : (G : FrameValue → Type 0) (s : StreamsState) (id : ℕ) (old new : RecvHalf) → receiving_half s id ≡ Some old → Change G s.receiving id old new → I s → I (with_recv s id new)
-  known_with G s id old new is change i = (stays_kept before).changes_receiving s id old new is (comes_of G s.receiving id old new change) i
+  known_with G s id old new is change i = stays_kept before (changes.changes_receiving s.receiving id old new) s (is, (comes_of G s.receiving id old new change), refl) i
 
   pub known_opened : (s : StreamsState) (id : ℕ) → beyond s id ≡ None → I s → I (opened_by s id)
   known_opened s id within i = by_opened I (stays_kept before) s id within i

@@ -16,7 +16,8 @@ use Rattle.quic_machine.specs.Policy.{Policy}
 use Rattle.quic_machine.specs.End.{End}
 use Rattle.quic_machine.specs.Receive.{Outcome}
 use Rattle.quic_machine.specs.Poll.{Draft, composed, polled}
-use Rattle.quic_machine.specs.DraftLaws.{by_writing}
+use Rattle.quic_machine.specs.DraftLaws.{Writing, by_writing}
+use Rattle.quic_machine.specs.Puts as puts
 use Rattle.quic_machine.specs.FrameCases.{begun}
 use Rattle.quic_headline.specs.Runs.{Packet, Intake, In}
 use Rattle.quic_headline.proofs.Packets.Delivered.{Arrivals, with_taken}
@@ -48,18 +49,15 @@ module _ (done : ℕ → Wrote) (before : StreamsState) (taken : FrameValue → 
   Both s = Stays before s × Of (Consumes done taken) s
 
   composed_consumes : (e : End) → Both e.streams → Both (composed e).end.streams
-  composed_consumes e i = by_writing (λ (d : Draft). Both d.end.streams) (record {
-    ack = λ d filled may j. j;
-    ping = λ d j. j;
-    probes = λ f size j. j;
-    drops = λ d kind j. j;
-    control = λ d kind f is j. (
-      by_told (Stays before) (stays_kept before) f d.end.streams j.0,
-      by_tells (Of (Consumes done taken)) d.end.streams j.1 (record { final = j.1.final; sum = j.1.sum; each = j.1.each }) (λ id. limit_consumes done before taken d.end.streams id j.0 j.1) (λ dir. record { final = j.1.final; sum = j.1.sum; each = j.1.each }) f,
-    );
-    message = λ d m ms is fit j. j;
-    stream = λ d id h room found first some is counts j. (by_frame (Stays before) (stays_kept before) d.end.transport.send_fairness d.end.streams id room h found tt j.0, j.1);
-  }) e i
+  composed_consumes e i = by_writing (λ (d : Draft). Both d.end.streams) keep e i
+    where
+      keep : Writing (λ (d : Draft). Both d.end.streams)
+      keep (puts.control kind f) d may j = (
+        by_told (Stays before) (stays_kept before) f d.end.streams j.0,
+        by_tells (Of (Consumes done taken)) d.end.streams j.1 (record { final = j.1.final; sum = j.1.sum; each = j.1.each }) (λ id. limit_consumes done before taken d.end.streams id j.0 j.1) (λ dir. record { final = j.1.final; sum = j.1.sum; each = j.1.each }) f,
+      )
+      keep (puts.stream id h room) d (found, first, some, is, counts) j = (by_frame (Stays before) (stays_kept before) d.end.transport.send_fairness d.end.streams id room h found tt j.0, j.1)
+      keep p d may j = j
 
   polled_consumes : (p : Policy) (e : End) (now : ℕ) → Both e.streams → Both (polled p e now).end.streams
   polled_consumes p e now i = poll_state Both p e now composed_consumes i

@@ -10,11 +10,10 @@ use Rattle.quic_wire_core.specs.declared.stream_id.Side.{Side}
 use Rattle.quic_wire_core.specs.declared.stream_id.Dir.{Dir}
 use Rattle.quic_wire_core.specs.declared.stream_id.Dir.TheVariants.{Bi, Uni}
 use Rattle.quic_wire_core.specs.StreamId.{dir_of}
-use Rattle.quic_wire.specs.Value.{FrameValue, ack, ping, stream, datagram, max_data, max_stream_data, max_streams}
+use Rattle.quic_wire.specs.Value.{FrameValue, max_data, max_stream_data, max_streams}
 use Rattle.quic_streams_parts.specs.Dirs.{Counts, of, with_of, is_own, is_two_way}
 use Rattle.quic_streams_parts.specs.Table.{Table, at, put, without}
 use Rattle.quic_streams_parts.specs.TableLaws.{at-put, at-put-apart, at-without, at-without-apart}
-use Rattle.quic_streams_parts.specs.SendHalf.{frame_of}
 use Rattle.quic_streams_parts.specs.RecvHalf.{RecvHalf, raised_on}
 use Rattle.quic_streams_halves.specs.Halves.{Halves, with_half, changed_at, is_done}
 use Rattle.quic_retransmits.specs.Retransmits.{Retransmits}
@@ -35,9 +34,10 @@ use Rattle.quic_machine.specs.declared.run.Answer.TheVariants as answers
 use Rattle.quic_machine.specs.Policy.{Policy}
 use Rattle.quic_machine.specs.End.{End}
 use Rattle.quic_machine.specs.Receive.{take_frame}
-use Rattle.quic_machine.specs.Poll.{Polled, Draft, ack_of, goes, polled, draft_as, Leaving}
+use Rattle.quic_machine.specs.Poll.{Polled, Draft, goes, polled, draft_as, Leaving}
 use Rattle.quic_machine.specs.PollCases.{ready_at, draft_at, frames_padded, by_poll_to, may_leave_at}
-use Rattle.quic_machine.specs.DraftLaws.{by_leave, MayLeave}
+use Rattle.quic_machine.specs.DraftLaws.{Writing, by_leave, MayLeave}
+use Rattle.quic_machine.specs.Puts as puts
 use Rattle.quic_machine.specs.FrameCases.{begun, passed}
 use Rattle.quic_machine.specs.CallCases.{is_delivery}
 use Rattle.quic_machine.specs.Machine.{IsAnswer, after_call, gave}
@@ -55,6 +55,7 @@ use Rattle.quic_headline.proofs.Halves.Ghosts.{IsWriting}
 use Rattle.quic_headline.proofs.Halves.QuietSteps.{frame_quiet}
 use Rattle.quic_headline.proofs.Halves.ReadCalls.{IsKept, any_kept}
 use Rattle.quic_headline.proofs.Unread.Walk.{Of, Change, begins, reads, stops, takes, resets, IsLast, Steps, call_left, frames_left}
+use Rattle.quic_streams_laws.specs.Keeping as changes
 
 -- ---- each half that is in use
 
@@ -187,7 +188,7 @@ module _ (window stream_window : ℕ) (counts : Counts) where
         done_says false j = j
 
     pub steps : Steps Any IsShaped K
-    steps = record { known = λ s id old new is change shape. shape_any.changes_receiving s id old new is tt shape; changes = changes_say; ends = ends_say }
+    steps = record { known = λ s id old new is change shape. shape_any (changes.changes_receiving s.receiving id old new) s (is, tt, refl) shape; changes = changes_say; ends = ends_say }
 
   -- ---- a frame goes
 
@@ -250,15 +251,12 @@ module _ (window stream_window : ℕ) (counts : Counts) where
     draft_more fs g s i = says_more (Along fs) (Along (fs ++ g ∷ [])) (along_more fs g) s.side s.receiving s.opening.announced s.opening.configured i
 
     draft_says : (leaving : Leaving) (e : End) → MayLeave leaving e → Of (Says (WasGiven own) window stream_window counts) e.streams → DraftSays (draft_as leaving e)
-    draft_says leaving e due i = by_leave DraftSays (record {
-      ack = λ d filled may j. draft_more d.frames (ack (ack_of d.end)) d.end.streams j;
-      ping = λ d j. draft_more d.frames ping d.end.streams j;
-      probes = λ f size j. draft_more [] ping f.streams j;
-      drops = λ d kind j. j;
-      control = λ d kind f is j. told_says (Along d.frames) (Along (d.frames ++ f ∷ [])) d.end.waiting.frames d.end.streams f (along_more d.frames f) (inr (in_right f d.frames (f ∷ []) (inl refl))) is.says j;
-      message = λ d m ms is fit j. draft_more d.frames (datagram m) d.end.streams j;
-      stream = λ d id h room found first some is counts j. draft_more d.frames (stream (frame_of id h room)) d.end.streams j;
-    }) leaving e due (says_more (WasGiven own) (Along []) (λ f was. inl was) e.streams.side e.streams.receiving e.streams.opening.announced e.streams.opening.configured i)
+    draft_says leaving e due i = by_leave DraftSays keep leaving e due (says_more (WasGiven own) (Along []) (λ f was. inl was) e.streams.side e.streams.receiving e.streams.opening.announced e.streams.opening.configured i)
+      where
+        keep : Writing DraftSays
+        keep (puts.drops kind) d may j = j
+        keep (puts.control kind f) d is j = told_says (Along d.frames) (Along (d.frames ++ f ∷ [])) d.end.waiting.frames d.end.streams f (along_more d.frames f) (inr (in_right f d.frames (f ∷ []) (inl refl))) is.says j
+        keep p d may j = draft_more d.frames _ d.end.streams j
 
     -- more was given
     given_more : (more : List Sent) (f : FrameValue) → WasGiven own f → WasGiven (own ++ more) f
@@ -281,7 +279,7 @@ module _ (window stream_window : ℕ) (counts : Counts) where
       silent = still_says [] e.streams i;
       failed = still_says [] e.streams i;
       nothing = λ is none. still_says [] (ready_at e now).end.streams ready;
-      used_up = still_says [] (ready_at e now).end.streams ready;
+      closes = still_says [] (ready_at e now).end.streams ready;
       gives = λ is_open numbered some. by_going (λ (x : End). Of (Says (WasGiven (own ++ sent_by e now ∷ [])) window stream_window counts) x.streams) p (draft_at e now)
           (λ pacing. given_says (draft_at e now) (sent_by e now) refl (draft_says (ready_at e now).leaving (ready_at e now).end (may_leave_at e now) ready));
     })

@@ -23,6 +23,7 @@ use Rattle.quic_streams_state.specs.Opening.{with_remote}
 use Rattle.quic_streams_state.specs.Taking.{joined}
 use Rattle.quic_streams_state.specs.Telling.{unblocked_at}
 use Rattle.quic_streams_laws.specs.Keeping.{KeepsAll, HasEnded}
+use Rattle.quic_streams_laws.specs.Keeping as changes
 use Rattle.quic_streams_laws.specs.KeepingLaws.{at-half, live_receives}
 use Rattle.quic_streams_laws.specs.LimitedLaws.{WasReceiving, in_use, unused, was_receiving}
 use Rattle.quic_streams_laws.specs.QueuedLaws.{WasHalf, was_live, was_fresh, was_half, half-apart}
@@ -195,7 +196,7 @@ passed_counted s id q = go (at s.sending.halves.live id) refl
 
 -- a half that sends is done
 sent_off : (s : StreamsState) (id : ℕ) (h : SendHalf) → at s.sending.halves.live id ≡ Some h → HasEnded h → AreDoneCounted s → AreDoneCounted (send_done s id)
-sent_off s id h is over i = go (is_own s.side id) (is_done (receiving_status s id)) refl refl (shape_any.ends_sending s id h is over i.shape)
+sent_off s id h is over i = go (is_own s.side id) (is_done (receiving_status s id)) refl refl (shape_any (changes.ends_sending id h) s (is, over) i.shape)
   where
     left : Halves SendHalf
     left = without_half s.sending.halves id
@@ -217,7 +218,7 @@ sent_off s id h is over i = go (is_own s.side id) (is_done (receiving_status s i
 
 -- one that receives is
 received_off : (s : StreamsState) (id : ℕ) (h : RecvHalf) → at s.receiving.halves.live id ≡ Some h → AreDoneCounted s → AreDoneCounted (recv_done s id)
-received_off s id h is i = go (is_own s.side id) (is_two_way (dir_of id)) (is_done (sending_status s id)) refl refl refl (shape_any.ends_receiving s id h is i.shape)
+received_off s id h is i = go (is_own s.side id) (is_two_way (dir_of id)) (is_done (sending_status s id)) refl refl refl (shape_any (changes.ends_receiving id h) s is i.shape)
   where
     left : Halves RecvHalf
     left = without_half s.receiving.halves id
@@ -247,7 +248,7 @@ received_off s id h is i = go (is_own s.side id) (is_two_way (dir_of id)) (is_do
 
 -- a stream is among those that are blocked
 joined_off : (s : StreamsState) (id : ℕ) (h : SendHalf) → sending_half s id ≡ Some h → AreDoneCounted s → AreDoneCounted (joined s id h)
-joined_off s id h is i = go h.blocked (shape_any.joins s id h is i.shape)
+joined_off s id h is i = go h.blocked (shape_any (changes.joins id h) s is i.shape)
   where
     blocked : StreamsState
     blocked = let t = with_send s id (record h { blocked = true }) in record t { sending = record t.sending { blocked = id ∷ t.sending.blocked } }
@@ -262,33 +263,25 @@ remote_counts Bi n o = refl
 remote_counts Uni n o = refl
 
 pub done_counted : KeepsAll (λ r id old new. Unit {0}) (λ s id old new. Unit {0}) (λ s id n old new. Unit {0}) (λ s dir. Unit {0}) (λ id. Unit {0}) AreDoneCounted
-done_counted = record {
-  finishes = λ s id f i. record { shape = shape_any.finishes s id f i.shape; counted = i.counted };
-  events = λ s e less i. record { shape = shape_any.events s e less i.shape; counted = i.counted };
-  opens_own = λ s dir lt i. record { shape = shape_any.opens_own s dir lt i.shape; counted = i.counted };
-  accepts = λ s dir may i. record { shape = record { sending = i.shape.sending; receiving = i.shape.receiving }; counted = i.counted };
-  allows = λ s dir count le lt i. record { shape = shape_any.allows s dir count le lt i.shape; counted = i.counted };
-  opens_theirs = λ s id e within i. record {
-    shape = shape_any.opens_theirs s id e within i.shape;
-    counted = subst (λ (c : Counts). AreCountedBy s.side s.receiving.halves s.sending.halves c) (sym (remote_counts (dir_of id) (index_of id + 1) s.opening)) i.counted;
-  };
-  raises = λ s limit le i. record { shape = shape_any.raises s limit le i.shape; counted = i.counted };
-  changes = λ s id old new is on same i. record { shape = shape_any.changes s id old new is tt same i.shape; counted = sends_counted s s id old new is i.shape i.counted };
-  queues = λ s id old new b is on same i. record { shape = shape_any.queues s id old new b is tt same i.shape; counted = sends_counted s s id old (requeued_at old.place b s.sending.queue id new).half is i.shape i.counted };
-  turns = λ s id old new is on same i. record { shape = shape_any.turns s id old new is tt same i.shape; counted = sends_counted s s id old (turned_at old.place s.sending.queue id new).half is i.shape i.counted };
-  writes = λ s id n old new is on same i. record { shape = shape_any.writes s id n old new is tt same i.shape; counted = sends_counted s s id old (requeued_at old.place true s.sending.queue id new).half is i.shape i.counted };
-  joins = λ s id h is i. joined_off s id h is i;
-  passes = λ s id ids is i. record {
-    shape = shape_any.passes s id ids is i.shape;
-    counted = counted_same s.side s.receiving.halves s.receiving.halves s.sending.halves (record s.sending.halves { live = unblocked_at (at s.sending.halves.live id) s.sending.halves.live id }) s.opening.done (λ q. refl) (passed_counted s id) i.counted;
-  };
-  ends_sending = λ s id h is over i. sent_off s id h is over i;
-  changes_receiving = λ s id old new is on i. record { shape = shape_any.changes_receiving s id old new is tt i.shape; counted = receives_counted s id old new is i.shape i.counted };
-  ends_receiving = λ s id h is i. received_off s id h is i;
-  tells = λ s i. record { shape = shape_any.tells s i.shape; counted = i.counted };
-  tells_on = λ s id h is i. record {
-    shape = shape_any.tells_on s id h is i.shape;
-    counted = receives_counted s id h (record h { announced = raised_on s.receiving.stream_window h }) (live_receives s id h is) i.shape i.counted;
-  };
-  tells_count = λ s dir i. record { shape = shape_any.tells_count s dir i.shape; counted = i.counted };
+done_counted (changes.accepts dir) s may i = record { shape = record { sending = i.shape.sending; receiving = i.shape.receiving }; counted = i.counted }
+done_counted (changes.opens_theirs id) s (e, within) i = record {
+  shape = shape_any (changes.opens_theirs id) s (e, within) i.shape;
+  counted = subst (λ (c : Counts). AreCountedBy s.side s.receiving.halves s.sending.halves c) (sym (remote_counts (dir_of id) (index_of id + 1) s.opening)) i.counted;
 }
+done_counted (changes.changes_sending id old new) s (is, on, same) i = record { shape = shape_any (changes.changes_sending id old new) s (is, tt, same) i.shape; counted = sends_counted s s id old new is i.shape i.counted }
+done_counted (changes.queues id old new b) s (is, on, same) i = record { shape = shape_any (changes.queues id old new b) s (is, tt, same) i.shape; counted = sends_counted s s id old (requeued_at old.place b s.sending.queue id new).half is i.shape i.counted }
+done_counted (changes.turns id old new) s (is, on, same) i = record { shape = shape_any (changes.turns id old new) s (is, tt, same) i.shape; counted = sends_counted s s id old (turned_at old.place s.sending.queue id new).half is i.shape i.counted }
+done_counted (changes.writes id n old new) s (is, on, same) i = record { shape = shape_any (changes.writes id n old new) s (is, tt, same) i.shape; counted = sends_counted s s id old (requeued_at old.place true s.sending.queue id new).half is i.shape i.counted }
+done_counted (changes.joins id h) s is i = joined_off s id h is i
+done_counted (changes.passes id ids) s is i = record {
+  shape = shape_any (changes.passes id ids) s is i.shape;
+  counted = counted_same s.side s.receiving.halves s.receiving.halves s.sending.halves (record s.sending.halves { live = unblocked_at (at s.sending.halves.live id) s.sending.halves.live id }) s.opening.done (λ q. refl) (passed_counted s id) i.counted;
+}
+done_counted (changes.ends_sending id h) s (is, over) i = sent_off s id h is over i
+done_counted (changes.changes_receiving r id old new) s (is, on, same) i = record { shape = shape_any (changes.changes_receiving r id old new) s (is, tt, same) i.shape; counted = receives_counted s id old new is i.shape i.counted }
+done_counted (changes.ends_receiving id h) s is i = received_off s id h is i
+done_counted (changes.tells_on id h) s is i = record {
+  shape = shape_any (changes.tells_on id h) s is i.shape;
+  counted = receives_counted s id h (record h { announced = raised_on s.receiving.stream_window h }) (live_receives s id h is) i.shape i.counted;
+}
+done_counted change s may i = record { shape = shape_any change s may i.shape; counted = i.counted }

@@ -48,9 +48,11 @@ use Rattle.quic_machine.specs.Poll as poll
 use Rattle.quic_machine.specs.LeaveCases.{by_expired, by_event}
 use Rattle.quic_machine.specs.CallCases.{is_delivery, by_call}
 use Rattle.quic_machine.specs.FrameCases.{Settling, named, ack_taken, acked_keeps, losses_keep, message_leaves}
+use Rattle.quic_machine.specs.Steps as steps
 use Rattle.quic_machine.specs.Machine.{IsAnswer, after_call}
 use Rattle.quic_headline.specs.Runs.{Next}
-use Rattle.quic_machine.specs.DraftLaws.{by_writing}
+use Rattle.quic_machine.specs.DraftLaws.{Writing, by_writing}
+use Rattle.quic_machine.specs.Puts as puts
 use Rattle.quic_streams_laws.specs.QuietLaws.{by_tells}
 use Rattle.quic_headline.proofs.Packets.Probes.{poll_state}
 
@@ -243,32 +245,20 @@ module _ (own : Counts) where
   reset_acked_own (Some h) s p id i = either_streams (is_some h.reset) (settled (send_done s id) p) (streams_of s p) (sent_own s id i) i
 
   settling : Settling (λ (e : End). Own e.streams)
-  settling = record {
-    known = λ n e i. i;
-    reset = λ id e i. reset_acked_own (sent_half e.streams id) e.streams e.waiting.frames id i;
-    acked = λ m e i. acked_own (sent_half e.streams m.id) e.streams e.waiting.frames m i;
-    lost = λ m e i. lost_own (sent_half e.streams m.id) e.streams m i;
-    again = λ carried e i. i;
-    searched = λ discovery e i. i;
-    shortens = λ most e i. i;
-    tracked = λ t e i. i;
-    measured = λ r first e i. i;
-    marked = λ m marking e i. i;
-  }
+  settling (steps.reset id) e i = reset_acked_own (sent_half e.streams id) e.streams e.waiting.frames id i
+  settling (steps.acked m) e i = acked_own (sent_half e.streams m.id) e.streams e.waiting.frames m i
+  settling (steps.lost m) e i = lost_own (sent_half e.streams m.id) e.streams m i
+  settling s e i = i
 
   -- ---- calls
 
   -- what goes opens none
   composed_own : (e : End) → Own e.streams → Own (poll.composed e).end.streams
-  composed_own e i = by_writing (λ (d : poll.Draft). Own d.end.streams) (record {
-    ack = λ d filled may j. j;
-    ping = λ d j. j;
-    probes = λ f size j. j;
-    drops = λ d kind j. j;
-    control = λ d kind f is j. by_tells Own d.end.streams j j (λ id. j) (λ dir. j) f;
-    message = λ d m ms is fit j. j;
-    stream = λ d id h room found first some is counts j. j;
-  }) e i
+  composed_own e i = by_writing (λ (d : poll.Draft). Own d.end.streams) keep e i
+    where
+      keep : Writing (λ (d : poll.Draft). Own d.end.streams)
+      keep (puts.control kind f) d may j = by_tells Own d.end.streams j j (λ id. j) (λ dir. j) f
+      keep p d may j = j
 
   -- any call but a delivery, and one that opens a stream
   pub call_own : (p : Policy) (e : End) (theirs : List (List ℕ)) (call : Call) (a : Answer) → is_delivery call ≡ false → opens_one call ≡ false → IsAnswer p e theirs call a → Own e.streams → Own (after_call p e theirs call a).streams
@@ -277,7 +267,6 @@ module _ (own : Counts) where
     on_streams = λ on answer. on_streams_own (is_open e.closing.state) (streams_at e) call a quiet (answer is) i;
     on_messages = λ on answer. i;
     pings = i;
-    heard = λ path same. i;
     times = λ now expiry set. by_expired e now (λ (f : End). Own f.streams) (λ pending tracking timers runs packets. i) (λ pending timers runs. losses_keep (λ (x : End). Own x.streams) settling (with_closing e (ticked e.closing now)) i) expiry;
     polls = λ now set. poll_state Own p e now composed_own i;
     hears = λ arrival d set. cc;

@@ -36,12 +36,13 @@ use Rattle.quic_headline.proofs.Halves.Ghosts.{IsWriting}
 use Rattle.quic_headline.proofs.Halves.ReadCalls.{IsKept, any_kept}
 use Rattle.quic_headline.proofs.Unread.OpeningLasts.{lasts_call}
 use Rattle.quic_headline.proofs.Unread.OpeningStatus.{IsDoneStatus, ReceivesNoMore, done_lasts, ended_is}
+use Rattle.quic_streams_laws.specs.Keeping as changes
 
 -- ---- a half is done
 
 pub ends_here : (s : StreamsState) (id : ℕ) (h : RecvHalf) → IsShaped s → at s.receiving.halves.live id ≡ Some h → ReceivesNoMore id (recv_done s id)
 ends_here s id h shape there = record {
-  shape = shape_any.ends_receiving s id h there shape;
+  shape = shape_any (changes.ends_receiving id h) s there shape;
   each = λ j same. subst (λ (x : ℕ). IsDoneStatus (receiving_status (recv_done s id) x)) (sym same) (subst IsDoneStatus (sym (ended_is s id h shape there)) tt);
 }
 

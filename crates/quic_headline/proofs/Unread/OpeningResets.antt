@@ -19,6 +19,7 @@ use Rattle.quic_streams_state.specs.Acked.{reset_acked_at, after_reset_acked}
 use Rattle.quic_streams_laws.specs.Each.{HalfIs, EachSends, AreOfHalves}
 use Rattle.quic_streams_laws.specs.EachLaws.{each_kept}
 use Rattle.quic_streams_laws.specs.Keeping.{KeepsBy}
+use Rattle.quic_streams_laws.specs.Keeping as changes
 use Rattle.quic_streams_laws.specs.KeepingLaws.{keeps_fewer, by_stream, by_reset_frame, by_stop_sending, by_max_data_where, by_max_stream_data, by_max_streams, by_stream_lost, by_stream_acked, by_stream_acked_where, by_reset_acked, by_reset_acked_where}
 use Rattle.quic_streams_laws.specs.Shape.{IsShaped}
 use Rattle.quic_streams_laws.specs.ShapeLaws.{shape_any}
@@ -32,7 +33,8 @@ use Rattle.quic_machine.specs.StreamCalls.{is_on_streams}
 use Rattle.quic_machine.specs.Acked.{without_known, reset_acked, resets_acked, stream_acked, streams_acked, packet_acked, packets_acked, stream_lost, streams_lost, carried_lost, packets_lost, verdict, losses_detected, measured, sampled, without_acked, after_named, losses_taken}
 use Rattle.quic_machine.specs.Sizes.{search_acked}
 use Rattle.quic_machine.specs.Receive.{is_above, names_ungiven, take_frame}
-use Rattle.quic_machine.specs.FrameCases.{OnStreams, Settling, named, ack_taken, begun, passed, frames_keep, by_marks, resets_acked_keep, streams_acked_keep, packets_lost_keep, losses_keep}
+use Rattle.quic_machine.specs.FrameCases.{OnStreams, Settling, named, ack_taken, begun, passed, frames_keep, by_marks, resets_acked_keep, streams_acked_keep, packets_lost_keep, losses_keep, apart_same}
+use Rattle.quic_machine.specs.Steps as steps
 use Rattle.quic_machine.specs.PollCases.{ready_at}
 use Rattle.quic_machine.specs.CallCases.{is_delivery}
 use Rattle.quic_machine.specs.Machine.{after_call}
@@ -154,7 +156,7 @@ module _ (id : ℕ) where
   either j None false c = λ same. (let clash : false ≡ true = (c same).1 in cc)
 
   off : (s : StreamsState) (h : SendHalf) → at s.sending.halves.live id ≡ Some h → is_some h.reset ≡ true → IsShaped s → SendsNoMore (send_done s id)
-  off s h is reset shape = go (not (is_own s.side id) && is_done (receiving_status s id)) (shape_any.ends_sending s id h is (inl reset) shape)
+  off s h is reset shape = go (not (is_own s.side id) && is_done (receiving_status s id)) (shape_any (changes.ends_sending id h) s (is, (inl reset)) shape)
     where
       gone : (j : ℕ) → j ≡ id → (at (without s.sending.halves.live id) j ≡ None) × (has_place s.side s.sending.halves.places j ≡ true)
       gone j same = subst (λ (x : ℕ). (at (without s.sending.halves.live id) x ≡ None) × (has_place s.side s.sending.halves.places x ≡ true)) (sym same) (at-without s.sending.halves.live id shape.sending.sorted, shape.sending.placed id h is)
@@ -179,24 +181,16 @@ module _ (id : ℕ) where
       (cond_both {A = Streams} (is_some u.half.reset) _ _ (λ (t : Streams). SendsNoMore t.state) (λ e. off s u.half u.found e shape) (λ e. absurd (both_ways (is_some u.half.reset) e (ap is_some u.reset))))
 
   sends_settle : Settling (λ (e : End). SendsNoMore e.streams)
-  sends_settle = record {
-    known = λ n e i. i;
-    reset = λ q e i. sends_last.calls.quiet.reset_acked e.streams e.waiting.frames q i;
-    acked = λ m e i. sends_last.calls.quiet.acked e.streams e.waiting.frames m i;
-    lost = λ m e i. sends_last.calls.quiet.lost e.streams m i;
-    again = λ carried e i. i;
-    searched = λ discovery e i. i;
-    shortens = λ most e i. i;
-    tracked = λ t e i. i;
-    measured = λ rtt first e i. i;
-    marked = λ m marking e i. i;
-  }
+  sends_settle (steps.reset q) e i = sends_last.calls.quiet.reset_acked e.streams e.waiting.frames q i
+  sends_settle (steps.acked m) e i = sends_last.calls.quiet.acked e.streams e.waiting.frames m i
+  sends_settle (steps.lost m) e i = sends_last.calls.quiet.lost e.streams m i
+  sends_settle s e i = i
 
   reset_going : (q : ℕ) (e : End) → Going e → Going (reset_acked q e)
   reset_going q e g = record { shape = by_reset_acked IsShaped shape_any e.streams e.waiting.frames q g.shape; half = go g.half (cases_eq q id) }
     where
       go : InUse r e.streams ⊎ SendsNoMore e.streams → (q ≡ id) ⊎ (q ≡ id → ⊥) → InUse r (reset_acked q e).streams ⊎ SendsNoMore (reset_acked q e).streams
-      go (inr n) either = inr (sends_settle.reset q e n)
+      go (inr n) either = inr (sends_settle (steps.reset q) e n)
       go (inl u) (inl same) = inr (subst (λ (x : ℕ). SendsNoMore (after_reset_acked e.streams e.waiting.frames x).state) (sym same) (reset_off e.streams e.waiting.frames g.shape u))
       go (inl u) (inr ne) = inl (by_reset_acked_where (InUse r) (in_use_kept r) e.streams e.waiting.frames q (λ h is was some same. ne same) u)
 
@@ -204,42 +198,34 @@ module _ (id : ℕ) where
   acked_going m e g = record { shape = by_stream_acked IsShaped shape_any e.streams e.waiting.frames m (λ h is free. tt) (λ h is free all. tt) g.shape; half = go g.half }
     where
       go : InUse r e.streams ⊎ SendsNoMore e.streams → InUse r (stream_acked m e).streams ⊎ SendsNoMore (stream_acked m e).streams
-      go (inr n) = inr (sends_settle.acked m e n)
+      go (inr n) = inr (sends_settle (steps.acked m) e n)
       go (inl u) = inl (by_stream_acked_where (InUse r) (in_use_kept r) e.streams e.waiting.frames m (λ half is free some. refl) (λ half is free all. tt) (λ half all some same. acked_free half all some) u)
 
   lost_going : (m : StreamMeta) (e : End) → Going e → Going (stream_lost m e)
   lost_going m e g = record { shape = by_stream_lost IsShaped shape_any e.streams m (λ h is free. tt) g.shape; half = go g.half }
     where
       go : InUse r e.streams ⊎ SendsNoMore e.streams → InUse r (stream_lost m e).streams ⊎ SendsNoMore (stream_lost m e).streams
-      go (inr n) = inr (sends_settle.lost m e n)
+      go (inr n) = inr (sends_settle (steps.lost m) e n)
       go (inl u) = inl (by_stream_lost (InUse r) (in_use_kept r) e.streams m (λ half is free some. refl) u)
 
   going_settle : Settling Going
-  going_settle = record {
-    known = λ n e g. record { shape = g.shape; half = g.half };
-    reset = reset_going;
-    acked = acked_going;
-    lost = lost_going;
-    again = λ carried e g. record { shape = g.shape; half = g.half };
-    searched = λ discovery e g. record { shape = g.shape; half = g.half };
-    shortens = λ most e g. record { shape = g.shape; half = g.half };
-    tracked = λ t e g. record { shape = g.shape; half = g.half };
-    measured = λ rtt first e g. record { shape = g.shape; half = g.half };
-    marked = λ m marking e g. record { shape = g.shape; half = g.half };
-  }
+  going_settle (steps.reset id) e i = reset_going id e i
+  going_settle (steps.acked m) e i = acked_going m e i
+  going_settle (steps.lost m) e i = lost_going m e i
+  going_settle s e g = record { shape = g.shape; half = g.half }
 
   -- packets that are acknowledged
   module _ (P : End → Type 0) (c : Settling P) where
     known_on : (o : Option ℕ) (e : End) → P e → P (without_known o e)
     known_on None e i = i
-    known_on (Some n) e i = c.known n e i
+    known_on (Some n) e i = c (steps.known n) e i
 
     packet_on : (p : ℕ × TrackedPacket) (e : End) → P e → P (packet_acked p e)
     packet_on p e i =
         let learned : End = search_acked p e in
         let knows : End = without_known p.1.carried.largest_acked learned in
-        streams_acked_keep P c.acked p.1.carried.stream_frames (resets_acked p.1.carried.retransmits.reset_stream knows)
-        (resets_acked_keep P c.reset p.1.carried.retransmits.reset_stream knows (known_on p.1.carried.largest_acked learned (c.searched learned.path.discovery e i)))
+        streams_acked_keep P (λ m. c (steps.acked m)) p.1.carried.stream_frames (resets_acked p.1.carried.retransmits.reset_stream knows)
+        (resets_acked_keep P (λ q. c (steps.reset q)) p.1.carried.retransmits.reset_stream knows (known_on p.1.carried.largest_acked learned (c (steps.searched learned.path.discovery) e i)))
 
     packets_on : (ps : Table TrackedPacket) (e : End) → P e → P (packets_acked ps e)
     packets_on [] e i = i
@@ -249,13 +235,13 @@ module _ (id : ℕ) where
   resets_off : (rs : List (ℕ × ℕ)) (e : End) → has_reset id rs ≡ true → Going e → SendsNoMore (resets_acked rs e).streams
   resets_off [] e is g = cc
   resets_off (q ∷ rs) e is g = elim (or_cases (q.0 == id) (has_reset id rs) is) [
-    | inl here ↦ resets_acked_keep (λ (x : End). SendsNoMore x.streams) sends_settle.reset rs (reset_acked q.0 e) (first (eqb-true q.0 id here) g.half)
+    | inl here ↦ resets_acked_keep (λ (x : End). SendsNoMore x.streams) (λ q. sends_settle (steps.reset q)) rs (reset_acked q.0 e) (first (eqb-true q.0 id here) g.half)
     | inr more ↦ resets_off rs (reset_acked q.0 e) more (reset_going q.0 e g)
   ]
     where
       first : q.0 ≡ id → InUse r e.streams ⊎ SendsNoMore e.streams → SendsNoMore (reset_acked q.0 e).streams
       first same (inl u) = subst (λ (x : ℕ). SendsNoMore (after_reset_acked e.streams e.waiting.frames x).state) (sym same) (reset_off e.streams e.waiting.frames g.shape u)
-      first same (inr n) = sends_settle.reset q.0 e n
+      first same (inr n) = sends_settle (steps.reset q.0) e n
 
   abbrev HasIt : ℕ × TrackedPacket → Type 0
   HasIt q = has_reset id q.1.carried.retransmits.reset_stream ≡ true
@@ -267,8 +253,8 @@ module _ (id : ℕ) where
       let learned : End = search_acked p e in
       let knows : End = without_known p.1.carried.largest_acked learned in
       packets_on (λ (x : End). SendsNoMore x.streams) sends_settle ps (packet_acked p e)
-      (streams_acked_keep (λ (x : End). SendsNoMore x.streams) sends_settle.acked p.1.carried.stream_frames (resets_acked p.1.carried.retransmits.reset_stream knows)
-      (resets_off p.1.carried.retransmits.reset_stream knows here (known_on Going going_settle p.1.carried.largest_acked learned (going_settle.searched learned.path.discovery e g))))
+      (streams_acked_keep (λ (x : End). SendsNoMore x.streams) (λ m. sends_settle (steps.acked m)) p.1.carried.stream_frames (resets_acked p.1.carried.retransmits.reset_stream knows)
+      (resets_off p.1.carried.retransmits.reset_stream knows here (known_on Going going_settle p.1.carried.largest_acked learned (going_settle (steps.searched learned.path.discovery) e g))))
   packets_off (p ∷ ps) e (inr more) g = packets_off ps (packet_acked p e) more (packet_on Going going_settle p e g)
 
   -- ---- where its reset is
@@ -291,7 +277,7 @@ module _ (id : ℕ) where
       go : Stands e → ((listed_in (ResetOf id) (packets_lost lost e).waiting.frames ≡ true) ⊎ IsCarried (after_detection (verdict e) e.tracking).packets (Reset id)) ⊎ SendsNoMore (packets_lost lost e).streams
       go (inl (inl waits)) = inl (inl (losses_wait lost e id (inl waits)))
       go (inl (inr flying)) = elim (any_either HasIt (is_lost (verdict e)) e.tracking.packets flying) [ inl gone ↦ inl (inl (losses_wait lost e id (inr gone))) | inr kept ↦ inl (inr kept) ]
-      go (inr n) = inr (packets_lost_keep (λ (x : End). SendsNoMore x.streams) sends_settle.lost sends_settle.again lost e n)
+      go (inr n) = inr (packets_lost_keep (λ (x : End). SendsNoMore x.streams) (λ m. sends_settle (steps.lost m)) (λ carried. sends_settle (steps.again carried)) lost e n)
 
   -- the same of an end with such streams, of which the same waits and is tracked
   goes_same : (e f : End) → f.streams ≡ e.streams → waiting_of f ≡ waiting_of e → f.tracking.packets ≡ e.tracking.packets → Goes e → Goes f
@@ -378,7 +364,7 @@ module _ (id : ℕ) where
 
   -- any
   frame_goes : (f : FrameValue) (e : End) → Goes e → Goes (take_frame f e).end
-  frame_goes f e g = by_frame f e (λ h p. Goes p.end) (λ a is. acks a (names_ungiven a e)) (λ other on. streams_goes f e on g) (λ other m same. subst Goes (sym same) (goes_same e _ refl refl refl g))
+  frame_goes f e g = by_frame f e (λ h p. Goes p.end) (λ a is. acks a (names_ungiven a e)) (λ other on. streams_goes f e on g) (λ other m same. subst Goes (sym same) (goes_same e _ refl refl refl g)) (λ other apart. subst Goes (sym (apart_same f e apart)) g)
     where
       acks : (a : AckValue) (b : Bool) → Goes (ack_taken b a e).end
       acks a true = g

@@ -24,6 +24,7 @@ use Rattle.quic_streams_state.specs.Taking.{part_for, readable_if, ended_if, ren
 use Rattle.quic_streams_laws.specs.Content.{AllReceiving}
 use Rattle.quic_streams_laws.specs.ContentLaws.{by_next_answer}
 use Rattle.quic_streams_laws.specs.Keeping.{KeepsBy, KeepsAll}
+use Rattle.quic_streams_laws.specs.Keeping as changes
 use Rattle.quic_streams_laws.specs.KeepingLaws.{by_option, at-half, by_accept, by_opened, by_read_begun, by_next, by_stop, by_received_reset, by_stream, by_reset_frame, by_value, stream_cases, reset_cases}
 use Rattle.quic_streams_laws.specs.QuietLaws.{is_quiet}
 use Rattle.quic_streams_laws.specs.Shape.{IsShaped}
@@ -111,7 +112,7 @@ module _ (Q : ℕ → Status RecvHalf → Type 0) (g : GoesOn Q) (over : (id : �
       there = at-half s.side s.receiving.halves id new
 
       gone : AllReceiving (But id) (recv_done (with_recv s id new) id)
-      gone = (each_kept (But id) (but_goes id)).ends_receiving (with_recv s id new) id new there changed
+      gone = each_kept (But id) (but_goes id) (changes.ends_receiving id new) (with_recv s id new) there changed
 
       go : (j : ℕ) → (j ≡ id) ⊎ (j ≡ id → ⊥) → Q j (receiving_status (recv_done (with_recv s id new) id) j)
       go j (inl same) = subst (λ (x : ℕ). Q x (receiving_status (recv_done (with_recv s id new) id) x)) (sym same) (subst (Q id) (sym (ended_is (with_recv s id new) id new changed.shape there)) (over id))
@@ -204,7 +205,7 @@ renewed_unsized s id old new tells within part i = told (tells && not (old.stopp
 
     last : (b : Bool) → (new.stopped && is_some new.final) ≡ b → StoppedAreUnsized (ended_if b id (with_recv u id new))
     last true is = ends_one IsUnsized unsized_goes (λ j. tt) u id old new part opened
-    last false is = unsized_keeps.changes_receiving u id old new part (λ was halted. apart new.stopped (is_some new.final) is halted) opened
+    last false is = unsized_keeps (changes.changes_receiving u.receiving id old new) u (part, (λ was halted. apart new.stopped (is_some new.final) is halted), refl) opened
 
     told : (b : Bool) (t : StreamsState) → StoppedAreUnsized t → StoppedAreUnsized (readable_if b id t)
     told true t j = record { shape = record { sending = j.shape.sending; receiving = j.shape.receiving }; each = j.each }
@@ -216,7 +217,7 @@ stop_unsized s p id code i = by_option (receiving_half s id) (λ o. StoppedAreUn
   where
     go : (h : RecvHalf) → receiving_half s id ≡ Some h → (b : Bool) → is_some h.final ≡ b → StoppedAreUnsized (stopped_if b s id h)
     go h e true is = ends_one IsUnsized unsized_goes (λ j. tt) s id h (stopped_now h) e i
-    go h e false is = unsized_keeps.changes_receiving s id h (stopped_now h) e (λ was halted. is) i
+    go h e false is = unsized_keeps (changes.changes_receiving s.receiving id h (stopped_now h)) s (e, (λ was halted. is), refl) i
 
 pub unsized_lasts : Lasts StoppedAreUnsized
 unsized_lasts = record {
@@ -255,27 +256,12 @@ may_done dir n true id s i = i
 may_done dir n false id s i = i
 
 may_kept : (dir : Dir) (n : ℕ) → KeepsAll (λ r id old new. Unit {0}) (λ s id old new. Unit {0}) (λ s id n old new. Unit {0}) (λ s dir. Unit {0}) (λ id. Unit {0}) (MayOpen dir n)
-may_kept dir n = record {
-  finishes = λ s id f i. i;
-  events = λ s e less i. i;
-  opens_own = λ s d lt i. i;
-  accepts = λ s d may i. i;
-  allows = λ s d count le lt i. may_more dir d n count s.opening.own_limit lt i;
-  opens_theirs = λ s id e within i. may_remote dir (dir_of id) n (index_of id + 1) s.opening i;
-  raises = λ s limit le i. i;
-  changes = λ s id old new is on same i. i;
-  queues = λ s id old new b is on same i. i;
-  turns = λ s id old new is on same i. i;
-  writes = λ s id m old new is on same i. i;
-  joins = λ s id h is i. cond_both h.blocked s _ (MayOpen dir n) (λ e. i) (λ e. i);
-  passes = λ s id ids is i. i;
-  ends_sending = λ s id h is over i. may_done dir n _ id _ i;
-  changes_receiving = λ s id old new is on i. i;
-  ends_receiving = λ s id h is i. may_done dir n _ id _ i;
-  tells = λ s i. i;
-  tells_on = λ s id h is i. i;
-  tells_count = λ s d i. i;
-}
+may_kept dir n (changes.allows d count) s (le, lt) i = may_more dir d n count s.opening.own_limit lt i
+may_kept dir n (changes.opens_theirs id) s may i = may_remote dir (dir_of id) n (index_of id + 1) s.opening i
+may_kept dir n (changes.joins id h) s may i = cond_both h.blocked s _ (MayOpen dir n) (λ e. i) (λ e. i)
+may_kept dir n (changes.ends_sending id h) s may i = may_done dir n _ id _ i
+may_kept dir n (changes.ends_receiving id h) s may i = may_done dir n _ id _ i
+may_kept dir n c s may i = i
 
 pub may_lasts : (dir : Dir) (n : ℕ) → Lasts (MayOpen dir n)
 may_lasts dir n = lasts_any (MayOpen dir n) (λ s d may. tt) (may_kept dir n)
@@ -294,27 +280,7 @@ Leaving (max_streams f) s = MayOpen (dir_named f.one_way) f.count s
 Leaving f s = Unit {0}
 
 nothing_lasts : Lasts (λ s. Unit {0})
-nothing_lasts = lasts_any {A = λ s dir. Unit {0}} (λ s. Unit {0}) (λ s d may. tt) (record {
-  finishes = λ s id f i. tt;
-  events = λ s e less i. tt;
-  opens_own = λ s d lt i. tt;
-  accepts = λ s d may i. tt;
-  allows = λ s d count le lt i. tt;
-  opens_theirs = λ s id e within i. tt;
-  raises = λ s limit le i. tt;
-  changes = λ s id old new is on same i. tt;
-  queues = λ s id old new b is on same i. tt;
-  turns = λ s id old new is on same i. tt;
-  writes = λ s id m old new is on same i. tt;
-  joins = λ s id h is i. tt;
-  passes = λ s id ids is i. tt;
-  ends_sending = λ s id h is over i. tt;
-  changes_receiving = λ s id old new is on i. tt;
-  ends_receiving = λ s id h is i. tt;
-  tells = λ s i. tt;
-  tells_on = λ s id h is i. tt;
-  tells_count = λ s d i. tt;
-})
+nothing_lasts = lasts_any {A = λ s dir. Unit {0}} (λ s. Unit {0}) (λ s d may. tt) (λ c s may i. tt)
 
 if_lasts : (b : Bool) (id : ℕ) → Lasts (λ s. KnownIf b id s)
 if_lasts true id = known_lasts id

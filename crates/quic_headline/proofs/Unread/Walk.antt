@@ -55,6 +55,7 @@ use Rattle.quic_machine.specs.LeaveCases.{by_expired, by_event}
 use Rattle.quic_machine.specs.CallCases.{is_delivery, is_poll, by_call}
 use Rattle.quic_machine.specs.FrameCases.{Settling, named, ack_taken, acked_keeps, losses_keep, message_leaves, frames_leave}
 use Rattle.quic_machine.specs.FrameCases as frame_cases
+use Rattle.quic_machine.specs.Steps as steps
 use Rattle.quic_machine.specs.Machine.{IsAnswer, after_call}
 use Rattle.quic_headline.specs.Runs.{Next, In}
 use Rattle.quic_headline.proofs.Halves.QuietSteps.{is_reading}
@@ -201,18 +202,10 @@ module _ (K : Side → Receiving → Counts → Counts → Type 0) where
   reset_acked_left (Some h) s p id i = either_streams (is_some h.reset) (settled (send_done s id) p) (streams_of s p) (sent_left s id i) i
 
   settling : Settling (λ (e : End). Of e.streams)
-  settling = record {
-    known = λ n e i. i;
-    reset = λ id e i. reset_acked_left (sent_half e.streams id) e.streams e.waiting.frames id i;
-    acked = λ m e i. acked_left (sent_half e.streams m.id) e.streams e.waiting.frames m i;
-    lost = λ m e i. lost_left (sent_half e.streams m.id) e.streams m i;
-    again = λ carried e i. i;
-    searched = λ discovery e i. i;
-    shortens = λ most e i. i;
-    tracked = λ t e i. i;
-    measured = λ r first e i. i;
-    marked = λ m marking e i. i;
-  }
+  settling (steps.reset id) e i = reset_acked_left (sent_half e.streams id) e.streams e.waiting.frames id i
+  settling (steps.acked m) e i = acked_left (sent_half e.streams m.id) e.streams e.waiting.frames m i
+  settling (steps.lost m) e i = lost_left (sent_half e.streams m.id) e.streams m i
+  settling s e i = i
 
   -- ---- calls
 
@@ -223,7 +216,6 @@ module _ (K : Side → Receiving → Counts → Counts → Type 0) where
     on_streams = λ on answer. on_streams_left (is_open e.closing.state) (streams_at e) call a quiet (answer is) i;
     on_messages = λ on answer. i;
     pings = i;
-    heard = λ path same. i;
     times = λ now expiry set. by_expired e now (λ (f : End). Of f.streams) (λ pending tracking timers runs packets. i) (λ pending timers runs. losses_keep (λ (x : End). Of x.streams) settling (with_closing e (ticked e.closing now)) i) expiry;
     polls = polls;
     hears = λ arrival d set. cc;

@@ -13,16 +13,16 @@ use Rattle.quic_machine.specs.declared.run.Answer.TheVariants as answers
 use Rattle.quic_machine.specs.Ids.{Ids}
 use Rattle.quic_machine.specs.Parts.{Waiting, current_mtu}
 use Rattle.quic_machine.specs.End.{End, streams_at, with_window}
-use Rattle.quic_machine.specs.Poll.{asking, zeros_behind, whole, alone, probe, nothing, Leaving, goes_as, goes, draft_as, polled}
+use Rattle.quic_machine.specs.Poll.{asking, zeros_behind, whole, alone, probe, nothing, Leaving, goes_as, goes, draft_as, polled, closing}
 use Rattle.quic_machine.specs.DraftLaws.{HasRoom}
-use Rattle.quic_machine.specs.PollCases.{ready_at, ready_leaves, draft_at, frames_at, may_leave_at}
+use Rattle.quic_machine.specs.PollCases.{ready_at, ready_leaves, draft_at, frames_at, may_leave_at, ready_closes_not}
 use Rattle.quic_machine.specs.Machine.{World, policy_at, end_at, control_at}
-use Rattle.quic_headline.specs.Runs.{Run, In, folded, until, given_of}
-use Rattle.quic_headline.specs.Observer.{Sent, HoldsOffset, HoldsEnd, asks_of, Watch, first_watch, lens_of}
+use Rattle.quic_headline.specs.Runs.{Run, In}
+use Rattle.quic_headline.specs.Observer.{Sent, HoldsOffset, HoldsEnd, asks_of, Watch}
 use Rattle.quic_headline.specs.Headline.{IsHonest, IsRun}
 use Rattle.quic_headline.specs.Moments.{is_ack, acknowledges}
 use Rattle.quic_headline.specs.Polls.{GaveOne}
-use Rattle.quic_headline.specs.Waited.{one_asks, count_silent, may_come, stands, Wants, wants_told, no_wants, wants, calls_for_ack, FrameWaited, HasWaited, as_size_probe, as_loss_probe, as_ack, as_frames, EachWaited}
+use Rattle.quic_headline.specs.Waited.{one_asks, count_silent, may_come, stands, Wants, wants, calls_for_ack, FrameWaited, HasWaited, as_size_probe, as_loss_probe, as_ack, as_frames, EachWaited}
 use Rattle.quic_headline.specs.InFlight.{is_max_streams}
 use Rattle.quic_headline.proofs.Packets.Flying.{asking_padded}
 use Rattle.quic_headline.proofs.Packets.Searches.{ready_size}
@@ -30,7 +30,7 @@ use Rattle.quic_headline.proofs.Packets.Probes.{ready_acks, ready_state}
 use Rattle.quic_headline.proofs.Places.Told.{in_append}
 use Rattle.quic_headline.proofs.Places.Parties.{sent_by, Party}
 use Rattle.quic_headline.proofs.Places.Groups.{Way, Nothing, And, Group, both, over}
-use Rattle.quic_headline.proofs.Places.Placed.{party_at, known_first}
+use Rattle.quic_headline.proofs.Places.Placed.{party_at}
 use Rattle.quic_headline.proofs.Places.Together.{Spells}
 use Rattle.quic_headline.proofs.Places.Everything as everything
 use Rattle.quic_headline.proofs.Places.Theorems.{ready}
@@ -140,7 +140,7 @@ module _ (r : Run) (end : World) (honest : IsHonest r) (run : IsRun r end) (side
 
   -- what is wanted of the run is what is wanted of its end
   wants_is : wants r side i ≡ wants_of x y
-  wants_is = ap (λ (ids : List (List ℕ)). folded (wants_told (lens_of r side)) (until r side i) (no_wants (first_watch ids (given_of r side) (end_at side r.start).closing.clock (end_at side r.start).transport.initial_rtt))) (known_first r honest side)
+  wants_is = refl
 
   wanted : IsWanted (wants r side i) e
   wanted = subst (λ (v : Wants). IsWanted v e) (sym wants_is) (h.gives.1.wanted gives.opened)
@@ -180,7 +180,7 @@ module _ (r : Run) (end : World) (honest : IsHonest r) (run : IsRun r end) (side
   -- where no probe of losses waits, each of its frames waited
   frames_waited : e.tracking.probes ≡ 0 → (ready_at e now).leaving ≡ whole → (f : FrameValue) → In f gave.sent.frames → FrameWaited (wants r side i) f
   frames_waited none is f among = elim (in_append f (draft_at e now).frames (replicate (zeros_behind (draft_at e now)) padding) (subst (λ (s : Sent). In f s.frames) (sym same) among)) [
-    | inl here ↦ frame_waited (wants r side i) e wanted f (brings (ap (λ (v : Waiting). v.ping) still) here) (λ k said. (
+    | inl here ↦ frame_waited (wants r side i) e wanted f (brings (ap (λ (v : Waiting). v.signals.ping) still) here) (λ k said. (
         let waited : flag k z.waiting.frames ≡ true = (draft_said z.waiting.frames k (ready_at e now).leaving z (may_leave_at e now) refl).waited (says_in k f (draft_at e now).frames here said) in
         ap (λ (v : Waiting). flag k v.frames) (sym still) ∙ waited))
     | inr behind ↦ subst (FrameWaited (wants r side i)) (sym (in_padding f (zeros_behind (draft_at e now)) behind)) tt
@@ -192,7 +192,7 @@ module _ (r : Run) (end : World) (honest : IsHonest r) (run : IsRun r end) (side
       settled : Open x.sents (wrote x.told) (told_so x) (acks x y) z
       settled = subst (λ (s : StreamsState). Settling (λ id o. HoldsOffset (acks x y) id o) (λ id. HoldsEnd (acks x y) id) (known_of x.sents (acks x y)) (told_so x) (wrote x.told) s) (sym (ready_state e now)) (h.gives.0.1.still gives.opened)
 
-      brings : z.waiting.ping ≡ e.waiting.ping → In f (draft_at e now).frames → Brings (wants r side i).watch.flight.acked e f
+      brings : z.waiting.signals.ping ≡ e.waiting.signals.ping → In f (draft_at e now).frames → Brings (wants r side i).watch.flight.acked e f
       brings ping_same here = pass f (subst (λ (ss : List Sent). Brings ss z f) (sym acks_are) (whole_brings spells.known spells.spelling x.sents (acks x y) (told_so x) (wrote x.told) z streams_known settled f (subst (λ (l : Leaving). In f (draft_as l z).frames) is here)))
         where
           pass : (g : FrameValue) → Brings (wants r side i).watch.flight.acked z g → Brings (wants r side i).watch.flight.acked e g
@@ -207,6 +207,7 @@ module _ (r : Run) (end : World) (honest : IsHonest r) (run : IsRun r end) (side
       by_leaving none whole is = as_frames asks (frames_waited none is)
       by_leaving none alone is = (let quiet_alone : asking (draft_at e now).frames ≡ false = ap (λ (l : Leaving). asking (draft_as l z).frames) is in absurd (both_ways (asks_of gave.sent) (ask_alike ∙ quiet_alone) asks))
       by_leaving none (probe size) is = as_size_probe (probing.is_probe Streams (everything.all Ready ready) r end honest run side i now gave w at.behind at.made (probe_goes e now size is) at.leads)
+      by_leaving none (closing f) is = absurd (ready_closes_not e now f is)
       by_leaving none (nothing held) is = absurd (both_ways (goes (ready_at e now)) (ap goes_as is) gives.some)
 
       by_probes : (n : ℕ) → e.tracking.probes ≡ n → HasWaited r side i gave.sent

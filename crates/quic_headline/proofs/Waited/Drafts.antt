@@ -18,9 +18,10 @@ use Rattle.quic_streams_laws.specs.KeepingLaws.{live_sends}
 use Rattle.quic_streams_laws.specs.Written.{Wrote, IsSendHalf}
 use Rattle.quic_streams_laws.specs.AcknowledgedLaws.{half_arrived}
 use Rattle.quic_machine.specs.End.{End, streams_at}
-use Rattle.quic_machine.specs.Poll.{Draft, no_frames, with_ping_frame, ping_if, with_control_frames, with_message_frames, with_asking, ack_of, with_ack, ack_fits, ack_if, composed_if, composed, lazied, asking, asks_to_go, waits, draft_as, goes_as, goes, whole, alone, probe, nothing, Leaving}
-use Rattle.quic_machine.specs.DraftLaws.{Writing, HasRoom, SendsEntry, SendsHalf, room_most, lazy_due, by_entries, by_messages, by_streams}
-use Rattle.quic_machine.specs.PollCases.{ready_at, draft_at, may_leave_at, whole_waits}
+use Rattle.quic_machine.specs.Poll.{Draft, no_frames, with_signal_frames, ping_if, with_control_frames, with_message_frames, with_asking, ack_of, with_ack, ack_fits, ack_if, composed_if, composed, lazied, asking, asks_to_go, waits, draft_as, goes_as, goes, whole, alone, probe, nothing, Leaving, closing}
+use Rattle.quic_machine.specs.DraftLaws.{Writing, HasRoom, SendsEntry, SendsHalf, room_most, lazy_due, by_entries, by_messages, by_streams, MayLeave, signal_asks, by_signals}
+use Rattle.quic_machine.specs.Puts as puts
+use Rattle.quic_machine.specs.PollCases.{ready_at, draft_at, may_leave_at, whole_waits, ready_closes_not}
 use Rattle.quic_headline.specs.Runs.{In}
 use Rattle.quic_headline.specs.Observer.{Sent, HoldsOffset, HoldsEnd}
 use Rattle.quic_headline.specs.Moments.{is_ack}
@@ -45,13 +46,9 @@ AskIfAny d = Asks d ⊎ (length d.frames ≡ 0)
 
 -- so it is of those that ask, and go first
 asking_asks : (e : End) → AskIfAny (with_asking (no_frames e))
-asking_asks e = by_streams AskIfAny (λ d id h room found first left is counts i. inl (last_asks d (stream (frame_of id h room)) refl)) (with_message_frames (with_control_frames (with_ping_frame (no_frames e))))
-    (by_messages AskIfAny (λ d m ms is fit i. inl (last_asks d (datagram m) refl)) (with_control_frames (with_ping_frame (no_frames e)))
-    (by_entries AskIfAny (λ d kind i. i) (λ d kind f is i. inl (last_asks d f (control_asks f (control_of f kind is.of_kind)))) (with_ping_frame (no_frames e)) (first e.waiting.ping)))
-  where
-    first : (b : Bool) → AskIfAny (ping_if b (no_frames e))
-    first true = inl refl
-    first false = inr refl
+asking_asks e = by_streams AskIfAny (λ d id h room found first left is counts i. inl (last_asks d (stream (frame_of id h room)) refl)) (with_message_frames (with_control_frames (with_signal_frames (no_frames e))))
+    (by_messages AskIfAny (λ d m ms is fit i. inl (last_asks d (datagram m) refl)) (with_control_frames (with_signal_frames (no_frames e)))
+    (by_entries AskIfAny (λ d kind i. i) (λ d kind f is i. inl (last_asks d f (control_asks f (control_of f kind is.of_kind)))) (with_signal_frames (no_frames e)) (by_signals AskIfAny (λ d f left is i. inl (last_asks d f (signal_asks f is))) (no_frames e) (inr refl))))
 
 -- ---- a datagram that doesn't ask
 
@@ -67,7 +64,7 @@ urged e due = elim (or_cases e.acknowledging.due (nat_lt lazy_threshold e.acknow
 
 module _ (K : Streams → Type 0) (k : Spelling K) (c : Bringing K) where
   -- where no ACK frame is due, what is composed asks
-  composed_asking : (e : End) → HasRoom e → K (streams_at e) → waits e ≡ true → can_send (lazied e).acknowledging ≡ false → Asks (composed (lazied e))
+  pub composed_asking : (e : End) → HasRoom e → K (streams_at e) → waits e ≡ true → can_send (lazied e).acknowledging ≡ false → Asks (composed (lazied e))
   composed_asking e short i waiting none = subst (λ (b : Bool). Asks (composed_if b (lazied e))) (sym none) (late (ack_fits d) (elim (asking_asks (lazied e)) [
     | inl is ↦ is
     | inr empty ↦ (let some : 0 < length d.frames = asking_goes K k c (lazied e) (room_most e short) i asks in absurd (omega arith))
@@ -99,15 +96,16 @@ module _ (K : Streams → Type 0) (k : Spelling K) (c : Bringing K) where
 
       by_leaving : (l : Leaving) → (ready_at e now).leaving ≡ l → Says l
       by_leaving whole is = all (whole_waits e now is) (can_send (lazied x).acknowledging) refl
-      by_leaving alone is = λ quiet. (let due = may_leave_at e now is in (draft_acks alone x (inr refl) due, urged x due))
+      by_leaving alone is = λ quiet. (let due = subst (λ (l : Leaving). MayLeave l x) is (may_leave_at e now) in (draft_acks alone x (inr refl) due, urged x due))
       by_leaving (probe size) is = λ quiet. cc
+      by_leaving (closing f) is = λ quiet. absurd (ready_closes_not e now f is)
       by_leaving (nothing held) is = λ quiet. absurd (both_ways (goes (ready_at e now)) (ap goes_as is) some)
 
 -- ---- a datagram that asks
 
 -- PING goes where it waits, and a STREAM frame brings a byte or the end, and no byte that was acknowledged
 abbrev pub Brings : List Sent → End → FrameValue → Type 0
-Brings acks e ping = e.waiting.ping ≡ true
+Brings acks e ping = e.waiting.signals.ping ≡ true
 Brings acks e (stream f) = ((0 < length f.bytes) ⊎ (f.fin ≡ true)) × HoldsNone acks f
 Brings acks e f = Unit {0}
 
@@ -191,7 +189,7 @@ module _ (K : Streams → Type 0) (k : Spelling K) (acks : List Sent) (n : ℕ �
   controls_bring : SendsEntry IsBringing
   controls_bring d kind f is i = (
       let went = k.control (streams_at d.end) kind f is i.0 in
-      (went.1, settles.control d kind f is i.1, brings_more acks e d.frames f (control_brings acks e f (control_of f kind is.of_kind)) i.2))
+      (went.1, settles (puts.control kind f) d is i.1, brings_more acks e d.frames f (control_brings acks e f (control_of f kind is.of_kind)) i.2))
 
   halves_bring : SendsHalf IsBringing
   halves_bring d id h room found first left is counts i = (
@@ -202,15 +200,15 @@ module _ (K : Streams → Type 0) (k : Spelling K) (acks : List Sent) (n : ℕ �
       let held = (half_arrived (λ id o. HoldsOffset acks id o) (λ id. HoldsEnd acks id) w s id h there i.1.0.acked).0 in
       let settled : HalfSettles (acked_alone acks) t id h = half_settles (acked_alone acks) t s id h there i.1.1 in (
         one.2,
-        settles.stream d id h room found first left is counts i.1,
+        settles (puts.stream id h room) d (found, first, left, is, counts) i.1,
         brings_more acks e d.frames (stream (frame_of id h room)) (half_brings acks t (w id) id h room one.1 counts, half_unacked acks t (w id) id h room one.1 held settled) i.2,
       ))
 
-  asking_brings : (d : Draft) → d.end.waiting.ping ≡ e.waiting.ping → IsBringing d → IsBringing (with_asking d)
-  asking_brings d same i = by_streams IsBringing halves_bring (with_message_frames (with_control_frames (with_ping_frame d)))
-      (by_messages IsBringing (λ x m ms is fit j. (j.0, j.1, brings_more acks e x.frames (datagram m) tt j.2)) (with_control_frames (with_ping_frame d)) (by_entries IsBringing (λ x kind j. (k.drops (streams_at x.end) kind j.0, j.1, j.2)) controls_bring (with_ping_frame d) (first d.end.waiting.ping refl)))
+  asking_brings : (d : Draft) → d.end.waiting.signals.ping ≡ e.waiting.signals.ping → IsBringing d → IsBringing (with_asking d)
+  asking_brings d same i = by_streams IsBringing halves_bring (with_message_frames (with_control_frames (with_signal_frames d)))
+      (by_messages IsBringing (λ x m ms is fit j. (j.0, j.1, brings_more acks e x.frames (datagram m) tt j.2)) (with_control_frames (with_signal_frames d)) (by_entries IsBringing (λ x kind j. (k.drops (streams_at x.end) kind j.0, j.1, j.2)) controls_bring (with_signal_frames d) (first d.end.waiting.signals.ping refl)))
     where
-      first : (b : Bool) → d.end.waiting.ping ≡ b → IsBringing (ping_if b d)
+      first : (b : Bool) → d.end.waiting.signals.ping ≡ b → IsBringing (ping_if b d)
       first true is = (i.0, i.1, brings_more acks e d.frames ping (sym same ∙ is) i.2)
       first false is = i
 

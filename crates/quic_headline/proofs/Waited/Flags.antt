@@ -5,9 +5,8 @@ use Rattle.std.proofs.lemmas.Bool.{or_cases, both_ways}
 use Rattle.std.proofs.lemmas.List.Folds.{list_any-append}
 use Rattle.quic_wire_core.specs.declared.stream_id.Dir.{Dir}
 use Rattle.quic_wire_core.specs.declared.stream_id.Dir.TheVariants.{Bi, Uni}
-use Rattle.quic_wire.specs.Value.{FrameValue, padding, ack, ping, stream, max_data, max_streams, data_blocked, datagram}
+use Rattle.quic_wire.specs.Value.{FrameValue, padding, max_data, max_streams, data_blocked}
 use Rattle.quic_streams_parts.specs.Dirs.{of}
-use Rattle.quic_streams_parts.specs.SendHalf.{frame_of}
 use Rattle.quic_retransmits.specs.Retransmits.{Retransmits}
 use Rattle.quic_retransmits.specs.declared.retransmits.ControlKind.{ControlKind}
 use Rattle.quic_retransmits.specs.declared.retransmits.ControlKind.TheVariants.{ResetStream, StopSending, MaxData, MaxStreamData, MaxStreams, DataBlocked, StreamDataBlocked}
@@ -15,8 +14,9 @@ use Rattle.quic_streams_state.specs.declared.state.StreamsState.{StreamsState}
 use Rattle.quic_streams_state.specs.Control.{Entry, data_entry, count_entry, blocked_entry, flagged, waiting, without_first, kind_of, dir_named, frame_of_first}
 use Rattle.quic_streams_laws.specs.KindLaws.{GoesFirst}
 use Rattle.quic_machine.specs.End.{End}
-use Rattle.quic_machine.specs.Poll.{Draft, no_frames, with_least, ack_of, lazied_as, draft_as, Leaving}
-use Rattle.quic_machine.specs.DraftLaws.{by_leave, MayLeave}
+use Rattle.quic_machine.specs.Poll.{Draft, no_frames, lazied_as, draft_as, Leaving}
+use Rattle.quic_machine.specs.DraftLaws.{Writing, by_leave, MayLeave}
+use Rattle.quic_machine.specs.Puts as puts
 use Rattle.quic_headline.specs.InFlight.{is_max_data, is_data_blocked, is_max_streams}
 
 -- MAX_DATA, MAX_STREAMS of one-way or of two-way streams, and DATA_BLOCKED
@@ -123,11 +123,6 @@ module _ (base : Retransmits) (k : Flag) where
     pub gone : list_any (says k) d.frames ≡ true → flag k d.end.waiting.frames ≡ false
     pub waited : list_any (says k) d.frames ≡ true → flag k base ≡ true
 
-  -- another frame goes
-  said_more : (d : Draft) (f : FrameValue) → says k f ≡ false → IsSaid d → (flag k d.end.waiting.frames ≡ true → flag k base ≡ true)
-      × (list_any (says k) (d.frames ++ f ∷ []) ≡ true → (flag k d.end.waiting.frames ≡ false) × (flag k base ≡ true))
-  said_more d f none i = (i.waits, λ some. elim (any_more (says k) d.frames f some) [ inl old ↦ (i.gone old, i.waited old) | inr new ↦ absurd (both_ways (says k f) none new) ])
-
   -- a frame of no such kind
   no_kind : (f : FrameValue) → kind_of f ≡ None → says k f ≡ false
   no_kind f none = go (says k f) refl
@@ -135,6 +130,10 @@ module _ (base : Retransmits) (k : Flag) where
       go : (b : Bool) → says k f ≡ b → b ≡ false
       go true is = (let clash : ◌≡◌ {A = Option ControlKind} None (Some (kind_said k)) = sym none ∙ says_kind k f is in cc)
       go false is = refl
+
+  -- another frame goes, of no such kind
+  said_more : (d : Draft) (f : FrameValue) → kind_of f ≡ None → IsSaid d → list_any (says k) (d.frames ++ f ∷ []) ≡ true → (flag k d.end.waiting.frames ≡ false) × (flag k base ≡ true)
+  said_more d f none i some = elim (any_more (says k) d.frames f some) [ inl old ↦ (i.gone old, i.waited old) | inr new ↦ absurd (both_ways (says k f) (no_kind f none) new) ]
 
   -- the first that waits is dropped
   drops : (d : Draft) (kind : ControlKind) → IsSaid d → (flag k (without_first kind d.end.waiting.frames) ≡ true → flag k base ≡ true) × (list_any (says k) d.frames ≡ true → flag k (without_first kind d.end.waiting.frames) ≡ false)
@@ -156,16 +155,13 @@ module _ (base : Retransmits) (k : Flag) where
   ]
 
   pub draft_said : (leaving : Leaving) (e : End) → MayLeave leaving e → e.waiting.frames ≡ base → IsSaid (draft_as leaving e)
-  draft_said leaving e may is = by_leave IsSaid (record {
-    ack = λ d filled may i. (let more = said_more d (ack (ack_of d.end)) (no_kind (ack (ack_of d.end)) refl) i in record { waits = more.0; gone = λ some. (more.1 some).0; waited = λ some. (more.1 some).1 });
-    ping = λ d i. (let more = said_more d ping (no_kind ping refl) i in record { waits = more.0; gone = λ some. (more.1 some).0; waited = λ some. (more.1 some).1 });
-    probes = λ f size i. (let more = said_more (with_least (no_frames f) size) ping (no_kind ping refl) (record { waits = i.waits; gone = i.gone; waited = i.waited }) in record { waits = more.0; gone = λ some. (more.1 some).0; waited = λ some. (more.1 some).1 });
-    drops = λ d kind i. record { waits = (drops d kind i).0; gone = (drops d kind i).1; waited = i.waited };
-    control = λ d kind f is i. record { waits = (drops d kind i).0; gone = λ some. (sends d kind f is i some).0; waited = λ some. (sends d kind f is i some).1 };
-    message = λ d m ms is fit i. (let more = said_more d (datagram m) (no_kind (datagram m) refl) i in record { waits = more.0; gone = λ some. (more.1 some).0; waited = λ some. (more.1 some).1 });
-    stream = λ d id h room found first some is counts i. (let more = said_more d (stream (frame_of id h room)) (no_kind (stream (frame_of id h room)) refl) i in record { waits = more.0; gone = λ some. (more.1 some).0; waited = λ some. (more.1 some).1 });
-  }) leaving e may (none leaving)
+  draft_said leaving e may is = by_leave IsSaid keep leaving e may (none leaving)
     where
+      keep : Writing IsSaid
+      keep (puts.drops kind) d may i = record { waits = (drops d kind i).0; gone = (drops d kind i).1; waited = i.waited }
+      keep (puts.control kind f) d is i = record { waits = (drops d kind i).0; gone = λ some. (sends d kind f is i some).0; waited = λ some. (sends d kind f is i some).1 }
+      keep p d may i = record { waits = i.waits; gone = λ some. (said_more d _ refl i some).0; waited = λ some. (said_more d _ refl i some).1 }
+
       none : (l : Leaving) → IsSaid (no_frames (lazied_as l e))
       none l = record { waits = λ set. sym (ap (flag k) is) ∙ set; gone = λ some. cc; waited = λ some. cc }
 

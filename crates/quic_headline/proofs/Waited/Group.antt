@@ -167,7 +167,7 @@ module _ (p : Policy) (e : End) (now : ℕ) (k : Flag) where
         silent = λ opened. ((λ set. inr set), λ some. cc);
         failed = λ opened. ((λ set. inr set), λ some. cc);
         nothing = λ is none opened. ((λ set. inl set), λ some. cc);
-        used_up = λ opened. cc;
+        closes = λ opened. cc;
         gives = λ is may some. by_going (λ (x : End). x.closing.state ≡ states.Open → (flag k x.waiting.frames ≡ true → (flag k base ≡ true) ⊎ (flag k e.waiting.frames ≡ true)) × (stands (says k) (sent_by e now ∷ []) ≡ true → flag k x.waiting.frames ≡ false)) p (draft_at e now)
             (λ pacing opened. ((λ set. inl (said.waits set)), λ some. said.gone (sym (said_padded base k (draft_at e now).frames (zeros_behind (draft_at e now))) ∙ only (list_any (says k) (frames_at e now)) some)));
       })
@@ -183,7 +183,7 @@ module _ (p : Policy) (e : End) (now : ℕ) (k : Flag) where
 
 -- what the observer of x knows to be wanted
 abbrev pub wants_of : Party → Party → Wants
-wants_of x y = folded (wants_told (lens x y)) x.told (no_wants (first_watch (x.id ∷ []) x.final x.began x.initial_rtt))
+wants_of x y = folded (wants_told (lens x y)) x.told (no_wants (first_watch x.final x.began x.initial_rtt))
 
 -- the watch within it is the observer's
 same_watch : (l : Lens) (told : List Told) (w : Wants) → (folded (wants_told l) told w).watch ≡ folded (watch_told l) told w.watch
@@ -191,12 +191,12 @@ same_watch l [] w = refl
 same_watch l (t ∷ told) w = same_watch l told (wants_told l t w)
 
 pub wants_watch : (x y : Party) → (wants_of x y).watch ≡ watch_of x y
-wants_watch x y = same_watch (lens x y) x.told (no_wants (first_watch (x.id ∷ []) x.final x.began x.initial_rtt))
+wants_watch x y = same_watch (lens x y) x.told (no_wants (first_watch x.final x.began x.initial_rtt))
 
 -- what an open end wants, by what is known to be wanted
 pub record IsWanted (w : Wants) (e : End) : Type 0 where
   pub acks : IsCounted w.packets w.marked e.acknowledging
-  pub pinged : e.waiting.ping ≡ true → w.pinged ≡ true
+  pub pinged : e.waiting.signals.ping ≡ true → w.pinged ≡ true
   pub gone : (k : Flag) → stands (says k) w.since ≡ true → flag k e.waiting.frames ≡ false
 
 -- so it is while x is open
@@ -231,7 +231,7 @@ module _ (x y : Party) (call : Call) (a : Answer) (c : Calls Observed x y call a
   -- what is wanted behind the call
   wants_next : wants_of next y ≡ wants_behind t sents came after w
   wants_next =
-      folded_more (wants_told (lens x y)) x.told t (no_wants (first_watch (x.id ∷ []) x.final x.began x.initial_rtt))
+      folded_more (wants_told (lens x y)) x.told t (no_wants (first_watch x.final x.began x.initial_rtt))
       ∙ ap (λ (ss : List Sent). wants_behind t ss (news w.watch.intake after.intake) after w) (went_behind x y call a c w.watch watched)
       ∙ ap (λ (j : Intake). wants_behind t sents (news j after.intake) after w) (came_before x y call a c w.watch watched)
       ∙ ap (λ (j : Intake). wants_behind t sents (news (came_to x y) j) after w) (came_behind x y call a c w.watch watched)
@@ -283,7 +283,7 @@ module _ (x y : Party) (call : Call) (a : Answer) (c : Calls Observed x y call a
 
 -- by which call it is
 module _ (x y : Party) (a : Answer) where
-  pinged_next : (call : Call) (c : Calls Observed x y call a) → (called x y.given call a).end.closing.state ≡ states.Open → IsWanted (wants_of x y) x.end → (called x y.given call a).end.waiting.ping ≡ true
+  pinged_next : (call : Call) (c : Calls Observed x y call a) → (called x y.given call a).end.closing.state ≡ states.Open → IsWanted (wants_of x y) x.end → (called x y.given call a).end.waiting.signals.ping ≡ true
       → (if stands is_ping (sents_by x.end call a) then false else asks_ping call || (wants_of x y).pinged) ≡ true
   pinged_next (calls.Poll now) c still i set =
       let said : a ≡ answers.Poll (polled x.policy x.end now).answer = poll_answer x.policy x.end now a c.answer c.served in
@@ -292,7 +292,7 @@ module _ (x y : Party) (a : Answer) where
       ap (λ (b : Bool). if b then false else (wants_of x y).pinged) none ∙ i.pinged left.1
   pinged_next call c still i set = go (call_pinged x.policy x.end y.given call a refl)
     where
-      go : (asks_ping call ≡ true) ⊎ ((called x y.given call a).end.waiting.ping ≡ x.end.waiting.ping) → (asks_ping call || (wants_of x y).pinged) ≡ true
+      go : (asks_ping call ≡ true) ⊎ ((called x y.given call a).end.waiting.signals.ping ≡ x.end.waiting.signals.ping) → (asks_ping call || (wants_of x y).pinged) ≡ true
       go (inl asked) = or_left (asks_ping call) (wants_of x y).pinged asked
       go (inr same) = or_right (asks_ping call) (wants_of x y).pinged (i.pinged (sym same ∙ set))
 

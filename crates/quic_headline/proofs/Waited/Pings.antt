@@ -13,13 +13,14 @@ use Rattle.quic_machine.specs.declared.run.Answer.{Answer}
 use Rattle.quic_machine.specs.declared.run.Answer.TheVariants as answers
 use Rattle.quic_machine.specs.Arrival.{delivered_by}
 use Rattle.quic_machine.specs.Policy.{Policy}
-use Rattle.quic_machine.specs.Parts.{Waiting}
+use Rattle.quic_machine.specs.Parts.{Waiting, signals_wait}
 use Rattle.quic_machine.specs.Closing.{ticked}
 use Rattle.quic_machine.specs.End.{End, with_closing}
-use Rattle.quic_machine.specs.Poll.{Polled, Draft, no_frames, zeros_behind, with_ping_frame, ping_if, with_control_frames, with_message_frames, with_asking, with_ack, ack_fits, ack_if, composed_if, composed, lazied, message_waits, asks_to_go, waits, probed, gated, draft_as, goes, goes_as, whole, alone, probe, nothing, Leaving, Ready, polled}
+use Rattle.quic_machine.specs.Poll.{Polled, Draft, no_frames, zeros_behind, with_signal_frames, ping_if, with_control_frames, with_message_frames, with_asking, with_ack, ack_fits, ack_if, composed_if, composed, lazied, message_waits, asks_to_go, waits, probed, gated, draft_as, goes, goes_as, whole, alone, probe, nothing, Leaving, Ready, polled, closing}
 use Rattle.quic_machine.specs.DraftLaws.{by_entries, by_messages, by_streams}
-use Rattle.quic_machine.specs.PollCases.{ready_at, draft_at, gate_leaves, search_leaves, by_poll_to}
-use Rattle.quic_machine.specs.FrameCases.{Settling, Receives, named, acked_keeps, losses_keep, frame_keeps, frame_leaves, by_received}
+use Rattle.quic_machine.specs.PollCases.{ready_at, draft_at, gate_leaves, search_leaves, by_poll_to, ready_closes_not}
+use Rattle.quic_machine.specs.FrameCases.{Settling, Receives, named, acked_keeps, losses_keep, frame_keeps, frame_leaves, by_received, apart_leaves}
+use Rattle.quic_machine.specs.Steps as steps
 use Rattle.quic_machine.specs.InjectionCases.{by_injection}
 use Rattle.quic_machine.specs.LeaveCases.{by_expiry, by_expired, by_event}
 use Rattle.quic_machine.specs.CallCases.{is_poll}
@@ -33,7 +34,7 @@ use Rattle.quic_headline.proofs.Steps.Probing.{IsProbing, unprobed, probe_goes}
 -- ---- an end that is ready
 
 -- what waits is what waits once something does for each probe of losses
-ready_waiting : (e : End) (now : ℕ) → (ready_at e now).end.waiting ≡ (probed (begun e now)).waiting
+pub ready_waiting : (e : End) (now : ℕ) → (ready_at e now).end.waiting ≡ (probed (begun e now)).waiting
 ready_waiting e now = ap (λ (x : End). x.waiting) (search_leaves (gated (probed (begun e now)))) ∙ ap (λ (x : End). x.waiting) (gate_leaves (probed (begun e now)))
 
 -- so it is as it was where no probe of losses waits
@@ -52,13 +53,13 @@ unless_whole e now other = go e.tracking.probes refl
 
 -- PING is no more than the first of what is composed, and none waits behind
 abbrev Unpinged : Draft → Type 0
-Unpinged d = d.end.waiting.ping ≡ false
+Unpinged d = d.end.waiting.signals.ping ≡ false
 
 asking_unpinged : (d : Draft) → Unpinged (with_asking d)
-asking_unpinged d = by_streams Unpinged (λ x id h room found first left is counts i. i) (with_message_frames (with_control_frames (with_ping_frame d)))
-    (by_messages Unpinged (λ x m ms is fit i. i) (with_control_frames (with_ping_frame d)) (by_entries Unpinged (λ x kind i. i) (λ x kind f is i. i) (with_ping_frame d) (first d.end.waiting.ping refl)))
+asking_unpinged d = by_streams Unpinged (λ x id h room found first left is counts i. i) (with_message_frames (with_control_frames (with_signal_frames d)))
+    (by_messages Unpinged (λ x m ms is fit i. i) (with_control_frames (with_signal_frames d)) (by_entries Unpinged (λ x kind i. i) (λ x kind f is i. i) (with_signal_frames d) (first d.end.waiting.signals.ping refl)))
   where
-    first : (b : Bool) → d.end.waiting.ping ≡ b → Unpinged (ping_if b d)
+    first : (b : Bool) → d.end.waiting.signals.ping ≡ b → Unpinged (ping_if b d)
     first true is = refl
     first false is = is
 
@@ -74,53 +75,55 @@ composed_unpinged e = go (can_send e.acknowledging)
     go false = late (ack_fits (with_asking (no_frames e))) (with_asking (no_frames e)) (asking_unpinged (no_frames e))
 
 -- PADDING is no PING
-none_padded : (count : ℕ) → list_any is_ping (replicate count padding) ≡ false
+pub none_padded : (count : ℕ) → list_any is_ping (replicate count padding) ≡ false
 none_padded zero = refl
 none_padded (suc count) = none_padded count
 
 -- an end to which nothing waits has no PING
-idle_unpinged : (e : End) → waits e ≡ false → e.waiting.ping ≡ false
-idle_unpinged e none = (or_parts e.waiting.ping (not (is_empty e.waiting.frames e.streams) || (message_waits e || can_send_stream_data e.streams)) (or_parts (can_send e.acknowledging) (asks_to_go e) none).1).0
+pub idle_unpinged : (e : End) → waits e ≡ false → e.waiting.signals.ping ≡ false
+idle_unpinged e none = (or_parts (signals_wait e.waiting.signals) (not (is_empty e.waiting.frames e.streams) || (message_waits e || can_send_stream_data e.streams)) (or_parts (can_send e.acknowledging) (asks_to_go e) none).1).0
 
 module _ (p : Policy) (e : End) (now : ℕ) where
   abbrev g : Ready
   g = ready_at e now
 
   -- nothing goes
-  ready_pinged : goes g ≡ false → g.end.waiting.ping ≡ true → e.waiting.ping ≡ true
-  ready_pinged none set = sym (ap (λ (w : Waiting). w.ping) (ready_still e now (unless_whole e now (λ is. both_ways (goes g) none (ap goes_as is))))) ∙ set
+  ready_pinged : goes g ≡ false → g.end.waiting.signals.ping ≡ true → e.waiting.signals.ping ≡ true
+  ready_pinged none set = sym (ap (λ (w : Waiting). w.signals.ping) (ready_still e now (unless_whole e now (λ is. both_ways (goes g) none (ap goes_as is))))) ∙ set
 
   -- something goes
-  draft_pinged : (leaving : Leaving) → g.leaving ≡ leaving → goes g ≡ true → (draft_as leaving g.end).end.waiting.ping ≡ true → (stands is_ping (sent_by e now ∷ []) ≡ false) × (e.waiting.ping ≡ true)
-  draft_pinged whole is some set = absurd (both_ways (composed (lazied g.end)).end.waiting.ping (composed_unpinged (lazied g.end)) set)
+  draft_pinged : (leaving : Leaving) → g.leaving ≡ leaving → goes g ≡ true → (draft_as leaving g.end).end.waiting.signals.ping ≡ true → (stands is_ping (sent_by e now ∷ []) ≡ false) × (e.waiting.signals.ping ≡ true)
+  draft_pinged whole is some set = absurd (both_ways (composed (lazied g.end)).end.waiting.signals.ping (composed_unpinged (lazied g.end)) set)
   draft_pinged alone is some set = (
       let same = ready_still e now (unless_whole e now (λ all. (let clash : alone ≡ whole = sym is ∙ all in cc))) in (
         ap (λ (l : Leaving). list_any is_ping ((draft_as l g.end).frames ++ replicate (zeros_behind (draft_as l g.end)) padding) || false) is ∙ ap (λ (b : Bool). b || false) (none_padded (zeros_behind (draft_as alone g.end))),
-        sym (ap (λ (w : Waiting). w.ping) same) ∙ set,
+        sym (ap (λ (w : Waiting). w.signals.ping) same) ∙ set,
       ))
   draft_pinged (probe size) is some set =
       let q : IsProbing (begun e now) g = probe_goes e now size is in
-      absurd (both_ways g.end.waiting.ping (ap (λ (r : Ready). r.end.waiting.ping) q.is ∙ idle_unpinged (begun e now) q.idle) set)
+      absurd (both_ways g.end.waiting.signals.ping (ap (λ (r : Ready). r.end.waiting.signals.ping) q.is ∙ idle_unpinged (begun e now) q.idle) set)
+  draft_pinged (closing f) is some set = absurd (ready_closes_not e now f is)
   draft_pinged (nothing held) is some set = absurd (both_ways (goes g) (ap goes_as is) some)
 
   -- where PING waits behind a poll that leaves its end open, it waited before, and none went
-  pub polled_pinged : (polled p e now).end.closing.state ≡ states.Open → (polled p e now).end.waiting.ping ≡ true → (stands is_ping (sent_if (gave (answers.Poll (polled p e now).answer)) (sent_by e now)) ≡ false) × (e.waiting.ping ≡ true)
-  polled_pinged = by_poll_to p e now (λ (q : Polled). q.end.closing.state ≡ states.Open → q.end.waiting.ping ≡ true → (stands is_ping (sent_if (gave (answers.Poll q.answer)) (sent_by e now)) ≡ false) × (e.waiting.ping ≡ true)) (record {
+  pub polled_pinged : (polled p e now).end.closing.state ≡ states.Open → (polled p e now).end.waiting.signals.ping ≡ true → (stands is_ping (sent_if (gave (answers.Poll (polled p e now).answer)) (sent_by e now)) ≡ false) × (e.waiting.signals.ping ≡ true)
+  polled_pinged = by_poll_to p e now (λ (q : Polled). q.end.closing.state ≡ states.Open → q.end.waiting.signals.ping ≡ true → (stands is_ping (sent_if (gave (answers.Poll q.answer)) (sent_by e now)) ≡ false) × (e.waiting.signals.ping ≡ true)) (record {
     silent = λ opened set. (refl, set);
     failed = λ opened set. (refl, set);
     nothing = λ is none opened set. (refl, ready_pinged none set);
-    used_up = λ opened set. cc;
-    gives = λ is may some. by_going (λ (x : End). x.closing.state ≡ states.Open → x.waiting.ping ≡ true → (stands is_ping (sent_by e now ∷ []) ≡ false) × (e.waiting.ping ≡ true)) p (draft_at e now) (λ pacing opened set. draft_pinged g.leaving refl some set);
+    closes = λ opened set. cc;
+    gives = λ is may some. by_going (λ (x : End). x.closing.state ≡ states.Open → x.waiting.signals.ping ≡ true → (stands is_ping (sent_by e now ∷ []) ≡ false) × (e.waiting.signals.ping ≡ true)) p (draft_at e now) (λ pacing opened set. draft_pinged g.leaving refl some set);
   })
 
 -- ---- any other call
 
 -- PING waits or doesn't, as before
 abbrev SamePing : End → End → Type 0
-SamePing e f = f.waiting.ping ≡ e.waiting.ping
+SamePing e f = f.waiting.signals.ping ≡ e.waiting.signals.ping
 
 settling : (e : End) → Settling (SamePing e)
-settling e = record { known = λ n x i. i; reset = λ id x i. i; acked = λ m x i. i; lost = λ m x i. i; again = λ carried x i. i; searched = λ discovery x i. i; shortens = λ most x i. i; tracked = λ t x i. i; measured = λ r first x i. i; marked = λ m marking x i. i }
+settling e (steps.known n) x i = i
+settling e s x i = i
 
 receives_same : (e : End) → Receives (SamePing e)
 receives_same e = record {
@@ -129,6 +132,7 @@ receives_same e = record {
   frame = frame_keeps (SamePing e) (record {
     ack = λ rises a x i. acked_keeps (SamePing e) (settling e) rises a (named a x) i;
     on_streams = λ f x on i. frame_leaves (SamePing e) f x on (λ t. i);
+    apart = λ f x is i. apart_leaves (SamePing e) f x is (λ c. i);
     message = λ m x i. i;
   });
   takes = λ n asks mark x i. i;
@@ -141,14 +145,14 @@ call_pinged p e theirs (calls.Poll now) a silent = cc
 call_pinged p e theirs calls.Ping a silent = inl refl
 call_pinged p e theirs (calls.Send message makes_room) a silent = inr refl
 call_pinged p e theirs calls.Recv a silent = inr refl
-call_pinged p e theirs (calls.Timeout now) a silent = inr (by_expiry e now (SamePing e) refl
+call_pinged p e theirs (calls.Timeout now) a silent = inr (by_expiry p e now (SamePing e) refl
     (by_expired e now (SamePing e) (λ acks tracking timers runs packets. refl) (λ acks timers runs. losses_keep (SamePing e) (settling e) (with_closing e (ticked e.closing now)) refl)))
 call_pinged p e theirs (calls.Deliver delivery) a silent = inr (go (slice_get theirs delivery.index))
   where
     go : (o : Option (List ℕ)) → SamePing e (after_delivered p e delivery o)
     go None = refl
     go (Some d) = by_received (SamePing e) (receives_same e) p e (delivered_by delivery) d refl
-call_pinged p e theirs (calls.Inject injection) a silent = inr (by_injection p e injection (SamePing e) refl (λ path same. refl))
+call_pinged p e theirs (calls.Inject injection) a silent = inr (by_injection p e injection (SamePing e) refl)
 call_pinged p e theirs calls.Event a silent = inr (by_event e (SamePing e) refl (λ told. refl))
 call_pinged p e theirs (calls.Timer timer) a silent = inr refl
 call_pinged p e theirs calls.NextTimeout a silent = inr refl

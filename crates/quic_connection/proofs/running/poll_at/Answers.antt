@@ -3,7 +3,7 @@ use Rattle.quic_machine.specs.End.{policy_of}
 use Rattle.quic_connection_core.specs.Drawn.{words_of}
 use Rattle.quic_connection_core.specs.Telling.{reading}
 use Rattle.quic_connection.specs.Ends.{kept}
-use Rattle.quic_connection.proofs.Windows.{poll_told, poll_answers}
+use Rattle.quic_connection.proofs.Windows.{poll_told, poll_heard, poll_answers}
 use Rattle.quic_connection.proofs.Words.{polled_goes, kept_gives}
 use Rattle.quic_connection.proofs.running.poll_at.Goals as goal
 
@@ -21,6 +21,11 @@ pub returns-clause-control : goal.returns-clause-control
 returns-clause-control g c =
     let polled = c.poll_transmit-polled in
     poll_told g.C.Controller.steps g.C.Controller.window_of (policy_of g.H.HeaderKey.protection g.K.PacketKey.aead (words_of g.R.Rng.stream) c.args.end.now) c.args.end.now polled.new.self c.args.now polled.result polled.ensures.control
+
+pub returns-clause-heard : goal.returns-clause-heard
+returns-clause-heard g c =
+    let polled = c.poll_transmit-polled in
+    poll_heard g.C.Controller.steps g.C.Controller.window_of (policy_of g.H.HeaderKey.protection g.K.PacketKey.aead (words_of g.R.Rng.stream) c.args.end.now) c.args.end.now polled.new.self c.args.now polled.result polled.ensures.heard
 
 pub returns-clause-given : goal.returns-clause-given
 returns-clause-given g c =

@@ -284,6 +284,27 @@ returns-clause-numbers_rise g c =
     let r : Run = run_of keys (windows_of g.C.Controller.steps g.C.Controller.window_of) c.args.ends c.args.events.now o.answers.items o.views.items o.given in
     λ honest. c.numbers_rise.ensures r (world_of (windows_of g.C.Controller.steps g.C.Controller.window_of) o.ends o.given) honest (record { codes = c.show_codes.ensures; follows = c.run_events.ensures.follows; from_client = refl; from_server = refl })
 
+pub returns-clause-sent_to_first_id : goal.returns-clause-sent_to_first_id
+returns-clause-sent_to_first_id g c =
+    let o = c.run_events.result in
+    let keys : Policies = policies_of g.H.HeaderKey.protection g.K.PacketKey.aead g.R.Rng.stream c.args.ends in
+    let r : Run = run_of keys (windows_of g.C.Controller.steps g.C.Controller.window_of) c.args.ends c.args.events.now o.answers.items o.views.items o.given in
+    λ honest. c.sent_to_first_id.ensures r (world_of (windows_of g.C.Controller.steps g.C.Controller.window_of) o.ends o.given) honest (record { codes = c.show_codes.ensures; follows = c.run_events.ensures.follows; from_client = refl; from_server = refl })
+
+pub returns-clause-no_unknown_id : goal.returns-clause-no_unknown_id
+returns-clause-no_unknown_id g c =
+    let o = c.run_events.result in
+    let keys : Policies = policies_of g.H.HeaderKey.protection g.K.PacketKey.aead g.R.Rng.stream c.args.ends in
+    let r : Run = run_of keys (windows_of g.C.Controller.steps g.C.Controller.window_of) c.args.ends c.args.events.now o.answers.items o.views.items o.given in
+    λ honest. c.no_unknown_id.ensures r (world_of (windows_of g.C.Controller.steps g.C.Controller.window_of) o.ends o.given) honest (record { codes = c.show_codes.ensures; follows = c.run_events.ensures.follows; from_client = refl; from_server = refl })
+
+pub returns-clause-first_id_stays : goal.returns-clause-first_id_stays
+returns-clause-first_id_stays g c =
+    let o = c.run_events.result in
+    let keys : Policies = policies_of g.H.HeaderKey.protection g.K.PacketKey.aead g.R.Rng.stream c.args.ends in
+    let r : Run = run_of keys (windows_of g.C.Controller.steps g.C.Controller.window_of) c.args.ends c.args.events.now o.answers.items o.views.items o.given in
+    λ honest. c.first_id_stays.ensures r (world_of (windows_of g.C.Controller.steps g.C.Controller.window_of) o.ends o.given) honest (record { codes = c.show_codes.ensures; follows = c.run_events.ensures.follows; from_client = refl; from_server = refl })
+
 pub returns-clause-no_blame : goal.returns-clause-no_blame
 returns-clause-no_blame g c =
     let o = c.run_events.result in
@@ -416,6 +437,20 @@ returns-clause-each_waited g c =
     let keys : Policies = policies_of g.H.HeaderKey.protection g.K.PacketKey.aead g.R.Rng.stream c.args.ends in
     let r : Run = run_of keys (windows_of g.C.Controller.steps g.C.Controller.window_of) c.args.ends c.args.events.now o.answers.items o.views.items o.given in
     λ honest. c.each_waited.ensures r (world_of (windows_of g.C.Controller.steps g.C.Controller.window_of) o.ends o.given) honest (record { codes = c.show_codes.ensures; follows = c.run_events.ensures.follows; from_client = refl; from_server = refl })
+
+pub returns-clause-waiting_begins : goal.returns-clause-waiting_begins
+returns-clause-waiting_begins g c =
+    let o = c.run_events.result in
+    let keys : Policies = policies_of g.H.HeaderKey.protection g.K.PacketKey.aead g.R.Rng.stream c.args.ends in
+    let r : Run = run_of keys (windows_of g.C.Controller.steps g.C.Controller.window_of) c.args.ends c.args.events.now o.answers.items o.views.items o.given in
+    λ honest. c.waiting_begins.ensures r (world_of (windows_of g.C.Controller.steps g.C.Controller.window_of) o.ends o.given) honest (record { codes = c.show_codes.ensures; follows = c.run_events.ensures.follows; from_client = refl; from_server = refl })
+
+pub returns-clause-pacer_is_of_history : goal.returns-clause-pacer_is_of_history
+returns-clause-pacer_is_of_history g c =
+    let o = c.run_events.result in
+    let keys : Policies = policies_of g.H.HeaderKey.protection g.K.PacketKey.aead g.R.Rng.stream c.args.ends in
+    let r : Run = run_of keys (windows_of g.C.Controller.steps g.C.Controller.window_of) c.args.ends c.args.events.now o.answers.items o.views.items o.given in
+    λ honest. c.pacer_is_of_history.ensures r (world_of (windows_of g.C.Controller.steps g.C.Controller.window_of) o.ends o.given) honest (record { codes = c.show_codes.ensures; follows = c.run_events.ensures.follows; from_client = refl; from_server = refl })
 
 pub returns-clause-messages_are_told : goal.returns-clause-messages_are_told
 returns-clause-messages_are_told g c =

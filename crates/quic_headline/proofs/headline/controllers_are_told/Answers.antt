@@ -1,4 +1,4 @@
-use Rattle.quic_headline.proofs.Places.Theorems.{controllers_are_told}
+use Rattle.quic_headline.proofs.AppLimited.Clause.{controllers_are_told}
 use Rattle.quic_headline.proofs.headline.controllers_are_told.Goals as goal
 
 pub returns : goal.returns

@@ -121,6 +121,17 @@ returns-in_err-end_for-2-clause-refusal g c =
       refused_for c.args.server.config.settings (g.C.Controller.window_of (controller_for g.F.ControllerFactory.built c.args.server.config c.args.now)) c.args.client.config.settings (parameters_at c.deref-2.result.now) c.args.server.id c.args.client.id _ client_says c.in_err-end_for-2.ensures.refusal,
     ))
 
+-- where one isn't made, nothing is said of two
+pub returns-in_err-end_for-2-clause-lawful : goal.returns-in_err-end_for-2-clause-lawful
+returns-in_err-end_for-2-clause-lawful g c =
+    let p = err_from_is_err_and c.from_residual-in_err-end_for-2.result c.from_residual-in_err-end_for-2.ensures.1 in
+    rw p.1 tt
+
+pub returns-in_err-end_for-2-clause-lawful_server : goal.returns-in_err-end_for-2-clause-lawful_server
+returns-in_err-end_for-2-clause-lawful_server g c =
+    let p = err_from_is_err_and c.from_residual-in_err-end_for-2.result c.from_residual-in_err-end_for-2.ensures.1 in
+    rw p.1 tt
+
 -- want of memory is an error of which no more is said
 want_of_memory : {A : Type 0} (r : Result A ConfigError) (e : ConfigError) (P : ConfigError → Type 0) → r ≡ Err e → e ≡ config_errors.Memory → IfErr r (λ x. x ≢ config_errors.Memory → P x)
 want_of_memory r e P is memory = rw is (λ other. absurd (other memory))

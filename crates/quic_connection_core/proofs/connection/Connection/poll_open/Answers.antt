@@ -177,7 +177,7 @@ returns-clause-end g c =
     let so : Leaves (Some l) (ready_at w.end c.args.now).leaving = rw c.in-Some.is at c.in_ok-leaving.ensures.leaving in
     let can : can_number z.end.numbers ≡ true = search rules in
     let gives = ready_gives g.H.HeaderKey.protection g.K.PacketKey.aead (words_of g.R.Rng.stream) w z c.args.now (some_left w z c.args.now left l so) l (some_is w z c.args.now left l so) c.requires (some_goes w z c.args.now left l so) can in
-    c.in_ok-size.ensures.end ∙ ap (λ (x : Polled). x.end) (sym gives)
+    ap (λ x. x.end) c.count_bytes.ensures ∙ c.in_ok-size.ensures.end ∙ ap (λ (x : Polled). x.end) (sym gives)
 
 pub returns-clause-control : goal.returns-clause-control
 returns-clause-control g c =
@@ -189,7 +189,7 @@ returns-clause-control g c =
     let is = some_left w z c.args.now left l so in
     let can : can_number z.end.numbers ≡ true = search rules in
     let tells = ready_tells g.H.HeaderKey.protection g.K.PacketKey.aead (words_of g.R.Rng.stream) w z c.args.now is l (some_is w z c.args.now left l so) c.requires (some_goes w z c.args.now left l so) can in
-    c.in_ok-size.ensures.control ∙ ap (λ x. after_calls g.C.Controller.steps x.control (told_draft (draft_as (leaving_of l) z.end))) is ∙ ap (λ (ts : List Told). after_calls g.C.Controller.steps w.control ts) (sym tells)
+    ap (λ x. x.control) c.count_bytes.ensures ∙ c.in_ok-size.ensures.control ∙ ap (λ x. after_calls g.C.Controller.steps x.control (told_draft (draft_as (leaving_of l) z.end))) is ∙ ap (λ (ts : List Told). after_calls g.C.Controller.steps w.control ts) (sym tells)
 
 pub returns-clause-random : goal.returns-clause-random
 returns-clause-random g c =
@@ -199,9 +199,11 @@ returns-clause-random g c =
     let so : Leaves (Some c.in-Some.leaving) (ready_at w.end c.args.now).leaving = rw c.in-Some.is at c.in_ok-leaving.ensures.leaving in
     let is = some_left w z c.args.now c.in_ok-leaving.ensures.end c.in-Some.leaving so in
     let filter = ready_filter g.H.HeaderKey.protection g.K.PacketKey.aead (words_of stream) w z c.args.now is in
-    c.in_ok-size.ensures.random
+    ap (λ x. stream x.random) c.count_bytes.ensures
+    ∙ c.in_ok-size.ensures.random
     ∙ ap (λ x. after_words (c.give.new.self.end.filter.drawn - z.end.filter.drawn) (stream x.random)) is
     ∙ ap (λ (f : Filter). after_words (c.give.new.self.end.filter.drawn - f.drawn) (stream w.random)) filter
+    ∙ sym (ap (λ x. after_words (x.end.filter.drawn - w.end.filter.drawn) (stream w.random)) c.count_bytes.ensures)
 
 pub returns-clause-datagram : goal.returns-clause-datagram
 returns-clause-datagram g c =
@@ -227,7 +229,7 @@ returns-clause-answer g c =
     let long = ap length c.in_ok-size.ensures.items ∙ length-append c.args.out.now.items datagram in
     let more = c.in_ok-size.ensures.size in
     let size : c.in_ok-size.size ≡ length datagram = omega arith in
-    let mark = c.mark.ensures ∙ ap (λ (e : End). mark_of e.path.marking) c.in_ok-size.ensures.end in
+    let mark = c.mark.ensures ∙ ap (λ x. mark_of x.end.path.marking) c.count_bytes.ensures ∙ ap (λ (e : End). mark_of e.path.marking) c.in_ok-size.ensures.end in
     rw (size, mark) (sym (ap (λ (x : Polled). x.answer) gives))
 
 pub returns-clause-size : goal.returns-clause-size

@@ -10,7 +10,7 @@ returns-clause-items g c =
     let e : End = c.args.self.now.end in
     let len = c.put_ping.ensures.len in
     let body = c.requires.body in
-    let grown : vec_len c.put_ping.new.out - c.args.body ≡ vec_len c.args.out.now - c.args.body + length (ping_bytes e.waiting.ping) = omega (arith, len, body) in
+    let grown : vec_len c.put_ping.new.out - c.args.body ≡ vec_len c.args.out.now - c.args.body + length (ping_bytes e.waiting.signals.ping) = omega (arith, len, body) in
     asked_written e c.put_ping.new.self.end (vec_len c.args.out.now - c.args.body) (vec_len c.put_ping.new.out - c.args.body) (ap (λ w. w.end) c.put_ping.ensures.end) grown c.args.out.now.items c.put_ping.new.out.items c.put_content.new.out.items
     c.put_ping.ensures.items c.in_ok-carried.ensures.items
 
@@ -20,7 +20,7 @@ returns-clause-end g c =
     let x : End = c.put_ping.new.self.end in
     let len = c.put_ping.ensures.len in
     let body = c.requires.body in
-    let grown : vec_len c.put_ping.new.out - c.args.body ≡ vec_len c.args.out.now - c.args.body + length (ping_bytes e.waiting.ping) = omega (arith, len, body) in
+    let grown : vec_len c.put_ping.new.out - c.args.body ≡ vec_len c.args.out.now - c.args.body + length (ping_bytes e.waiting.signals.ping) = omega (arith, len, body) in
     c.in_ok-carried.ensures.end
     ∙ ap (λ w. with_end w (with_content x (content_at x (vec_len c.put_ping.new.out - c.args.body)))) c.put_ping.ensures.end
     ∙ ap (λ (y : End). with_end c.args.self.now y) (asked_left e x (vec_len c.args.out.now - c.args.body) (vec_len c.put_ping.new.out - c.args.body) (ap (λ w. w.end) c.put_ping.ensures.end) grown)
@@ -30,7 +30,7 @@ returns-clause-asks g c =
     let e : End = c.args.self.now.end in
     let len = c.put_ping.ensures.len in
     let body = c.requires.body in
-    let grown : vec_len c.put_ping.new.out - c.args.body ≡ vec_len c.args.out.now - c.args.body + length (ping_bytes e.waiting.ping) = omega (arith, len, body) in
+    let grown : vec_len c.put_ping.new.out - c.args.body ≡ vec_len c.args.out.now - c.args.body + length (ping_bytes e.waiting.signals.ping) = omega (arith, len, body) in
     asked_asks e (vec_len c.args.out.now - c.args.body) c.len-before.result c.len.result c.args.out.now.items c.put_content.new.out.items (c.len-before.ensures ∙ c.args.out.now.ok.0) (c.len.ensures ∙ c.put_content.new.out.ok.0) (
     asked_written e c.put_ping.new.self.end (vec_len c.args.out.now - c.args.body) (vec_len c.put_ping.new.out - c.args.body) (ap (λ w. w.end) c.put_ping.ensures.end) grown c.args.out.now.items c.put_ping.new.out.items c.put_content.new.out.items
     c.put_ping.ensures.items c.in_ok-carried.ensures.items)
@@ -40,5 +40,5 @@ returns-clause-carried g c =
     let e : End = c.args.self.now.end in
     let len = c.put_ping.ensures.len in
     let body = c.requires.body in
-    let grown : vec_len c.put_ping.new.out - c.args.body ≡ vec_len c.args.out.now - c.args.body + length (ping_bytes e.waiting.ping) = omega (arith, len, body) in
+    let grown : vec_len c.put_ping.new.out - c.args.body ≡ vec_len c.args.out.now - c.args.body + length (ping_bytes e.waiting.signals.ping) = omega (arith, len, body) in
     asked_kept e c.put_ping.new.self.end (vec_len c.args.out.now - c.args.body) (vec_len c.put_ping.new.out - c.args.body) (ap (λ w. w.end) c.put_ping.ensures.end) grown c.in_ok-carried.carried c.in_ok-carried.ensures.carried

@@ -58,6 +58,11 @@ returns-clause-control g c =
     let told : c.put_tracked.new.self.control ≡ after_calls g.C.Controller.steps w.control (told_draft (draft_left (leaving_of c.args.leaving) w.end)) = on_ok c.put_tracked.result (sym c.is_err.ensures.value ∙ c.if-is_err.false) c.put_tracked.ensures.control in
     ap (λ x. x.control) c.set_loss_timer.ensures ∙ ap (λ x. x.control) c.self.view_is ∙ told
 
+pub returns-clause-heard : goal.returns-clause-heard
+returns-clause-heard g c =
+    let kept : c.put_tracked.new.self.heard ≡ c.args.self.now.heard = on_ok c.put_tracked.result (sym c.is_err.ensures.value ∙ c.if-is_err.false) c.put_tracked.ensures.heard in
+    ap (λ x. x.heard) c.set_loss_timer.ensures ∙ ap (λ x. x.heard) c.self.view_is ∙ kept
+
 pub returns-clause-random : goal.returns-clause-random
 returns-clause-random g c =
     let w = c.args.self.now in

@@ -1,4 +1,4 @@
-use Rattle.std.proofs.Common.{take, ap, sym, ◌∙◌, arith}
+use Rattle.std.proofs.Common.{take, ap, sym, subst, ◌∙◌, arith}
 use Rattle.std.specs.Prelude.{vec_len}
 use Rattle.std.proofs.lemmas.Bool.{and_parts}
 use Rattle.std.proofs.lemmas.List.{take_at}
@@ -8,6 +8,7 @@ use Rattle.quic_spaces.specs.Marks.{told_counts}
 use Rattle.quic_spaces.proofs.AckSize.{few_runs}
 use Rattle.quic_wire.specs.Value.{ack, ping}
 use Rattle.quic_wire.specs.Writing.{spelling}
+use Rattle.quic_machine.specs.DraftLaws.{MayGo}
 use Rattle.quic_machine.specs.Poll.{ack_of}
 use Rattle.quic_connection_core.specs.Leaving.{leaving_of}
 use Rattle.quic_connection_core.proofs.connection.Connection.put_leave.Goals as goal
@@ -15,7 +16,7 @@ use Rattle.quic_connection_core.proofs.connection.Connection.put_leave.Goals as 
 pub put_ack-largest-requires-clause-some : goal.put_ack-largest-requires-clause-some
 put_ack-largest-requires-clause-some g c =
     let a = c.args.self.now.end.acknowledging in
-    (and_parts a.due (is_filled a.runs) (c.requires.due (ap leaving_of c.in-Alone.is))).1
+    (and_parts a.due (is_filled a.runs) (subst (λ l. MayGo (leaving_of l) c.args.self.now.end) c.in-Alone.is c.requires.due)).1
 
 pub put_ack-largest-requires-clause-room : goal.put_ack-largest-requires-clause-room
 put_ack-largest-requires-clause-room g c few =

@@ -3,7 +3,7 @@ use Rattle.quic_wire.specs.Items.{items}
 use Rattle.quic_congestion.specs.Congestion.{after_calls}
 use Rattle.quic_machine.specs.Receive.{take_items, told_items, asks_in}
 use Rattle.quic_connection_core.specs.Faults.{AllHaveForm}
-use Rattle.quic_connection_core.specs.Telling.{KeepsKeys}
+use Rattle.quic_connection_core.specs.Telling.{KeepsRest}
 use Rattle.quic_connection_core.proofs.connection.Connection.take_frames.Given as goal
 
 abbrev pub invariant-loop-item : goal.invariant-loop-item
@@ -12,5 +12,5 @@ invariant-loop-item g l = record {
   told : after_calls g.C.Controller.steps l.self.control (told_items (items l.item-iterator) l.self.end) ≡ after_calls g.C.Controller.steps l.initial.self.control (told_items (items l.payload) l.initial.self.end);
   asks : (l.asks || asks_in (items l.item-iterator)) ≡ asks_in (items l.payload);
   form : AllHaveForm (items l.item-iterator);
-  others : KeepsKeys l.initial.self l.self;
+  others : KeepsRest l.initial.self l.self;
 }

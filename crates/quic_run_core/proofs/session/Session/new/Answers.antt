@@ -26,4 +26,4 @@ pub invariant_of-result-clause-server_known : goal.invariant_of-result-clause-se
 invariant_of-result-clause-server_known c = rw (c.new.ensures.server, c.new-3.ensures.items) refl
 
 pub returns-clause-world : goal.returns-clause-world
-returns-clause-world c = first_ends c.args.client.now c.args.server.now _ _ _ _ _ _ c.in_ok-make_end.ensures.end c.in_ok-make_end-2.ensures.end c.new.ensures.client c.new.ensures.server c.in_ok-make_end.ensures.control c.in_ok-make_end-2.ensures.control
+returns-clause-world c = first_ends c.args.client.now c.args.server.now _ _ _ _ _ _ _ _ c.in_ok-make_end.ensures.end c.in_ok-make_end-2.ensures.end c.new.ensures.client c.new.ensures.server c.in_ok-make_end.ensures.control c.in_ok-make_end-2.ensures.control c.in_ok-make_end.ensures.heard c.in_ok-make_end-2.ensures.heard

@@ -1,0 +1,12 @@
+pub mod Controls
+pub mod Called
+pub mod Halves
+pub mod OnStreams
+pub mod Walk
+pub mod Flights
+pub mod Gone
+pub mod Acks
+pub mod Queued
+pub mod Probed
+pub mod Steps
+pub mod Clause

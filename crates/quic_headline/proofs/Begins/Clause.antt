@@ -1,0 +1,698 @@
+-- So what waits behind a call waited before it, or has a cause, at each place of an honest run.
+use Rattle.std.proofs.Common.{◌≡◌, ℕ, suc, ◌+◌, ◌-◌, ◌<◌, ◌≤◌, ◌^◌, max, min, Bool, true, false, ◌||◌, ◌&&◌, List, [], ◌∷◌, ◌++◌, length, drop, append-nil, Option, Some, None, refl, sym, ap, ◌∙◌, subst, ◌⊎◌, inl, inr, arith}
+use Rattle.std.specs.Prelude.{nat_le, ltb, leb}
+use Rattle.std.specs.Option.{is_none, option_map}
+use Rattle.std.specs.List.{list_any}
+use Rattle.std.proofs.lemmas.Bool.{or_left, or_right, or_cases, and_from, and_parts, lt-ltb, ltb-true, both_ways}
+use Rattle.quic_wire_core.specs.declared.stream_id.Side.{Side}
+use Rattle.quic_wire_core.specs.declared.stream_id.Side.TheVariants.{Client, Server}
+use Rattle.quic_wire_core.specs.declared.stream_id.Dir.{Dir}
+use Rattle.quic_wire_core.specs.declared.stream_id.Dir.TheVariants.{Bi, Uni}
+use Rattle.quic_wire_core.specs.StreamId.{other_side}
+use Rattle.quic_wire.specs.FrameView.{is_one_way}
+use Rattle.quic_streams_parts.specs.Dirs.{of}
+use Rattle.quic_machine.specs.Tracking.{dir_named}
+use Rattle.quic_machine.specs.Poll.{polled}
+use Rattle.quic_wire.specs.Value.{FrameValue}
+use Rattle.quic_recovery_core.specs.PendingAcks.{Pending, lazy_threshold}
+use Rattle.quic_send_buffer.specs.Buffered.{IsBuffered, written as buffered, is_lost, is_unsent}
+use Rattle.quic_sets.proofs.Offsets.Edits.{has_is}
+use Rattle.quic_spaces.specs.Numbers.{Numbers, number_opened}
+use Rattle.quic_streams_parts.specs.SendHalf.{SendHalf}
+use Rattle.quic_streams_parts.specs.Table.{at}
+use Rattle.quic_streams_halves.specs.Halves.{status_from, has_place}
+use Rattle.quic_streams_state.specs.declared.state.StreamsState.{StreamsState}
+use Rattle.quic_streams_state.specs.State.{sends_on, is_opened}
+use Rattle.quic_streams_laws.specs.Each.{StatusIs}
+use Rattle.quic_streams_laws.specs.Written.{Wrote, IsOver, nothing_done, IsSendHalf, HoldsWritten}
+use Rattle.quic_streams_laws.specs.WrittenHalves.{bytes_written}
+use Rattle.quic_streams_laws.specs.WrittenLaws.{half_holds}
+use Rattle.quic_machine.specs.declared.answers.State.{State}
+use Rattle.quic_machine.specs.declared.answers.State.TheVariants as states
+use Rattle.quic_machine.specs.declared.run.Call.{Call}
+use Rattle.quic_machine.specs.declared.run.Call.TheVariants as calls
+use Rattle.quic_machine.specs.declared.run.Delivery.{Delivery}
+use Rattle.quic_machine.specs.declared.run.Answer.{Answer}
+use Rattle.quic_machine.specs.End.{End}
+use Rattle.quic_machine.specs.Control as window
+use Rattle.quic_machine.specs.Timeouts.{timed_out_in, timed_out}
+use Rattle.quic_machine.specs.Receive.{Outcome}
+use Rattle.quic_machine.specs.StreamCalls.{is_on_streams}
+use Rattle.quic_machine.specs.FrameCases.{begun}
+use Rattle.quic_machine.specs.CallCases.{is_delivery, is_poll, is_timeout}
+use Rattle.quic_machine.specs.InjectionCases.{by_injection}
+use Rattle.quic_machine.specs.LeaveCases.{by_event}
+use Rattle.quic_machine.specs.Machine.{World, IsAnswer, fails, gave, reads_window, changed, end_at, control_at}
+use Rattle.quic_machine.specs.Heard.{Heard}
+use Rattle.quic_machine.specs.RunLaws.{as_many_views}
+use Rattle.quic_headline.specs.Runs.{Run, Told, Packet, Intake, In, and_told, folded, until, state_at, given_of, AreServed, written}
+use Rattle.quic_headline.specs.Observer.{Sent, HoldsOffset, HoldsEnd, Flight, after_frames, Watch, first_watch, watch, news, clock_behind, moment_of, is_timely, watch_moment, watch_given, watch_told, watch_from, terms_of, lens_of}
+use Rattle.quic_headline.specs.Headline.{IsHonest, IsRun, IsAt}
+use Rattle.quic_headline.specs.Duties.{AllData, StreamCount, on_half}
+use Rattle.quic_headline.specs.Moments.{went, debt, debt_told, first_debt}
+use Rattle.quic_headline.specs.AcksDue.{takes_marked, are_some, waits_out}
+use Rattle.quic_headline.specs.Waited.{one_asks, count_silent, may_come, stands, is_ping, wants, wants_told, no_wants}
+use Rattle.quic_headline.specs.Begins.{Control, LimitOf, Blocked, Thing, Ack, Ping, Probe, Message, Byte, Fin, Frame, byte_waits, IsPending, Bears, Seen, came, brings, WasLost, may_end, brings_data, asks_for, HasCause, HasGone, seen_at, still, BeginsAt, WaitingBegins}
+use Rattle.quic_headline.specs.Begins as new
+use Rattle.quic_headline.proofs.Packets.Intakes.{folded_more}
+use Rattle.quic_headline.proofs.Packets.Group.{PacketsHold, meets}
+use Rattle.quic_headline.proofs.Packets.Sight.{Sight}
+use Rattle.quic_headline.proofs.Packets.Delivered.{Arrivals, arrived, with_taken}
+use Rattle.quic_headline.proofs.Packets.Flying.{Waits, held, frames_fly, ticked_waits, numbers_wait}
+use Rattle.quic_headline.proofs.Packets.Watching.{came_with, timed_with, untimely, watched_intake, one_new, none_comes, told_timed, with_delivery, nothing_delivered, packet_delivered, at_time, timeout_flies}
+use Rattle.quic_headline.proofs.Places.Parties.{sent_by, sent_if, sents_by, told_of, Party, called, came_to, lens, watch_of, AreJoined}
+use Rattle.quic_headline.proofs.Places.Groups.{Way, Nothing, And, Group, both, over}
+use Rattle.quic_headline.proofs.Places.Coming.{came_more, by_coming}
+use Rattle.quic_headline.proofs.Places.Steps.{only_polls_give, poll_answer}
+use Rattle.quic_headline.proofs.Places.Placed.{Placed, placed, party_at, stands_in}
+use Rattle.quic_headline.proofs.Places.Everything as everything
+use Rattle.quic_headline.proofs.Places.Theorems.{ready}
+use Rattle.quic_headline.proofs.Halves.Ready.{Ready}
+use Rattle.quic_headline.proofs.Halves.Ghosts.{wrote}
+use Rattle.quic_headline.proofs.Halves.QuietSteps.{sent_within}
+use Rattle.quic_headline.proofs.Halves.ReadGroup.{ReadsHold}
+use Rattle.quic_headline.proofs.Grown.Clause.{GrownWait}
+use Rattle.quic_headline.proofs.Timers.Watched.{Observed, drop_all, went_is}
+use Rattle.quic_headline.proofs.Timers.Still.{was_open}
+use Rattle.quic_headline.proofs.Timers.AckMoments.{call_answered, InDebt, debt_of, debt_group}
+use Rattle.quic_headline.proofs.Steps.Made.{MadeAt, made_at, made_served, made_end, served_before, told_next, told_here, one_behind, calling, CallHolds, call_holds}
+use Rattle.quic_headline.proofs.Waited.Marks.{call_due}
+use Rattle.quic_headline.proofs.Waited.Pings.{call_pinged, polled_pinged}
+use Rattle.quic_headline.proofs.Waited.Flags.{Flag, all, counts, blocked, flag, says as flag_says}
+use Rattle.quic_headline.proofs.Waited.Group.{polled_flags, wants_of, Wanting, wanting_group}
+use Rattle.quic_headline.proofs.Begins.Acks.{timeout_due, polled_due}
+use Rattle.quic_headline.proofs.Begins.Queued.{call_queues}
+use Rattle.quic_headline.proofs.Begins.Probed.{told_probes, moment_clock}
+use Rattle.quic_headline.proofs.Begins.Called.{call_asks}
+use Rattle.quic_headline.proofs.Begins.Halves.{Any, Waits as HalfWaits, all_pend, pends_more, none_reset, byte_is, fin_is}
+use Rattle.quic_headline.proofs.Begins.Walk.{Pends, pend_more}
+use Rattle.quic_headline.proofs.Begins.Flights.{By, BegunAt, Begun, begun_loses, begun_flies}
+use Rattle.quic_headline.proofs.Begins.Gone.{polled_goes}
+use Rattle.quic_headline.proofs.Begins.Steps.{Left, left_of, polled_left, streams_left, quiet_left}
+
+-- ---- what is known
+
+-- all that is known of packets and streams, limits that grew, what is owed, and what is wanted
+abbrev Grown : Way
+Grown = And (And (everything.All Ready ready) ReadsHold) GrownWait
+
+abbrev Owing : Way
+Owing = And Grown InDebt
+
+abbrev Known : Way
+Known = And Owing Wanting
+
+owing : Group Nothing Owing
+owing = both Nothing Grown InDebt (everything.all_grown Ready ready) (over Observed (And Nothing Grown) InDebt (λ x y h. (h.1.0.0.0.0, h.1.0.0.1)) debt_group)
+
+known : Group Nothing Known
+known = both Nothing Owing Wanting owing (over Observed (And Nothing Owing) Wanting (λ x y h. (h.1.0.0.0.0.0, h.1.0.0.0.1)) wanting_group)
+
+packets : (x y : Party) → Known x y → PacketsHold x y
+packets x y h = h.0.0.0.0.0.0
+
+holds : (x y : Party) → Known x y → HoldsWritten (wrote x.told) x.end.streams
+holds x y h = h.0.0.0.0.0.1.0.writes.keeps.holds
+
+sight : (x y : Party) → Known x y → Sight x y
+sight x y h = h.0.0.0.0.1
+
+-- What holds of two ends where one is called, and behind it.
+record Stepped (x y : Party) (call : Call) (a : Answer) : Type 0 where
+  joined : AreJoined x y
+  answer : IsAnswer x.policy x.end y.given call a
+  served : fails a ≡ false
+  gives : Known x y
+  takes : Known y x
+  behind : Known (called x y.given call a) y
+  opened : (called x y.given call a).end.closing.state ≡ states.Open
+
+-- what is seen of the call
+abbrev seen_of : Party → Party → Call → Answer → Seen
+seen_of x y call a = record {
+  told = x.told;
+  now = told_of call a x.end.closing.state;
+  before = watch_of x y;
+  behind = watch_told (lens x y) (told_of call a x.end.closing.state) (watch_of x y);
+  unanswered = (wants_of x y).packets;
+  unanswered_behind = (wants_of (called x y.given call a) y).packets;
+  arrivals = (debt_of x y).arrivals;
+  terms = x.terms;
+}
+
+-- it waited, or has a cause
+abbrev Caused : Party → Party → Call → Answer → Thing → Type 0
+Caused x y call a q = IsPending x.end q ⊎ HasCause (seen_of x y call a) q
+
+module _ (x y : Party) (call : Call) (a : Answer) (s : Stepped x y call a) where
+  abbrev next : Party
+  next = called x y.given call a
+
+  abbrev seen : Seen
+  seen = seen_of x y call a
+
+  was : x.end.closing.state ≡ states.Open
+  was = was_open x.policy x.end y.given call a s.opened
+
+  -- what the observer knows behind the call
+  behind_is : watch_of next y ≡ seen.behind
+  behind_is = folded_more (watch_told (lens x y)) x.told (told_of call a x.end.closing.state) (first_watch x.final x.began x.initial_rtt)
+
+  -- what came
+  came_is : came seen ≡ news (came_to x y) (came_to next y)
+  came_is =
+      ap (λ (i : Intake). news i seen.behind.intake) (watched_intake (lens x y) x.told (first_watch x.final x.began x.initial_rtt))
+      ∙ ap (λ (i : Intake). news (came_to x y) i) (ap (λ (w : Watch). w.intake) (sym behind_is) ∙ watched_intake (lens x y) next.told (first_watch x.final x.began x.initial_rtt))
+
+-- ---- an acknowledgement
+
+-- where one is due behind a delivery, it was, or a packet came
+delivered_some : (x y : Party) (delivery : Delivery) (a : Answer) (s : Stepped x y (calls.Deliver delivery) a) → (called x y.given (calls.Deliver delivery) a).end.acknowledging.due ≡ true
+    → (x.end.acknowledging.due ≡ true) ⊎ (are_some (news (came_to x y) (came_to (called x y.given (calls.Deliver delivery) a) y)) ≡ true)
+delivered_some x y delivery a s = by_coming x y a s.joined s.served (meets y x (packets y x s.takes)) (λ (e : End) (j : Intake). e.closing.state ≡ states.Open → e.acknowledging.due ≡ true → (x.end.acknowledging.due ≡ true) ⊎ (are_some (news (came_to x y) j) ≡ true)) (calls.Deliver delivery) s.answer (record {
+  apart = λ apart. cc;
+  none = λ other same opened due. inl due;
+  comes = λ other same d among. record {
+    ignored = λ reason opened due. inl due;
+    noted = λ state reason opened due. (let clash : states.Closing ≡ states.Open = sym state ∙ opened in cc);
+    takes = λ state new none mark opened due. inr (ap are_some (one_new (came_to x y) d.number d.frames));
+    refuses = λ state new f is opened. cc;
+  };
+}) s.opened
+
+ack_begins : (x y : Party) (call : Call) (a : Answer) → Stepped x y call a → IsPending (called x y.given call a).end Ack → Caused x y call a Ack
+ack_begins x y (calls.Deliver delivery) a s due = elim (call_due x.policy x.end y.given (calls.Deliver delivery) a refl s.answer s.served s.opened due) [
+  | inl before ↦ inl before
+  | inr other ↦ elim (delivered_some x y delivery a s due) [
+    | inl before ↦ inl before
+    | inr some ↦ inr (elim other [
+      | inl marked ↦ or_right (are_some (came v) && one_asks v.unanswered_behind) _ (or_left (takes_marked (calls.Deliver delivery) a) _ marked)
+      | inr counted ↦ or_left (are_some (came v) && one_asks v.unanswered_behind) _ (and_from (are_some (came v)) (one_asks v.unanswered_behind) (ap are_some (came_is x y (calls.Deliver delivery) a s) ∙ some) ((s.behind.1.wanted s.opened).acks.asking counted))
+    ])
+  ]
+]
+  where
+    v : Seen
+    v = seen_of x y (calls.Deliver delivery) a
+ack_begins x y (calls.Timeout now) a s due = elim (timeout_due x.policy x.end now (debt_of x y).arrivals opened (s.gives.0.1.owes opened) due) [
+  | inl before ↦ inl before
+  | inr late ↦ inr (or_right (are_some (came v) && one_asks v.unanswered_behind) _ (or_right (takes_marked (calls.Timeout now) a) _ (or_left (waits_out v.now v.arrivals v.behind.clock) _
+      (and_from (is_timely x.end.closing.state (calls.Timeout now)) _ (ap (λ (z : State). is_timely z (calls.Timeout now)) opened)
+      (ap (λ (n : ℕ). list_any (λ arrival. nat_le (min (arrival + 25000000) (2 ^ 64 - 1)) n) v.arrivals) clock ∙ late)))))
+]
+  where
+    v : Seen
+    v = seen_of x y (calls.Timeout now) a
+
+    opened : x.end.closing.state ≡ states.Open
+    opened = was x y (calls.Timeout now) a s
+
+    t : Told
+    t = told_of (calls.Timeout now) a x.end.closing.state
+
+    clock : v.behind.clock ≡ max x.end.closing.clock now
+    clock =
+        ap (λ (w : Watch). w.clock) (told_timed (lens x y) t (watch_of x y) (only_polls_give x.policy x.end y.given (calls.Timeout now) a refl s.answer) (none_comes (lens x y) t (watch_of x y).intake refl))
+        ∙ moment_clock (is_timely t.state t.call) x.terms (record (watch_of x y) { clock = clock_behind (watch_of x y).clock (moment_of x.end.closing.state false (calls.Timeout now)) })
+        ∙ ap (λ (z : State). clock_behind (watch_of x y).clock (moment_of z false (calls.Timeout now))) opened
+        ∙ ap (λ (n : ℕ). max n now) ((sight x y s.gives).watched.flight opened).tells.clock
+ack_begins x y (calls.Poll now) a s due = elim (polled_due x.policy x.end now due) [
+  | inl before ↦ inl before
+  | inr many ↦ inr (or_right (are_some (came v) && one_asks v.unanswered_behind) _ (or_right (takes_marked (calls.Poll now) a) _ (or_right (waits_out v.now v.arrivals v.behind.clock) _
+      (let most = (s.gives.1.wanted (was x y (calls.Poll now) a s)).acks.silent in let less = ltb-true lazy_threshold x.end.acknowledging.silent many in lt-ltb may_come (count_silent v.unanswered) (omega arith)))))
+]
+  where
+    v : Seen
+    v = seen_of x y (calls.Poll now) a
+ack_begins x y (calls.Inject injection) a s due = inl (by_injection x.policy x.end injection (λ (e : End). e.acknowledging.due ≡ true → x.end.acknowledging.due ≡ true) (λ is. is) due)
+ack_begins x y calls.Event a s due = inl (by_event x.end (λ (e : End). e.acknowledging.due ≡ true → x.end.acknowledging.due ≡ true) (λ is. is) (λ told is. is) due)
+ack_begins x y call a s due = inl due
+
+-- ---- PING, probes and messages
+
+ping_begins : (x y : Party) (call : Call) (a : Answer) → Stepped x y call a → IsPending (called x y.given call a).end Ping → Caused x y call a Ping
+ping_begins x y (calls.Poll now) a s set = inl (polled_pinged x.policy x.end now s.opened set).1
+ping_begins x y call a s set = elim (call_pinged x.policy x.end y.given call a refl) [ inl asked ↦ inr asked | inr same ↦ inl (sym same ∙ set) ]
+
+probe_begins : (x y : Party) (call : Call) (a : Answer) → Stepped x y call a → IsPending (called x y.given call a).end Probe → Caused x y call a Probe
+probe_begins x y call a s some = elim (told_probes (lens x y) (told_of call a x.end.closing.state) (watch_of x y) (subst (λ (n : ℕ). 0 < n) (sym here) some)) [
+  | inl waited ↦ inl (subst (λ (n : ℕ). 0 < n) ((sight x y s.gives).watched.flight (was x y call a s)).probes waited)
+  | inr expires ↦ inr expires
+]
+  where
+    here : (seen_of x y call a).behind.flight.probes ≡ (called x y.given call a).end.tracking.probes
+    here = ap (λ (w : Watch). w.flight.probes) (sym (behind_is x y call a s)) ∙ ((sight (called x y.given call a) y s.behind).watched.flight s.opened).probes
+
+-- ---- streams, and what waits beside their bytes
+
+-- what waits of them waits at the end
+pends_start : (x y : Party) → Known x y → Pends (λ q. IsPending x.end q) x.end
+pends_start x y h = record {
+  controls = λ c is. is;
+  halves = pends_more IsBuffered IsBuffered (λ q. HalfWaits x.end.streams q) (λ q. IsPending x.end q) x.end.streams (λ b i. i) waits (all_pend (wrote x.told) x.end.streams (holds x y h));
+  grew = h.0.0.1.all.bytes;
+}
+  where
+    waits : (q : Thing) → HalfWaits x.end.streams q → IsPending x.end q
+    waits (Byte id o) is = is
+    waits (Fin id) is = is
+    waits q is = absurd is
+
+-- of a half that wasn't reset as many bytes were written as were accepted
+written_is : (w : Wrote) (h : SendHalf) → IsSendHalf w h → h.reset ≡ None → buffered h.buffer ≡ length w.bytes
+written_is w h held none = bytes_written w h held (go w.reset refl)
+  where
+    go : (o : Option ℕ) → w.reset ≡ o → w.reset ≡ None
+    go None is = is
+    go (Some code) is = (let clash : ◌≡◌ {A = Option ℕ} None (Some (length w.bytes)) = sym none ∙ (held.reset ∙ ap (option_map (λ c. length w.bytes)) is) in cc)
+
+-- an offset that waits was written
+waits_within : (done : ℕ → Wrote) (s : StreamsState) (id o : ℕ) → HoldsWritten done s → on_half (byte_waits o) (at s.sending.halves.live id) ≡ true → o < length (done id).bytes
+waits_within done s id o i is = go (at s.sending.halves.live id) (sends_on s.side id && is_opened s id) (has_place s.side s.sending.halves.places id) (i.each id) is
+  where
+    within : (h : SendHalf) → IsSendHalf (done id) h → (h.reset ≡ None) × ((is_lost h.buffer o || is_unsent h.buffer o) ≡ true) → o < length (done id).bytes
+    within h held both = subst (λ (n : ℕ). o < n) (written_is (done id) h held both.0) (elim (or_cases (is_lost h.buffer o) (is_unsent h.buffer o) both.1) [
+      | inl lost ↦ (let sent = held.lawful.lost_sent o (has_is h.buffer.lost o lost) in let most = held.lawful.bounded in omega (arith, sent, most))
+      | inr unsent ↦ ltb-true o (buffered h.buffer) (and_parts (leb h.buffer.unsent o) (ltb o (buffered h.buffer)) unsent).1
+    ])
+
+    parts : (h : SendHalf) → byte_waits o h ≡ true → (h.reset ≡ None) × ((is_lost h.buffer o || is_unsent h.buffer o) ≡ true)
+    parts h waits = let two = and_parts (is_none h.reset) (is_lost h.buffer o || is_unsent h.buffer o) waits in (none_reset h.reset two.0, two.1)
+
+    go : (h : Option SendHalf) (m u : Bool) → StatusIs (done id ≡ nothing_done) (λ g. IsSendHalf (done id) g) (IsOver (done id)) (status_from h m u) → on_half (byte_waits o) h ≡ true → o < length (done id).bytes
+    go None m u x is = cc
+    go (Some h) m u x is = within h x (parts h is)
+
+-- what is F of all that waits is F of each
+left_is : (F : Thing → Type 0) (e : End) → Left F e → ((id o : ℕ) → IsPending e (Byte id o) → F (Byte id o)) × ((id : ℕ) → IsPending e (Fin id) → F (Fin id)) × ((c : Control) → IsPending e (Frame c) → F (Frame c))
+left_is F e i = ((λ id o is. byte_is Any F e.streams id o i.halves is), (λ id is. fin_is Any F e.streams id i.halves is), i.controls)
+
+-- ---- a delivery
+
+-- whether a frame that passes a test came between
+abbrev Brings : (FrameValue → Bool) → Intake → Intake → Type 0
+Brings test i j = list_any (λ p. list_any test p.frames) (news i j) ≡ true
+
+-- what waits behind what came, which has these frames at most
+record Arrived (x y : Party) (delivery : Delivery) (e : End) (j : Intake) : Type 0 where
+  frames : List FrameValue
+  data_came : list_any brings_data frames ≡ true → Brings brings_data (came_to x y) j
+  ends_came : list_any may_end frames ≡ true → Brings may_end (came_to x y) j
+  begins : let v = with_delivery x.terms (watch_of x y) x.end.closing.state delivery j in Begun (λ q. IsPending x.end q) (watch_of x y).flight.flying (watch_of x y).flight.acked frames v.flight.flying v.flight.acked e
+
+-- before anything came
+nothing_begun : (x y : Party) → Known x y → (frames : List FrameValue) → Begun (λ q. IsPending x.end q) (watch_of x y).flight.flying (watch_of x y).flight.acked frames (watch_of x y).flight.flying (watch_of x y).flight.acked x.end
+nothing_begun x y h frames = record {
+  new = [];
+  more = sym (append-nil (watch_of x y).flight.acked);
+  inside = λ u i. i;
+  apart = λ u i j. absurd j;
+  pends = pend_more (λ q. IsPending x.end q) (By (λ q. IsPending x.end q) (watch_of x y).flight.flying (watch_of x y).flight.acked frames (watch_of x y).flight.flying []) x.end.streams x.end.waiting.frames (λ q is. inl is) (pends_start x y h);
+}
+
+module _ (x y : Party) (delivery : Delivery) (a : Answer) (s : Stepped x y (calls.Deliver delivery) a) where
+  abbrev w : Watch
+  w = watch_of x y
+
+  abbrev i : Intake
+  i = came_to x y
+
+  intake : w.intake ≡ i
+  intake = watched_intake (lens x y) x.told (first_watch x.final x.began x.initial_rtt)
+
+  -- nothing came
+  same_arrived : Arrived x y delivery x.end i
+  same_arrived = record {
+    frames = [];
+    data_came = λ is. cc;
+    ends_came = λ is. cc;
+    begins = subst (λ (v : Watch). Begun (λ q. IsPending x.end q) w.flight.flying w.flight.acked [] v.flight.flying v.flight.acked x.end)
+        (sym (ap (λ (j : Intake). with_delivery x.terms w x.end.closing.state delivery j) (sym intake) ∙ nothing_delivered x.terms w x.end.closing.state delivery)) (nothing_begun x y s.gives []);
+  }
+
+  -- a packet is taken
+  taken_arrived : (d : Sent) → x.end.closing.state ≡ states.Open → (arrived x.end delivery.now d.number d.frames).fault ≡ None → (f : End) → f.streams ≡ (arrived x.end delivery.now d.number d.frames).end.streams → f.waiting.frames ≡ (arrived x.end delivery.now d.number d.frames).end.waiting.frames
+      → Arrived x y delivery f (with_taken i d.number d.frames)
+  taken_arrived d opened none f streams waiting = record {
+    frames = d.frames;
+    data_came = λ is. came brings_data is;
+    ends_came = λ is. came may_end is;
+    begins = let all = frames_fly x.terms now d.frames (Begun Start flew before d.frames) (begun_flies Start flew before d.frames) w.flight (begun x.end delivery.now d.number) none (record { waits = begins; holds = nothing_begun x y s.gives d.frames }) in
+        subst (λ (v : Watch). BegunAt Start flew before d.frames v.flight.flying v.flight.acked f.streams f.waiting.frames) (sym there)
+        (subst (λ (p : _). BegunAt Start flew before d.frames after.flying after.acked f.streams p) (sym waiting)
+        (subst (λ (t : StreamsState). BegunAt Start flew before d.frames after.flying after.acked t (arrived x.end delivery.now d.number d.frames).end.waiting.frames) (sym streams) all.holds));
+  }
+    where
+      Start : Thing → Type 0
+      Start q = IsPending x.end q
+
+      flew : List Sent
+      flew = w.flight.flying
+
+      before : List Sent
+      before = w.flight.acked
+
+      came : (test : FrameValue → Bool) → list_any test d.frames ≡ true → Brings test i (with_taken i d.number d.frames)
+      came test is = ap (λ (ps : List Packet). list_any (λ p. list_any test p.frames) ps) (one_new i d.number d.frames) ∙ or_left (list_any test d.frames) false is
+
+      now : ℕ
+      now = max w.clock delivery.now
+
+      after : Flight
+      after = after_frames x.terms now d.frames w.flight
+
+      there : with_delivery x.terms w x.end.closing.state delivery (with_taken i d.number d.frames) ≡ record w { intake = with_taken w.intake d.number d.frames; clock = now; flight = after }
+      there = ap (λ (j : Intake). with_delivery x.terms w x.end.closing.state delivery (with_taken j d.number d.frames)) (sym intake) ∙ packet_delivered x.terms w x.end.closing.state delivery d.number d.frames opened
+
+      waits : Waits x.terms w.clock w.flight (held x.end)
+      waits = (sight x y s.gives).watched.flight opened
+
+      numbers : Numbers
+      numbers = number_opened x.end.numbers d.number
+
+      begins : Waits x.terms now w.flight (held (begun x.end delivery.now d.number))
+      begins = ticked_waits x.terms w.clock delivery.now w.flight (record (held x.end) { numbers = numbers }) (numbers_wait x.terms w.clock w.flight (held x.end) numbers refl waits)
+
+  delivered : (called x y.given (calls.Deliver delivery) a).end.closing.state ≡ states.Open → Arrived x y delivery (called x y.given (calls.Deliver delivery) a).end (came_to (called x y.given (calls.Deliver delivery) a) y)
+  delivered = by_coming x y a s.joined s.served (meets y x (packets y x s.takes)) (λ (e : End) (j : Intake). e.closing.state ≡ states.Open → Arrived x y delivery e j) (calls.Deliver delivery) s.answer (record {
+    apart = λ apart. cc;
+    none = λ other same opened. same_arrived;
+    comes = λ other same d among. (let is : delivery ≡ other = cc in subst (λ (z : Delivery). Arrivals x.end z.now d.number d.frames i (λ (o : Outcome) (j : Intake). o.end.closing.state ≡ states.Open → Arrived x y delivery o.end j)) is (record {
+      ignored = λ reason opened. same_arrived;
+      noted = λ state reason opened. (let clash : states.Closing ≡ states.Open = sym state ∙ opened in cc);
+      takes = λ state new none mark opened. taken_arrived d state none _ refl refl;
+      refuses = λ state new f fault opened. cc;
+    }));
+  })
+
+-- ---- what has begun has a cause
+
+-- what is behind the first of two lists
+behind_acked : (before after new : List Sent) → after ≡ before ++ new → drop (length before) after ≡ new
+behind_acked before after new is = ap (λ (xs : List Sent). drop (length before) xs) is ∙ drop_all before new
+
+-- where these are in flight behind the call, and these were acknowledged, and frames that it brought are among these
+module _ (x y : Party) (call : Call) (a : Answer) (frames : List FrameValue) (data_came : list_any brings_data frames ≡ true → brings brings_data (seen_of x y call a) ≡ true) (ends_came : list_any may_end frames ≡ true → brings may_end (seen_of x y call a) ≡ true) (new : List Sent)
+    (more : (seen_of x y call a).behind.flight.acked ≡ (watch_of x y).flight.acked ++ new) where
+  caused : (q : Thing) → By (λ z. IsPending x.end z) (watch_of x y).flight.flying (watch_of x y).flight.acked frames (seen_of x y call a).behind.flight.flying new q → Caused x y call a q
+  caused q (inl start) = inl start
+  caused q (inr (inl lost)) = inr (by_kind q lost.bore (record {
+    sent = lost.sent;
+    flew = lost.flies;
+    gone = lost.gone;
+    unnamed = λ i. lost.unnamed (subst (λ (ss : List Sent). In lost.sent ss) (behind_acked (watch_of x y).flight.acked (seen_of x y call a).behind.flight.acked new more) i);
+    bore = lost.bore;
+  }))
+    where
+      by_kind : (z : Thing) → Bears lost.sent z → WasLost (seen_of x y call a) z → HasCause (seen_of x y call a) z
+      by_kind (Byte id o) bore l = inr l
+      by_kind (Fin id) bore l = inr l
+      by_kind (Frame c) bore l = inr (inl l)
+      by_kind z bore l = absurd bore
+  caused (Frame (LimitOf AllData)) (inr (inr raised)) = inr (inl (or_right _ (brings brings_data (seen_of x y call a)) (data_came raised)))
+  caused (Frame (LimitOf (StreamCount dir))) (inr (inr raised)) = inr (inl (or_right _ (brings may_end (seen_of x y call a)) (ends_came raised)))
+  caused q (inr (inr raised)) = absurd raised
+
+-- what waits of streams and beside their bytes
+abbrev StreamsBegin : Party → Party → Call → Answer → Type 0
+StreamsBegin x y call a = Left (Caused x y call a) (called x y.given call a).end
+
+-- a delivery
+delivery_begins : (x y : Party) (delivery : Delivery) (a : Answer) → Stepped x y (calls.Deliver delivery) a → StreamsBegin x y (calls.Deliver delivery) a
+delivery_begins x y delivery a s = left_of (Caused x y call a) (called x y.given call a).end (pend_more _ (Caused x y call a) _ _ (caused x y call a r.frames (λ is. here brings_data (r.data_came is)) (λ is. here may_end (r.ends_came is)) at.new at.more) at.pends)
+  where
+    call : Call
+    call = calls.Deliver delivery
+
+    r : Arrived x y delivery (called x y.given call a).end (came_to (called x y.given call a) y)
+    r = delivered x y delivery a s s.opened
+
+    -- behind the call the observer knows what it knows once this came
+    behind : (seen_of x y call a).behind ≡ with_delivery x.terms (watch_of x y) x.end.closing.state delivery (came_to (called x y.given call a) y)
+    behind =
+        ap (λ (b : Bool). watch_given b (lens x y) (timed_with (lens x y) (told_of call a x.end.closing.state) (watch_of x y))) (only_polls_give x.policy x.end y.given call a refl s.answer)
+        ∙ ap (λ (b : Bool). watch_moment b x.terms (came_with (lens x y) (told_of call a x.end.closing.state) (watch_of x y))) (untimely x.end.closing.state call refl)
+        ∙ ap (λ (j : Intake). with_delivery x.terms (watch_of x y) x.end.closing.state delivery j)
+        (ap (λ (i : Intake). and_told x.policy y.final (told_of call a x.end.closing.state) i) (watched_intake (lens x y) x.told (first_watch x.final x.began x.initial_rtt)) ∙ sym (came_more x y call a))
+
+    at : BegunAt (λ q. IsPending x.end q) (watch_of x y).flight.flying (watch_of x y).flight.acked r.frames (seen_of x y call a).behind.flight.flying (seen_of x y call a).behind.flight.acked (called x y.given call a).end.streams (called x y.given call a).end.waiting.frames
+    at = subst (λ (v : Watch). BegunAt (λ q. IsPending x.end q) (watch_of x y).flight.flying (watch_of x y).flight.acked r.frames v.flight.flying v.flight.acked (called x y.given call a).end.streams (called x y.given call a).end.waiting.frames) (sym behind) r.begins
+
+    here : (test : FrameValue → Bool) → Brings test (came_to x y) (came_to (called x y.given call a) y) → brings test (seen_of x y call a) ≡ true
+    here test is = ap (λ (ps : List Packet). list_any (λ p. list_any test p.frames) ps) (came_is x y call a s) ∙ is
+
+-- a timeout
+timeout_begins : (x y : Party) (now : ℕ) (a : Answer) → Stepped x y (calls.Timeout now) a → StreamsBegin x y (calls.Timeout now) a
+timeout_begins x y now a s = left_of (Caused x y call a) (called x y.given call a).end (pend_more _ (Caused x y call a) _ _ (caused x y call a [] (λ is. cc) (λ is. cc) at.new at.more) at.pends)
+  where
+    call : Call
+    call = calls.Timeout now
+
+    w : Watch
+    w = watch_of x y
+
+    opened : x.end.closing.state ≡ states.Open
+    opened = was x y call a s
+
+    t : Told
+    t = told_of call a x.end.closing.state
+
+    behind : (seen_of x y call a).behind ≡ at_time x.terms w now
+    behind =
+        told_timed (lens x y) t w (only_polls_give x.policy x.end y.given call a refl s.answer) (none_comes (lens x y) t w.intake refl)
+        ∙ ap (λ (z : State). watch_moment (is_timely z call) x.terms (record w { clock = clock_behind w.clock (moment_of z false call) })) opened
+
+    flies : Begun (λ q. IsPending x.end q) w.flight.flying w.flight.acked [] (at_time x.terms w now).flight.flying (at_time x.terms w now).flight.acked (timed_out_in states.Open x.policy x.end now).end
+    flies = timeout_flies (Begun (λ q. IsPending x.end q) w.flight.flying w.flight.acked []) (begun_loses (λ q. IsPending x.end q) w.flight.flying w.flight.acked []) (λ flying acked c pending timers e i. i)
+        x.policy x.terms w x.end now ((sight x y s.gives).stands opened) ((sight x y s.gives).watched.flight opened) (nothing_begun x y s.gives [])
+
+    at : BegunAt (λ q. IsPending x.end q) w.flight.flying w.flight.acked [] (seen_of x y call a).behind.flight.flying (seen_of x y call a).behind.flight.acked (timed_out x.policy x.end now).end.streams (timed_out x.policy x.end now).end.waiting.frames
+    at =
+        subst (λ (v : Watch). BegunAt (λ q. IsPending x.end q) w.flight.flying w.flight.acked [] v.flight.flying v.flight.acked (timed_out x.policy x.end now).end.streams (timed_out x.policy x.end now).end.waiting.frames) (sym behind)
+        (subst (λ (z : State). BegunAt (λ q. IsPending x.end q) w.flight.flying w.flight.acked [] (at_time x.terms w now).flight.flying (at_time x.terms w now).flight.acked (timed_out_in z x.policy x.end now).end.streams (timed_out_in z x.policy x.end now).end.waiting.frames) (sym opened) flies)
+
+-- a poll
+poll_begins : (x y : Party) (now : ℕ) (a : Answer) → Stepped x y (calls.Poll now) a → StreamsBegin x y (calls.Poll now) a
+poll_begins x y now a s = polled_left (Caused x y call a) x.policy x.end now (watch_of x y).flight.flying seen_waits.tells.waits
+    (λ some u among c bears. inr (inr (inr (record { polls = refl; waited = subst (λ (n : ℕ). 0 < n) (sym seen_waits.probes) some; sent = u; flies = among; bears = bears }))))
+    (pend_more (λ q. IsPending x.end q) (Caused x y call a) x.end.streams x.end.waiting.frames (λ q is. inl is) (pends_start x y s.gives)) s.opened
+  where
+    call : Call
+    call = calls.Poll now
+
+    seen_waits : Waits x.terms (watch_of x y).clock (watch_of x y).flight (held x.end)
+    seen_waits = (sight x y s.gives).watched.flight (was x y call a s)
+
+-- what an application asks for is asked for
+asked_is : (x y : Party) (call : Call) (a : Answer) (c : Control) → call_asks call a c ≡ true → asks_for (seen_of x y call a) c ≡ true
+asked_is x y call a (LimitOf AllData) is = or_left (call_asks call a (LimitOf AllData)) (brings brings_data (seen_of x y call a)) is
+asked_is x y call a (LimitOf (StreamCount dir)) is = or_left (call_asks call a (LimitOf (StreamCount dir))) (brings may_end (seen_of x y call a)) is
+asked_is x y call a c is = is
+
+-- another call, but for how far bytes were written
+abbrev Almost : Party → Party → Call → Answer → Thing → Type 0
+Almost x y call a (Byte id o) = IsPending x.end (Byte id o) ⊎ (length (written id x.told) ≤ o)
+Almost x y call a q = Caused x y call a q
+
+other_begins : (x y : Party) (call : Call) (a : Answer) → is_delivery call ≡ false → is_poll call ≡ false → is_timeout call ≡ false → Stepped x y call a → Left (Almost x y call a) (called x y.given call a).end
+other_begins x y call a apart silent other s = go (is_on_streams call) refl
+  where
+    almost : (q : Thing) → IsPending x.end q → Almost x y call a q
+    almost Ack is = inl is
+    almost Ping is = inl is
+    almost Probe is = inl is
+    almost (Message m) is = inl is
+    almost (Byte id o) is = inl is
+    almost (Fin id) is = inl is
+    almost (Frame c) is = inl is
+
+    start : Pends (Almost x y call a) x.end
+    start = pend_more (λ q. IsPending x.end q) (Almost x y call a) x.end.streams x.end.waiting.frames almost (pends_start x y s.gives)
+
+    go : (b : Bool) → is_on_streams call ≡ b → Left (Almost x y call a) (called x y.given call a).end
+    go true on = streams_left (Almost x y call a) x.policy x.end y.given start call a (λ c is. inr (inl (asked_is x y call a c is))) (λ id is. inr (inl is)) (λ id h is. sent_within (wrote x.told) x.end.streams (holds x y s.gives) id h is)
+        (λ id h is none o above. inr (subst (λ (n : ℕ). n ≤ o) (written_is (wrote x.told id) h (half_holds (wrote x.told) x.end.streams (holds x y s.gives) id h is) none) above)) s.answer on
+    go false off = quiet_left (Almost x y call a) x.policy x.end y.given start call a off apart silent other
+
+-- ---- all of it
+
+begins : (x y : Party) (call : Call) (a : Answer) → Stepped x y call a → (q : Thing) → IsPending (called x y.given call a).end q → Caused x y call a q
+begins x y call a s Ack is = ack_begins x y call a s is
+begins x y call a s Ping is = ping_begins x y call a s is
+begins x y call a s Probe is = probe_begins x y call a s is
+begins x y call a s (Message m) is = call_queues m x.policy x.end y.given call a is
+begins x y (calls.Deliver delivery) a s (Byte id o) is = (left_is _ _ (delivery_begins x y delivery a s)).0 id o is
+begins x y (calls.Deliver delivery) a s (Fin id) is = (left_is _ _ (delivery_begins x y delivery a s)).1 id is
+begins x y (calls.Deliver delivery) a s (Frame c) is = (left_is _ _ (delivery_begins x y delivery a s)).2 c is
+begins x y (calls.Timeout now) a s (Byte id o) is = (left_is _ _ (timeout_begins x y now a s)).0 id o is
+begins x y (calls.Timeout now) a s (Fin id) is = (left_is _ _ (timeout_begins x y now a s)).1 id is
+begins x y (calls.Timeout now) a s (Frame c) is = (left_is _ _ (timeout_begins x y now a s)).2 c is
+begins x y (calls.Poll now) a s (Byte id o) is = (left_is _ _ (poll_begins x y now a s)).0 id o is
+begins x y (calls.Poll now) a s (Fin id) is = (left_is _ _ (poll_begins x y now a s)).1 id is
+begins x y (calls.Poll now) a s (Frame c) is = (left_is _ _ (poll_begins x y now a s)).2 c is
+begins x y call a s (Byte id o) is = elim ((left_is _ _ (other_begins x y call a refl refl refl s)).0 id o is) [
+  | inl waited ↦ inl waited
+  | inr above ↦ inr (inl (above, waits_within (wrote (called x y.given call a).told) (called x y.given call a).end.streams id o (holds (called x y.given call a) y s.behind) is))
+]
+begins x y call a s (Fin id) is = (left_is _ _ (other_begins x y call a refl refl refl s)).1 id is
+begins x y call a s (Frame c) is = (left_is _ _ (other_begins x y call a refl refl refl s)).2 c is
+
+-- ---- what goes waits no more
+
+-- MAX_STREAMS of a direction
+dir_same : (dir : Dir) → dir_named (is_one_way dir) ≡ dir
+dir_same Bi = refl
+dir_same Uni = refl
+
+-- what a poll says waits no more
+flag_gone : (x y : Party) (now : ℕ) (a : Answer) → Stepped x y (calls.Poll now) a → (k : Flag) → stands (flag_says k) (sents_by x.end (calls.Poll now) a) ≡ true → flag k (called x y.given (calls.Poll now) a).end.waiting.frames ≡ true → ⊥
+flag_gone x y now a s k there set = both_ways (flag k (polled x.policy x.end now).end.waiting.frames)
+    ((polled_flags x.policy x.end now k s.opened).1 (ap (λ (b : Answer). stands (flag_says k) (sent_if (gave b) (sent_by x.end now))) (sym (poll_answer x.policy x.end now a s.answer s.served)) ∙ there)) set
+
+gone_waits : (x y : Party) (call : Call) (a : Answer) → Stepped x y call a → (q : Thing) → HasGone (sents_by x.end call a) q → IsPending (called x y.given call a).end q → ⊥
+gone_waits x y call a s Ack there due = both_ways (called x y.given call a).end.acknowledging.due (call_answered (λ (p : Pending) (o : Option ℕ). p.due ≡ false) (λ p. refl) x.policy x.end y.given call a s.answer s.served there) due
+gone_waits x y (calls.Poll now) a s Ping there set = both_ways (stands is_ping (sents_by x.end (calls.Poll now) a))
+    (ap (λ (b : Answer). stands is_ping (sent_if (gave b) (sent_by x.end now))) (poll_answer x.policy x.end now a s.answer s.served) ∙ (polled_pinged x.policy x.end now s.opened set).0) there
+gone_waits x y (calls.Poll now) a s (Frame (LimitOf AllData)) there set = flag_gone x y now a s all there set
+gone_waits x y (calls.Poll now) a s (Frame (LimitOf (StreamCount dir))) there set = flag_gone x y now a s (counts (is_one_way dir)) there (ap (λ (d : Dir). of d (called x y.given (calls.Poll now) a).end.waiting.frames.max_stream_id) (dir_same dir) ∙ set)
+gone_waits x y (calls.Poll now) a s (Frame Blocked) there set = flag_gone x y now a s blocked there set
+gone_waits x y (calls.Poll now) a s (Byte id o) there set = (polled_goes x.policy x.end now s.opened).0 id o (subst (λ (b : Answer). HoldsOffset (sent_if (gave b) (sent_by x.end now)) id o) (poll_answer x.policy x.end now a s.answer s.served) there) set
+gone_waits x y (calls.Poll now) a s (Fin id) there set = (polled_goes x.policy x.end now s.opened).1 id (subst (λ (b : Answer). HoldsEnd (sent_if (gave b) (sent_by x.end now)) id) (poll_answer x.policy x.end now a s.answer s.served) there) set
+gone_waits x y (calls.Poll now) a s q there set = absurd there
+gone_waits x y call a s Ping there set = cc
+gone_waits x y call a s (Frame (LimitOf AllData)) there set = cc
+gone_waits x y call a s (Frame (LimitOf (StreamCount dir))) there set = cc
+gone_waits x y call a s (Frame Blocked) there set = cc
+gone_waits x y call a s (Byte id o) there set = there.among
+gone_waits x y call a s (Fin id) there set = there.among
+gone_waits x y call a s q there set = absurd there
+
+-- what goes at a call is what its end sends
+went_here : (x y : Party) (call : Call) (a : Answer) → Stepped x y call a → went (seen_of x y call a).before (seen_of x y call a).behind ≡ sents_by x.end call a
+went_here x y call a s = went_is (watch_of x y) (seen_of x y call a).behind (sents_by x.end call a) (
+    ap (λ (w : Watch). w.own) (sym (behind_is x y call a s)) ∙ (sight (called x y.given call a) y s.behind).own ∙ ap (λ (ss : List Sent). ss ++ sents_by x.end call a) (sym (sight x y s.gives).own))
+
+-- ---- the clause
+
+-- that a poll reads the window makes nothing wait
+reads_pends : (control : window.Control) (call : Call) (e : End) (q : Thing) → IsPending (reads_window control call e) q → IsPending e q
+reads_pends control (calls.Poll now) e Ack is = is
+reads_pends control (calls.Poll now) e Ping is = is
+reads_pends control (calls.Poll now) e Probe is = is
+reads_pends control (calls.Poll now) e (Message m) is = is
+reads_pends control (calls.Poll now) e (Byte id o) is = is
+reads_pends control (calls.Poll now) e (Fin id) is = is
+reads_pends control (calls.Poll now) e (Frame c) is = is
+reads_pends control call e q is = is
+
+-- and leaves the state
+reads_closing : (control : window.Control) (call : Call) (e : End) → (reads_window control call e).closing.state ≡ e.closing.state
+reads_closing control (calls.Poll now) e = refl
+reads_closing control call e = refl
+
+-- what the observer knows behind a call
+watched_behind : (x y : Party) (call : Call) (a : Answer) → watch_of (called x y.given call a) y ≡ (seen_of x y call a).behind
+watched_behind x y call a = folded_more (watch_told (lens x y)) x.told (told_of call a x.end.closing.state) (first_watch x.final x.began x.initial_rtt)
+
+-- a call at one end leaves the other
+other_stays : (side : Side) (w : World) (e : End) (ds : List (List ℕ)) (control : window.Control) (heard : Heard) → end_at (other_side side) (changed side w e ds control heard) ≡ end_at (other_side side) w
+other_stays Client w e ds control heard = refl
+other_stays Server w e ds control heard = refl
+
+module _ (r : Run) (end : World) (honest : IsHonest r) (run : IsRun r end) (side : Side) (i : ℕ) (call : Call) (a : Answer) (served : AreServed r (suc i)) (here : IsAt r i side call a) where
+  made : MadeAt r i side call a
+  made = made_at Known known r end honest run i side call a here served
+
+  abbrev front : World
+  front = made.before
+
+  h : CallHolds Known r i side call a front
+  h = call_holds Known known r end honest run i side call a front made.behind (λ id is. honest.ids side i id call a here is) (run.codes (record { side = side; call = call }) (stands_in r.events i (record { side = side; call = call }) here.event)) made.made
+
+  abbrev x : Party
+  x = calling r i front side call h.sents
+
+  abbrev y : Party
+  y = party_at r i front (other_side side) h.theirs
+
+  left : end_at side made.behind ≡ (called x y.given call a).end
+  left = made_end r i side call a front made.behind made.made
+
+  -- the state before it, and what is told with it
+  before_served : AreServed r i
+  before_served = served_before r.answers i served
+
+  placed_here : Placed Known r end side i
+  placed_here = placed Known known r end honest run side i before_served
+
+  state : state_at r side i ≡ x.end.closing.state
+  state =
+      sym placed_here.state
+      ∙ ap (λ (u : World). (end_at side u).closing.state) (one_behind r i placed_here.world front before_served placed_here.leads made.made.leads)
+      ∙ sym (reads_closing (control_at side front) call (end_at side front))
+
+  told_more : until r side (suc i) ≡ until r side i ++ told_of call a x.end.closing.state ∷ []
+  told_more =
+      told_next side (end_at side r.start).closing.state i r.events r.answers r.views (record { side = side; call = call }) a here.event here.answer (as_many_views r.keys r.start end r.events r.answers r.views run.follows)
+      ∙ ap (λ (ts : List Told). until r side i ++ ts) (told_here side (state_at r side i) call a ∙ ap (λ (z : State). told_of call a z ∷ []) state)
+
+  -- what an observer wants and owes, by what was told
+  wants_same : (told : List Told) → folded (wants_told (lens_of r side)) told (no_wants (watch_from (end_at side r.start) (given_of r side))) ≡ folded (wants_told (lens x y)) told (no_wants (first_watch x.final x.began x.initial_rtt))
+  wants_same told = refl
+
+  debt_same : (debt r side i).arrivals ≡ (debt_of x y).arrivals
+  debt_same = refl
+
+  opened_stepped : (called x y.given call a).end.closing.state ≡ states.Open → Stepped x y call a
+  opened_stepped opened = record { joined = h.joined; answer = made.made.step.answer; served = made_served r i side call a front made.behind made.made; gives = h.gives; takes = h.takes; behind = h.behind; opened = opened }
+
+  -- what is seen of these
+  abbrev seen_with : State → Watch → Watch → List Packet → List Packet → List ℕ → Seen
+  seen_with z before behind unanswered unanswered_behind arrivals = record {
+    told = until r side i;
+    now = record { call = call; answer = a; state = z };
+    before = before;
+    behind = behind;
+    unanswered = unanswered;
+    unanswered_behind = unanswered_behind;
+    arrivals = arrivals;
+    terms = terms_of (end_at side r.start);
+  }
+
+  -- what is seen in the run is seen so
+  seen_same : seen_at r side i call a ≡ seen_of x y call a
+  seen_same =
+      ap (λ z. seen_with z (watch r side i) (watch r side (suc i)) (wants r side i).packets (wants r side (suc i)).packets (debt r side i).arrivals) state
+      ∙ ap (λ b. seen_with x.end.closing.state b (watch r side (suc i)) (wants r side i).packets (wants r side (suc i)).packets (debt r side i).arrivals) h.seen
+      ∙ ap (λ b. seen_with x.end.closing.state (watch_of x y) b (wants r side i).packets (wants r side (suc i)).packets (debt r side i).arrivals) (h.seen_behind ∙ watched_behind x y call a)
+      ∙ ap (λ ps. seen_with x.end.closing.state (watch_of x y) v.behind ps (wants r side (suc i)).packets (debt r side i).arrivals) (ap (λ q. q.packets) (wants_same (until r side i)))
+      ∙ ap (λ ps. seen_with x.end.closing.state (watch_of x y) v.behind (wants_of x y).packets ps (debt r side i).arrivals)
+      (ap (λ (ts : List Told). (folded (wants_told (lens_of r side)) ts (no_wants (watch_from (end_at side r.start) (given_of r side)))).packets) told_more ∙ ap (λ q. q.packets) (wants_same (called x y.given call a).told))
+      ∙ ap (λ ns. seen_with x.end.closing.state (watch_of x y) v.behind (wants_of x y).packets (wants_of (called x y.given call a) y).packets ns) debt_same
+    where
+      v : Seen
+      v = seen_of x y call a
+
+  begins_here : (end_at side made.behind).closing.state ≡ states.Open → BeginsAt (seen_at r side i call a) (end_at side front) (end_at side made.behind)
+  begins_here opened q is =
+      let stepped = opened_stepped (ap (λ (e : End). e.closing.state) (sym left) ∙ opened) in
+      let pending : IsPending (called x y.given call a).end q = subst (λ (e : End). IsPending e q) left is in
+      elim (begins x y call a stepped q pending) [
+        | inl before ↦ still (reads_pends (control_at side front) call (end_at side front) q before) (λ gone. gone_waits x y call a stepped q
+            (subst (λ (ss : List Sent). HasGone ss q) (ap (λ (v : Seen). went v.before v.behind) seen_same ∙ went_here x y call a stepped) gone) pending)
+        | inr cause ↦ new.begins (subst (λ (v : Seen). HasCause v q) (sym seen_same) cause)
+      ]
+
+  -- the other end stays as it is
+  other_same : end_at (other_side side) made.behind ≡ end_at (other_side side) front
+  other_same = ap (λ (u : World). end_at (other_side side) u) made.made.step.others ∙ other_stays side front (end_at side made.behind) _ _ _
+
+pub waiting_begins : (r : Run) (end : World) → IsHonest r → IsRun r end → WaitingBegins r
+unfolding made
+waiting_begins r end honest run side i call a w v served here leads leads_behind =
+    let found = made_at Known known r end honest run i side call a here served in
+    let before : w ≡ found.before = one_behind r i w found.before (served_before r.answers i served) leads found.made.leads in
+    let behind : v ≡ found.behind = one_behind r (suc i) v found.behind served leads_behind found.leads in
+    subst (λ (u : World). ((end_at side u).closing.state ≡ states.Open → BeginsAt (seen_at r side i call a) (end_at side w) (end_at side u)) × ((q : Thing) → IsPending (end_at (other_side side) u) q → IsPending (end_at (other_side side) w) q)) (sym behind)
+    (subst (λ (u : World). ((end_at side found.behind).closing.state ≡ states.Open → BeginsAt (seen_at r side i call a) (end_at side u) (end_at side found.behind)) × ((q : Thing) → IsPending (end_at (other_side side) found.behind) q → IsPending (end_at (other_side side) u) q)) (sym before)
+    ((λ opened. begins_here r end honest run side i call a served here opened), (λ q is. subst (λ (e : End). IsPending e q) (other_same r end honest run side i call a served here) is)))

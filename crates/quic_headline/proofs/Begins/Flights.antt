@@ -1,0 +1,173 @@
+-- What begins to wait where a datagram comes or a timer expires: what waited before, what is lost by it, and limits that its frames raise.
+use Rattle.std.proofs.Common.{◌≡◌, ℕ, ◌<◌, ◌≤◌, Bool, true, List, [], ◌∷◌, ◌++◌, append-nil, refl, sym, ap, ◌∙◌, subst, ◌⊎◌, inl, inr}
+use Rattle.std.specs.List.{list_any}
+use Rattle.std.proofs.lemmas.Bool.{or_left, or_right, both_ways}
+use Rattle.std.proofs.lemmas.List.{append_assoc}
+use Rattle.quic_wire.specs.Value.{FrameValue, StreamValue, ack, stream}
+use Rattle.quic_send_buffer.specs.declared.stream_meta.StreamMeta.{StreamMeta}
+use Rattle.quic_streams_parts.specs.SendHalf.{meta_of}
+use Rattle.quic_streams_parts.specs.Table.{Table}
+use Rattle.quic_retransmits.specs.Retransmits.{Retransmits, nothing_waits}
+use Rattle.quic_streams_state.specs.declared.state.StreamsState.{StreamsState}
+use Rattle.quic_machine.specs.End.{End}
+use Rattle.quic_machine.specs.FrameCases.{apart_same}
+use Rattle.quic_machine.specs.Tracking.{Carried, TrackedPacket, streams_in, retransmits_in}
+use Rattle.quic_headline.specs.Runs.{In}
+use Rattle.quic_headline.specs.Observer.{Sent}
+use Rattle.quic_headline.specs.Duties.{AllData, StreamCount}
+use Rattle.quic_headline.specs.Begins.{Control, LimitOf, control_waits, Thing, Byte, Fin, Frame, Bears, brings_data, may_end}
+use Rattle.quic_headline.proofs.Packets.Searches.{search_keeps}
+use Rattle.quic_headline.proofs.Packets.Invariant.{IsCarriedFrom, carried_stream, carried_again}
+use Rattle.quic_headline.proofs.Packets.Carried.{again_is}
+use Rattle.quic_headline.proofs.Packets.Waited.{IsWaited, AreWaited}
+use Rattle.quic_headline.proofs.Packets.Flying.{Loses, Flies}
+use Rattle.quic_headline.proofs.Places.Told.{in_append}
+use Rattle.quic_headline.proofs.Halves.Arrived.{meta_in}
+use Rattle.quic_headline.proofs.Begins.Controls.{none_waits, again_said}
+use Rattle.quic_headline.proofs.Begins.Called.{IsRaised}
+use Rattle.quic_headline.proofs.Begins.Walk.{PendsAt, pend_more, CarriedIs, acked_pend, lost_pend, taken_pend}
+
+-- ---- what a packet carried stands in its datagram
+
+-- a frame about streams
+pub control_borne : (s : Sent) (c : Carried) → IsCarriedFrom c s.frames → (d : Control) → control_waits c.retransmits d ≡ true → Bears s (Frame d)
+control_borne s c from d waits = go (carried_again c s.frames from)
+  where
+    go : (c.retransmits ≡ retransmits_in s.frames) ⊎ (c.retransmits ≡ nothing_waits) → Bears s (Frame d)
+    go (inl same) = again_said d s.frames (ap (λ (r : Retransmits). control_waits r d) (again_is s.frames ∙ sym same) ∙ waits)
+    go (inr none) = absurd (both_ways (control_waits c.retransmits d) (ap (λ (r : Retransmits). control_waits r d) none ∙ none_waits d) waits)
+
+-- the bytes of a STREAM frame, and its end
+meta_borne : (s : Sent) (m : StreamMeta) → In m (streams_in s.frames) → ((o : ℕ) → m.offsets.start ≤ o → o < m.offsets.end → Bears s (Byte m.id o)) × (m.fin ≡ true → Bears s (Fin m.id))
+meta_borne s m i = go (meta_in s.frames m i)
+  where
+    go : (f : StreamValue) × In (stream f) s.frames × (m ≡ meta_of f) → ((o : ℕ) → m.offsets.start ≤ o → o < m.offsets.end → Bears s (Byte m.id o)) × (m.fin ≡ true → Bears s (Fin m.id))
+    go (f, among, is) = subst (λ (n : StreamMeta). ((o : ℕ) → n.offsets.start ≤ o → o < n.offsets.end → Bears s (Byte n.id o)) × (n.fin ≡ true → Bears s (Fin n.id))) (sym is) (
+      (λ o from below. record { sent = s; among = inl refl; frame = f; carried = among; of_stream = refl; from = from; below = below }),
+      (λ fin. record { sent = s; among = inl refl; frame = f; carried = among; of_stream = refl; fin = fin }),
+    )
+
+-- ---- the causes
+
+-- what waited at first, by these datagrams in flight and those acknowledged before, while these frames come
+module _ (Start : Thing → Type 0) (flew before : List Sent) (frames : List FrameValue) where
+  -- a datagram that bore it was in flight, and is neither still, nor was acknowledged since
+  pub record Lost (flying new : List Sent) (q : Thing) : Type 0 where
+    pub sent : Sent
+    pub flies : In sent flew
+    pub gone : In sent flying → ⊥
+    pub unnamed : In sent new → ⊥
+    pub bore : Bears sent q
+
+  -- a limit that frames raise
+  abbrev pub Raised : Thing → Type 0
+  Raised (Frame (LimitOf AllData)) = list_any brings_data frames ≡ true
+  Raised (Frame (LimitOf (StreamCount dir))) = list_any may_end frames ≡ true
+  Raised q = ⊥
+
+  abbrev pub By : List Sent → List Sent → Thing → Type 0
+  By flying new q = Start q ⊎ (Lost flying new q ⊎ Raised q)
+
+  -- what waits of these streams, and of this besides, waited, or has such a cause
+  pub record BegunAt (flying acked : List Sent) (s : StreamsState) (p : Retransmits) : Type 0 where
+    pub new : List Sent
+    pub more : acked ≡ before ++ new
+    pub inside : (u : Sent) → In u flying → In u flew
+    pub apart : (u : Sent) → In u flying → In u new → ⊥
+    pub pends : PendsAt (By flying new) s p
+
+  abbrev pub Begun : List Sent → List Sent → End → Type 0
+  Begun flying acked e = BegunAt flying acked e.streams e.waiting.frames
+
+  -- where fewer are in flight, and these were acknowledged, which were
+  by_fewer : (flying left new ss : List Sent) → ((u : Sent) → In u left → In u flying) → ((u : Sent) → In u ss → In u flying) → (q : Thing) → By flying new q → By left (new ++ ss) q
+  by_fewer flying left new ss stays inside q (inl start) = inl start
+  by_fewer flying left new ss stays inside q (inr (inl lost)) = inr (inl (record {
+    sent = lost.sent;
+    flies = lost.flies;
+    gone = λ i. lost.gone (stays lost.sent i);
+    unnamed = λ i. elim (in_append lost.sent new ss i) [ inl old ↦ lost.unnamed old | inr here ↦ lost.gone (inside lost.sent here) ];
+    bore = lost.bore;
+  }))
+  by_fewer flying left new ss stays inside q (inr (inr raised)) = inr (inr raised)
+
+  -- what a packet carried is lost, whose datagram was in flight, and is neither still nor was acknowledged
+  carried_by : (flying new : List Sent) (s : Sent) (p : ℕ × TrackedPacket) → IsWaited s p → In s flew → (In s flying → ⊥) → (In s new → ⊥) → CarriedIs (By flying new) p.1.carried
+  carried_by flying new s p waited there gone unnamed = record {
+    metas = λ m i. (let borne = meta_borne s m (carried_stream p.1.carried s.frames waited.carried m i) in record { bytes = λ o from below. lost (Byte m.id o) (borne.0 o from below); fin = λ fin. lost (Fin m.id) (borne.1 fin) });
+    controls = λ d waits. lost (Frame d) (control_borne s p.1.carried waited.carried d waits);
+  }
+    where
+      lost : (q : Thing) → Bears s q → By flying new q
+      lost q bore = inr (inl (record { sent = s; flies = there; gone = gone; unnamed = unnamed; bore = bore }))
+
+  -- so it is of each of these
+  all_carried : (flying new gone : List Sent) (ps : Table TrackedPacket) → ((s : Sent) → In s gone → In s flew) → ((s : Sent) → In s gone → In s flying → ⊥) → ((s : Sent) → In s gone → In s new → ⊥) → AreWaited gone ps → (p : ℕ × TrackedPacket) → In p ps → CarriedIs (By flying new) p.1.carried
+  all_carried flying new [] [] there left unnamed w p i = absurd i
+  all_carried flying new (s ∷ ss) (q ∷ qs) there left unnamed w p (inl is) = subst (λ (x : ℕ × TrackedPacket). CarriedIs (By flying new) x.1.carried) (sym is) (carried_by flying new s q w.0 (there s (inl refl)) (left s (inl refl)) (unnamed s (inl refl)))
+  all_carried flying new (s ∷ ss) (q ∷ qs) there left unnamed w p (inr i) = all_carried flying new ss qs (λ u j. there u (inr j)) (λ u j. left u (inr j)) (λ u j. unnamed u (inr j)) w.1 p i
+  all_carried flying new [] (q ∷ qs) there left unnamed w p i = absurd w
+  all_carried flying new (s ∷ ss) [] there left unnamed w p i = absurd w
+
+  -- ---- losses
+
+  pub begun_loses : Loses Begun
+  begun_loses = record {
+    tracked = λ flying acked t e i. i;
+    searches = λ flying acked lost e i. search_keeps (Begun flying acked) (λ d x j. j) (λ most x j. j) lost e i;
+    loses = λ flying acked gone left ps e inside stays apart waited i. record {
+      new = i.new;
+      more = i.more;
+      inside = λ u j. i.inside u (stays u j);
+      apart = λ u j. i.apart u (stays u j);
+      pends = lost_pend (By left i.new) ps e
+          (all_carried left i.new gone ps (λ u j. i.inside u (inside u j)) apart (λ u j. i.apart u (inside u j)) waited)
+          (pend_more (By flying i.new) (By left i.new) e.streams e.waiting.frames (fewer flying left i.new stays) i.pends);
+    };
+  }
+    where
+      fewer : (flying left new : List Sent) → ((u : Sent) → In u left → In u flying) → (q : Thing) → By flying new q → By left new q
+      fewer flying left new stays q b = subst (λ (xs : List Sent). By left xs q) (append-nil new) (by_fewer flying left new [] stays (λ u i. absurd i) q b)
+
+  -- ---- the frames of a packet
+
+  -- a frame among these passes a test
+  one_passes : (test : FrameValue → Bool) (fs : List FrameValue) (f : FrameValue) → In f fs → test f ≡ true → list_any test fs ≡ true
+  one_passes test [] f i is = absurd i
+  one_passes test (g ∷ fs) f (inl same) is = or_left (test g) (list_any test fs) (ap test (sym same) ∙ is)
+  one_passes test (g ∷ fs) f (inr i) is = or_right (test g) (list_any test fs) (one_passes test fs f i is)
+
+  -- what brings data may end a stream
+  data_ends : (f : FrameValue) → brings_data f ≡ true → may_end f ≡ true
+  data_ends (ack a) is = refl
+  data_ends f is = is
+
+  raised_by : (f : FrameValue) → In f frames → brings_data f ≡ true → (flying new : List Sent) (c : Control) → IsRaised c → By flying new (Frame c)
+  raised_by f among is flying new (LimitOf AllData) raised = inr (inr (one_passes brings_data frames f among is))
+  raised_by f among is flying new (LimitOf (StreamCount dir)) raised = inr (inr (one_passes may_end frames f among (data_ends f is)))
+  raised_by f among is flying new c raised = absurd raised
+
+  pub begun_flies : Flies frames Begun
+  begun_flies = record {
+    losing = begun_loses;
+    names = λ flying acked a e among i. i;
+    acks = λ flying acked ss left ps e a among inside stays apart waited i. record {
+      new = i.new ++ ss;
+      more = ap (λ (xs : List Sent). xs ++ ss) i.more ∙ append_assoc before i.new ss;
+      inside = λ u j. i.inside u (stays u j);
+      apart = λ u j k. elim (in_append u i.new ss k) [ inl old ↦ i.apart u (stays u j) old | inr here ↦ apart u here j ];
+      pends = acked_pend (By left (i.new ++ ss)) (λ dir. inr (inr (one_passes may_end frames (ack a) among refl))) ps e
+          (pend_more (By flying i.new) (By left (i.new ++ ss)) e.streams e.waiting.frames (by_fewer flying left i.new ss stays inside) i.pends);
+    };
+    measured = λ flying acked r first e i. i;
+    marked = λ flying acked counts marking e i. i;
+    on_streams = λ flying acked f e among on i. record {
+      new = i.new;
+      more = i.more;
+      inside = i.inside;
+      apart = i.apart;
+      pends = taken_pend (By flying i.new) f e on (λ is c raised. raised_by f among is flying i.new c raised) i.pends;
+    };
+    message = λ flying acked m e i. i;
+    apart = λ flying acked f e among is i. subst (Begun flying acked) (sym (apart_same f e is)) i;
+  }

@@ -1,0 +1,127 @@
+-- What waits of streams, and beside their bytes, behind a poll and behind a call of an application.
+use Rattle.std.proofs.Common.{◌≡◌, ℕ, zero, suc, ◌<◌, ◌≤◌, Bool, true, false, List, [], ◌∷◌, Some, None, refl, sym, subst, inl, inr, arith}
+use Rattle.quic_send_buffer.specs.Buffered.{IsBuffered, written}
+use Rattle.quic_streams_parts.specs.SendHalf.{SendHalf}
+use Rattle.quic_streams_parts.specs.Table.{Table}
+use Rattle.quic_streams_state.specs.declared.state.StreamsState.{StreamsState}
+use Rattle.quic_streams_state.specs.State.{sending_half}
+use Rattle.quic_streams_laws.specs.KeepingLaws.{by_polled}
+use Rattle.quic_machine.specs.declared.answers.State.TheVariants as states
+use Rattle.quic_machine.specs.declared.run.Call.{Call}
+use Rattle.quic_machine.specs.declared.run.Call.TheVariants as calls
+use Rattle.quic_machine.specs.declared.run.Answer.{Answer}
+use Rattle.quic_machine.specs.Policy.{Policy}
+use Rattle.quic_machine.specs.Parts.{Waiting}
+use Rattle.quic_machine.specs.Closing.{ticked}
+use Rattle.quic_machine.specs.End.{End, with_closing, streams_at}
+use Rattle.quic_machine.specs.Tracking.{TrackedPacket}
+use Rattle.quic_machine.specs.Calls.{is_open}
+use Rattle.quic_machine.specs.StreamCalls.{IsStreamAnswer, is_on_streams}
+use Rattle.quic_machine.specs.Poll.{Polled, Ready, polled, record_moved}
+use Rattle.quic_machine.specs.PollCases.{ready_at, draft_at, by_poll_to, may_leave_at}
+use Rattle.quic_machine.specs.InjectionCases.{by_injection}
+use Rattle.quic_machine.specs.LeaveCases.{by_event}
+use Rattle.quic_machine.specs.CallCases.{is_delivery, is_poll, is_timeout}
+use Rattle.quic_machine.specs.Machine.{IsAnswer, after_call}
+use Rattle.quic_headline.specs.Runs.{In, ended_by}
+use Rattle.quic_headline.specs.Observer.{Sent}
+use Rattle.quic_headline.specs.Begins.{Control, control_waits, Thing, Byte, Fin, Frame, Bears}
+use Rattle.quic_headline.proofs.Packets.Probes.{by_ready, ready_state, by_going}
+use Rattle.quic_headline.proofs.Packets.Waited.{IsWaited, AreWaited}
+use Rattle.quic_headline.proofs.Halves.WordsCalls.{call_on_is}
+use Rattle.quic_headline.proofs.Waited.Pings.{ready_still}
+use Rattle.quic_headline.proofs.Begins.Called.{call_asks, call_one}
+use Rattle.quic_headline.proofs.Begins.Halves.{Any, AllPend, pend_kept, pends_more}
+use Rattle.quic_headline.proofs.Begins.OnStreams.{calls_pend}
+use Rattle.quic_headline.proofs.Begins.Walk.{PendsAt, Pends, Sends, moved_pend, draft_pends}
+use Rattle.quic_headline.proofs.Begins.Flights.{control_borne}
+
+-- what waits at an end is F
+pub record Left (F : Thing → Type 0) (e : End) : Type 0 where
+  pub controls : (c : Control) → control_waits e.waiting.frames c ≡ true → F (Frame c)
+  pub halves : AllPend Any F e.streams
+
+-- the same without what a buffer holds
+bare : (F : Thing → Type 0) (s : StreamsState) → AllPend IsBuffered F s → AllPend Any F s
+bare F s i = pends_more IsBuffered Any F F s (λ b x. tt) (λ q x. x) i
+
+pub left_of : (F : Thing → Type 0) (e : End) → Pends F e → Left F e
+left_of F e i = record { controls = i.controls; halves = bare F e.streams i.halves }
+
+-- ---- a poll
+
+-- a tracked packet is that of a datagram in flight
+waited_back : (ss : List Sent) (ps : Table TrackedPacket) (p : ℕ × TrackedPacket) → AreWaited ss ps → In p ps → (s : Sent) × In s ss × IsWaited s p
+waited_back [] [] p w i = absurd i
+waited_back (s ∷ ss) (q ∷ ps) p w (inl is) = (s, inl refl, subst (λ (x : ℕ × TrackedPacket). IsWaited s x) (sym is) w.0)
+waited_back (s ∷ ss) (q ∷ ps) p w (inr i) = let rest = waited_back ss ps p w.1 i in (rest.0, inr rest.1, rest.2)
+waited_back [] (q ∷ ps) p w i = absurd w
+waited_back (s ∷ ss) [] p w i = absurd w
+
+module _ (F : Thing → Type 0) (p : Policy) (e : End) (now : ℕ) (flying : List Sent) (waited : AreWaited flying e.tracking.packets)
+    (probed : 0 < e.tracking.probes → (s : Sent) → In s flying → (c : Control) → Bears s (Frame c) → F (Frame c)) (i : Pends F e) where
+  abbrev g : Ready
+  g = ready_at e now
+
+  -- what a probe says again
+  moved : 0 < e.tracking.probes → (q : ℕ × TrackedPacket) → In q e.tracking.packets → Pends F (record_moved (Some q) (with_closing e (ticked e.closing now)))
+  moved some q among =
+      let found = waited_back flying e.tracking.packets q waited among in
+      moved_pend F e.streams e.waiting.frames q.1.carried (λ c waits. probed some found.0 found.1 c (control_borne found.0 q.1.carried found.2.carried c waits)) i
+
+  ready_pends : Pends F g.end
+  ready_pends = go e.tracking.probes refl
+    where
+      go : (n : ℕ) → e.tracking.probes ≡ n → Pends F g.end
+      go zero none = subst (λ (w : Waiting). PendsAt F g.end.streams w.frames) (sym (ready_still e now none)) (subst (λ (s : StreamsState). PendsAt F s e.waiting.frames) (sym (ready_state e now)) i)
+      go (suc n) some = by_ready (Pends F) e now i i (λ q among. moved (omega (arith, some)) q among) (λ moment pacing discovery x j. j)
+
+  pub polled_left : (polled p e now).end.closing.state ≡ states.Open → Left F (polled p e now).end
+  polled_left = by_poll_to p e now (λ (q : Polled). q.end.closing.state ≡ states.Open → Left F q.end) (record {
+    silent = λ opened. here e i;
+    failed = λ opened. here e i;
+    nothing = λ is none opened. record { controls = ready_pends.controls; halves = bare F g.end.streams ready_pends.halves };
+    closes = λ opened. cc;
+    gives = λ is may some. by_going (λ (x : End). x.closing.state ≡ states.Open → Left F x) p (draft_at e now) (λ pacing opened. (
+        let d : Sends F (draft_at e now) = draft_pends F g.leaving g.end (may_leave_at e now) ready_pends in
+        record { controls = d.controls; halves = bare F (draft_at e now).end.streams d.halves }));
+  })
+    where
+      here : (x : End) → Pends F x → Left F x
+      here x j = left_of F x j
+
+-- ---- a call of an application
+
+module _ (F : Thing → Type 0) (p : Policy) (e : End) (theirs : List (List ℕ)) (i : Pends F e) where
+  -- on streams
+  module _ (call : Call) (a : Answer) (asked : (c : Control) → call_asks call a c ≡ true → F (Frame c)) (ends : (id : ℕ) → ended_by id call a ≡ true → F (Fin id))
+      (bounded : (id : ℕ) (h : SendHalf) → sending_half e.streams id ≡ Some h → h.buffer.unsent ≤ written h.buffer)
+      (new : (id : ℕ) (h : SendHalf) → sending_half e.streams id ≡ Some h → h.reset ≡ None → (o : ℕ) → written h.buffer ≤ o → F (Byte id o)) where
+    pub streams_left : IsAnswer p e theirs call a → is_on_streams call ≡ true → Left F (after_call p e theirs call a)
+    streams_left is on =
+        let c = call_on_is p e theirs call a on in
+        let b : Bool = is_open e.closing.state in
+        subst (Left F) (sym c.same) (record {
+          controls = λ d waits. elim (call_one b d (streams_at e) call a (λ id same. subst (λ (k : Call). IsStreamAnswer b e.streams k a) same (c.answer is)) waits) [ inl was ↦ i.controls d was | inr asks ↦ asked d asks ];
+          halves = calls_pend F b (streams_at e) call a bounded new ends (bare F e.streams i.halves) (c.answer is);
+        })
+
+  -- any other, but a poll, a timeout and a delivery
+  pub quiet_left : (call : Call) (a : Answer) → is_on_streams call ≡ false → is_delivery call ≡ false → is_poll call ≡ false → is_timeout call ≡ false → Left F (after_call p e theirs call a)
+  quiet_left (calls.Inject injection) a off apart silent other = by_injection p e injection (Left F) (left_of F e i)
+  quiet_left calls.Event a off apart silent other = by_event e (Left F) (record { controls = i.controls; halves = bare F e.streams i.halves })
+      (λ told. record { controls = i.controls; halves = by_polled (AllPend Any F) (pend_kept Any F tt) e.streams (bare F e.streams i.halves) })
+  quiet_left (calls.Poll now) a off apart silent other = cc
+  quiet_left (calls.Timeout now) a off apart silent other = cc
+  quiet_left (calls.Deliver delivery) a off apart silent other = cc
+  quiet_left (calls.Open dir) a off apart silent other = cc
+  quiet_left (calls.Accept dir) a off apart silent other = cc
+  quiet_left (calls.Write id bytes) a off apart silent other = cc
+  quiet_left (calls.WriteChunks id chunks) a off apart silent other = cc
+  quiet_left (calls.Finish id) a off apart silent other = cc
+  quiet_left (calls.Reset id code) a off apart silent other = cc
+  quiet_left (calls.SetPriority id priority) a off apart silent other = cc
+  quiet_left (calls.Read read) a off apart silent other = cc
+  quiet_left (calls.Stop id code) a off apart silent other = cc
+  quiet_left (calls.ReceivedReset id) a off apart silent other = cc
+  quiet_left call a off apart silent other = record { controls = i.controls; halves = bare F e.streams i.halves }

@@ -1,0 +1,5 @@
+pub mod Pings
+pub mod Left
+pub mod Gates
+pub mod Polls
+pub mod Clause

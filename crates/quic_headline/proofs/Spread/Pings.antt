@@ -1,0 +1,188 @@
+-- Where PING was asked for since one went, it waits at an open end: only a poll takes it away, which gives it.
+use Rattle.std.proofs.Common.{◌≡◌, ℕ, Bool, true, false, ◌||◌, List, [], ◌∷◌, ◌++◌, replicate, refl, sym, ap, ◌∙◌, ◌⊎◌, inl, inr}
+use Rattle.std.specs.Prelude.{if◌then◌else◌}
+use Rattle.std.specs.List.{list_any}
+use Rattle.std.proofs.lemmas.Bool.{or_left, or_from, both_ways}
+use Rattle.std.proofs.lemmas.List.Folds.{list_any-append}
+use Rattle.quic_wire.specs.Value.{FrameValue, ack, ping, padding, stream, datagram}
+use Rattle.quic_recovery_core.specs.PendingAcks.{can_send}
+use Rattle.quic_streams_parts.specs.SendHalf.{frame_of}
+use Rattle.quic_machine.specs.declared.answers.State.TheVariants as states
+use Rattle.quic_machine.specs.declared.run.Call.{Call}
+use Rattle.quic_machine.specs.declared.run.Call.TheVariants as calls
+use Rattle.quic_machine.specs.declared.run.Answer.{Answer}
+use Rattle.quic_machine.specs.declared.run.Answer.TheVariants as answers
+use Rattle.quic_machine.specs.Policy.{Policy}
+use Rattle.quic_machine.specs.Parts.{Waiting}
+use Rattle.quic_machine.specs.End.{End}
+use Rattle.quic_machine.specs.Poll.{Polled, Draft, no_frames, zeros_behind, with_signal_frames, ping_if, with_control_frames, with_message_frames, with_asking, ack_of, with_ack, ack_fits, ack_if, composed_if, composed, lazied, draft_as, goes, whole, alone, probe, nothing, closing, Leaving, Ready, polled}
+use Rattle.quic_machine.specs.DraftLaws.{Writing, drops_of, entry_of, half_of, message_of, by_entries, by_messages, by_streams}
+use Rattle.quic_machine.specs.Puts as puts
+use Rattle.quic_machine.specs.PollCases.{ready_at, draft_at, by_probed, by_poll_to}
+use Rattle.quic_machine.specs.Machine.{gave}
+use Rattle.quic_headline.specs.Runs.{folded}
+use Rattle.quic_headline.specs.Observer.{Sent, first_watch}
+use Rattle.quic_headline.specs.Waited.{stands, is_ping, asks_ping, Wants, wants_told, no_wants}
+use Rattle.quic_headline.proofs.Packets.Entries.{IsControl, control_of}
+use Rattle.quic_headline.proofs.Packets.Intakes.{folded_more}
+use Rattle.quic_headline.proofs.Packets.Probes.{by_going}
+use Rattle.quic_headline.proofs.Places.Parties.{sent_by, sent_if, sents_by, told_of, Party, called, lens}
+use Rattle.quic_headline.proofs.Places.Groups.{Calls, Group}
+use Rattle.quic_headline.proofs.Places.Steps.{poll_answer}
+use Rattle.quic_headline.proofs.Timers.Still.{was_open}
+use Rattle.quic_headline.proofs.Timers.Watched.{Observed, went_behind}
+use Rattle.quic_headline.proofs.Steps.Probes.{begun}
+use Rattle.quic_headline.proofs.Waited.Pings.{none_padded, ready_waiting, call_pinged}
+use Rattle.quic_headline.proofs.Waited.Group.{wants_of, wants_watch}
+
+-- ---- what is composed
+
+-- PING is one of the frames of a draft
+abbrev HasPing : Draft → Type 0
+HasPing d = list_any is_ping d.frames ≡ true
+
+still_has : (d : Draft) (f : FrameValue) → HasPing d → list_any is_ping (d.frames ++ f ∷ []) ≡ true
+still_has d f is = list_any-append is_ping d.frames (f ∷ []) ∙ or_left (list_any is_ping d.frames) (list_any is_ping (f ∷ [])) is
+
+-- it stays, whichever frames go behind
+ping_stays : Writing HasPing
+ping_stays (puts.drops kind) d may is = is
+ping_stays p d may is = still_has d _ is
+
+-- where it waits, it goes first
+asking_has : (d : Draft) → list_any is_ping d.frames ≡ false → d.end.waiting.signals.ping ≡ true → HasPing (with_asking d)
+asking_has d none waits = by_streams HasPing (half_of HasPing ping_stays) (with_message_frames (with_control_frames (with_signal_frames d)))
+    (by_messages HasPing (message_of HasPing ping_stays) (with_control_frames (with_signal_frames d)) (by_entries HasPing (drops_of HasPing ping_stays) (entry_of HasPing ping_stays) (with_signal_frames d) first))
+  where
+    first : HasPing (with_signal_frames d)
+    first = ap (λ (b : Bool). list_any is_ping (ping_if b d).frames) waits ∙ list_any-append is_ping d.frames (ping ∷ []) ∙ ap (λ (b : Bool). b || true) none
+
+composed_has : (e : End) → e.waiting.signals.ping ≡ true → HasPing (composed e)
+composed_has e waits = go (can_send e.acknowledging)
+  where
+    late : (b : Bool) (d : Draft) → HasPing d → HasPing (ack_if b d)
+    late true d is = still_has d (ack (ack_of d.end)) is
+    late false d is = is
+
+    go : (b : Bool) → HasPing (composed_if b e)
+    go true = asking_has (with_ack (no_frames e)) refl waits
+    go false = late (ack_fits (with_asking (no_frames e))) (with_asking (no_frames e)) (asking_has (no_frames e) refl waits)
+
+-- ---- where none waits, none goes
+
+-- PING is none of the frames of a draft
+abbrev HasNone : Draft → Type 0
+HasNone d = list_any is_ping d.frames ≡ false
+
+still_none : (d : Draft) (f : FrameValue) → is_ping f ≡ false → HasNone d → list_any is_ping (d.frames ++ f ∷ []) ≡ false
+still_none d f other is = list_any-append is_ping d.frames (f ∷ []) ∙ or_from (list_any is_ping d.frames) (list_any is_ping (f ∷ [])) is (or_from (is_ping f) false other refl)
+
+-- a frame of control is none
+control_other : (f : FrameValue) → IsControl f → is_ping f ≡ false
+control_other ping is = absurd is
+control_other f is = refl
+
+asking_none : (d : Draft) → d.end.waiting.signals.ping ≡ false → HasNone d → HasNone (with_asking d)
+asking_none d waits none = by_streams HasNone (λ x id h room found first left is counts i. still_none x (stream (frame_of id h room)) refl i) (with_message_frames (with_control_frames (with_signal_frames d)))
+    (by_messages HasNone (λ x m ms is fit i. still_none x (datagram m) refl i) (with_control_frames (with_signal_frames d)) (by_entries HasNone (λ x kind i. i) (λ x kind f is i. still_none x f (control_other f (control_of f kind is.of_kind)) i) (with_signal_frames d) first))
+  where
+    first : HasNone (with_signal_frames d)
+    first = ap (λ (b : Bool). list_any is_ping (ping_if b d).frames) waits ∙ none
+
+composed_none : (e : End) → e.waiting.signals.ping ≡ false → HasNone (composed e)
+composed_none e waits = go (can_send e.acknowledging)
+  where
+    late : (b : Bool) (d : Draft) → HasNone d → HasNone (ack_if b d)
+    late true d is = still_none d (ack (ack_of d.end)) refl is
+    late false d is = is
+
+    go : (b : Bool) → HasNone (composed_if b e)
+    go true = asking_none (with_ack (no_frames e)) waits refl
+    go false = late (ack_fits (with_asking (no_frames e))) (with_asking (no_frames e)) (asking_none (no_frames e) waits refl)
+
+-- so where PING goes among all that waits, it waited
+pub whole_pinged : (e : End) (count : ℕ) → list_any is_ping ((composed (lazied e)).frames ++ replicate count padding) ≡ true → e.waiting.signals.ping ≡ true
+whole_pinged e count has = go e.waiting.signals.ping refl
+  where
+    go : (b : Bool) → e.waiting.signals.ping ≡ b → e.waiting.signals.ping ≡ true
+    go true waits = waits
+    go false waits = absurd (both_ways (list_any is_ping ((composed (lazied e)).frames ++ replicate count padding))
+        (list_any-append is_ping (composed (lazied e)).frames (replicate count padding) ∙ or_from (list_any is_ping (composed (lazied e)).frames) (list_any is_ping (replicate count padding)) (composed_none (lazied e) waits) (none_padded count)) has)
+
+-- ---- a poll
+
+module _ (p : Policy) (e : End) (now : ℕ) (waits : e.waiting.signals.ping ≡ true) where
+  abbrev g : Ready
+  g = ready_at e now
+
+  -- it waits at an end that is ready
+  ready_has : g.end.waiting.signals.ping ≡ true
+  ready_has = ap (λ (w : Waiting). w.signals.ping) (ready_waiting e now) ∙ by_probed (begun e now) (λ (x : End). x.waiting.signals.ping ≡ true) waits refl (λ q probes is. waits)
+
+  -- what goes has it, or leaves it
+  draft_has : (leaving : Leaving) → (HasPing (draft_as leaving g.end)) ⊎ ((draft_as leaving g.end).end.waiting.signals.ping ≡ true)
+  draft_has whole = inl (composed_has (lazied g.end) ready_has)
+  draft_has alone = inr ready_has
+  draft_has (probe size) = inr ready_has
+  draft_has (closing f) = inr ready_has
+  draft_has (nothing held) = inr ready_has
+
+  given_has : stands is_ping (sent_by e now ∷ []) ≡ false → (draft_at e now).end.waiting.signals.ping ≡ true
+  given_has none = elim (draft_has g.leaving) [
+    | inl has ↦ absurd (both_ways (stands is_ping (sent_by e now ∷ [])) none
+        (or_left (list_any is_ping ((draft_at e now).frames ++ replicate (zeros_behind (draft_at e now)) padding)) false
+        (list_any-append is_ping (draft_at e now).frames (replicate (zeros_behind (draft_at e now)) padding) ∙ or_left (list_any is_ping (draft_at e now).frames) (list_any is_ping (replicate (zeros_behind (draft_at e now)) padding)) has)))
+    | inr left ↦ left
+  ]
+
+  -- a poll that gives none leaves it
+  pub polled_has : (polled p e now).end.closing.state ≡ states.Open → stands is_ping (sent_if (gave (answers.Poll (polled p e now).answer)) (sent_by e now)) ≡ false → (polled p e now).end.waiting.signals.ping ≡ true
+  polled_has = by_poll_to p e now (λ (q : Polled). q.end.closing.state ≡ states.Open → stands is_ping (sent_if (gave (answers.Poll q.answer)) (sent_by e now)) ≡ false → q.end.waiting.signals.ping ≡ true) (record {
+    silent = λ opened none. waits;
+    failed = λ opened none. waits;
+    nothing = λ is quiet opened none. ready_has;
+    closes = λ opened none. cc;
+    gives = λ is may some. by_going (λ (x : End). x.closing.state ≡ states.Open → stands is_ping (sent_by e now ∷ []) ≡ false → x.waiting.signals.ping ≡ true) p (draft_at e now) (λ pacing opened none. given_has none);
+  })
+
+-- ---- the group
+
+-- while x is open, PING waits where it was asked for
+pub record Pinging (x y : Party) : Type 0 where
+  pub pinged : x.end.closing.state ≡ states.Open → (wants_of x y).pinged ≡ true → x.end.waiting.signals.ping ≡ true
+
+-- whether it was asked for, behind a call
+pinged_behind : (x y : Party) (call : Call) (a : Answer) → Calls Observed x y call a → (wants_of (called x y.given call a) y).pinged ≡ (if stands is_ping (sents_by x.end call a) then false else asks_ping call || (wants_of x y).pinged)
+pinged_behind x y call a c =
+    ap (λ (w : Wants). w.pinged) (folded_more (wants_told (lens x y)) x.told (told_of call a x.end.closing.state) (no_wants (first_watch x.final x.began x.initial_rtt)))
+    ∙ ap (λ (ss : List Sent). if stands is_ping ss then false else asks_ping call || (wants_of x y).pinged) (went_behind x y call a c (wants_of x y).watch (wants_watch x y))
+
+-- where one of two holds where a third doesn't
+no_more : (b c : Bool) → (if b then false else c) ≡ true → (b ≡ false) × (c ≡ true)
+no_more true c is = cc
+no_more false c is = (refl, is)
+
+call_pings : (x y : Party) (call : Call) (a : Answer) → Calls Observed x y call a → (called x y.given call a).end.closing.state ≡ states.Open → ((wants_of x y).pinged ≡ true → x.end.waiting.signals.ping ≡ true)
+    → (if stands is_ping (sents_by x.end call a) then false else asks_ping call || (wants_of x y).pinged) ≡ true → (called x y.given call a).end.waiting.signals.ping ≡ true
+call_pings x y (calls.Poll now) a c still i is =
+    let both = no_more (stands is_ping (sent_if (gave a) (sent_by x.end now))) (wants_of x y).pinged is in
+    let said : a ≡ answers.Poll (polled x.policy x.end now).answer = poll_answer x.policy x.end now a c.answer c.served in
+    polled_has x.policy x.end now (i both.1) still (sym (ap (λ (b : Answer). stands is_ping (sent_if (gave b) (sent_by x.end now))) said) ∙ both.0)
+call_pings x y calls.Ping a c still i is = refl
+call_pings x y call a c still i is = elim (call_pinged x.policy x.end y.given call a refl) [
+  | inl asks ↦ (let clash : false ≡ true = asks in cc)
+  | inr same ↦ same ∙ i (no_more (stands is_ping []) (wants_of x y).pinged is).1
+]
+
+pinging_step : (x y : Party) (call : Call) (a : Answer) → Calls Observed x y call a → Pinging x y → Pinging (called x y.given call a) y
+pinging_step x y call a c i = record {
+  pinged = λ still set. call_pings x y call a c still (i.pinged (was_open x.policy x.end y.given call a still)) (sym (pinged_behind x y call a c) ∙ set);
+}
+
+pub pinging_group : Group Observed Pinging
+pinging_group = record {
+  first = λ x y m there here. record { pinged = λ opened set. cc };
+  writer = λ x y call a c i back. pinging_step x y call a c i;
+  reader = λ x y call a c i back. record { pinged = back.pinged };
+  shows = λ x y here there b back i j. record { pinged = i.pinged };
+}

@@ -1,0 +1,250 @@
+-- What makes something wait at an end to go (RFC 9000, sections 2.4, 3.1, 3.5, 4.1, 4.2, 4.6, 13.2.1 and 13.3; RFC 9002, sections 6.1 and 6.2.4; RFC 9221, section 5). What waits, the
+-- end says itself; the causes are read off a run's lists.
+use Rattle.std.specs.Prelude.{ℕ, suc, ◌<◌, ◌≤◌, ◌≡◌, ◌⊎◌, ◌==◌, ◌&&◌, ◌||◌, nat_lt, Bool, true, false, List, [], ◌∷◌, ◌++◌, length, drop, Some, Ok, Err}
+use Rattle.std.specs.List.{list_any}
+use Rattle.std.specs.Option.{is_some, is_none}
+use Rattle.quic_wire_core.specs.declared.stream_id.Side.{Side}
+use Rattle.quic_wire_core.specs.StreamId.{other_side}
+use Rattle.quic_wire.specs.Value.{FrameValue, ack, stream, reset_stream, stop_sending, max_stream_data, stream_data_blocked}
+use Rattle.quic_wire.specs.FrameView.{is_one_way}
+use Rattle.quic_send_buffer.specs.Buffered.{is_lost, is_unsent}
+use Rattle.quic_streams_parts.specs.declared.answers.WriteError.TheVariants as write_errors
+use Rattle.quic_streams_parts.specs.Table.{at}
+use Rattle.quic_streams_parts.specs.SendHalf.{SendHalf}
+use Rattle.quic_retransmits.specs.Retransmits.{Retransmits, has_id}
+use Rattle.quic_machine.specs.declared.answers.State.TheVariants as states
+use Rattle.quic_machine.specs.declared.run.Call.{Call}
+use Rattle.quic_machine.specs.declared.run.Call.TheVariants as calls
+use Rattle.quic_machine.specs.declared.run.Answer.{Answer}
+use Rattle.quic_machine.specs.declared.run.Answer.TheVariants as answers
+use Rattle.quic_machine.specs.CallCases.{is_poll}
+use Rattle.quic_machine.specs.End.{End}
+use Rattle.quic_machine.specs.Machine.{World, end_at}
+use Rattle.quic_headline.specs.Runs.{Run, Told, Packet, In, until, state_at, AreServed, LeadsTo, written, ended_by, reset_by}
+use Rattle.quic_headline.specs.Observer.{Sent, HoldsOffset, HoldsEnd, Terms, terms_of, Watch, watch, news, loss_due, is_past, is_timely}
+use Rattle.quic_headline.specs.Headline.{IsAt}
+use Rattle.quic_headline.specs.InFlight.{is_max_data, is_max_streams, is_data_blocked}
+use Rattle.quic_headline.specs.Duties.{Limited, AllData, StreamData, StreamCount, has_reset, has_stop, limit_waits, on_half}
+use Rattle.quic_headline.specs.Moments.{acknowledges, went, debt}
+use Rattle.quic_headline.specs.AcksDue.{takes_marked, are_some, waits_out}
+use Rattle.quic_headline.specs.Unread.{stopped_by}
+use Rattle.quic_headline.specs.Messages.{sent_by}
+use Rattle.quic_headline.specs.Waited.{one_asks, count_silent, may_come, stands, is_ping, asks_ping, wants}
+
+-- ---- what may wait
+
+-- a frame about streams beside STREAM: the reset of one, that the peer is to stop sending on one, a limit, and that a write found all data, or one stream, used up
+pub data Control : Type 0 where
+  ResetOf : (id : ℕ) → Control
+  StopOf : (id : ℕ) → Control
+  LimitOf : (what : Limited) → Control
+  Blocked : Control
+  BlockedOn : (id : ℕ) → Control
+
+-- an ACK frame that is due; PING; a probe of losses; a message; an offset of a stream, and its end; and a frame about streams
+pub data Thing : Type 0 where
+  Ack : Thing
+  Ping : Thing
+  Probe : Thing
+  Message : (message : List ℕ) → Thing
+  Byte : (id : ℕ) (offset : ℕ) → Thing
+  Fin : (id : ℕ) → Thing
+  Frame : (control : Control) → Thing
+
+-- whether a frame about streams is among what waits
+abbrev pub control_waits : Retransmits → Control → Bool
+control_waits p (ResetOf id) = has_reset id p.reset_stream
+control_waits p (StopOf id) = has_stop id p.stop_sending
+control_waits p (LimitOf what) = limit_waits p what
+control_waits p Blocked = p.data_blocked
+control_waits p (BlockedOn id) = has_id id p.stream_data_blocked
+
+-- whether an offset of a half that wasn't reset is to go: it is lost, or was never sent
+abbrev pub byte_waits : ℕ → SendHalf → Bool
+byte_waits offset h = is_none h.reset && (is_lost h.buffer offset || is_unsent h.buffer offset)
+
+-- whether its end is
+abbrev pub fin_waits : SendHalf → Bool
+fin_waits h = is_none h.reset && h.end_waits
+
+-- something waits at an end
+abbrev pub IsPending : End → Thing → Type 0
+IsPending e Ack = e.acknowledging.due ≡ true
+IsPending e Ping = e.waiting.signals.ping ≡ true
+IsPending e Probe = 0 < e.tracking.probes
+IsPending e (Message message) = In message e.messages.queues.outgoing
+IsPending e (Byte id offset) = on_half (byte_waits offset) (at e.streams.sending.halves.live id) ≡ true
+IsPending e (Fin id) = on_half fin_waits (at e.streams.sending.halves.live id) ≡ true
+IsPending e (Frame control) = control_waits e.waiting.frames control ≡ true
+
+-- ---- what a frame says
+
+-- whether a frame is this frame about streams
+abbrev pub says : Control → FrameValue → Bool
+says (ResetOf id) (reset_stream f) = f.id == id
+says (StopOf id) (stop_sending f) = f.id == id
+says (LimitOf AllData) f = is_max_data f
+says (LimitOf (StreamData id)) (max_stream_data f) = f.id == id
+says (LimitOf (StreamCount dir)) f = is_max_streams (is_one_way dir) f
+says Blocked f = is_data_blocked f
+says (BlockedOn id) (stream_data_blocked f) = f.id == id
+says control f = false
+
+-- A datagram bears it: a STREAM frame with the offset, or with the end, or the frame.
+abbrev pub Bears : Sent → Thing → Type 0
+Bears s (Byte id offset) = HoldsOffset (s ∷ []) id offset
+Bears s (Fin id) = HoldsEnd (s ∷ []) id
+Bears s (Frame control) = list_any (says control) s.frames ≡ true
+Bears s q = ⊥
+
+-- It went with one of these datagrams: an ACK frame, PING, an offset or the end of a stream, or a frame that names no stream, as MAX_DATA, MAX_STREAMS and DATA_BLOCKED. Of the others it isn't
+-- said.
+abbrev pub HasGone : List Sent → Thing → Type 0
+HasGone ss Ack = acknowledges ss ≡ true
+HasGone ss Ping = stands is_ping ss ≡ true
+HasGone ss (Byte id offset) = HoldsOffset ss id offset
+HasGone ss (Fin id) = HoldsEnd ss id
+HasGone ss (Frame (LimitOf AllData)) = stands is_max_data ss ≡ true
+HasGone ss (Frame (LimitOf (StreamCount dir))) = stands (is_max_streams (is_one_way dir)) ss ≡ true
+HasGone ss (Frame Blocked) = stands is_data_blocked ss ≡ true
+HasGone ss q = ⊥
+
+-- ---- what is seen of a call
+
+-- What an observer of an end knows of a call: what was told before, the call, what is known before and behind it, the packets that came since the end gave an ACK frame, before it
+-- and behind it, when those came before it that ask, and by what losses are judged.
+pub record Seen : Type 0 where
+  pub told : List Told
+  pub now : Told
+  pub before : Watch
+  pub behind : Watch
+  pub unanswered : List Packet
+  pub unanswered_behind : List Packet
+  pub arrivals : List ℕ
+  pub terms : Terms
+
+-- the packets that came by it
+abbrev pub came : Seen → List Packet
+came s = news s.before.intake s.behind.intake
+
+-- whether a frame that passes a test came by it
+abbrev pub brings : (FrameValue → Bool) → Seen → Bool
+brings test s = list_any (λ p. list_any test p.frames) (came s)
+
+-- the datagrams that were acknowledged by it in flight
+abbrev pub acknowledged_by : Seen → List Sent
+acknowledged_by s = drop (length s.before.flight.acked) s.behind.flight.acked
+
+-- A datagram that bore it is lost (RFC 9002, section 6.1): it was in flight, and behind the call it neither is, nor was acknowledged by it. What it bore goes again
+-- (RFC 9000, section 13.3).
+pub record WasLost (s : Seen) (q : Thing) : Type 0 where
+  pub sent : Sent
+  pub flew : In sent s.before.flight.flying
+  pub gone : In sent s.behind.flight.flying → ⊥
+  pub unnamed : In sent (acknowledged_by s) → ⊥
+  pub bore : Bears sent q
+
+-- A probe of losses waited at a poll, which may say again what a datagram in flight bears (RFC 9002, section 6.2.4).
+pub record IsProbed (s : Seen) (q : Thing) : Type 0 where
+  pub polls : is_poll s.now.call ≡ true
+  pub waited : 0 < s.before.flight.probes
+  pub sent : Sent
+  pub flies : In sent s.before.flight.flying
+  pub bears : Bears sent q
+
+-- whether the timer of losses expires at it, and no datagram may be lost by time (RFC 9002, section 6.2.1)
+abbrev pub makes_probes : Seen → Bool
+makes_probes s = is_timely s.now.state s.now.call && (is_none s.before.flight.loss_time && is_past (loss_due s.terms s.before.flight) s.behind.clock)
+
+-- ---- calls of the application, and frames that come
+
+-- whether a call uses up what came of a stream: it reads it, stops it, or is told of its reset (RFC 9000, sections 2.4 and 4.1)
+abbrev pub uses_up : Call → Answer → Bool
+uses_up (calls.Read read) (answers.Read (Ok said)) = true
+uses_up (calls.Stop id code) (answers.Stop (Ok done)) = true
+uses_up (calls.ReceivedReset id) (answers.ReceivedReset (Ok (Some code))) = true
+uses_up call a = false
+
+-- whether it reads this stream
+abbrev pub reads_on : ℕ → Call → Answer → Bool
+reads_on id (calls.Read read) (answers.Read (Ok said)) = read.id == id
+reads_on id call a = false
+
+-- whether it writes on a stream that passes a test, and is blocked
+abbrev pub finds_blocked : (ℕ → Bool) → Call → Answer → Bool
+finds_blocked test (calls.Write id bytes) (answers.Write (Err write_errors.Blocked)) = test id
+finds_blocked test (calls.WriteChunks id chunks) (answers.WriteChunks (Err write_errors.Blocked)) = test id
+finds_blocked test call a = false
+
+-- whether a frame brings what is used up at once where its stream was stopped, or with its reset (RFC 9000, sections 3.5 and 4.5)
+abbrev pub brings_data : FrameValue → Bool
+brings_data (stream f) = true
+brings_data (reset_stream f) = true
+brings_data f = false
+
+-- whether a stream may be done by it: what this end sent on it is acknowledged, or what the peer sent on it is over (RFC 9000, section 4.6)
+abbrev pub may_end : FrameValue → Bool
+may_end (ack a) = true
+may_end f = brings_data f
+
+-- Whether a call, or a frame that comes by it, asks for a frame about streams: a reset and a stop are called for (RFC 9000, sections 3.1 and 3.5); MAX_DATA goes where more was used up (section
+-- 4.1), MAX_STREAM_DATA where more of the stream was read, and MAX_STREAMS where a stream may be done (section 4.6); and the frames that say that a limit is used up where a write is blocked
+-- (sections 19.12 and 19.13).
+abbrev pub asks_for : Seen → Control → Bool
+asks_for s (ResetOf id) = is_some (reset_by id s.now.call s.now.answer)
+asks_for s (StopOf id) = stopped_by id s.now.call s.now.answer
+asks_for s (LimitOf AllData) = uses_up s.now.call s.now.answer || brings brings_data s
+asks_for s (LimitOf (StreamData id)) = reads_on id s.now.call s.now.answer
+asks_for s (LimitOf (StreamCount dir)) = uses_up s.now.call s.now.answer || brings may_end s
+asks_for s Blocked = finds_blocked (λ id. true) s.now.call s.now.answer
+asks_for s (BlockedOn id) = finds_blocked (λ j. j == id) s.now.call s.now.answer
+
+-- ---- the causes
+
+-- whether an ACK frame may become due by a call: a packet comes while one waits that asks; it bears the mark of congestion; 25 ms have passed since one came that asks; or a datagram may go, and
+-- many came that don't ask (RFC 9000, section 13.2.1)
+abbrev pub may_hasten : Seen → Bool
+may_hasten s =
+    (are_some (came s) && one_asks s.unanswered_behind)
+    || (takes_marked s.now.call s.now.answer || (waits_out s.now s.arrivals s.behind.clock || (is_poll s.now.call && nat_lt may_come (count_silent s.unanswered))))
+
+-- What makes it wait: an ACK frame becomes due; PING is asked for; probes wait where the timer of losses expires; a message is sent; bytes are written, or an end is told; a frame about
+-- streams is called for; what a datagram bore is lost; or a probe says it again.
+abbrev pub HasCause : Seen → Thing → Type 0
+HasCause s Ack = may_hasten s ≡ true
+HasCause s Ping = asks_ping s.now.call ≡ true
+HasCause s Probe = makes_probes s ≡ true
+HasCause s (Message message) = In message (sent_by s.now.call s.now.answer)
+HasCause s (Byte id offset) = ((length (written id s.told) ≤ offset) × (offset < length (written id (s.told ++ s.now ∷ [])))) ⊎ WasLost s (Byte id offset)
+HasCause s (Fin id) = (ended_by id s.now.call s.now.answer ≡ true) ⊎ WasLost s (Fin id)
+HasCause s (Frame control) = (asks_for s control ≡ true) ⊎ (WasLost s (Frame control) ⊎ IsProbed s (Frame control))
+
+-- ---- the clause
+
+-- what an observer of an end sees of a call at it, behind the first so many answers
+abbrev pub seen_at : Run → Side → ℕ → Call → Answer → Seen
+seen_at r side i call a = record {
+  told = until r side i;
+  now = record { call = call; answer = a; state = state_at r side i };
+  before = watch r side i;
+  behind = watch r side (suc i);
+  unanswered = (wants r side i).packets;
+  unanswered_behind = (wants r side (suc i)).packets;
+  arrivals = (debt r side i).arrivals;
+  terms = terms_of (end_at side r.start);
+}
+
+-- It waited before, and didn't go by the call; or it has a cause.
+pub data StillOrNew (s : Seen) (before : End) (q : Thing) : Type 0 where
+  still : IsPending before q → (HasGone (went s.before s.behind) q → ⊥) → StillOrNew s before q
+  begins : HasCause s q → StillOrNew s before q
+
+-- so it is of all that waits behind a call
+abbrev pub BeginsAt : Seen → End → End → Type 0
+BeginsAt s before behind = (q : Thing) → IsPending behind q → StillOrNew s before q
+
+-- So it is of each call at an end that is open behind it, and at the other end nothing begins to wait. It is one before which, and at which, no delivery, no poll and no timeout met want of memory.
+abbrev pub WaitingBegins : Run → Type 0
+WaitingBegins r = (side : Side) (i : ℕ) (call : Call) (a : Answer) (w v : World) → AreServed r (suc i) → IsAt r i side call a → LeadsTo r i w → LeadsTo r (suc i) v
+    → ((end_at side v).closing.state ≡ states.Open → BeginsAt (seen_at r side i call a) (end_at side w) (end_at side v))
+    × ((q : Thing) → IsPending (end_at (other_side side) v) q → IsPending (end_at (other_side side) w) q)

@@ -1,0 +1,49 @@
+-- What an end counts beside all else that it is. While the peer's address isn't validated, the bytes that came say how many may go (RFC 9000, section 8.1); and keys
+-- are of no more use once too many packets didn't open under them (RFC 9001, section 6.6).
+use Rattle.std.specs.Prelude.{ℕ, ◌+◌, List, length, Option, Some, None}
+use Rattle.quic_time.specs.Clocks.{saturated}
+use Rattle.quic_machine.specs.declared.answers.Received.{Received}
+use Rattle.quic_machine.specs.declared.answers.Received.TheVariants.{Dropped}
+use Rattle.quic_machine.specs.declared.answers.DropReason.TheVariants as drops
+use Rattle.quic_machine.specs.declared.answers.Transmit.{Transmit}
+
+-- what was counted
+pub record Heard : Type 0 where
+  -- the bytes of all datagrams that came, whatever was made of them, and of all that were given
+  pub received : ℕ
+  pub sent : ℕ
+  -- how many packets didn't open
+  pub failures : ℕ
+
+-- nothing came, and nothing was given
+abbrev pub nothing_heard : Heard
+nothing_heard = record { received = 0; sent = 0; failures = 0 }
+
+-- so many more: a count has 64 bits, and stays at the greatest number that they hold
+abbrev pub counted : ℕ → ℕ → ℕ
+counted n more = saturated (n + more)
+
+-- a datagram of so many bytes came, or went
+abbrev pub heard_received : ℕ → Heard → Heard
+heard_received size h = record h { received = counted h.received size }
+
+abbrev pub heard_sent : ℕ → Heard → Heard
+heard_sent size h = record h { sent = counted h.sent size }
+
+-- a packet didn't open
+abbrev pub heard_failure : Heard → Heard
+heard_failure h = record h { failures = counted h.failures 1 }
+
+-- by what a datagram came to: where its packet didn't open, that counts
+abbrev pub heard_answer : Received → Heard → Heard
+heard_answer (Dropped drops.NotOpened) h = heard_failure h
+heard_answer a h = h
+
+-- a datagram came, and came to this
+abbrev pub heard_datagram : List ℕ → Received → Heard → Heard
+heard_datagram d a h = heard_answer a (heard_received (length d) h)
+
+-- what a poll gave, if it gave a datagram
+abbrev pub heard_given : Option Transmit → Heard → Heard
+heard_given None h = h
+heard_given (Some transmit) h = heard_sent transmit.size h

@@ -1,0 +1,238 @@
+-- What begins to wait in the run in which a limit is lost and goes again, and ends at which something waits without a cause.
+use Rattle.std.proofs.Common.{◌≡◌, ℕ, List, [], ◌∷◌, take, length, ◌<◌, true, false, refl, inl, inr, sym, ap, ◌∙◌, subst, arith}
+use Rattle.std.specs.Prelude.{map, ◌==◌, ◌&&◌, nat_lt, Bool}
+use Rattle.std.specs.List.{list_any}
+use Rattle.std.proofs.lemmas.Bool.{both_ways, and_parts, eqb-true, ltb-true}
+use Rattle.quic_wire.specs.Value.{FrameValue, stream}
+use Rattle.quic_streams_parts.specs.Table.{at}
+use Rattle.quic_machine.specs.declared.run.ReadCall.{ReadCall}
+use Rattle.quic_machine.specs.Machine.{World}
+use Rattle.quic_headline.specs.Runs.{In, written}
+use Rattle.quic_headline.specs.InFlight.{is_max_data}
+use Rattle.quic_headline.specs.Duties.{AllData, on_half}
+use Rattle.quic_headline.specs.Moments.{went}
+use Rattle.quic_headline.specs.Observer.{Sent, HoldsOffset}
+use Rattle.quic_headline.specs.Waited.{stands}
+use Rattle.quic_headline.specs.Begins.{Ack, Ping, Byte, Frame, LimitOf, byte_waits, asks_for, may_hasten, acknowledged_by, WasLost, still, begins, BeginsAt}
+use Rattle.quic_worked.specs.Credit.{narrow_bytes, credit_written, credit_sent, credit_read, credit_given, ReadsEight}
+use Rattle.quic_worked.specs.Raised.{raised_events, raised_told, after_server_ping, first_ping, second_ping, third_came, third_due, limit_came, NeverComes}
+use Rattle.quic_worked.specs.Begun.{sending_seen, reading_seen, raising_seen, pinging_seen, waiting_seen, losing_seen, limit_at_each_poll, ack_at_each_call, ping_at_each_timeout, bytes_at_each_poll}
+use Rattle.quic_worked.proofs.CreditRuns as credit
+use Rattle.quic_worked.proofs.RaisedRun as raised
+use Rattle.quic_worked.proofs.WrongRuns.{NeverEnds, ends_here, step_on}
+
+-- ---- causes
+
+-- the limit on all data waits since the bytes were read
+pub read_asks : (read : ReadCall) → asks_for (reading_seen read) (LimitOf AllData) ≡ true
+unfolding limit_came
+read_asks read = refl
+
+-- whether the first of some says how far all data may come, and has the number 0
+abbrev head_says : List Sent → Bool
+head_says [] = false
+head_says (s ∷ ss) = list_any is_max_data s.frames && (s.number == 0)
+
+-- numbers of datagrams
+abbrev numbers : List Sent → List ℕ
+numbers ss = map (λ s. s.number) ss
+
+in_numbers : (s : Sent) (ss : List Sent) → In s ss → In s.number (numbers ss)
+in_numbers s [] i = absurd i
+in_numbers s (t ∷ ss) (inl is) = inl (ap (λ (u : Sent). u.number) is)
+in_numbers s (t ∷ ss) (inr i) = inr (in_numbers s ss i)
+
+-- one of some says how far all data may come, under this number
+record SaysFirst (ss : List Sent) : Type 0 where
+  sent : Sent
+  among : In sent ss
+  says : list_any is_max_data sent.frames ≡ true
+  number : sent.number ≡ 0
+
+first_says : (ss : List Sent) → head_says ss ≡ true → SaysFirst ss
+first_says [] is = cc
+first_says (s ∷ ss) is = let both = and_parts (list_any is_max_data s.frames) (s.number == 0) is in record { sent = s; among = inl refl; says = both.0; number = eqb-true s.number 0 both.1 }
+
+first_flew : (read : ReadCall) → head_says (losing_seen read).before.flight.flying ≡ true
+unfolding limit_came
+first_flew read = refl
+
+two_fly : (read : ReadCall) → numbers (losing_seen read).behind.flight.flying ≡ 1 ∷ 2 ∷ []
+unfolding limit_came
+two_fly read = refl
+
+one_named : (read : ReadCall) → numbers (acknowledged_by (losing_seen read)) ≡ 3 ∷ []
+unfolding limit_came
+one_named read = refl
+
+-- and again since the datagram that said it is lost
+pub limit_is_lost : (read : ReadCall) → WasLost (losing_seen read) (Frame (LimitOf AllData))
+limit_is_lost read =
+    let f = first_says (losing_seen read).before.flight.flying (first_flew read) in
+    let n = f.number in
+    record {
+      sent = f.sent;
+      flew = f.among;
+      gone = λ i. elim (subst (λ (ns : List ℕ). In f.sent.number ns) (two_fly read) (in_numbers f.sent (losing_seen read).behind.flight.flying i)) [
+        | inl is ↦ omega (arith, is, n)
+        | inr more ↦ elim more [ inl is ↦ omega (arith, is, n) | inr none ↦ none ]
+      ];
+      unnamed = λ i. elim (subst (λ (ns : List ℕ). In f.sent.number ns) (one_named read) (in_numbers f.sent (acknowledged_by (losing_seen read)) i)) [ inl is ↦ omega (arith, is, n) | inr none ↦ none ];
+      bore = f.says;
+    }
+
+-- ---- MAX_DATA at each poll
+
+limit_went : (read : ReadCall) → stands is_max_data (went (raising_seen read).before (raising_seen read).behind) ≡ true
+unfolding limit_came
+limit_went read = refl
+
+limit_unasked : (read : ReadCall) → asks_for (raising_seen read) (LimitOf AllData) ≡ false
+unfolding limit_came
+limit_unasked read = refl
+
+none_flew : (read : ReadCall) → (raising_seen read).before.flight.flying ≡ []
+unfolding limit_came
+none_flew read = refl
+
+pub limit_shows : (read : ReadCall) → BeginsAt (raising_seen read) credit_read.server limit_at_each_poll.server → ⊥
+limit_shows read h = elim (h (Frame (LimitOf AllData)) refl) [
+  | still waited stays ↦ stays (limit_went read)
+  | begins cause ↦ elim cause [
+    | inl asks ↦ both_ways (asks_for (raising_seen read) (LimitOf AllData)) (limit_unasked read) asks
+    | inr other ↦ elim other [
+      | inl lost ↦ subst (λ (ss : List Sent). In lost.sent ss) (none_flew read) lost.flew
+      | inr probed ↦ subst (λ (ss : List Sent). In probed.sent ss) (none_flew read) probed.flies
+    ]
+  ]
+]
+
+-- ---- bytes at each poll
+
+-- the first frame of some is STREAM of stream 0, with its first byte
+abbrev leads : List FrameValue → Bool
+leads (stream f ∷ fs) = (f.id == 0) && ((f.offset == 0) && nat_lt 0 (length f.bytes))
+leads fs = false
+
+abbrev head_leads : List Sent → Bool
+head_leads [] = false
+head_leads (s ∷ ss) = leads s.frames
+
+bears_first : (s : Sent) (ss : List Sent) (fs : List FrameValue) → s.frames ≡ fs → leads fs ≡ true → HoldsOffset (s ∷ ss) 0 0
+bears_first s ss (stream f ∷ fs) same is =
+    let both = and_parts (f.id == 0) ((f.offset == 0) && nat_lt 0 (length f.bytes)) is in
+    let more = and_parts (f.offset == 0) (nat_lt 0 (length f.bytes)) both.1 in
+    let first : f.offset ≡ 0 = eqb-true f.offset 0 more.0 in
+    let some : 0 < length f.bytes = ltb-true 0 (length f.bytes) more.1 in
+    record { sent = s; among = inl refl; frame = f; carried = subst (λ (gs : List FrameValue). In (stream f) gs) (sym same) (inl refl); of_stream = eqb-true f.id 0 both.0; from = omega (arith, first); below = omega (arith, first, some) }
+bears_first s ss fs same is = cc
+
+bears : (ss : List Sent) → head_leads ss ≡ true → HoldsOffset ss 0 0
+bears [] is = cc
+bears (s ∷ ss) is = bears_first s ss s.frames refl is
+
+bytes_went : (read : ReadCall) → head_leads (went (sending_seen read).before (sending_seen read).behind) ≡ true
+unfolding limit_came
+bytes_went read = refl
+
+bytes_wait : on_half (byte_waits 0) (at credit_written.client.streams.sending.halves.live 0) ≡ true
+bytes_wait = refl
+
+were_written : (read : ReadCall) → length (written 0 (sending_seen read).told) ≡ 8
+unfolding limit_came
+were_written read = refl
+
+no_flight : (read : ReadCall) → (sending_seen read).before.flight.flying ≡ []
+unfolding limit_came
+no_flight read = refl
+
+pub bytes_show : (read : ReadCall) → BeginsAt (sending_seen read) credit_written.client bytes_at_each_poll.client → ⊥
+bytes_show read h = elim (h (Byte 0 0) bytes_wait) [
+  | still waited stays ↦ stays (bears (went (sending_seen read).before (sending_seen read).behind) (bytes_went read))
+  | begins cause ↦ elim cause [
+    | inl fresh ↦ (let few = fresh.0 in let all = were_written read in omega (arith, few, all))
+    | inr lost ↦ subst (λ (ss : List Sent). In lost.sent ss) (no_flight read) lost.flew
+  ]
+]
+
+bytes_gone : on_half (byte_waits 0) (at credit_sent.client.streams.sending.halves.live 0) ≡ false
+unfolding credit_sent
+bytes_gone = refl
+
+other_bytes : bytes_at_each_poll ≡ credit_sent → ⊥
+other_bytes e = let clash : true ≡ false = sym bytes_wait ∙ (ap (λ (w : World). on_half (byte_waits 0) (at w.client.streams.sending.halves.live 0)) e ∙ bytes_gone) in cc
+
+bytes_to : (read : ReadCall) → NeverEnds (λ w. bytes_at_each_poll ≡ w) narrow_bytes (take 3 (raised_events read)) (take 3 raised_told)
+bytes_to read = step_on refl credit.opens (step_on refl credit.writes (step_on refl credit.gives (ends_here other_bytes)))
+
+pub never_bytes : (read : ReadCall) → NeverComes (take 3 (raised_events read)) (take 3 raised_told) bytes_at_each_poll
+never_bytes read views f = (bytes_to read).never views bytes_at_each_poll f refl
+
+-- ---- an ACK frame at each call
+
+none_hastens : (read : ReadCall) → may_hasten (pinging_seen read) ≡ false
+unfolding limit_came
+none_hastens read = refl
+
+none_due : credit_given.server.acknowledging.due ≡ false
+unfolding credit_given
+none_due = refl
+
+pub ack_shows : (read : ReadCall) → BeginsAt (pinging_seen read) credit_given.server ack_at_each_call.server → ⊥
+ack_shows read h = elim (h Ack refl) [
+  | still due stays ↦ both_ways credit_given.server.acknowledging.due none_due due
+  | begins cause ↦ both_ways (may_hasten (pinging_seen read)) (none_hastens read) cause
+]
+
+-- ---- PING at each timeout
+
+none_pinged : third_came.client.waiting.signals.ping ≡ false
+unfolding third_came
+none_pinged = refl
+
+pub ping_shows : (read : ReadCall) → BeginsAt (waiting_seen read) third_came.client ping_at_each_timeout.client → ⊥
+ping_shows read h = elim (h Ping refl) [
+  | still set stays ↦ both_ways third_came.client.waiting.signals.ping none_pinged set
+  | begins cause ↦ (let clash : false ≡ true = cause in cc)
+]
+
+-- ---- no run comes to them
+
+limit_gone : credit_given.server.waiting.frames.max_data ≡ false
+unfolding credit_given
+limit_gone = refl
+
+other_limit : limit_at_each_poll ≡ credit_given → ⊥
+other_limit e = let clash : true ≡ false = ap (λ (w : World). w.server.waiting.frames.max_data) e ∙ limit_gone in cc
+
+limit_to : (read : ReadCall) → ReadsEight read → NeverEnds (λ w. limit_at_each_poll ≡ w) narrow_bytes (take 7 (raised_events read)) (take 7 raised_told)
+limit_to read by = step_on refl credit.opens (step_on refl credit.writes (step_on refl credit.gives (step_on refl credit.takes (step_on refl credit.accepts (step_on refl (credit.reads read by) (step_on refl credit.raises (ends_here other_limit)))))))
+
+pub never_limit : (read : ReadCall) → ReadsEight read → NeverComes (take 7 (raised_events read)) (take 7 raised_told) limit_at_each_poll
+never_limit read by views f = (limit_to read by).never views limit_at_each_poll f refl
+
+other_ack : ack_at_each_call ≡ after_server_ping credit_given → ⊥
+other_ack e = let clash : true ≡ false = ap (λ (w : World). w.server.acknowledging.due) e ∙ none_due in cc
+
+ack_to : (read : ReadCall) → ReadsEight read → NeverEnds (λ w. ack_at_each_call ≡ w) narrow_bytes (take 8 (raised_events read)) (take 8 raised_told)
+ack_to read by = step_on refl credit.opens (step_on refl credit.writes (step_on refl credit.gives (step_on refl credit.takes (step_on refl credit.accepts (step_on refl (credit.reads read by) (step_on refl credit.raises
+    (step_on refl (raised.pings credit_given) (ends_here other_ack))))))))
+
+pub never_ack : (read : ReadCall) → ReadsEight read → NeverComes (take 8 (raised_events read)) (take 8 raised_told) ack_at_each_call
+never_ack read by views f = (ack_to read by).never views ack_at_each_call f refl
+
+still_none : third_due.client.waiting.signals.ping ≡ false
+unfolding third_came
+still_none = refl
+
+other_ping : ping_at_each_timeout ≡ third_due → ⊥
+other_ping e = let clash : true ≡ false = ap (λ (w : World). w.client.waiting.signals.ping) e ∙ still_none in cc
+
+ping_to : (read : ReadCall) → ReadsEight read → NeverEnds (λ w. ping_at_each_timeout ≡ w) narrow_bytes (take 15 (raised_events read)) (take 15 raised_told)
+ping_to read by =
+    step_on refl credit.opens (step_on refl credit.writes (step_on refl credit.gives (step_on refl credit.takes (step_on refl credit.accepts (step_on refl (credit.reads read by) (step_on refl credit.raises
+    (step_on refl (raised.pings credit_given) (step_on refl raised.gives_first (step_on refl (raised.pings first_ping) (step_on refl raised.gives_second (step_on refl (raised.pings second_ping) (step_on refl raised.gives_third (step_on refl raised.comes_third
+    (step_on refl raised.waits_third (ends_here other_ping)))))))))))))))
+
+pub never_ping : (read : ReadCall) → ReadsEight read → NeverComes (take 15 (raised_events read)) (take 15 raised_told) ping_at_each_timeout
+never_ping read by views f = (ping_to read by).never views ping_at_each_timeout f refl
