@@ -244,6 +244,12 @@ class Run:
             self.add(side, time, "connectivity:connection_closed",
                      {"owner": "local", "connection_code": int(answer[1])})  # fmt: skip
 
+    def closed(self, side, words):
+        """`E close T N H`: the application closes."""
+        data = {"owner": "local", "application_code": int(words[3])}
+        data["reason"] = bytes.fromhex(words[4].strip("-")).decode(errors="replace")
+        self.add(side, int(words[2]), "connectivity:connection_closed", data)
+
     def take(self, words, answer, time):
         """Takes one line and its answer; calls that have no time stand at that of the line before."""
         side, name = words[0], words[1]
@@ -253,6 +259,8 @@ class Run:
             self.polled(side, words, answer)
         elif name == "deliver":
             self.delivered(side, words, answer)
+        elif name == "close":
+            self.closed(side, words)
         elif name == "write" and answer[0].isdigit():
             self.moved(side, time, words[2], int(answer[0]), "application", "transport")
         elif name in ("read", "pick") and len(answer) == 2 and answer[0].isdigit():
@@ -282,7 +290,7 @@ def told(text, answers):
             continue
         if said[:2] != words[:2]:
             raise Failed(f"`{' '.join(words)}` isn't answered by `{answer}`")
-        if words[1] in ("poll", "timeout", "deliver", "inject"):
+        if words[1] in ("poll", "timeout", "deliver", "inject", "close"):
             time = int(words[2])
         run.take(words, said[2:], time)
     return run

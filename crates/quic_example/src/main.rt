@@ -1,5 +1,5 @@
-//! Two ends of a connection in one program: a request and an answer on one stream. The program is
-//! the network, the clock and both applications, and shows what each end needs of them.
+//! Two ends of a connection in one program: a request and an answer on one stream, and a close. The
+//! program is the network, the clock and both applications, and shows what each end needs of them.
 #![tactic(auto)]
 
 mod key;
@@ -93,7 +93,8 @@ fn boxed(alloc: Global, party: Party) -> Result<Box<Party>, AllocError> {
     Ok(Box::new(alloc, party)?)
 }
 
-/// Lets the client ask and the server answer, until no datagram is under way and no timer is set.
+/// Lets the client ask, the server answer and the client close, until no datagram is under way and
+/// no timer is set.
 fn talk(rt: &(impl Print + AllocGlobal), client: &mut Party, server: &mut Party) -> Result<()> {
     let mut now = Instant::from_nanos(0);
     let Some(id) = client.end.streams().open(Dir::Bi) else {
@@ -117,7 +118,7 @@ fn talk(rt: &(impl Print + AllocGlobal), client: &mut Party, server: &mut Party)
         server.serve(rt, now)?;
     }
     let (client, server) = (client.end.state(), server.end.state());
-    println!(rt; "at rest: the client is {client}, the server is {server}")?;
+    println!(rt; "the client is {client}, the server is {server}")?;
     Ok(())
 }
 

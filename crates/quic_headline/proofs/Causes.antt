@@ -9,3 +9,7 @@ pub mod Judged
 pub mod Pieces
 pub mod Blameless
 pub mod Reasons
+pub mod Why
+pub mod Keyed
+pub mod Idled
+pub mod Applied

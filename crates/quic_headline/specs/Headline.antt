@@ -57,6 +57,7 @@ UsesOwnIds r = (side : Side) (i id : ℕ) (call : Call) (a : Answer) → IsAt r 
 abbrev pub CodeIsSmall : Call → Type 0
 CodeIsSmall (calls.Reset id code) = code < 2 ^ 62
 CodeIsSmall (calls.Stop id code) = code < 2 ^ 62
+CodeIsSmall (calls.Close close) = close.error_code < 2 ^ 62
 CodeIsSmall call = Unit {0}
 
 -- so it is of the codes of all calls

@@ -56,14 +56,17 @@ pub record HoldsEnd (sents : List Sent) (id : ℕ) : Type 0 where
 
 -- ---- what is in flight
 
--- By what losses are judged at an end: how far below the greatest number that was acknowledged a datagram counts as lost (RFC 9002, section 6.1.1), after what
--- part of a round trip (section 6.1.2); and what the peer told: by how many bits the delays in its ACK frames are shifted, and how long it may hold one back, in
--- nanoseconds (RFC 9000, section 18.2).
+-- By what losses are judged at an end: how far below the greatest number that was acknowledged a
+-- datagram counts as lost (RFC 9002, section 6.1.1), after what part of a round trip (section
+-- 6.1.2); and what the peer told: by how many bits the delays in its ACK frames are shifted, and
+-- how long it may hold one back, in nanoseconds (RFC 9000, section 18.2). And after how long
+-- without a packet PING goes, if it is configured to (section 10.1.2).
 pub record Terms : Type 0 where
   pub threshold : ℕ
   pub part : ℕ × ℕ
   pub exponent : ℕ
   pub delay : ℕ
+  pub keep_alive : Option ℕ
 
 -- those of an end, by its settings and by what its peer told as the connection began
 abbrev pub terms_of : End → Terms
@@ -72,6 +75,7 @@ terms_of e = record {
   part = e.transport.time_threshold;
   exponent = e.peer_params.ack_delay_exponent;
   delay = e.peer_params.max_ack_delay * 1000000;
+  keep_alive = e.transport.keep_alive_interval;
 }
 
 -- the greatest number that was acknowledged so far, if one was; the datagrams that are neither acknowledged nor lost, nor forgotten; those that were acknowledged

@@ -1,7 +1,7 @@
 -- How an end spreads what it sends over the round trip, as an observer of a run's lists reckons it
 -- (RFC 9002, section 7.7): in which polls its pacer is asked, and with what; which tokens are taken
 -- of it; and which moment it names.
-use Rattle.std.specs.Prelude.{ℕ, zero, suc, ◌+◌, ◌≡◌, ◌⊎◌, max, not, ◌==◌, ◌&&◌, ◌||◌, Bool, true, false, nat_lt, List, [], ◌∷◌, ◌++◌, filter, map, length, slice_get, Option, Some, None}
+use Rattle.std.specs.Prelude.{ℕ, zero, suc, ◌+◌, ◌≤◌, ◌≡◌, ◌⊎◌, max, not, ◌==◌, ◌&&◌, ◌||◌, Bool, true, false, nat_lt, List, [], ◌∷◌, ◌++◌, filter, map, length, slice_get, Option, Some, None}
 use Rattle.std.specs.List.{list_any}
 use Rattle.quic_wire_core.specs.declared.stream_id.Side.{Side}
 use Rattle.quic_time.specs.Rtt.{best_rtt}
@@ -19,9 +19,9 @@ use Rattle.quic_headline.specs.Runs.{Run, same_side, state_in, AreServed}
 use Rattle.quic_headline.specs.Observer.{Sent, asks_of, watch}
 use Rattle.quic_headline.specs.Headline.{IsAt}
 use Rattle.quic_headline.specs.Moments.{went}
-use Rattle.quic_headline.specs.Polls.{seen_at, pacing_timer, bytes_flying, GaveNothing, GaveAsking, IsFull, IsToGo, IsSizeProbe}
+use Rattle.quic_headline.specs.Polls.{seen_at, pacing_timer, bytes_flying, GaveNothing, GaveAsking, IsFull, IsLimited, IsToGo, IsSizeProbe}
 use Rattle.quic_headline.specs.Queue.{waiting_messages}
-use Rattle.quic_headline.specs.Waited.{is_ping, wants}
+use Rattle.quic_headline.specs.Waited.{is_ping, stands, wants}
 
 -- what went of an end at the event behind the first so many answers
 abbrev pub gone_at : Run → Side → ℕ → List Sent
@@ -115,18 +115,26 @@ named_at r side i now = names_for (pacer_at r side i) (ask_at r side i now)
 -- A poll holds to the pacer. Its timer isn't set behind the poll, or is set to the moment that the
 -- pacer names. What asks goes, where no probe of losses waits, only where the pacer names none, or as
 -- a probe of a size. And where nothing goes though a byte of a stream, or its end, is to go, the
--- window is full, or the pacer names a moment, to which its timer is set.
+-- window is full, or the pacer names a moment, to which its timer is set, or nothing more may go to
+-- an address that isn't validated.
 pub record HoldsToPacer (r : Run) (side : Side) (i now : ℕ) (v : View) : Type 0 where
   pub sets : (pacing_timer v side ≡ Some None) ⊎ (pacing_timer v side ≡ Some (named_at r side i now))
   pub lets : (gave : GaveAsking r side i now) → (watch r side i).flight.probes ≡ 0 → (named_at r side i now ≡ None) ⊎ IsSizeProbe r side i gave.one.sent
   pub waits : (id : ℕ) → GaveNothing r side i now v → IsToGo r side (suc i) id
-      → IsFull r side (suc i) v ⊎ ((moment : ℕ) × (named_at r side i now ≡ Some moment) × (pacing_timer v side ≡ Some (Some moment)))
+      → IsFull r side (suc i) v ⊎ (((moment : ℕ) × (named_at r side i now ≡ Some moment) × (pacing_timer v side ≡ Some (Some moment))) ⊎ IsLimited r side (suc i) v)
 
 -- any other call leaves the timer as it is seen before, or not set
 abbrev pub HoldsBy : Call → Run → Side → ℕ → View → Type 0
 HoldsBy (calls.Poll now) r side i v = HoldsToPacer r side i now v
 HoldsBy call r side i v = (pacing_timer v side ≡ Some None) ⊎ (pacing_timer v side ≡ slice_get (seen_at r side i).timers 6)
 
+-- No PING went of which the lists don't tell whether it was a probe of a size, before which the
+-- pacer isn't asked: one that wasn't asked for, where a probe of losses had waited at a poll that
+-- gave nothing, and none waits any more. So it is wherever the peer's address was validated from
+-- the start.
+abbrev pub PingsAreTold : Run → Side → ℕ → Type 0
+PingsAreTold r side i = (j : ℕ) → j ≤ i → (watch r side j).flight.probes ≡ 0 → (wants r side j).probed ≡ true → (wants r side j).pinged ≡ false → stands is_ping (gone_at r side j) ≡ false
+
 -- so it is of each call behind which the view shows its end open
 abbrev pub PacerIsOfHistory : Run → Type 0
-PacerIsOfHistory r = (side : Side) (i : ℕ) (call : Call) (a : Answer) (v : View) → AreServed r (suc i) → IsAt r i side call a → slice_get r.views i ≡ Some v → state_in v side ≡ states.Open → HoldsBy call r side i v
+PacerIsOfHistory r = (side : Side) (i : ℕ) (call : Call) (a : Answer) (v : View) → AreServed r (suc i) → IsAt r i side call a → slice_get r.views i ≡ Some v → state_in v side ≡ states.Open → PingsAreTold r side i → HoldsBy call r side i v

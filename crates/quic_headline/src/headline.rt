@@ -12,7 +12,7 @@ ghost use Rattle.quic_headline.specs.Duties.{DutiesStand};
 ghost use Rattle.quic_headline.specs.Grown.{GrownLimitsWait};
 ghost use Rattle.quic_headline.specs.Messages.{MessagesAtMostOnce};
 ghost use Rattle.quic_headline.specs.InFlight.{TracksInFlight};
-ghost use Rattle.quic_headline.specs.Causes.{NoBlame, NumberLimit, TooManyPieces, TakenOrTooMany};
+ghost use Rattle.quic_headline.specs.Causes.{ApplicationClosed, IdleExpired, KeyLimited, NoBlame, NumberLimit, TooManyPieces, TakenOrTooMany};
 ghost use Rattle.quic_headline.specs.Moments.{LossMoments, LossTimerQuiet, AckMoments};
 ghost use Rattle.quic_headline.specs.Isolated.{Isolated, IsolatedByAnswers, IsolatedByLists};
 ghost use Rattle.quic_headline.specs.Polls.{PollsSendWhatWaits, PollsSendMessages, PacerSetsItsTimer, AskingGoesWhereLet, ProbesPass, WindowIsOfHistory};
@@ -27,7 +27,7 @@ ghost use Rattle.quic_headline.specs.Begins.{WaitingBegins};
 ghost use Rattle.quic_headline.specs.Events.{MessagesAreTold, OpeningsAreTold, ReadablesAreTold};
 ghost use Rattle.quic_headline.specs.Resets.{ResetsAreTold};
 ghost use Rattle.quic_headline.specs.Ids.{IdsAreNew, AcceptedWereOpened};
-ghost use Rattle.quic_headline.specs.ConnectionIds.{SentToFirstId, NoUnknownId, FirstIdStays};
+ghost use Rattle.quic_headline.specs.ConnectionIds.{IdsAreIssued, UnknownOnlyWhereRetired, ToldIdsAreKnown, NewestOpensAtEnd, NoIdIsExact, TooManyIsExact};
 ghost use Rattle.quic_headline.specs.Reasons.{ClosedHasAReason};
 ghost use Rattle.quic_headline.specs.Views.{ViewsTell};
 ghost use Rattle.quic_headline.specs.Sizes.{SizeIsOfHistory, SizesMove, DatagramsAreSized};
@@ -114,8 +114,7 @@ pub fn too_many_pieces()
     ensures { (r : Run) (end : World) → IsHonest r → IsRun r end → TooManyPieces r }
 {}
 
-/// No view shows an end that closed for a rule that the other one broke: an end closes only for too
-/// many pieces of a stream that wait to be read, or for used-up numbers. So each frame of the other
+/// No view shows an end that closed for a rule that the other one broke. So each frame of the other
 /// end keeps the rules of receiving: the limits of the connection and of each stream, final sizes,
 /// which streams there are, and which numbers were given (RFC 9000, sections 4.1, 4.5, 4.6 and
 /// 13.1).
@@ -127,6 +126,25 @@ pub fn no_blame()
 /// failed (RFC 9000, section 10), also where memory lacks.
 pub fn closed_has_a_reason()
     ensures { (r : Run) (end : World) → IsHonest r → IsRun r end → ClosedHasAReason r }
+{}
+
+/// Where a view shows that an end was closed by its application, that had closed it while it was open
+/// (RFC 9000, section 10.2).
+pub fn application_closed()
+    ensures { (r : Run) (end : World) → IsHonest r → IsRun r end → ApplicationClosed r }
+{}
+
+/// Where a view shows that an end closed for being idle, it had handled a moment up to which its idle
+/// timer had come, as the view before that showed it (RFC 9000, section 10.1).
+pub fn idle_expired()
+    ensures { (r : Run) (end : World) → IsHonest r → IsRun r end → IdleExpired r }
+{}
+
+/// Where a view shows that an end closed for a limit of its keys, its own key sealed as many packets
+/// as it may, less eight that are kept for closes, or its peer's refused as many as it may (RFC 9001,
+/// section 6.6).
+pub fn key_limited()
+    ensures { (r : Run) (end : World) → IsHonest r → IsRun r end → KeyLimited r }
 {}
 
 /// A packet of the other end that comes to an open end under a number that is no duplicate is taken
@@ -184,22 +202,39 @@ pub fn names_were_taken()
     ensures { (r : Run) (end : World) → IsHonest r → IsRun r end → NamesWereTaken r }
 {}
 
-/// Each datagram given was sent to the id with which the other end began, as its bytes say, since
-/// no end tells of another id yet (RFC 9000, section 5.1).
-pub fn sent_to_first_id()
-    ensures { (r : Run) (end : World) → IsHonest r → IsRun r end → SentToFirstId r }
+/// Each datagram given was sent to an id that the other end issued, the first one or one that a
+/// NEW_CONNECTION_ID frame gave, and whose number its giver hadn't retired by then (RFC 9000,
+/// sections 5.1.1 and 5.1.2).
+pub fn ids_are_issued()
+    ensures { (r : Run) (end : World) → IsHonest r → IsRun r end → IdsAreIssued r }
 {}
 
-/// No delivery is answered `Dropped(UnknownId)`, whatever the state of its end: each datagram that
-/// is delivered was sent to an id that the end has (RFC 9000, section 5.2). So what a delivery
-/// brings can be read by the end's key alone.
-pub fn no_unknown_id()
-    ensures { (r : Run) (end : World) → IsHonest r → IsRun r end → NoUnknownId r }
+/// A delivery at an open end is answered `Dropped(UnknownId)` only where each number under which
+/// the end told its peer of that id was retired by the peer (RFC 9000, sections 5.1.2 and 5.2).
+pub fn unknown_only_where_retired()
+    ensures { (r : Run) (end : World) → IsHonest r → IsRun r end → UnknownOnlyWhereRetired r }
 {}
 
-/// Wherever a run leads, each end has the id with which it began, and no other.
-pub fn first_id_stays()
-    ensures { (r : Run) (end : World) → IsHonest r → IsRun r end → FirstIdStays r }
+/// Wherever a run leads, an open end knows the ids of which it told its peer until the peer retires
+/// them.
+pub fn told_ids_are_known()
+    ensures { (r : Run) (end : World) → IsHonest r → IsRun r end → ToldIdsAreKnown r }
+{}
+
+/// Each datagram given opens as it was sent at the other end, where that is open, took none with a
+/// greater number, and knows its id still.
+pub fn newest_opens_at_end()
+    ensures { (r : Run) (end : World) → IsHonest r → IsRun r end → NewestOpensAtEnd r }
+{}
+
+/// An open end answers `NoId` exactly where its peer told it of no id behind that in use.
+pub fn no_id_is_exact()
+    ensures { (r : Run) (end : World) → IsHonest r → IsRun r end → NoIdIsExact r }
+{}
+
+/// It answers `TooManyPending` exactly where there is one, and more than 50 retirements would wait.
+pub fn too_many_is_exact()
+    ensures { (r : Run) (end : World) → IsHonest r → IsRun r end → TooManyIsExact r }
 {}
 
 /// Each datagram given is the datagram of a number, the id that stands in it and stated frames, and
@@ -465,7 +500,8 @@ pub fn acks_are_due()
 /// came that is ack-eliciting or bore the mark CE, or more than ten that aren't ack-eliciting; or
 /// it is, and each PING in it was asked for since one went, each STREAM frame brings a byte or an
 /// end, and no byte that was acknowledged in flight, and MAX_DATA, MAX_STREAMS and DATA_BLOCKED go
-/// once behind what made them wait (RFC 9000, sections 12.2, 13.2 and 13.3).
+/// once behind what made them wait (RFC 9000, sections 12.2, 13.2 and 13.3); or it closes the
+/// connection (section 10.2).
 pub fn each_waited()
     ensures { (r : Run) (end : World) → IsHonest r → IsRun r end → EachWaited r }
 {}
@@ -508,8 +544,10 @@ pub fn readables_are_told()
 /// dropped while it wasn't closing, is a run again: the calls that stay are answered as they were,
 /// the views behind them are the same, both ends gave the same datagrams, and the same ends are
 /// left, whatever they have counted. So datagrams that don't open, and repeated ones, change
-/// nothing else (RFC 9000, sections 5.2, 12.2 and 12.3). It wants no premise, and holds where
-/// memory lacks too.
+/// nothing else (RFC 9000, sections 5.2, 12.2 and 12.3), while keys last: up to a limit each packet
+/// that doesn't open counts, and no answer says that it was reached (RFC 9001, section 6.6). It
+/// wants that the addresses of both peers are validated from the start: else what comes says how
+/// much may go, also where it is dropped. It holds where memory lacks too.
 pub fn isolated()
     ensures { (r : Run) (end : World) → IsRun r end → Isolated r end }
 {}

@@ -163,7 +163,7 @@ once_halted = ran worked_policies started (take 2 stopped_again.events) (take 2 
 
 halts : IsStep worked_policies once_opened stops_stream (answers.Stop (Ok tt)) once_halted
 unfolding once_halted
-halts = record { answer = inl refl; end = refl; control = refl; heard = counts_so worked_policies once_opened stops_stream (answers.Stop (Ok tt)); others = refl; lacking = λ lacks. cc }
+halts = record { answer = inl refl; end = refl; control = refl; heard = counts_so worked_policies once_opened stops_stream (answers.Stop (Ok tt)); openings = tt; others = refl; lacking = λ lacks. cc }
 
 again_no : IsRefused once_halted stops_stream (answers.Stop (Ok tt))
 unfolding once_halted

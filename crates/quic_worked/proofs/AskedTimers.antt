@@ -25,11 +25,11 @@ right = asking_run (Some 1024000000) (Some 1024000000)
 
 tells_loss : IsStep worked_policies once_sent asks_loss (answers.Timer (Some 1024000000)) once_sent
 unfolding once_sent
-tells_loss = record { answer = refl; end = refl; control = refl; heard = counts_so worked_policies once_sent asks_loss (answers.Timer (Some 1024000000)); others = refl; lacking = tt }
+tells_loss = record { answer = refl; end = refl; control = refl; heard = counts_so worked_policies once_sent asks_loss (answers.Timer (Some 1024000000)); openings = tt; others = refl; lacking = tt }
 
 tells_next : IsStep worked_policies once_sent asks_next (answers.NextTimeout (Some 1024000000)) once_sent
 unfolding once_sent
-tells_next = record { answer = refl; end = refl; control = refl; heard = counts_so worked_policies once_sent asks_next (answers.NextTimeout (Some 1024000000)); others = refl; lacking = tt }
+tells_next = record { answer = refl; end = refl; control = refl; heard = counts_so worked_policies once_sent asks_next (answers.NextTimeout (Some 1024000000)); openings = tt; others = refl; lacking = tt }
 
 follows : Follows worked_policies started right.events right.answers right.views once_sent
 follows = (once_opened, opens, refl, (once_written, writes, refl, (once_ended, finishes, refl, (once_sent, gives, sent_seen, (once_sent, tells_loss, sent_seen, (once_sent, tells_next, sent_seen, refl))))))

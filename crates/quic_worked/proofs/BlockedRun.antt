@@ -163,15 +163,15 @@ once_asked n = ran worked_policies rested_start (take n blocked_run.events) (tak
 
 opens : IsStep worked_policies rested_start opens_stream (answers.Open (Some 0)) (once_asked 1)
 unfolding once_asked
-opens = record { answer = refl; end = refl; control = refl; heard = counts_so worked_policies rested_start opens_stream (answers.Open (Some 0)); others = refl; lacking = tt }
+opens = record { answer = refl; end = refl; control = refl; heard = counts_so worked_policies rested_start opens_stream (answers.Open (Some 0)); openings = tt; others = refl; lacking = tt }
 
 client_quiet : IsStep worked_policies (once_asked 1) asks_datagram gives_nothing (once_asked 2)
 unfolding once_asked
-client_quiet = record { answer = inl refl; end = refl; control = refl; heard = counts_so worked_policies (once_asked 1) asks_datagram gives_nothing; others = refl; lacking = tt }
+client_quiet = record { answer = inl refl; end = refl; control = refl; heard = counts_so worked_policies (once_asked 1) asks_datagram gives_nothing; openings = tt; others = refl; lacking = tt }
 
 server_quiet : IsStep worked_policies (once_asked 2) (asks_at Server 0) gives_nothing (once_asked 3)
 unfolding once_asked
-server_quiet = record { answer = inl refl; end = refl; control = refl; heard = counts_so worked_policies (once_asked 2) (asks_at Server 0) gives_nothing; others = refl; lacking = tt }
+server_quiet = record { answer = inl refl; end = refl; control = refl; heard = counts_so worked_policies (once_asked 2) (asks_at Server 0) gives_nothing; openings = tt; others = refl; lacking = tt }
 
 blocked_no : IsRefused (once_asked 3) writes_hello (answers.Write (Err write_errors.Blocked))
 unfolding once_asked
@@ -196,10 +196,12 @@ small_started window below says = record {
   server_making = record (making server_id) { settings = with_window window; windows = roomy_windows; parameters = small_parameters window };
   client_is = record { range = in_range; sizes = lit≤ tt; says = parameters_say; id = refl };
   server_is = record { range = record { receive_window = below; stream_receive_window = lit< tt; bounds = record { bidi = lit≤ tt; uni = lit≤ tt; divides = lit< tt; initial = lit≤ tt; least = lit≤ tt }; search = tt }; sizes = lit≤ tt; says = says; id = refl };
-  client = subst (λ read. IsMade Client plain_settings roomy_windows read client_id server_id 0 true 63 (small_start window).client) (sym says) refl;
-  server = subst (λ read. IsMade Server (with_window window) roomy_windows read server_id client_id 0 true 63 (small_start window).server) (sym parameters_say) refl;
+  client = subst (λ read. IsMade Client plain_settings roomy_windows read client_id server_id 0 true (λ n. 63) (small_start window).client) (sym says) refl;
+  server = subst (λ read. IsMade Server (with_window window) roomy_windows read server_id client_id 0 true (λ n. 63) (small_start window).server) (sym parameters_say) refl;
   client_gave = refl;
   server_gave = refl;
+  client_heard = refl;
+  server_heard = refl;
 }
 
 pub small_room : (window : ℕ) → HaveRoom (small_start window)

@@ -198,7 +198,7 @@ nothing_more is = cc
 
 -- the stream is told to be finished once
 tells_first : IsStep worked_policies all_acked asks_event tells_finished all_told
-tells_first = record { answer = told_once; end = refl; control = refl; heard = counts_so worked_policies all_acked asks_event tells_finished; others = refl; lacking = tt }
+tells_first = record { answer = told_once; end = refl; control = refl; heard = counts_so worked_policies all_acked asks_event tells_finished; openings = tt; others = refl; lacking = tt }
 
 pub never_twice : IsNoRun told_twice
 never_twice = behind refl tells_first (stops _ _ _ _ _ nothing_more)

@@ -30,16 +30,17 @@ writes buffers are = record {
   end = ap (λ (cs : List (List ℕ)). after_buffers once_opened.client cs) (sym are);
   control = refl;
   heard = refl;
+  openings = tt;
   others = refl;
   lacking = λ lacks. cc;
 }
 
 finishes : IsStep worked_policies chunks_written finishes_stream (answers.Finish (Ok tt)) chunks_ended
-finishes = record { answer = inl refl; end = refl; control = refl; heard = counts_so worked_policies chunks_written finishes_stream (answers.Finish (Ok tt)); others = refl; lacking = λ lacks. cc }
+finishes = record { answer = inl refl; end = refl; control = refl; heard = counts_so worked_policies chunks_written finishes_stream (answers.Finish (Ok tt)); openings = tt; others = refl; lacking = λ lacks. cc }
 
 gives : IsStep worked_policies chunks_ended asks_datagram (gives_bytes 34) chunks_sent
 unfolding chunks_sent
-gives = record { answer = inl refl; end = refl; control = refl; heard = counts_so worked_policies chunks_ended asks_datagram (gives_bytes 34); others = refl; lacking = tt }
+gives = record { answer = inl refl; end = refl; control = refl; heard = counts_so worked_policies chunks_ended asks_datagram (gives_bytes 34); openings = tt; others = refl; lacking = tt }
 
 sent_seen : record { client = sent_view; server = open_view } ≡ view_of chunks_sent
 unfolding chunks_sent

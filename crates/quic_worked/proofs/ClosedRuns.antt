@@ -19,7 +19,7 @@ use Rattle.quic_machine.specs.declared.run.ReadCall.{ReadCall}
 use Rattle.quic_machine.specs.Receive.{plain_error}
 use Rattle.quic_headline.specs.Runs.{Told, Packet, Intake, In, until, handed, opens_by_key, came_open, frames_of, HasArrived}
 use Rattle.quic_headline.specs.Causes.{Shows, NoBlame, AreUsedUp, NumberLimit, came_by, PacketCame, IsCrowded, IsTakenOrCrowded, BeginsRun, HasMoreRuns, IsUnread, TooManyPieces, TakenOrTooMany}
-use Rattle.quic_worked.specs.Worked.{worked_policies, worked_run, once_ended, once_sent, once_taken, delivery, delivers, asks_datagram, open_view, sent_view, hello_datagram, hello_opening, hello_frame, hello_payload}
+use Rattle.quic_worked.specs.Worked.{worked_policies, worked_run, once_ended, once_sent, once_taken, delivery, delivers, asks_datagram, open_view, sent_view, hello_datagram, hello_opening, hello_frame, hello_payload, gives_bytes}
 use Rattle.quic_worked.specs.Broken.{IsNoRun}
 use Rattle.quic_worked.specs.Closed.{closed_view, below_limits, early_pieces, early_limit}
 use Rattle.quic_worked.proofs.BrokenRuns.{IsRefused, behind, behind_sent, stops}
@@ -100,12 +100,12 @@ early_shows = record { served = refl; view = record { client = closed_view reaso
 pub early_numbers : NumberLimit early_limit → ⊥
 early_numbers h = go (h Client 3 early_shows)
   where
-    go : AreUsedUp 0 0 → ⊥
+    go : AreUsedUp 1 0 → ⊥
     go (inl many) = omega arith
     go (inr many) = omega arith
 
 -- the machine gives a datagram
-early_no : IsRefused once_ended asks_datagram (answers.Poll (Ok None))
+early_no : IsRefused once_ended asks_datagram (gives_bytes 30)
 unfolding once_sent
 early_no (inl e) = cc
 early_no (inr e) = cc

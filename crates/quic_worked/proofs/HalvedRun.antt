@@ -51,6 +51,8 @@ halving_started = record {
   server = are_started.server;
   client_gave = refl;
   server_gave = refl;
+  client_heard = refl;
+  server_heard = refl;
 }
 
 halving_own : (side : Side) → AreOwn side [] halving_run.events halving_run.answers halving_run.views

@@ -28,13 +28,13 @@ use Rattle.quic_worked.proofs.OwnIds.{AreOwn, own_ids}
 use Rattle.quic_worked.proofs.BrokenRuns.{IsRefused, stops, behind}
 use Rattle.quic_worked.proofs.WorkedHonest.{are_started}
 use Rattle.quic_worked.proofs.WorkedKeys.{are_keys}
-use Rattle.quic_worked.proofs.Steps.{counts_so, counts_ran}
+use Rattle.quic_worked.proofs.Steps.{counts_so}
 
 -- ---- the machine's run
 
 pub step_0 : IsStep worked_policies started asks_ping answers.Ping (once_hasty 1)
 unfolding once_hasty
-step_0 = record { answer = refl; end = refl; control = refl; heard = counts_so worked_policies started asks_ping answers.Ping; others = refl; lacking = tt }
+step_0 = record { answer = refl; end = refl; control = refl; heard = counts_so worked_policies started asks_ping answers.Ping; openings = tt; others = refl; lacking = tt }
 
 seen_0 : seen_with None None ≡ view_of (once_hasty 1)
 unfolding once_hasty
@@ -42,7 +42,7 @@ seen_0 = refl
 
 pub step_1 : IsStep worked_policies (once_hasty 1) asks_datagram (gives_bytes 29) (once_hasty 2)
 unfolding once_hasty
-step_1 = record { answer = inl refl; end = refl; control = refl; heard = counts_so worked_policies (once_hasty 1) asks_datagram (gives_bytes 29); others = refl; lacking = tt }
+step_1 = record { answer = inl refl; end = refl; control = refl; heard = counts_so worked_policies (once_hasty 1) asks_datagram (gives_bytes 29); openings = tt; others = refl; lacking = tt }
 
 seen_1 : seen_with (Some 1024000000) None ≡ view_of (once_hasty 2)
 unfolding once_hasty
@@ -50,7 +50,7 @@ seen_1 = refl
 
 pub step_2 : IsStep worked_policies (once_hasty 2) asks_ping answers.Ping (once_hasty 3)
 unfolding once_hasty
-step_2 = record { answer = refl; end = refl; control = refl; heard = counts_so worked_policies (once_hasty 2) asks_ping answers.Ping; others = refl; lacking = tt }
+step_2 = record { answer = refl; end = refl; control = refl; heard = counts_so worked_policies (once_hasty 2) asks_ping answers.Ping; openings = tt; others = refl; lacking = tt }
 
 seen_2 : seen_with (Some 1024000000) None ≡ view_of (once_hasty 3)
 unfolding once_hasty
@@ -58,7 +58,7 @@ seen_2 = refl
 
 pub step_3 : IsStep worked_policies (once_hasty 3) asks_datagram (gives_bytes 29) (once_hasty 4)
 unfolding once_hasty
-step_3 = record { answer = inl refl; end = refl; control = refl; heard = counts_so worked_policies (once_hasty 3) asks_datagram (gives_bytes 29); others = refl; lacking = tt }
+step_3 = record { answer = inl refl; end = refl; control = refl; heard = counts_so worked_policies (once_hasty 3) asks_datagram (gives_bytes 29); openings = tt; others = refl; lacking = tt }
 
 seen_3 : seen_with (Some 1024000000) None ≡ view_of (once_hasty 4)
 unfolding once_hasty
@@ -66,7 +66,7 @@ seen_3 = refl
 
 pub step_4 : IsStep worked_policies (once_hasty 4) (delivers_at 0) (answers.Deliver receives.Taken) (once_hasty 5)
 unfolding once_hasty
-step_4 = record { answer = inl refl; end = refl; control = refl; heard = counts_so worked_policies (once_hasty 4) (delivers_at 0) (answers.Deliver receives.Taken); others = refl; lacking = tt }
+step_4 = record { answer = inl refl; end = refl; control = refl; heard = counts_so worked_policies (once_hasty 4) (delivers_at 0) (answers.Deliver receives.Taken); openings = tt; others = refl; lacking = tt }
 
 seen_4 : seen_with (Some 1024000000) (Some 25000000) ≡ view_of (once_hasty 5)
 unfolding once_hasty
@@ -74,7 +74,7 @@ seen_4 = refl
 
 pub step_5 : IsStep worked_policies (once_hasty 5) (delivers_at 1) (answers.Deliver receives.Taken) (once_hasty 6)
 unfolding once_hasty
-step_5 = record { answer = inl refl; end = refl; control = refl; heard = counts_so worked_policies (once_hasty 5) (delivers_at 1) (answers.Deliver receives.Taken); others = refl; lacking = tt }
+step_5 = record { answer = inl refl; end = refl; control = refl; heard = counts_so worked_policies (once_hasty 5) (delivers_at 1) (answers.Deliver receives.Taken); openings = tt; others = refl; lacking = tt }
 
 seen_5 : seen_with (Some 1024000000) (Some 25000000) ≡ view_of (once_hasty 6)
 unfolding once_hasty
@@ -82,7 +82,7 @@ seen_5 = refl
 
 pub step_6 : IsStep worked_policies (once_hasty 6) asks_server (gives_bytes 31) (once_hasty 7)
 unfolding once_hasty
-step_6 = record { answer = inl refl; end = refl; control = refl; heard = counts_so worked_policies (once_hasty 6) asks_server (gives_bytes 31); others = refl; lacking = tt }
+step_6 = record { answer = inl refl; end = refl; control = refl; heard = counts_so worked_policies (once_hasty 6) asks_server (gives_bytes 31); openings = tt; others = refl; lacking = tt }
 
 seen_6 : seen_with (Some 1024000000) None ≡ view_of (once_hasty 7)
 unfolding once_hasty
@@ -139,7 +139,7 @@ never_due = refl
 
 marked_0 : IsStep worked_policies started asks_ping answers.Ping (once_marked 1)
 unfolding once_marked
-marked_0 = record { answer = refl; end = refl; control = refl; heard = counts_so worked_policies started asks_ping answers.Ping; others = refl; lacking = tt }
+marked_0 = record { answer = refl; end = refl; control = refl; heard = counts_so worked_policies started asks_ping answers.Ping; openings = tt; others = refl; lacking = tt }
 
 marked_seen_0 : seen_with None None ≡ view_of (once_marked 1)
 unfolding once_marked
@@ -147,7 +147,7 @@ marked_seen_0 = refl
 
 marked_1 : IsStep worked_policies (once_marked 1) asks_datagram (gives_bytes 29) (once_marked 2)
 unfolding once_marked
-marked_1 = record { answer = inl refl; end = refl; control = refl; heard = counts_so worked_policies (once_marked 1) asks_datagram (gives_bytes 29); others = refl; lacking = tt }
+marked_1 = record { answer = inl refl; end = refl; control = refl; heard = counts_so worked_policies (once_marked 1) asks_datagram (gives_bytes 29); openings = tt; others = refl; lacking = tt }
 
 marked_seen_1 : seen_with (Some 1024000000) None ≡ view_of (once_marked 2)
 unfolding once_marked
@@ -155,7 +155,7 @@ marked_seen_1 = refl
 
 marked_2 : IsStep worked_policies (once_marked 2) comes_marked (answers.Deliver receives.Taken) (once_marked 3)
 unfolding once_marked
-marked_2 = record { answer = inl refl; end = refl; control = refl; heard = counts_so worked_policies (once_marked 2) comes_marked (answers.Deliver receives.Taken); others = refl; lacking = tt }
+marked_2 = record { answer = inl refl; end = refl; control = refl; heard = counts_so worked_policies (once_marked 2) comes_marked (answers.Deliver receives.Taken); openings = tt; others = refl; lacking = tt }
 
 marked_seen_2 : seen_with (Some 1024000000) None ≡ view_of (once_marked 3)
 unfolding once_marked
@@ -163,7 +163,7 @@ marked_seen_2 = refl
 
 marked_3 : IsStep worked_policies (once_marked 3) asks_server (gives_bytes 34) (once_marked 4)
 unfolding once_marked
-marked_3 = record { answer = inl refl; end = refl; control = refl; heard = counts_so worked_policies (once_marked 3) asks_server (gives_bytes 34); others = refl; lacking = tt }
+marked_3 = record { answer = inl refl; end = refl; control = refl; heard = counts_so worked_policies (once_marked 3) asks_server (gives_bytes 34); openings = tt; others = refl; lacking = tt }
 
 marked_seen_3 : seen_with (Some 1024000000) None ≡ view_of (once_marked 4)
 unfolding once_marked
@@ -358,15 +358,15 @@ once_gapped n = ran worked_policies started (take n gap_events) (take n gap_answ
 
 third_ping : IsStep worked_policies (once_hasty 4) asks_ping answers.Ping (once_gapped 5)
 unfolding once_hasty once_gapped
-third_ping = record { answer = refl; end = refl; control = refl; heard = counts_so worked_policies (once_hasty 4) asks_ping answers.Ping; others = refl; lacking = tt }
+third_ping = record { answer = refl; end = refl; control = refl; heard = counts_so worked_policies (once_hasty 4) asks_ping answers.Ping; openings = tt; others = refl; lacking = tt }
 
 third_given : IsStep worked_policies (once_gapped 5) asks_datagram (gives_bytes 29) (once_gapped 6)
 unfolding once_gapped
-third_given = record { answer = inl refl; end = refl; control = refl; heard = counts_so worked_policies (once_gapped 5) asks_datagram (gives_bytes 29); others = refl; lacking = tt }
+third_given = record { answer = inl refl; end = refl; control = refl; heard = counts_so worked_policies (once_gapped 5) asks_datagram (gives_bytes 29); openings = tt; others = refl; lacking = tt }
 
 third_taken : IsStep worked_policies (once_gapped 6) (delivers_at 2) (answers.Deliver receives.Taken) (once_gapped 7)
 unfolding once_gapped
-third_taken = record { answer = inl refl; end = refl; control = refl; heard = counts_so worked_policies (once_gapped 6) (delivers_at 2) (answers.Deliver receives.Taken); others = refl; lacking = tt }
+third_taken = record { answer = inl refl; end = refl; control = refl; heard = counts_so worked_policies (once_gapped 6) (delivers_at 2) (answers.Deliver receives.Taken); openings = tt; others = refl; lacking = tt }
 
 gap_no : IsRefused (once_gapped 7) asks_server gives_nothing
 unfolding once_gapped
@@ -395,11 +395,11 @@ once_late = ran worked_policies once_alone (server_waits ∷ []) (answers.Timeou
 
 alone_taken : IsStep worked_policies (once_hasty 2) (delivers_at 0) (answers.Deliver receives.Taken) once_alone
 unfolding once_alone
-alone_taken = record { answer = inl refl; end = refl; control = refl; heard = counts_so worked_policies (once_hasty 2) (delivers_at 0) (answers.Deliver receives.Taken); others = refl; lacking = tt }
+alone_taken = record { answer = inl refl; end = refl; control = refl; heard = counts_so worked_policies (once_hasty 2) (delivers_at 0) (answers.Deliver receives.Taken); openings = tt; others = refl; lacking = tt }
 
 time_passed : IsStep worked_policies once_alone server_waits (answers.Timeout (Ok tt)) once_late
 unfolding once_late
-time_passed = record { answer = inl refl; end = refl; control = refl; heard = counts_ran worked_policies once_alone server_waits (answers.Timeout (Ok tt)); others = refl; lacking = tt }
+time_passed = record { answer = inl refl; end = refl; control = refl; heard = counts_so worked_policies once_alone server_waits (answers.Timeout (Ok tt)); openings = tt; others = refl; lacking = tt }
 
 late_no : IsRefused once_late server_polled gives_nothing
 unfolding once_late

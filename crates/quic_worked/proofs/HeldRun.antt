@@ -38,10 +38,12 @@ held_started = record {
   server_making = record (making server_id) { windows = narrow_windows };
   client_is = record { range = record { receive_window = lit< tt; stream_receive_window = lit< tt; bounds = record { bidi = lit≤ tt; uni = lit≤ tt; divides = lit< tt; initial = lit≤ tt; least = lit≤ tt }; search = tt }; sizes = lit≤ tt; says = parameters_say; id = refl };
   server_is = record { range = record { receive_window = lit< tt; stream_receive_window = lit< tt; bounds = record { bidi = lit≤ tt; uni = lit≤ tt; divides = lit< tt; initial = lit≤ tt; least = lit≤ tt }; search = tt }; sizes = lit≤ tt; says = parameters_say; id = refl };
-  client = subst (λ read. IsMade Client plain_settings narrow_windows read client_id server_id 0 true 63 held_start.client) (sym parameters_say) refl;
-  server = subst (λ read. IsMade Server plain_settings narrow_windows read server_id client_id 0 true 63 held_start.server) (sym parameters_say) refl;
+  client = subst (λ read. IsMade Client plain_settings narrow_windows read client_id server_id 0 true (λ n. 63) held_start.client) (sym parameters_say) refl;
+  server = subst (λ read. IsMade Server plain_settings narrow_windows read server_id client_id 0 true (λ n. 63) held_start.server) (sym parameters_say) refl;
   client_gave = refl;
   server_gave = refl;
+  client_heard = refl;
+  server_heard = refl;
 }
 
 own : (side : Side) → AreOwn side [] held_run.events held_run.answers held_run.views
@@ -55,35 +57,35 @@ held_is_honest = record { start = held_started; keys = are_keys; ids = own_ids h
 
 pub opens : IsStep worked_policies held_start opens_stream (answers.Open (Some 0)) (once_held 1)
 unfolding once_held
-opens = record { answer = refl; end = refl; control = refl; heard = counts_so worked_policies held_start opens_stream (answers.Open (Some 0)); others = refl; lacking = tt }
+opens = record { answer = refl; end = refl; control = refl; heard = counts_so worked_policies held_start opens_stream (answers.Open (Some 0)); openings = tt; others = refl; lacking = tt }
 
 pub writes : IsStep worked_policies (once_held 1) (writes_bytes (replicate 4000 0x61)) (answers.Write (Ok 4000)) (once_held 2)
 unfolding once_held
-writes = record { answer = inl refl; end = refl; control = refl; heard = counts_so worked_policies (once_held 1) (writes_bytes (replicate 4000 0x61)) (answers.Write (Ok 4000)); others = refl; lacking = λ lacks. cc }
+writes = record { answer = inl refl; end = refl; control = refl; heard = counts_so worked_policies (once_held 1) (writes_bytes (replicate 4000 0x61)) (answers.Write (Ok 4000)); openings = tt; others = refl; lacking = λ lacks. cc }
 
 pub gives : IsStep worked_policies (once_held 2) (asks_at Client 0) (gives_bytes 1200) (once_held 3)
 unfolding once_held
-gives = record { answer = inl refl; end = refl; control = refl; heard = counts_so worked_policies (once_held 2) (asks_at Client 0) (gives_bytes 1200); others = refl; lacking = tt }
+gives = record { answer = inl refl; end = refl; control = refl; heard = counts_so worked_policies (once_held 2) (asks_at Client 0) (gives_bytes 1200); openings = tt; others = refl; lacking = tt }
 
 holds : IsStep worked_policies (once_held 3) (asks_at Client 0) gives_nothing (once_held 4)
 unfolding once_held
-holds = record { answer = inl refl; end = refl; control = refl; heard = counts_so worked_policies (once_held 3) (asks_at Client 0) gives_nothing; others = refl; lacking = tt }
+holds = record { answer = inl refl; end = refl; control = refl; heard = counts_so worked_policies (once_held 3) (asks_at Client 0) gives_nothing; openings = tt; others = refl; lacking = tt }
 
 expires : IsStep worked_policies (once_held 4) (serves Client 1024000000) (answers.Timeout (Ok tt)) (once_held 5)
 unfolding once_held
-expires = record { answer = inl refl; end = refl; control = refl; heard = counts_so worked_policies (once_held 4) (serves Client 1024000000) (answers.Timeout (Ok tt)); others = refl; lacking = tt }
+expires = record { answer = inl refl; end = refl; control = refl; heard = counts_so worked_policies (once_held 4) (serves Client 1024000000) (answers.Timeout (Ok tt)); openings = tt; others = refl; lacking = tt }
 
 probes : IsStep worked_policies (once_held 5) (asks_at Client 1024000000) (gives_bytes 1200) (once_held 6)
 unfolding once_held
-probes = record { answer = inl refl; end = refl; control = refl; heard = counts_so worked_policies (once_held 5) (asks_at Client 1024000000) (gives_bytes 1200); others = refl; lacking = tt }
+probes = record { answer = inl refl; end = refl; control = refl; heard = counts_so worked_policies (once_held 5) (asks_at Client 1024000000) (gives_bytes 1200); openings = tt; others = refl; lacking = tt }
 
 probes_again : IsStep worked_policies (once_held 6) (asks_at Client 1024000000) (gives_bytes 1200) (once_held 7)
 unfolding once_held
-probes_again = record { answer = inl refl; end = refl; control = refl; heard = counts_so worked_policies (once_held 6) (asks_at Client 1024000000) (gives_bytes 1200); others = refl; lacking = tt }
+probes_again = record { answer = inl refl; end = refl; control = refl; heard = counts_so worked_policies (once_held 6) (asks_at Client 1024000000) (gives_bytes 1200); openings = tt; others = refl; lacking = tt }
 
 holds_again : IsStep worked_policies (once_held 7) (asks_at Client 1024000000) gives_nothing (once_held 8)
 unfolding once_held
-holds_again = record { answer = inl refl; end = refl; control = refl; heard = counts_so worked_policies (once_held 7) (asks_at Client 1024000000) gives_nothing; others = refl; lacking = tt }
+holds_again = record { answer = inl refl; end = refl; control = refl; heard = counts_so worked_policies (once_held 7) (asks_at Client 1024000000) gives_nothing; openings = tt; others = refl; lacking = tt }
 
 pub unset_seen : held_view (view_with None None) ≡ view_of (once_held 1)
 unfolding once_held

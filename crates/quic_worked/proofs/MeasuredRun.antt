@@ -35,7 +35,7 @@ use Rattle.quic_worked.proofs.Steps.{counts_so}
 
 step_0 : IsStep worked_policies started asks_ping answers.Ping (once_measured 1)
 unfolding once_measured
-step_0 = record { answer = refl; end = refl; control = refl; heard = counts_so worked_policies started asks_ping answers.Ping; others = refl; lacking = tt }
+step_0 = record { answer = refl; end = refl; control = refl; heard = counts_so worked_policies started asks_ping answers.Ping; openings = tt; others = refl; lacking = tt }
 
 seen_0 : (seen_with None None) ≡ view_of (once_measured 1)
 unfolding once_measured
@@ -43,7 +43,7 @@ seen_0 = refl
 
 step_1 : IsStep worked_policies (once_measured 1) asks_datagram (gives_bytes 29) (once_measured 2)
 unfolding once_measured
-step_1 = record { answer = inl refl; end = refl; control = refl; heard = counts_so worked_policies (once_measured 1) asks_datagram (gives_bytes 29); others = refl; lacking = tt }
+step_1 = record { answer = inl refl; end = refl; control = refl; heard = counts_so worked_policies (once_measured 1) asks_datagram (gives_bytes 29); openings = tt; others = refl; lacking = tt }
 
 seen_1 : (seen_with (Some 1024000000) None) ≡ view_of (once_measured 2)
 unfolding once_measured
@@ -51,7 +51,7 @@ seen_1 = refl
 
 step_2 : IsStep worked_policies (once_measured 2) asks_ping answers.Ping (once_measured 3)
 unfolding once_measured
-step_2 = record { answer = refl; end = refl; control = refl; heard = counts_so worked_policies (once_measured 2) asks_ping answers.Ping; others = refl; lacking = tt }
+step_2 = record { answer = refl; end = refl; control = refl; heard = counts_so worked_policies (once_measured 2) asks_ping answers.Ping; openings = tt; others = refl; lacking = tt }
 
 seen_2 : (seen_with (Some 1024000000) None) ≡ view_of (once_measured 3)
 unfolding once_measured
@@ -59,7 +59,7 @@ seen_2 = refl
 
 step_3 : IsStep worked_policies (once_measured 3) asks_datagram (gives_bytes 29) (once_measured 4)
 unfolding once_measured
-step_3 = record { answer = inl refl; end = refl; control = refl; heard = counts_so worked_policies (once_measured 3) asks_datagram (gives_bytes 29); others = refl; lacking = tt }
+step_3 = record { answer = inl refl; end = refl; control = refl; heard = counts_so worked_policies (once_measured 3) asks_datagram (gives_bytes 29); openings = tt; others = refl; lacking = tt }
 
 seen_3 : (seen_with (Some 1024000000) None) ≡ view_of (once_measured 4)
 unfolding once_measured
@@ -67,7 +67,7 @@ seen_3 = refl
 
 step_4 : IsStep worked_policies (once_measured 4) asks_ping answers.Ping (once_measured 5)
 unfolding once_measured
-step_4 = record { answer = refl; end = refl; control = refl; heard = counts_so worked_policies (once_measured 4) asks_ping answers.Ping; others = refl; lacking = tt }
+step_4 = record { answer = refl; end = refl; control = refl; heard = counts_so worked_policies (once_measured 4) asks_ping answers.Ping; openings = tt; others = refl; lacking = tt }
 
 seen_4 : (seen_with (Some 1024000000) None) ≡ view_of (once_measured 5)
 unfolding once_measured
@@ -75,7 +75,7 @@ seen_4 = refl
 
 step_5 : IsStep worked_policies (once_measured 5) asks_datagram (gives_bytes 29) (once_measured 6)
 unfolding once_measured
-step_5 = record { answer = inl refl; end = refl; control = refl; heard = counts_so worked_policies (once_measured 5) asks_datagram (gives_bytes 29); others = refl; lacking = tt }
+step_5 = record { answer = inl refl; end = refl; control = refl; heard = counts_so worked_policies (once_measured 5) asks_datagram (gives_bytes 29); openings = tt; others = refl; lacking = tt }
 
 seen_5 : (seen_with (Some 1024000000) None) ≡ view_of (once_measured 6)
 unfolding once_measured
@@ -83,7 +83,7 @@ seen_5 = refl
 
 step_6 : IsStep worked_policies (once_measured 6) asks_ping answers.Ping (once_measured 7)
 unfolding once_measured
-step_6 = record { answer = refl; end = refl; control = refl; heard = counts_so worked_policies (once_measured 6) asks_ping answers.Ping; others = refl; lacking = tt }
+step_6 = record { answer = refl; end = refl; control = refl; heard = counts_so worked_policies (once_measured 6) asks_ping answers.Ping; openings = tt; others = refl; lacking = tt }
 
 seen_6 : (seen_with (Some 1024000000) None) ≡ view_of (once_measured 7)
 unfolding once_measured
@@ -91,7 +91,7 @@ seen_6 = refl
 
 step_7 : IsStep worked_policies (once_measured 7) asks_datagram (gives_bytes 29) (once_measured 8)
 unfolding once_measured
-step_7 = record { answer = inl refl; end = refl; control = refl; heard = counts_so worked_policies (once_measured 7) asks_datagram (gives_bytes 29); others = refl; lacking = tt }
+step_7 = record { answer = inl refl; end = refl; control = refl; heard = counts_so worked_policies (once_measured 7) asks_datagram (gives_bytes 29); openings = tt; others = refl; lacking = tt }
 
 seen_7 : (seen_with (Some 1024000000) None) ≡ view_of (once_measured 8)
 unfolding once_measured
@@ -99,7 +99,7 @@ seen_7 = refl
 
 step_8 : IsStep worked_policies (once_measured 8) (delivers_at 3) (answers.Deliver receives.Taken) (once_measured 9)
 unfolding once_measured
-step_8 = record { answer = inl refl; end = refl; control = refl; heard = counts_so worked_policies (once_measured 8) (delivers_at 3) (answers.Deliver receives.Taken); others = refl; lacking = tt }
+step_8 = record { answer = inl refl; end = refl; control = refl; heard = counts_so worked_policies (once_measured 8) (delivers_at 3) (answers.Deliver receives.Taken); openings = tt; others = refl; lacking = tt }
 
 seen_8 : (seen_with (Some 1024000000) None) ≡ view_of (once_measured 9)
 unfolding once_measured
@@ -107,7 +107,7 @@ seen_8 = refl
 
 step_9 : IsStep worked_policies (once_measured 9) asks_server (gives_bytes 31) (once_measured 10)
 unfolding once_measured
-step_9 = record { answer = inl refl; end = refl; control = refl; heard = counts_so worked_policies (once_measured 9) asks_server (gives_bytes 31); others = refl; lacking = tt }
+step_9 = record { answer = inl refl; end = refl; control = refl; heard = counts_so worked_policies (once_measured 9) asks_server (gives_bytes 31); openings = tt; others = refl; lacking = tt }
 
 seen_9 : (seen_with (Some 1024000000) None) ≡ view_of (once_measured 10)
 unfolding once_measured
@@ -115,7 +115,7 @@ seen_9 = refl
 
 step_10 : IsStep worked_policies (once_measured 10) (comes_at Client 100000000) (answers.Deliver receives.Taken) (once_measured 11)
 unfolding once_measured
-step_10 = record { answer = inl refl; end = refl; control = refl; heard = counts_so worked_policies (once_measured 10) (comes_at Client 100000000) (answers.Deliver receives.Taken); others = refl; lacking = tt }
+step_10 = record { answer = inl refl; end = refl; control = refl; heard = counts_so worked_policies (once_measured 10) (comes_at Client 100000000) (answers.Deliver receives.Taken); openings = tt; others = refl; lacking = tt }
 
 seen_10 : (seen_with (Some 112500000) None) ≡ view_of (once_measured 11)
 unfolding once_measured
@@ -123,7 +123,7 @@ seen_10 = refl
 
 step_11 : IsStep worked_policies (once_measured 11) (serves Client 112500000) (answers.Timeout (Ok tt)) (once_measured 12)
 unfolding once_measured
-step_11 = record { answer = inl refl; end = refl; control = refl; heard = counts_so worked_policies (once_measured 11) (serves Client 112500000) (answers.Timeout (Ok tt)); others = refl; lacking = tt }
+step_11 = record { answer = inl refl; end = refl; control = refl; heard = counts_so worked_policies (once_measured 11) (serves Client 112500000) (answers.Timeout (Ok tt)); openings = tt; others = refl; lacking = tt }
 
 seen_11 : (seen_with None None) ≡ view_of (once_measured 12)
 unfolding once_measured

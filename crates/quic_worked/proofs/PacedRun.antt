@@ -26,19 +26,19 @@ use Rattle.quic_worked.proofs.Steps.{counts_so}
 
 opens : IsStep worked_policies paced_start opens_stream (answers.Open (Some 0)) (once_paced 1)
 unfolding once_paced
-opens = record { answer = refl; end = refl; control = refl; heard = counts_so worked_policies paced_start opens_stream (answers.Open (Some 0)); others = refl; lacking = tt }
+opens = record { answer = refl; end = refl; control = refl; heard = counts_so worked_policies paced_start opens_stream (answers.Open (Some 0)); openings = tt; others = refl; lacking = tt }
 
 writes : IsStep worked_policies (once_paced 1) writes_hello (answers.Write (Ok 5)) (once_paced 2)
 unfolding once_paced
-writes = record { answer = inl refl; end = refl; control = refl; heard = counts_so worked_policies (once_paced 1) writes_hello (answers.Write (Ok 5)); others = refl; lacking = λ lacks. cc }
+writes = record { answer = inl refl; end = refl; control = refl; heard = counts_so worked_policies (once_paced 1) writes_hello (answers.Write (Ok 5)); openings = tt; others = refl; lacking = λ lacks. cc }
 
 holds : IsStep worked_policies (once_paced 2) (asks_at Client 0) gives_nothing (once_paced 3)
 unfolding once_paced
-holds = record { answer = inl refl; end = refl; control = refl; heard = counts_so worked_policies (once_paced 2) (asks_at Client 0) gives_nothing; others = refl; lacking = tt }
+holds = record { answer = inl refl; end = refl; control = refl; heard = counts_so worked_policies (once_paced 2) (asks_at Client 0) gives_nothing; openings = tt; others = refl; lacking = tt }
 
 gives : IsStep worked_policies (once_paced 3) (asks_at Client full_again) (gives_bytes 34) (once_paced 4)
 unfolding once_paced
-gives = record { answer = inl refl; end = refl; control = refl; heard = counts_so worked_policies (once_paced 3) (asks_at Client full_again) (gives_bytes 34); others = refl; lacking = tt }
+gives = record { answer = inl refl; end = refl; control = refl; heard = counts_so worked_policies (once_paced 3) (asks_at Client full_again) (gives_bytes 34); openings = tt; others = refl; lacking = tt }
 
 opened_seen : record { client = open_view; server = open_view } ≡ view_of (once_paced 1)
 unfolding once_paced

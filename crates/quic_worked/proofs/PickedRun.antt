@@ -43,7 +43,7 @@ reads_first = reads_at second_accepted picked_once 0 false picked_bounds (picks_
 
 takes_abc : IsStep worked_policies picked_once (delivers_at 0) (answers.Deliver receives.Taken) picked_taken
 unfolding picked_taken
-takes_abc = record { answer = inl refl; end = refl; control = refl; heard = counts_so worked_policies picked_once (delivers_at 0) (answers.Deliver receives.Taken); others = refl; lacking = tt }
+takes_abc = record { answer = inl refl; end = refl; control = refl; heard = counts_so worked_policies picked_once (delivers_at 0) (answers.Deliver receives.Taken); openings = tt; others = refl; lacking = tt }
 
 -- then what lacked
 second_so : ReadsSo picked_taken 0 false picked_bounds (picks_at 0 abc) picked_twice.server

@@ -36,11 +36,11 @@ probed_is_honest = honest probed_run (record { start = refl; keys = refl; client
 
 expires : IsStep worked_policies pair_sent (serves Client 1024000000) (answers.Timeout (Ok tt)) (once_probed 1)
 unfolding once_probed
-expires = record { answer = inl refl; end = refl; control = refl; heard = counts_so worked_policies pair_sent (serves Client 1024000000) (answers.Timeout (Ok tt)); others = refl; lacking = tt }
+expires = record { answer = inl refl; end = refl; control = refl; heard = counts_so worked_policies pair_sent (serves Client 1024000000) (answers.Timeout (Ok tt)); openings = tt; others = refl; lacking = tt }
 
 probes : IsStep worked_policies (once_probed 1) (asks_at Client 1024000000) (gives_bytes 30) (once_probed 2)
 unfolding once_probed
-probes = record { answer = inl refl; end = refl; control = refl; heard = counts_so worked_policies (once_probed 1) (asks_at Client 1024000000) (gives_bytes 30); others = refl; lacking = tt }
+probes = record { answer = inl refl; end = refl; control = refl; heard = counts_so worked_policies (once_probed 1) (asks_at Client 1024000000) (gives_bytes 30); openings = tt; others = refl; lacking = tt }
 
 expired_seen : seen_with (Some 2048000000) None ≡ view_of (once_probed 1)
 unfolding once_probed

@@ -41,10 +41,12 @@ searched_started = record {
   server_making = making server_id;
   client_is = record { range = searching_range; sizes = lit≤ tt; says = parameters_say; id = refl };
   server_is = record { range = in_range; sizes = lit≤ tt; says = parameters_say; id = refl };
-  client = subst (λ read. IsMade Client default_settings steady read client_id server_id 0 true 63 searched_start.client) (sym parameters_say) refl;
+  client = subst (λ read. IsMade Client default_settings steady read client_id server_id 0 true (λ n. 63) searched_start.client) (sym parameters_say) refl;
   server = server_is_made;
   client_gave = refl;
   server_gave = refl;
+  client_heard = refl;
+  server_heard = refl;
 }
 
 own : (side : Side) → AreOwn side [] searched_run.events searched_run.answers searched_run.views

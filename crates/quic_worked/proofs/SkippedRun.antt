@@ -34,14 +34,16 @@ use Rattle.quic_worked.proofs.Steps.{counts_so}
 
 pub skipping_started : AreStarted leaving_out
 skipping_started = record {
-  client_making = record (making client_id) { word = 0 };
+  client_making = record (making client_id) { words = λ n. 0 };
   server_making = making server_id;
   client_is = record { range = record { receive_window = lit< tt; stream_receive_window = lit< tt; bounds = record { bidi = lit≤ tt; uni = lit≤ tt; divides = lit< tt; initial = lit≤ tt; least = lit≤ tt }; search = tt }; sizes = lit≤ tt; says = parameters_say; id = refl };
   server_is = record { range = record { receive_window = lit< tt; stream_receive_window = lit< tt; bounds = record { bidi = lit≤ tt; uni = lit≤ tt; divides = lit< tt; initial = lit≤ tt; least = lit≤ tt }; search = tt }; sizes = lit≤ tt; says = parameters_say; id = refl };
-  client = subst (λ read. IsMade Client plain_settings steady read client_id server_id 0 true 0 leaving_out.client) (sym parameters_say) refl;
+  client = subst (λ read. IsMade Client plain_settings steady read client_id server_id 0 true (λ n. 0) leaving_out.client) (sym parameters_say) refl;
   server = server_is_made;
   client_gave = refl;
   server_gave = refl;
+  client_heard = refl;
+  server_heard = refl;
 }
 
 own : (side : Side) → AreOwn side [] skipping_run.events skipping_run.answers skipping_run.views
@@ -62,7 +64,7 @@ given_is_honest = record { start = skipping_started; keys = are_keys; ids = own_
 
 step_0 : IsStep worked_policies leaving_out asks_ping answers.Ping (once_skipped 1)
 unfolding once_skipped
-step_0 = record { answer = refl; end = refl; control = refl; heard = counts_so worked_policies leaving_out asks_ping answers.Ping; others = refl; lacking = tt }
+step_0 = record { answer = refl; end = refl; control = refl; heard = counts_so worked_policies leaving_out asks_ping answers.Ping; openings = tt; others = refl; lacking = tt }
 
 seen_0 : ◌≡◌ {A = View} (record { client = open_view; server = open_view }) (view_of (once_skipped 1))
 unfolding once_skipped
@@ -70,7 +72,7 @@ seen_0 = refl
 
 step_1 : IsStep worked_policies (once_skipped 1) asks_datagram (gives_bytes 29) (once_skipped 2)
 unfolding once_skipped
-step_1 = record { answer = inl refl; end = refl; control = refl; heard = counts_so worked_policies (once_skipped 1) asks_datagram (gives_bytes 29); others = refl; lacking = tt }
+step_1 = record { answer = inl refl; end = refl; control = refl; heard = counts_so worked_policies (once_skipped 1) asks_datagram (gives_bytes 29); openings = tt; others = refl; lacking = tt }
 
 seen_1 : ◌≡◌ {A = View} (record { client = sent_view; server = open_view }) (view_of (once_skipped 2))
 unfolding once_skipped
@@ -78,7 +80,7 @@ seen_1 = refl
 
 step_2 : IsStep worked_policies (once_skipped 2) delivers (answers.Deliver receives.Taken) (once_skipped 3)
 unfolding once_skipped
-step_2 = record { answer = inl refl; end = refl; control = refl; heard = counts_so worked_policies (once_skipped 2) delivers (answers.Deliver receives.Taken); others = refl; lacking = tt }
+step_2 = record { answer = inl refl; end = refl; control = refl; heard = counts_so worked_policies (once_skipped 2) delivers (answers.Deliver receives.Taken); openings = tt; others = refl; lacking = tt }
 
 seen_2 : ◌≡◌ {A = View} (record { client = sent_view; server = waiting_view }) (view_of (once_skipped 3))
 unfolding once_skipped
@@ -86,7 +88,7 @@ seen_2 = refl
 
 step_3 : IsStep worked_policies (once_skipped 3) server_waits (answers.Timeout (Ok tt)) (once_skipped 4)
 unfolding once_skipped
-step_3 = record { answer = inl refl; end = refl; control = refl; heard = counts_so worked_policies (once_skipped 3) server_waits (answers.Timeout (Ok tt)); others = refl; lacking = tt }
+step_3 = record { answer = inl refl; end = refl; control = refl; heard = counts_so worked_policies (once_skipped 3) server_waits (answers.Timeout (Ok tt)); openings = tt; others = refl; lacking = tt }
 
 seen_3 : ◌≡◌ {A = View} (record { client = sent_view; server = open_view }) (view_of (once_skipped 4))
 unfolding once_skipped
@@ -94,7 +96,7 @@ seen_3 = refl
 
 step_4 : IsStep worked_policies (once_skipped 4) server_polled (gives_bytes 32) (once_skipped 5)
 unfolding once_skipped
-step_4 = record { answer = inl refl; end = refl; control = refl; heard = counts_so worked_policies (once_skipped 4) server_polled (gives_bytes 32); others = refl; lacking = tt }
+step_4 = record { answer = inl refl; end = refl; control = refl; heard = counts_so worked_policies (once_skipped 4) server_polled (gives_bytes 32); openings = tt; others = refl; lacking = tt }
 
 seen_4 : ◌≡◌ {A = View} (record { client = sent_view; server = open_view }) (view_of (once_skipped 5))
 unfolding once_skipped
@@ -102,7 +104,7 @@ seen_4 = refl
 
 step_5 : IsStep worked_policies (once_skipped 5) client_delivered (answers.Deliver receives.Taken) (once_skipped 6)
 unfolding once_skipped
-step_5 = record { answer = inl refl; end = refl; control = refl; heard = counts_so worked_policies (once_skipped 5) client_delivered (answers.Deliver receives.Taken); others = refl; lacking = tt }
+step_5 = record { answer = inl refl; end = refl; control = refl; heard = counts_so worked_policies (once_skipped 5) client_delivered (answers.Deliver receives.Taken); openings = tt; others = refl; lacking = tt }
 
 seen_5 : ◌≡◌ {A = View} (record { client = open_view; server = open_view }) (view_of (once_skipped 6))
 unfolding once_skipped

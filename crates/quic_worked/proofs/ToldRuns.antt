@@ -34,7 +34,7 @@ unfolding once_taken
 answer_opened = refl
 
 told : IsStep worked_policies once_taken server_asks tells_opened opening_told
-told = record { answer = answer_opened; end = refl; control = refl; heard = counts_so worked_policies once_taken server_asks tells_opened; others = refl; lacking = tt }
+told = record { answer = answer_opened; end = refl; control = refl; heard = counts_so worked_policies once_taken server_asks tells_opened; openings = tt; others = refl; lacking = tt }
 
 told_seen : record { client = sent_view; server = waiting_view } ≡ view_of opening_told
 unfolding once_taken
@@ -45,7 +45,7 @@ unfolding once_taken
 answer_nothing = refl
 
 nothing : IsStep worked_policies opening_told server_asks (answers.Event None) opening_end
-nothing = record { answer = answer_nothing; end = refl; control = refl; heard = counts_so worked_policies opening_told server_asks (answers.Event None); others = refl; lacking = tt }
+nothing = record { answer = answer_nothing; end = refl; control = refl; heard = counts_so worked_policies opening_told server_asks (answers.Event None); openings = tt; others = refl; lacking = tt }
 
 nothing_seen : record { client = sent_view; server = waiting_view } ≡ view_of opening_end
 unfolding once_taken

@@ -78,10 +78,12 @@ shut_started = record {
   server_making = record (making server_id) { windows = roomy_windows };
   client_is = record { range = in_range; sizes = lit≤ tt; says = parameters_say; id = refl };
   server_is = record { range = in_range; sizes = lit≤ tt; says = parameters_say; id = refl };
-  client = subst (λ read. IsMade Client plain_settings roomy_windows read client_id server_id 0 true 63 rested_start.client) (sym parameters_say) refl;
-  server = subst (λ read. IsMade Server plain_settings roomy_windows read server_id client_id 0 true 63 rested_start.server) (sym parameters_say) refl;
+  client = subst (λ read. IsMade Client plain_settings roomy_windows read client_id server_id 0 true (λ n. 63) rested_start.client) (sym parameters_say) refl;
+  server = subst (λ read. IsMade Server plain_settings roomy_windows read server_id client_id 0 true (λ n. 63) rested_start.server) (sym parameters_say) refl;
   client_gave = refl;
   server_gave = refl;
+  client_heard = refl;
+  server_heard = refl;
 }
 
 -- none of none is undone
@@ -104,11 +106,11 @@ once_shut n = ran worked_policies rested_start (take n shut_run.events) (take n 
 
 client_quiet : IsStep worked_policies rested_start asks_datagram gives_nothing (once_shut 1)
 unfolding once_shut
-client_quiet = record { answer = inl refl; end = refl; control = refl; heard = counts_so worked_policies rested_start asks_datagram gives_nothing; others = refl; lacking = tt }
+client_quiet = record { answer = inl refl; end = refl; control = refl; heard = counts_so worked_policies rested_start asks_datagram gives_nothing; openings = tt; others = refl; lacking = tt }
 
 server_quiet : IsStep worked_policies (once_shut 1) (asks_at Server 0) gives_nothing (once_shut 2)
 unfolding once_shut
-server_quiet = record { answer = inl refl; end = refl; control = refl; heard = counts_so worked_policies (once_shut 1) (asks_at Server 0) gives_nothing; others = refl; lacking = tt }
+server_quiet = record { answer = inl refl; end = refl; control = refl; heard = counts_so worked_policies (once_shut 1) (asks_at Server 0) gives_nothing; openings = tt; others = refl; lacking = tt }
 
 shut_no : IsRefused (once_shut 2) opens_stream (answers.Open None)
 unfolding once_shut
@@ -132,10 +134,12 @@ lone_started = record {
   server_making = record (making server_id) { settings = with_uni 1; windows = roomy_windows; parameters = lone_parameters };
   client_is = record { range = in_range; sizes = lit≤ tt; says = parameters_say; id = refl };
   server_is = record { range = lone_range; sizes = lit≤ tt; says = lone_says; id = refl };
-  client = subst (λ read. IsMade Client plain_settings roomy_windows read client_id server_id 0 true 63 lone_start.client) (sym lone_says) refl;
-  server = subst (λ read. IsMade Server (with_uni 1) roomy_windows read server_id client_id 0 true 63 lone_start.server) (sym parameters_say) refl;
+  client = subst (λ read. IsMade Client plain_settings roomy_windows read client_id server_id 0 true (λ n. 63) lone_start.client) (sym lone_says) refl;
+  server = subst (λ read. IsMade Server (with_uni 1) roomy_windows read server_id client_id 0 true (λ n. 63) lone_start.server) (sym parameters_say) refl;
   client_gave = refl;
   server_gave = refl;
+  client_heard = refl;
+  server_heard = refl;
 }
 
 lone_room : HaveRoom lone_start
@@ -182,11 +186,11 @@ once_lone n read = ran worked_policies lone_start (take n (kept_back_run read).e
 
 lone_opens : (read : ReadCall) → IsStep worked_policies lone_start opens_one_way (answers.Open (Some 2)) (once_lone 1 read)
 unfolding once_lone
-lone_opens read = record { answer = refl; end = refl; control = refl; heard = counts_so worked_policies lone_start opens_one_way (answers.Open (Some 2)); others = refl; lacking = tt }
+lone_opens read = record { answer = refl; end = refl; control = refl; heard = counts_so worked_policies lone_start opens_one_way (answers.Open (Some 2)); openings = tt; others = refl; lacking = tt }
 
 lone_ends : (read : ReadCall) → IsStep worked_policies (once_lone 1 read) ends_one_way (answers.Finish (Ok tt)) (once_lone 2 read)
 unfolding once_lone
-lone_ends read = record { answer = inl refl; end = refl; control = refl; heard = counts_so worked_policies (once_lone 1 read) ends_one_way (answers.Finish (Ok tt)); others = refl; lacking = λ lacks. cc }
+lone_ends read = record { answer = inl refl; end = refl; control = refl; heard = counts_so worked_policies (once_lone 1 read) ends_one_way (answers.Finish (Ok tt)); openings = tt; others = refl; lacking = λ lacks. cc }
 
 lone_no : (read : ReadCall) → IsRefused (once_lone 2 read) accepts_one_way (answers.Accept (Some 2))
 unfolding once_lone

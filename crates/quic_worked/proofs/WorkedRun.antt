@@ -28,16 +28,16 @@ pub parameters_say : parameters_at worked_parameters ≡ Ok (parameters_of plain
 unfolding parameters_at judged values_met met_in met_within met_after whole_at entry_at
 parameters_say = refl
 
-pub client_is_made : MadeFrom Client plain_settings steady worked_parameters client_id server_id 0 true 63
+pub client_is_made : MadeFrom Client plain_settings steady worked_parameters client_id server_id 0 true (λ n. 63)
     client_made
 client_is_made =
-    subst (λ read. IsMade Client plain_settings steady read client_id server_id 0 true 63 client_made)
+    subst (λ read. IsMade Client plain_settings steady read client_id server_id 0 true (λ n. 63) client_made)
     (sym parameters_say) refl
 
-pub server_is_made : MadeFrom Server plain_settings steady worked_parameters server_id client_id 0 true 63
+pub server_is_made : MadeFrom Server plain_settings steady worked_parameters server_id client_id 0 true (λ n. 63)
     server_made
 server_is_made =
-    subst (λ read. IsMade Server plain_settings steady read server_id client_id 0 true 63 server_made)
+    subst (λ read. IsMade Server plain_settings steady read server_id client_id 0 true (λ n. 63) server_made)
     (sym parameters_say) refl
 
 pub opens : IsStep worked_policies started opens_stream (answers.Open (Some 0)) once_opened

@@ -15,13 +15,14 @@ use Rattle.quic_headline.specs.Runs.{Run}
 use Rattle.quic_worked.specs.Worked.{steady_window, worked_policies, started, hello_datagram, sending_events, delivers, gives_bytes, open_view, sent_view, with_client, numbered_from, once_sent, hello_payload, from_client, asks_datagram, after_event, ran}
 use Rattle.quic_worked.specs.Losses.{asks_ping}
 
--- what is seen of an end that closed for a reason: no timer is set any more
+-- what is seen of an end that closed for a reason at moment 0, before a round trip was measured: it is closing for three probe timeouts of 1024 ms, and no other timer
+-- is set any more (RFC 9000, section 10.2)
 abbrev pub closed_view : LostReason → EndView
 closed_view reason = record {
-  state = states.Drained;
+  state = states.Closing;
   reason = Some reason;
   validated = true;
-  timers = replicate 9 None;
+  timers = replicate 2 None ++ Some 3072000000 ∷ replicate 6 None;
   window = steady_window;
   current_mtu = 1200;
 }
@@ -57,7 +58,11 @@ below_limits = refusing (plain_error 3) (reasons.Transport (plain_error 3))
 abbrev pub early_pieces : Run
 early_pieces = refusing (plain_error 1) reasons.Pieces
 
--- a client that closes at its first poll for used-up numbers
+-- the close of an end whose numbers are used up: INTERNAL_ERROR, of no frame, with no text (RFC 9000, section 19.19)
+abbrev pub limit_payload : List ℕ
+limit_payload = 0x1c ∷ 0x01 ∷ 0x00 ∷ 0x00 ∷ []
+
+-- a client that closes at its first poll for used-up numbers, and gives its close
 abbrev pub early_limit : Run
 early_limit = record {
   keys = worked_policies;
@@ -67,13 +72,13 @@ early_limit = record {
       answers.Open (Some 0)
       ∷ answers.Write (Ok 5)
       ∷ answers.Finish (Ok tt)
-      ∷ answers.Poll (Ok None)
+      ∷ gives_bytes 30
       ∷ [];
   views =
       replicate 3 (record { client = open_view; server = open_view })
       ++ record { client = closed_view reasons.NumberLimit; server = open_view }
       ∷ [];
-  from_client = [];
+  from_client = from_client 0 limit_payload ∷ [];
   from_server = [];
 }
 
@@ -105,9 +110,9 @@ two_left = with_client started (numbered_from (2 ^ 31 - 17) started.client)
 abbrev pub last_events : List RunEvent
 last_events = sending_events ++ asks_ping ∷ asks_datagram ∷ []
 
--- for which no number is left: it gives nothing, and closes
+-- for which no number is left: it closes, and gives its close
 abbrev pub last_answers : List Answer
-last_answers = answers.Open (Some 0) ∷ answers.Write (Ok 5) ∷ answers.Finish (Ok tt) ∷ gives_bytes 37 ∷ answers.Ping ∷ answers.Poll (Ok None) ∷ []
+last_answers = answers.Open (Some 0) ∷ answers.Write (Ok 5) ∷ answers.Finish (Ok tt) ∷ gives_bytes 37 ∷ answers.Ping ∷ gives_bytes 33 ∷ []
 
 -- what the events leave
 abbrev pub last_ended : World
@@ -125,7 +130,7 @@ last_pinged = after_event worked_policies last_given asks_ping answers.Ping
 -- for which no number is left
 unfoldable pub last_closed : World
 unfolding last_given
-last_closed = after_event worked_policies last_pinged asks_datagram (answers.Poll (Ok None))
+last_closed = after_event worked_policies last_pinged asks_datagram (gives_bytes 33)
 
 -- the run
 abbrev pub last_run : Run
@@ -139,6 +144,6 @@ last_run = record {
       ++ replicate 2 (record { client = sent_view; server = open_view })
       ++ record { client = closed_view reasons.NumberLimit; server = open_view }
       ∷ [];
-  from_client = from_client (2 ^ 31 - 17) hello_payload ∷ [];
+  from_client = from_client (2 ^ 31 - 17) hello_payload ∷ from_client (2 ^ 31 - 16) limit_payload ∷ [];
   from_server = [];
 }

@@ -139,8 +139,8 @@ played w (act ∷ acts) = let done = acted w act in done.said ∷ played done.en
 -- two ends with these settings, made at moment 0 on a validated path; of the numbers of each 63 is the first that is left out
 abbrev pub ends_with : Settings → Settings → Ends
 ends_with client server = record {
-  client = new_end Client client steady (parameters_of server) [] [] 0 true 63;
-  server = new_end Server server steady (parameters_of client) [] [] 0 true 63;
+  client = new_end Client client steady (parameters_of server) [] [] 0 true (λ n. 63);
+  server = new_end Server server steady (parameters_of client) [] [] 0 true (λ n. 63);
 }
 
 -- what one says of itself that lets come so many bytes on all streams

@@ -89,8 +89,8 @@ one_way_parameters =
 -- both ends, of which the server may open one one-way stream
 abbrev pub one_back : World
 one_back = record {
-  client = new_end Client (with_uni 1) steady (parameters_of plain_settings) client_id server_id 0 true 63;
-  server = new_end Server plain_settings steady (parameters_of (with_uni 1)) server_id client_id 0 true 63;
+  client = new_end Client (with_uni 1) steady (parameters_of plain_settings) client_id server_id 0 true (λ n. 63);
+  server = new_end Server plain_settings steady (parameters_of (with_uni 1)) server_id client_id 0 true (λ n. 63);
   from_client = [];
   from_server = [];
   client_control = steady_control;

@@ -110,7 +110,7 @@ cleared = with_client (once_measured 11) (record (once_measured 11).client { tim
 
 -- both ends, of which the client leaves out number 0: that was the first word of its random source
 abbrev pub leaving_out : World
-leaving_out = with_client started (new_end Client plain_settings steady (parameters_of plain_settings) client_id server_id 0 true 0)
+leaving_out = with_client started (new_end Client plain_settings steady (parameters_of plain_settings) client_id server_id 0 true (λ n. 0))
 
 -- a datagram goes, and is acknowledged
 abbrev pub skipping_events : List RunEvent

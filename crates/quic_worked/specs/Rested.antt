@@ -40,8 +40,8 @@ roomy_windows = record { initial = roomy_window; present = roomy_window }
 -- both ends, before anything was given
 abbrev pub rested_start : World
 rested_start = record {
-  client = new_end Client plain_settings roomy_windows (parameters_of plain_settings) client_id server_id 0 true 63;
-  server = new_end Server plain_settings roomy_windows (parameters_of plain_settings) server_id client_id 0 true 63;
+  client = new_end Client plain_settings roomy_windows (parameters_of plain_settings) client_id server_id 0 true (λ n. 63);
+  server = new_end Server plain_settings roomy_windows (parameters_of plain_settings) server_id client_id 0 true (λ n. 63);
   from_client = [];
   from_server = [];
   client_control = roomy_control;

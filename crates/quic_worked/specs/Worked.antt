@@ -40,11 +40,11 @@ use Rattle.quic_machine.specs.Policy.{Policy}
 use Rattle.quic_machine.specs.Control.{Control, after_told}
 use Rattle.quic_machine.specs.Closing.{failed}
 use Rattle.quic_machine.specs.Tracking.{TrackedPacket}
-use Rattle.quic_machine.specs.End.{End, new_end, with_closing, streams_at, with_streams}
+use Rattle.quic_machine.specs.End.{End, new_end, KeyLimits, with_closing, streams_at, with_streams, with_waiting}
 use Rattle.quic_machine.specs.Calls.{is_open, after_reads}
 use Rattle.quic_machine.specs.Poll.{Polled, polled}
 use Rattle.quic_machine.specs.Receive.{received}
-use Rattle.quic_machine.specs.Parts.{Windows}
+use Rattle.quic_machine.specs.Parts.{Windows, nothing_waits}
 use Rattle.quic_machine.specs.Heard.{nothing_heard, Heard, heard_datagram}
 use Rattle.quic_machine.specs.Machine.{World, Policies, policy_at, given_by, control_at, changed, end_met, after_call, gives, tells, heard_at, heard_by}
 use Rattle.quic_headline.specs.Runs.{Run, same_side}
@@ -148,19 +148,25 @@ steady_control = λ (told : List Told). steady_window
 abbrev pub steady : Windows
 steady = record { initial = steady_window; present = steady_window }
 
--- an end that marks what it gives by one byte, and opens what is marked by another; its random source
--- answers 63 for ever
+-- an end that marks what it gives by one byte, and opens what is marked by another, 8388608 packets
+-- of each at most; its random source answers 63 for ever
 abbrev pub marking : ℕ → ℕ → Policy
 marking own theirs =
     record {
       header = masking;
       packet = record { seal = marked own; unseal = unmarked theirs };
       words = λ n. 63;
+      seals = 8388608;
+      openings = 8388608;
     }
 
 -- the marks are the letters `c` and `s`
 abbrev pub worked_policies : Policies
 worked_policies = record { client = marking 0x63 0x73; server = marking 0x73 0x63 }
+
+-- so long their keys last
+abbrev pub long_keys : KeyLimits
+long_keys = record { seals = 8388608; openings = 8388608 }
 
 -- ---- the ends as they are made
 
@@ -172,13 +178,12 @@ client_id = replicate 8 0xc0
 abbrev pub server_id : List ℕ
 server_id = replicate 8 0x50
 
--- what each end tells the other: 30000 ms, 2^62 - 1 bytes in all, 1250000 on each stream, 100
+-- what each end tells the other: 2^62 - 1 bytes in all, 1250000 on each stream, 100
 -- streams of each kind, 5 ids, DATAGRAM frames of 65535 bytes, 1000 microseconds (RFC 9000, section
 -- 18.2)
 abbrev pub worked_parameters : List ℕ
 worked_parameters =
-    (0x01 ∷ 0x04 ∷ 0x80 ∷ 0x00 ∷ 0x75 ∷ 0x30 ∷ [])
-    ++ (0x04 ∷ 0x08 ∷ 0xff ∷ 0xff ∷ 0xff ∷ 0xff ∷ 0xff ∷ 0xff ∷ 0xff ∷ 0xff ∷ [])
+    (0x04 ∷ 0x08 ∷ 0xff ∷ 0xff ∷ 0xff ∷ 0xff ∷ 0xff ∷ 0xff ∷ 0xff ∷ 0xff ∷ [])
     ++ (0x05 ∷ 0x04 ∷ 0x80 ∷ 0x13 ∷ 0x12 ∷ 0xd0 ∷ [])
     ++ (0x06 ∷ 0x04 ∷ 0x80 ∷ 0x13 ∷ 0x12 ∷ 0xd0 ∷ [])
     ++ (0x07 ∷ 0x04 ∷ 0x80 ∷ 0x13 ∷ 0x12 ∷ 0xd0 ∷ [])
@@ -192,12 +197,12 @@ worked_parameters =
 -- first that is left out
 abbrev pub client_made : End
 client_made =
-    new_end Client plain_settings steady (parameters_of plain_settings) client_id server_id 0 true 63
+    new_end Client plain_settings steady (parameters_of plain_settings) client_id server_id 0 true (λ n. 63)
 
 -- the server before the first event
 abbrev pub server_made : End
 server_made =
-    new_end Server plain_settings steady (parameters_of plain_settings) server_id client_id 0 true 63
+    new_end Server plain_settings steady (parameters_of plain_settings) server_id client_id 0 true (λ n. 63)
 
 -- both ends, before anything was given
 abbrev pub started : World
@@ -248,9 +253,9 @@ numbered_from next e = record e { numbers = record e.numbers { next = next } }
 abbrev pub within : ℕ → End → End
 within limit e = record e { streams = record e.streams { sending = record e.streams.sending { limit = limit } } }
 
--- the client, which looks for a greater size of datagrams, on a path that is validated or isn't
+-- the client, which looks for a greater size of datagrams, on a path that is validated or isn't; what it asks then and which ids it tells were sent
 abbrev pub searching : Bool → End
-searching validated = new_end Client default_settings steady (parameters_of default_settings) client_id server_id 0 validated 63
+searching validated = with_waiting (new_end Client default_settings steady (parameters_of default_settings) client_id server_id 0 validated (λ n. 63)) nothing_waits
 
 -- settings by which the peer may open no two-way stream
 abbrev pub no_two_way : Settings
@@ -324,7 +329,7 @@ hello_opening = record { first = 0x40; number = 0; payload = hello_payload }
 
 -- what the server makes of a datagram at moment 0
 abbrev pub at_server : End → List ℕ → Received
-at_server server datagram = (received worked_policies.server server (arriving 0 None) datagram).answer
+at_server server datagram = (received worked_policies.server server (arriving 0 None false) datagram).answer
 
 -- a datagram of so many bytes that went at moment 0 with the bytes of stream 0 from one offset up to
 -- another, and with its end or not

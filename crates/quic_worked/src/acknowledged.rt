@@ -15,7 +15,7 @@ ghost use Rattle.quic_machine.specs.Acked.{after_acked};
 ghost use Rattle.quic_machine.specs.Tracking.{nothing_tracked, loss_moment};
 ghost use Rattle.quic_spaces.specs.Acknowledging.{written_delay};
 ghost use Rattle.quic_spaces.specs.Numbers.{cut_against};
-ghost use Rattle.quic_machine.specs.End.{closed_by, probe_timeout};
+ghost use Rattle.quic_machine.specs.End.{drained_by, probe_timeout};
 ghost use Rattle.quic_machine.specs.Calls.{end_tells, end_after_event, end_after_ping};
 ghost use Rattle.quic_machine.specs.Opens.{would_open};
 ghost use Rattle.quic_machine.specs.Poll.{composed};
@@ -105,7 +105,7 @@ pub fn timeouts_are_probed()
 pub fn injections_are_judged()
     ensures opens { would_open worked_policies.server server_made hello_datagram ≡ true }
     ensures again { would_open worked_policies.server once_taken.server hello_datagram ≡ true }
-    ensures drained { would_open worked_policies.server (closed_by NumberLimit server_made)
+    ensures drained { would_open worked_policies.server (drained_by NumberLimit server_made)
         hello_datagram ≡ true }
     ensures elsewhere { would_open worked_policies.client client_made hello_datagram ≡ false }
     ensures nothing { would_open worked_policies.server server_made [] ≡ false }
@@ -117,10 +117,10 @@ pub fn injections_are_judged()
 /// Why an end is lost is told once, and of an open end nothing.
 pub fn losses_are_told_once()
     ensures open { end_tells client_made ≡ None }
-    ensures lost { end_tells (closed_by NumberLimit client_made) ≡ Some (events.Lost NumberLimit) }
-    ensures once { end_tells (end_after_event (closed_by NumberLimit client_made)) ≡ None }
-    ensures stays { (end_after_event (end_after_event (closed_by NumberLimit client_made))).closing
-        ≡ (end_after_event (closed_by NumberLimit client_made)).closing }
-    ensures reason { (end_after_event (closed_by NumberLimit client_made)).closing.reason
+    ensures lost { end_tells (drained_by NumberLimit client_made) ≡ Some (events.Lost NumberLimit) }
+    ensures once { end_tells (end_after_event (drained_by NumberLimit client_made)) ≡ None }
+    ensures stays { (end_after_event (end_after_event (drained_by NumberLimit client_made))).closing
+        ≡ (end_after_event (drained_by NumberLimit client_made)).closing }
+    ensures reason { (end_after_event (drained_by NumberLimit client_made)).closing.reason
         ≡ Some NumberLimit }
 {}

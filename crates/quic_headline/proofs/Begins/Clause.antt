@@ -42,7 +42,7 @@ use Rattle.quic_machine.specs.FrameCases.{begun}
 use Rattle.quic_machine.specs.CallCases.{is_delivery, is_poll, is_timeout}
 use Rattle.quic_machine.specs.InjectionCases.{by_injection}
 use Rattle.quic_machine.specs.LeaveCases.{by_event}
-use Rattle.quic_machine.specs.Machine.{World, IsAnswer, fails, gave, reads_window, changed, end_at, control_at}
+use Rattle.quic_machine.specs.Machine.{World, IsAnswer, fails, gave, reads_window, changed, end_at, control_at, heard_at}
 use Rattle.quic_machine.specs.Heard.{Heard}
 use Rattle.quic_machine.specs.RunLaws.{as_many_views}
 use Rattle.quic_headline.specs.Runs.{Run, Told, Packet, Intake, In, and_told, folded, until, state_at, given_of, AreServed, written}
@@ -175,8 +175,10 @@ delivered_some x y delivery a s = by_coming x y a s.joined s.served (meets y x (
   comes = λ other same d among. record {
     ignored = λ reason opened due. inl due;
     noted = λ state reason opened due. (let clash : states.Closing ≡ states.Open = sym state ∙ opened in cc);
-    takes = λ state new none mark opened due. inr (ap are_some (one_new (came_to x y) d.number d.frames));
-    refuses = λ state new f is opened. cc;
+    takes = λ words state new none mark opened due. inr (ap are_some (one_new (came_to x y) d.number d.frames));
+    drains = λ words state new close is opened. cc;
+    refuses = λ words state new f is opened. cc;
+    exhausts = λ state opened. cc;
   };
 }) s.opened
 
@@ -380,8 +382,10 @@ module _ (x y : Party) (delivery : Delivery) (a : Answer) (s : Stepped x y (call
     comes = λ other same d among. (let is : delivery ≡ other = cc in subst (λ (z : Delivery). Arrivals x.end z.now d.number d.frames i (λ (o : Outcome) (j : Intake). o.end.closing.state ≡ states.Open → Arrived x y delivery o.end j)) is (record {
       ignored = λ reason opened. same_arrived;
       noted = λ state reason opened. (let clash : states.Closing ≡ states.Open = sym state ∙ opened in cc);
-      takes = λ state new none mark opened. taken_arrived d state none _ refl refl;
-      refuses = λ state new f fault opened. cc;
+      takes = λ words state new none mark opened. taken_arrived d state none _ refl refl;
+      drains = λ words state new close fault opened. cc;
+      refuses = λ words state new f fault opened. cc;
+      exhausts = λ state opened. cc;
     }));
   })
 
@@ -463,8 +467,8 @@ timeout_begins x y now a s = left_of (Caused x y call a) (called x y.given call 
         ∙ ap (λ (z : State). watch_moment (is_timely z call) x.terms (record w { clock = clock_behind w.clock (moment_of z false call) })) opened
 
     flies : Begun (λ q. IsPending x.end q) w.flight.flying w.flight.acked [] (at_time x.terms w now).flight.flying (at_time x.terms w now).flight.acked (timed_out_in states.Open x.policy x.end now).end
-    flies = timeout_flies (Begun (λ q. IsPending x.end q) w.flight.flying w.flight.acked []) (begun_loses (λ q. IsPending x.end q) w.flight.flying w.flight.acked []) (λ flying acked c pending timers e i. i)
-        x.policy x.terms w x.end now ((sight x y s.gives).stands opened) ((sight x y s.gives).watched.flight opened) (nothing_begun x y s.gives [])
+    flies = timeout_flies (Begun (λ q. IsPending x.end q) w.flight.flying w.flight.acked []) (begun_loses (λ q. IsPending x.end q) w.flight.flying w.flight.acked []) (λ flying acked c pending timers signals validation e i. i)
+        x.terms w x.end now ((sight x y s.gives).stands opened) ((sight x y s.gives).watched.flight opened) (nothing_begun x y s.gives [])
 
     at : BegunAt (λ q. IsPending x.end q) w.flight.flying w.flight.acked [] (seen_of x y call a).behind.flight.flying (seen_of x y call a).behind.flight.acked (timed_out x.policy x.end now).end.streams (timed_out x.policy x.end now).end.waiting.frames
     at =
@@ -545,19 +549,19 @@ dir_same Bi = refl
 dir_same Uni = refl
 
 -- what a poll says waits no more
-flag_gone : (x y : Party) (now : ℕ) (a : Answer) → Stepped x y (calls.Poll now) a → (k : Flag) → stands (flag_says k) (sents_by x.end (calls.Poll now) a) ≡ true → flag k (called x y.given (calls.Poll now) a).end.waiting.frames ≡ true → ⊥
+flag_gone : (x y : Party) (now : ℕ) (a : Answer) → Stepped x y (calls.Poll now) a → (k : Flag) → stands (flag_says k) (sents_by x.policy x.end (calls.Poll now) a) ≡ true → flag k (called x y.given (calls.Poll now) a).end.waiting.frames ≡ true → ⊥
 flag_gone x y now a s k there set = both_ways (flag k (polled x.policy x.end now).end.waiting.frames)
-    ((polled_flags x.policy x.end now k s.opened).1 (ap (λ (b : Answer). stands (flag_says k) (sent_if (gave b) (sent_by x.end now))) (sym (poll_answer x.policy x.end now a s.answer s.served)) ∙ there)) set
+    ((polled_flags x.policy x.end now k s.opened).1 (ap (λ (b : Answer). stands (flag_says k) (sent_if (gave b) (sent_by x.policy x.end now))) (sym (poll_answer x.policy x.end now a s.answer s.served)) ∙ there)) set
 
-gone_waits : (x y : Party) (call : Call) (a : Answer) → Stepped x y call a → (q : Thing) → HasGone (sents_by x.end call a) q → IsPending (called x y.given call a).end q → ⊥
-gone_waits x y call a s Ack there due = both_ways (called x y.given call a).end.acknowledging.due (call_answered (λ (p : Pending) (o : Option ℕ). p.due ≡ false) (λ p. refl) x.policy x.end y.given call a s.answer s.served there) due
-gone_waits x y (calls.Poll now) a s Ping there set = both_ways (stands is_ping (sents_by x.end (calls.Poll now) a))
-    (ap (λ (b : Answer). stands is_ping (sent_if (gave b) (sent_by x.end now))) (poll_answer x.policy x.end now a s.answer s.served) ∙ (polled_pinged x.policy x.end now s.opened set).0) there
+gone_waits : (x y : Party) (call : Call) (a : Answer) → Stepped x y call a → (q : Thing) → HasGone (sents_by x.policy x.end call a) q → IsPending (called x y.given call a).end q → ⊥
+gone_waits x y call a s Ack there due = both_ways (called x y.given call a).end.acknowledging.due (call_answered (λ (p : Pending) (o : Option ℕ). p.due ≡ false) (λ p. refl) x.policy x.end y.given call a (packets x y s.gives).owes s.answer s.served there) due
+gone_waits x y (calls.Poll now) a s Ping there set = both_ways (stands is_ping (sents_by x.policy x.end (calls.Poll now) a))
+    (ap (λ (b : Answer). stands is_ping (sent_if (gave b) (sent_by x.policy x.end now))) (poll_answer x.policy x.end now a s.answer s.served) ∙ (polled_pinged x.policy x.end now s.opened set).0) there
 gone_waits x y (calls.Poll now) a s (Frame (LimitOf AllData)) there set = flag_gone x y now a s all there set
 gone_waits x y (calls.Poll now) a s (Frame (LimitOf (StreamCount dir))) there set = flag_gone x y now a s (counts (is_one_way dir)) there (ap (λ (d : Dir). of d (called x y.given (calls.Poll now) a).end.waiting.frames.max_stream_id) (dir_same dir) ∙ set)
 gone_waits x y (calls.Poll now) a s (Frame Blocked) there set = flag_gone x y now a s blocked there set
-gone_waits x y (calls.Poll now) a s (Byte id o) there set = (polled_goes x.policy x.end now s.opened).0 id o (subst (λ (b : Answer). HoldsOffset (sent_if (gave b) (sent_by x.end now)) id o) (poll_answer x.policy x.end now a s.answer s.served) there) set
-gone_waits x y (calls.Poll now) a s (Fin id) there set = (polled_goes x.policy x.end now s.opened).1 id (subst (λ (b : Answer). HoldsEnd (sent_if (gave b) (sent_by x.end now)) id) (poll_answer x.policy x.end now a s.answer s.served) there) set
+gone_waits x y (calls.Poll now) a s (Byte id o) there set = (polled_goes x.policy x.end now s.opened).0 id o (subst (λ (b : Answer). HoldsOffset (sent_if (gave b) (sent_by x.policy x.end now)) id o) (poll_answer x.policy x.end now a s.answer s.served) there) set
+gone_waits x y (calls.Poll now) a s (Fin id) there set = (polled_goes x.policy x.end now s.opened).1 id (subst (λ (b : Answer). HoldsEnd (sent_if (gave b) (sent_by x.policy x.end now)) id) (poll_answer x.policy x.end now a s.answer s.served) there) set
 gone_waits x y (calls.Poll now) a s q there set = absurd there
 gone_waits x y call a s Ping there set = cc
 gone_waits x y call a s (Frame (LimitOf AllData)) there set = cc
@@ -568,27 +572,27 @@ gone_waits x y call a s (Fin id) there set = there.among
 gone_waits x y call a s q there set = absurd there
 
 -- what goes at a call is what its end sends
-went_here : (x y : Party) (call : Call) (a : Answer) → Stepped x y call a → went (seen_of x y call a).before (seen_of x y call a).behind ≡ sents_by x.end call a
-went_here x y call a s = went_is (watch_of x y) (seen_of x y call a).behind (sents_by x.end call a) (
-    ap (λ (w : Watch). w.own) (sym (behind_is x y call a s)) ∙ (sight (called x y.given call a) y s.behind).own ∙ ap (λ (ss : List Sent). ss ++ sents_by x.end call a) (sym (sight x y s.gives).own))
+went_here : (x y : Party) (call : Call) (a : Answer) → Stepped x y call a → went (seen_of x y call a).before (seen_of x y call a).behind ≡ sents_by x.policy x.end call a
+went_here x y call a s = went_is (watch_of x y) (seen_of x y call a).behind (sents_by x.policy x.end call a) (
+    ap (λ (w : Watch). w.own) (sym (behind_is x y call a s)) ∙ (sight (called x y.given call a) y s.behind).own ∙ ap (λ (ss : List Sent). ss ++ sents_by x.policy x.end call a) (sym (sight x y s.gives).own))
 
 -- ---- the clause
 
 -- that a poll reads the window makes nothing wait
-reads_pends : (control : window.Control) (call : Call) (e : End) (q : Thing) → IsPending (reads_window control call e) q → IsPending e q
-reads_pends control (calls.Poll now) e Ack is = is
-reads_pends control (calls.Poll now) e Ping is = is
-reads_pends control (calls.Poll now) e Probe is = is
-reads_pends control (calls.Poll now) e (Message m) is = is
-reads_pends control (calls.Poll now) e (Byte id o) is = is
-reads_pends control (calls.Poll now) e (Fin id) is = is
-reads_pends control (calls.Poll now) e (Frame c) is = is
-reads_pends control call e q is = is
+reads_pends : (control : window.Control) (heard : Heard) (call : Call) (e : End) (q : Thing) → IsPending (reads_window control heard call e) q → IsPending e q
+reads_pends control heard (calls.Poll now) e Ack is = is
+reads_pends control heard (calls.Poll now) e Ping is = is
+reads_pends control heard (calls.Poll now) e Probe is = is
+reads_pends control heard (calls.Poll now) e (Message m) is = is
+reads_pends control heard (calls.Poll now) e (Byte id o) is = is
+reads_pends control heard (calls.Poll now) e (Fin id) is = is
+reads_pends control heard (calls.Poll now) e (Frame c) is = is
+reads_pends control heard call e q is = is
 
 -- and leaves the state
-reads_closing : (control : window.Control) (call : Call) (e : End) → (reads_window control call e).closing.state ≡ e.closing.state
-reads_closing control (calls.Poll now) e = refl
-reads_closing control call e = refl
+reads_closing : (control : window.Control) (heard : Heard) (call : Call) (e : End) → (reads_window control heard call e).closing.state ≡ e.closing.state
+reads_closing control heard (calls.Poll now) e = refl
+reads_closing control heard call e = refl
 
 -- what the observer knows behind a call
 watched_behind : (x y : Party) (call : Call) (a : Answer) → watch_of (called x y.given call a) y ≡ (seen_of x y call a).behind
@@ -629,7 +633,7 @@ module _ (r : Run) (end : World) (honest : IsHonest r) (run : IsRun r end) (side
   state =
       sym placed_here.state
       ∙ ap (λ (u : World). (end_at side u).closing.state) (one_behind r i placed_here.world front before_served placed_here.leads made.made.leads)
-      ∙ sym (reads_closing (control_at side front) call (end_at side front))
+      ∙ sym (reads_closing (control_at side front) (heard_at side front) call (end_at side front))
 
   told_more : until r side (suc i) ≡ until r side i ++ told_of call a x.end.closing.state ∷ []
   told_more =
@@ -678,7 +682,7 @@ module _ (r : Run) (end : World) (honest : IsHonest r) (run : IsRun r end) (side
       let stepped = opened_stepped (ap (λ (e : End). e.closing.state) (sym left) ∙ opened) in
       let pending : IsPending (called x y.given call a).end q = subst (λ (e : End). IsPending e q) left is in
       elim (begins x y call a stepped q pending) [
-        | inl before ↦ still (reads_pends (control_at side front) call (end_at side front) q before) (λ gone. gone_waits x y call a stepped q
+        | inl before ↦ still (reads_pends (control_at side front) (heard_at side front) call (end_at side front) q before) (λ gone. gone_waits x y call a stepped q
             (subst (λ (ss : List Sent). HasGone ss q) (ap (λ (v : Seen). went v.before v.behind) seen_same ∙ went_here x y call a stepped) gone) pending)
         | inr cause ↦ new.begins (subst (λ (v : Seen). HasCause v q) (sym seen_same) cause)
       ]
@@ -688,7 +692,6 @@ module _ (r : Run) (end : World) (honest : IsHonest r) (run : IsRun r end) (side
   other_same = ap (λ (u : World). end_at (other_side side) u) made.made.step.others ∙ other_stays side front (end_at side made.behind) _ _ _
 
 pub waiting_begins : (r : Run) (end : World) → IsHonest r → IsRun r end → WaitingBegins r
-unfolding made
 waiting_begins r end honest run side i call a w v served here leads leads_behind =
     let found = made_at Known known r end honest run i side call a here served in
     let before : w ≡ found.before = one_behind r i w found.before (served_before r.answers i served) leads found.made.leads in

@@ -16,6 +16,8 @@ use Rattle.quic_machine.specs.FrameCases.{begun}
 use Rattle.quic_machine.specs.Machine.{World, after_call}
 use Rattle.quic_machine.specs.CallCases.{is_delivery}
 use Rattle.quic_machine.specs.Poll.{rests}
+use Rattle.quic_machine.specs.declared.answers.LostReason.{LostReason}
+use Rattle.quic_machine.specs.declared.answers.LostReason.TheVariants as reasons
 use Rattle.quic_headline.specs.Runs.{Run, Told, In, handed, AreServed}
 use Rattle.quic_headline.specs.Observer.{Sent}
 use Rattle.quic_headline.specs.Headline.{IsHonest, IsRun}
@@ -30,8 +32,8 @@ use Rattle.quic_headline.proofs.Halves.Wrote.{wrote}
 use Rattle.quic_headline.proofs.Halves.Ghosts.{Saying}
 use Rattle.quic_headline.proofs.Halves.ReadGroup.{ReadsHold}
 use Rattle.quic_headline.proofs.Causes.Crowded.{IsCrowdedBy, crowded, up_to}
-use Rattle.quic_headline.proofs.Causes.Judged.{IsNew, Judged, nothing, taken, refused, judged, crowd_is}
-use Rattle.quic_headline.proofs.Causes.Shown.{reason_shown, call_closes}
+use Rattle.quic_headline.proofs.Causes.Judged.{IsNew, Judged, nothing, exhausted, drained, taken, refused, judged, crowd_is}
+use Rattle.quic_headline.proofs.Causes.Shown.{reason_shown, call_closes, IsUnread}
 use Rattle.quic_headline.proofs.Causes.Pieces.{WhyPieces, Held, held}
 use Rattle.quic_headline.proofs.Channel.Passing.{PassesAt}
 
@@ -94,11 +96,22 @@ module _ (p : Policy) (given : List (List ℕ)) (told : List Told) (t : Told) (w
 
 -- ---- a call
 
+-- an end that reads no packet closes for nothing that a peer did
+unread_blameless : (reason : LostReason) → IsUnread reason → IsBlameless (Some reason)
+unread_blameless reasons.NumberLimit is = tt
+unread_blameless reasons.KeyLimit is = tt
+unread_blameless reasons.Application is = tt
+unread_blameless reasons.Idle is = tt
+unread_blameless reason is = absurd is
+
 -- what an end says of itself behind a call that hands it nothing
 apart_blameless : (p : Policy) (e : End) (theirs : List (List ℕ)) (call : Call) (a : Answer) → is_delivery call ≡ false → IsBlameless e.closing.reason → IsBlameless (after_call p e theirs call a).closing.reason
 apart_blameless p e theirs call a apart i = elim (call_closes p e theirs call a apart) [
   | inl k ↦ subst IsBlameless (sym k.reason) i
-  | inr shut ↦ subst IsBlameless (sym shut.0) tt
+  | inr shut ↦ elim shut.reason [
+    | inl same ↦ subst IsBlameless (sym same) i
+    | inr other ↦ subst IsBlameless (sym other.1) (unread_blameless other.0 other.2)
+  ]
 ]
 
 module _ (B : Way) (rests : RestsOn B) (x y : Party) (delivery : Delivery) (a : Answer) (c : Calls B x y (calls.Deliver delivery) a) (b : Blameless y x) where
@@ -123,6 +136,14 @@ module _ (B : Way) (rests : RestsOn B) (x y : Party) (delivery : Delivery) (a : 
   delivered (nothing k none) = record {
     reason = subst IsBlameless (sym k.reason) b.reason;
     judged = judged_more x.policy y.final x.told t b.judged (λ h same call. absurd (none h same call));
+  }
+  delivered (exhausted none reason state) = record {
+    reason = subst IsBlameless (sym reason) tt;
+    judged = judged_more x.policy y.final x.told t b.judged (λ h same call. absurd (none h same call));
+  }
+  delivered (drained s among new still_open close fault answer reason state) = record {
+    reason = subst IsBlameless (sym reason) tt;
+    judged = judged_more x.policy y.final x.told t b.judged (λ h same call. inl (ap (λ (u : Told). u.answer) call ∙ answer));
   }
   delivered (taken s among new still_open none answer k) = record {
     reason = subst IsBlameless (sym k.reason) b.reason;

@@ -47,7 +47,7 @@ module _ (W : Way) (limits : LimitsHold W) where
 
   parts : Group Before Parts
   parts = beside Before (And Ids MessagesFit) (And AllStreams W)
-      (beside Before Ids MessagesFit (ids_group Before (record { packets = writing.packets; written = writing.written }) (λ x y h. h.1.0.0.0.1.0.writes.keeps.few)) (messages_group Before)) (beside Before AllStreams W (all_streams_group Before writing) limits.group)
+      (beside Before Ids MessagesFit (ids_group Before (record { packets = writing.packets; written = writing.written }) (λ x y h. h.1.0.0.0.1.0.writes.keeps.few)) (messages_group Before writing.packets)) (beside Before AllStreams W (all_streams_group Before writing) limits.group)
 
   sizes : SizesHold (And Before Parts) FitsOpen
   sizes = sizes_stand (And Before Parts) (record {

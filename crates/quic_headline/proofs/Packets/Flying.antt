@@ -28,7 +28,7 @@ use Rattle.quic_machine.specs.Acked.{without_known, reset_acked, stream_acked, p
 use Rattle.quic_machine.specs.Receive.{is_above, names_ungiven, take_frame}
 use Rattle.quic_machine.specs.Poll.{Draft, asking, datagram_size, packet_of, after_given, draft_as, Leaving}
 use Rattle.quic_machine.specs.Timeouts.{loss_judged, loss_expired}
-use Rattle.quic_machine.specs.FrameCases.{OnStreams, named, ack_taken, passed, streams_acked_keep, resets_acked_keep, packets_lost_keep, frame_leaves, frames_taken, by_marks, IsApart, apart_same}
+use Rattle.quic_machine.specs.FrameCases.{OnStreams, named, ack_taken, passed, streams_acked_keep, resets_acked_keep, packets_lost_keep, frame_leaves, frames_taken, by_marks, IsApart, apart_leaves}
 use Rattle.quic_machine.specs.PollCases.{ready_at, frames_padded, Composes, composes}
 use Rattle.quic_headline.specs.Runs.{In, names, destination}
 use Rattle.quic_headline.specs.Observer.{Sent, Terms, terms_of, asks_of, Flight, latest, late_by, is_lost, after_losses, is_greatest, of_number, measures, rtt_behind, settled_by, after_ack, after_frames, is_behind_asked, unasked, without_oldest, kept_flying, and_flying, waited, probe_due, due_or, loss_due, most_probes, expired_for, sent_as}
@@ -65,7 +65,7 @@ held e = record { numbers = e.numbers; closing = e.closing; transport = e.transp
 
 -- by what it judges losses
 abbrev pub terms_in : Held → Terms
-terms_in h = record { threshold = h.transport.packet_threshold; part = h.transport.time_threshold; exponent = h.peer.ack_delay_exponent; delay = h.peer.max_ack_delay * 1000000 }
+terms_in h = record { threshold = h.transport.packet_threshold; part = h.transport.time_threshold; exponent = h.peer.ack_delay_exponent; delay = h.peer.max_ack_delay * 1000000; keep_alive = h.transport.keep_alive_interval }
 
 -- the last that asks is the greatest that asks, and went when that did
 abbrev pub IsAsked : Option Sent → Tracking → Type 0
@@ -360,7 +360,7 @@ module _ (t : Terms) (now : ℕ) (frames : List FrameValue) (P : List Sent → L
   other_flies f x e on among i = record { waits = frame_leaves (λ (g : End). Waits t now x (held g)) f e on (λ u. i.waits); holds = c.on_streams x.flying x.acked f e among on i.holds }
 
   apart_flies : (f : FrameValue) (x : Flight) (e : End) → IsApart f → In f frames → Flying x e → Flying x (take_frame f e).end
-  apart_flies f x e apart among i = record { waits = subst (λ (g : End). Waits t now x (held g)) (sym (apart_same f e apart)) i.waits; holds = c.apart x.flying x.acked f e among apart i.holds }
+  apart_flies f x e apart among i = record { waits = apart_leaves (λ (g : End). Waits t now x (held g)) f e apart (λ c. i.waits) (λ c most. i.waits); holds = c.apart x.flying x.acked f e among apart i.holds }
 
   -- any frame that is taken
   frame_flies : (f : FrameValue) (x : Flight) (e : End) → (take_frame f e).fault ≡ None → In f frames → Flying x e → Flying (after_frames t now (f ∷ []) x) (take_frame f e).end

@@ -9,10 +9,9 @@ use Rattle.quic_headline.specs.Causes.{NumberLimit}
 use Rattle.quic_headline.specs.Moments.{LossMoments, LossTimerQuiet, AckMoments}
 use Rattle.quic_headline.specs.Resets.{ResetsAreTold}
 use Rattle.quic_headline.specs.Ids.{IdsAreNew, AcceptedWereOpened}
-use Rattle.quic_headline.specs.Polls.{PacerSetsItsTimer, AskingGoesWhereLet, ProbesPass, WindowIsOfHistory}
+use Rattle.quic_headline.specs.Polls.{PacerSetsItsTimer, AskingGoesWhereLet, WindowIsOfHistory}
 use Rattle.quic_headline.specs.Sizes.{SizeIsOfHistory, SizesMove, DatagramsAreSized}
 use Rattle.quic_headline.specs.Headline.{IsHonest, IsRun, OrderedPrefix, Slices, Once, EndAfterAll, BlockedOnlyWithoutBytes, AcceptsAll, FinishedMeansArrived, AcknowledgedWereTaken, NamesWereTaken, OpensExactly, NewestOpens, NumbersRise}
-use Rattle.quic_headline.specs.ConnectionIds.{SentToFirstId, NoUnknownId, FirstIdStays}
 use Rattle.quic_headline.proofs.Halves.Ready.{Ready, ready_probes, ready_group}
 use Rattle.quic_headline.proofs.Places.Everything as everything
 use Rattle.quic_headline.proofs.Steps.Pacing as pacing
@@ -74,15 +73,6 @@ opens_exactly = everything.opens_exactly Ready ready
 pub newest_opens : (r : Run) (end : World) → IsHonest r → IsRun r end → NewestOpens r
 newest_opens = everything.newest_opens Ready ready
 
-pub sent_to_first_id : (r : Run) (end : World) → IsHonest r → IsRun r end → SentToFirstId r
-sent_to_first_id = everything.sent_to_first_id Ready ready
-
-pub no_unknown_id : (r : Run) (end : World) → IsHonest r → IsRun r end → NoUnknownId r
-no_unknown_id = everything.no_unknown_id Ready ready
-
-pub first_id_stays : (r : Run) (end : World) → IsHonest r → IsRun r end → FirstIdStays r
-first_id_stays = everything.first_id_stays Ready ready
-
 pub numbers_rise : (r : Run) (end : World) → IsHonest r → IsRun r end → NumbersRise r
 numbers_rise = everything.numbers_rise Ready ready
 
@@ -130,6 +120,3 @@ sizes_move = everything.sizes_move Ready ready
 
 pub datagrams_are_sized : (r : Run) (end : World) → IsHonest r → IsRun r end → DatagramsAreSized r
 datagrams_are_sized = everything.datagrams_are_sized Ready ready
-
-pub probes_pass : (r : Run) (end : World) → IsHonest r → IsRun r end → ProbesPass r
-probes_pass = everything.probes_pass Ready ready

@@ -14,8 +14,8 @@ use Rattle.quic_machine.specs.declared.run.Answer.{Answer}
 use Rattle.quic_machine.specs.declared.run.Answer.TheVariants as answers
 use Rattle.quic_machine.specs.Policy.{Policy}
 use Rattle.quic_machine.specs.Parts.{Waiting}
-use Rattle.quic_machine.specs.End.{End}
-use Rattle.quic_machine.specs.Poll.{Polled, Draft, no_frames, zeros_behind, with_signal_frames, ping_if, with_control_frames, with_message_frames, with_asking, ack_of, with_ack, ack_fits, ack_if, composed_if, composed, lazied, draft_as, goes, whole, alone, probe, nothing, closing, Leaving, Ready, polled}
+use Rattle.quic_machine.specs.End.{End, closed_by, with_closing}
+use Rattle.quic_machine.specs.Poll.{Polled, Draft, no_frames, zeros_behind, with_signal_frames, closing, ping_if, with_control_frames, with_message_frames, with_asking, ack_of, with_ack, ack_fits, ack_if, composed_if, composed, lazied, draft_as, goes, whole, alone, probe, nothing, Leaving, Ready, polled}
 use Rattle.quic_machine.specs.DraftLaws.{Writing, drops_of, entry_of, half_of, message_of, by_entries, by_messages, by_streams}
 use Rattle.quic_machine.specs.Puts as puts
 use Rattle.quic_machine.specs.PollCases.{ready_at, draft_at, by_probed, by_poll_to}
@@ -23,10 +23,12 @@ use Rattle.quic_machine.specs.Machine.{gave}
 use Rattle.quic_headline.specs.Runs.{folded}
 use Rattle.quic_headline.specs.Observer.{Sent, first_watch}
 use Rattle.quic_headline.specs.Waited.{stands, is_ping, asks_ping, Wants, wants_told, no_wants}
+use Rattle.quic_machine.specs.Closing.{ticked}
+use Rattle.quic_headline.proofs.Packets.Closes.{by_closes}
 use Rattle.quic_headline.proofs.Packets.Entries.{IsControl, control_of}
 use Rattle.quic_headline.proofs.Packets.Intakes.{folded_more}
 use Rattle.quic_headline.proofs.Packets.Probes.{by_going}
-use Rattle.quic_headline.proofs.Places.Parties.{sent_by, sent_if, sents_by, told_of, Party, called, lens}
+use Rattle.quic_headline.proofs.Places.Parties.{sent_by, sent_if, sents_by, told_of, Party, called, lens, sent_as}
 use Rattle.quic_headline.proofs.Places.Groups.{Calls, Group}
 use Rattle.quic_headline.proofs.Places.Steps.{poll_answer}
 use Rattle.quic_headline.proofs.Timers.Still.{was_open}
@@ -34,6 +36,7 @@ use Rattle.quic_headline.proofs.Timers.Watched.{Observed, went_behind}
 use Rattle.quic_headline.proofs.Steps.Probes.{begun}
 use Rattle.quic_headline.proofs.Waited.Pings.{none_padded, ready_waiting, call_pinged}
 use Rattle.quic_headline.proofs.Waited.Group.{wants_of, wants_watch}
+use Rattle.quic_headline.proofs.Packets.Sends.{by_sends}
 
 -- ---- what is composed
 
@@ -127,22 +130,23 @@ module _ (p : Policy) (e : End) (now : ℕ) (waits : e.waiting.signals.ping ≡ 
   draft_has (closing f) = inr ready_has
   draft_has (nothing held) = inr ready_has
 
-  given_has : stands is_ping (sent_by e now ∷ []) ≡ false → (draft_at e now).end.waiting.signals.ping ≡ true
+  given_has : stands is_ping (sent_as e now (draft_at e now) ∷ []) ≡ false → (draft_at e now).end.waiting.signals.ping ≡ true
   given_has none = elim (draft_has g.leaving) [
-    | inl has ↦ absurd (both_ways (stands is_ping (sent_by e now ∷ [])) none
+    | inl has ↦ absurd (both_ways (stands is_ping (sent_as e now (draft_at e now) ∷ [])) none
         (or_left (list_any is_ping ((draft_at e now).frames ++ replicate (zeros_behind (draft_at e now)) padding)) false
         (list_any-append is_ping (draft_at e now).frames (replicate (zeros_behind (draft_at e now)) padding) ∙ or_left (list_any is_ping (draft_at e now).frames) (list_any is_ping (replicate (zeros_behind (draft_at e now)) padding)) has)))
     | inr left ↦ left
   ]
 
   -- a poll that gives none leaves it
-  pub polled_has : (polled p e now).end.closing.state ≡ states.Open → stands is_ping (sent_if (gave (answers.Poll (polled p e now).answer)) (sent_by e now)) ≡ false → (polled p e now).end.waiting.signals.ping ≡ true
-  polled_has = by_poll_to p e now (λ (q : Polled). q.end.closing.state ≡ states.Open → stands is_ping (sent_if (gave (answers.Poll q.answer)) (sent_by e now)) ≡ false → q.end.waiting.signals.ping ≡ true) (record {
+  pub polled_has : (polled p e now).end.closing.state ≡ states.Open → stands is_ping (sent_if (gave (answers.Poll (polled p e now).answer)) (sent_by p e now)) ≡ false → (polled p e now).end.waiting.signals.ping ≡ true
+  polled_has = by_sends p e now (λ (q : Polled) (ss : List Sent). q.end.closing.state ≡ states.Open → stands is_ping ss ≡ false → q.end.waiting.signals.ping ≡ true) (record {
     silent = λ opened none. waits;
     failed = λ opened none. waits;
     nothing = λ is quiet opened none. ready_has;
-    closes = λ opened none. cc;
-    gives = λ is may some. by_going (λ (x : End). x.closing.state ≡ states.Open → stands is_ping (sent_by e now ∷ []) ≡ false → x.waiting.signals.ping ≡ true) p (draft_at e now) (λ pacing opened none. given_has none);
+    repeats = λ is. ((λ opened none. let clash : states.Closing ≡ states.Open = sym is ∙ opened in cc), λ f goes opened none. let clash : states.Closing ≡ states.Open = sym is ∙ opened in cc);
+    closes = λ reason is bound. ((λ opened none. cc), λ f goes opened none. cc);
+    gives = λ is may some. by_going (λ (x : End). x.closing.state ≡ states.Open → stands is_ping (sent_as e now (draft_at e now) ∷ []) ≡ false → x.waiting.signals.ping ≡ true) p (draft_at e now) (λ pacing opened none. given_has none);
   })
 
 -- ---- the group
@@ -152,7 +156,7 @@ pub record Pinging (x y : Party) : Type 0 where
   pub pinged : x.end.closing.state ≡ states.Open → (wants_of x y).pinged ≡ true → x.end.waiting.signals.ping ≡ true
 
 -- whether it was asked for, behind a call
-pinged_behind : (x y : Party) (call : Call) (a : Answer) → Calls Observed x y call a → (wants_of (called x y.given call a) y).pinged ≡ (if stands is_ping (sents_by x.end call a) then false else asks_ping call || (wants_of x y).pinged)
+pinged_behind : (x y : Party) (call : Call) (a : Answer) → Calls Observed x y call a → (wants_of (called x y.given call a) y).pinged ≡ (if stands is_ping (sents_by x.policy x.end call a) then false else asks_ping call || (wants_of x y).pinged)
 pinged_behind x y call a c =
     ap (λ (w : Wants). w.pinged) (folded_more (wants_told (lens x y)) x.told (told_of call a x.end.closing.state) (no_wants (first_watch x.final x.began x.initial_rtt)))
     ∙ ap (λ (ss : List Sent). if stands is_ping ss then false else asks_ping call || (wants_of x y).pinged) (went_behind x y call a c (wants_of x y).watch (wants_watch x y))
@@ -163,11 +167,11 @@ no_more true c is = cc
 no_more false c is = (refl, is)
 
 call_pings : (x y : Party) (call : Call) (a : Answer) → Calls Observed x y call a → (called x y.given call a).end.closing.state ≡ states.Open → ((wants_of x y).pinged ≡ true → x.end.waiting.signals.ping ≡ true)
-    → (if stands is_ping (sents_by x.end call a) then false else asks_ping call || (wants_of x y).pinged) ≡ true → (called x y.given call a).end.waiting.signals.ping ≡ true
+    → (if stands is_ping (sents_by x.policy x.end call a) then false else asks_ping call || (wants_of x y).pinged) ≡ true → (called x y.given call a).end.waiting.signals.ping ≡ true
 call_pings x y (calls.Poll now) a c still i is =
-    let both = no_more (stands is_ping (sent_if (gave a) (sent_by x.end now))) (wants_of x y).pinged is in
+    let both = no_more (stands is_ping (sent_if (gave a) (sent_by x.policy x.end now))) (wants_of x y).pinged is in
     let said : a ≡ answers.Poll (polled x.policy x.end now).answer = poll_answer x.policy x.end now a c.answer c.served in
-    polled_has x.policy x.end now (i both.1) still (sym (ap (λ (b : Answer). stands is_ping (sent_if (gave b) (sent_by x.end now))) said) ∙ both.0)
+    polled_has x.policy x.end now (i both.1) still (sym (ap (λ (b : Answer). stands is_ping (sent_if (gave b) (sent_by x.policy x.end now))) said) ∙ both.0)
 call_pings x y calls.Ping a c still i is = refl
 call_pings x y call a c still i is = elim (call_pinged x.policy x.end y.given call a refl) [
   | inl asks ↦ (let clash : false ≡ true = asks in cc)

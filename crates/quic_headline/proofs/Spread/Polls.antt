@@ -19,10 +19,10 @@ use Rattle.quic_machine.specs.declared.run.Answer.TheVariants as answers
 use Rattle.quic_machine.specs.declared.run.View.{View}
 use Rattle.quic_machine.specs.Policy.{Policy}
 use Rattle.quic_machine.specs.Parts.{Path, current_mtu}
-use Rattle.quic_machine.specs.End.{End, with_number_given, streams_at}
+use Rattle.quic_machine.specs.End.{End, with_number_given, streams_at, closed_by}
 use Rattle.quic_machine.specs.Control.{bytes_in_flight, is_window_full, pacer_asked}
 use Rattle.quic_spaces.specs.Numbers.{can_number}
-use Rattle.quic_machine.specs.Poll.{Polled, Draft, zeros_behind, asking, datagram_size, tracked, paid_if, after_given, least_room, message_waits, asks_to_go, whole, Ready, goes, draft_of, sends, polled_if, polled_in, polled}
+use Rattle.quic_machine.specs.Poll.{Polled, Draft, zeros_behind, asking, datagram_size, tracked, paid_if, after_given, least_room, message_waits, asks_to_go, whole, Ready, goes, draft_of, sends, polled_if, polled_in, polled, bounds}
 use Rattle.quic_machine.specs.DraftLaws.{HasRoom}
 use Rattle.quic_machine.specs.PollCases.{ready_at, draft_at, may_leave_at, composes}
 use Rattle.quic_machine.specs.Machine.{gave}
@@ -32,6 +32,8 @@ use Rattle.quic_headline.specs.Polls.{seen_at, pacing_timer, bytes_flying}
 use Rattle.quic_headline.specs.Queue.{waiting_messages}
 use Rattle.quic_headline.specs.Waited.{is_ping, wants}
 use Rattle.quic_headline.specs.Spread.{gone_at, ask_at, names_for, leaves_message, is_paced, one_paced, asks_pacer, asked_if, charges, paces_by}
+use Rattle.quic_machine.specs.declared.answers.LostReason.{LostReason}
+use Rattle.quic_headline.proofs.Packets.Closes.{by_closes}
 use Rattle.quic_headline.proofs.Packets.Invariant.{Acks}
 use Rattle.quic_headline.proofs.Packets.Composed.{Spelling}
 use Rattle.quic_headline.proofs.Packets.Going.{Bringing}
@@ -97,7 +99,7 @@ module _ (K : Streams → Type 0) (spelling : Spelling K) (bringing : Bringing K
   g = ready_at e now
 
   abbrev s : Sent
-  s = sent_by e now
+  s = sent_by p e now
 
   -- the pacer behind the poll is this, by the lists
   abbrev Paced : Pacing → Type 0
@@ -254,10 +256,10 @@ module _ (K : Streams → Type 0) (spelling : Spelling K) (bringing : Bringing K
   pub polled_spread : e.closing.state ≡ states.Open → Behind (polled p e now)
   polled_spread opened = subst (λ (state : State). Behind (polled_in state p e now)) (sym opened) (going_case (goes g) refl)
     where
-      number_case : (b : Bool) → Behind (sends b p g)
-      number_case true still shown gone = given_paced (readied e now acks) shown gone
-      number_case false still shown gone = cc
+      bound_case : (o : Option LostReason) → Behind (sends o p g)
+      bound_case None = λ still shown gone. given_paced (readied e now acks) shown gone
+      bound_case (Some reason) = by_closes p (closed_by reason g.end) Behind (λ still shown gone. cc) (λ f goes still shown gone. cc)
 
       going_case : (b : Bool) → goes g ≡ b → Behind (polled_if b p g)
-      going_case true some still shown gone = number_case (can_number g.end.numbers) still shown gone
-      going_case false none still shown gone = nothing_paced (readied e now acks) none shown gone
+      going_case true some = bound_case (bounds p g.end)
+      going_case false none = λ still shown gone. nothing_paced (readied e now acks) none shown gone

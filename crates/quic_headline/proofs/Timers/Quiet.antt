@@ -232,20 +232,20 @@ pub record Unnamed (x y : Party) : Type 0 where
   pub quiet : IsQuiet (watch_of x y)
 
 -- what goes lies above all that went
-sends_above : (e : End) (call : Call) (a : Answer) (s : Sent) → In s (sents_by e call a) → e.numbers.next ≤ s.number
-sends_above e (calls.Poll now) a s i = go (gave a) i
+sends_above : (p : Policy) (e : End) (call : Call) (a : Answer) (s : Sent) → In s (sents_by p e call a) → e.numbers.next ≤ s.number
+sends_above p e (calls.Poll now) a s i = go (gave a) i
   where
-    go : (b : Bool) → In s (sent_if b (sent_by e now)) → e.numbers.next ≤ s.number
+    go : (b : Bool) → In s (sent_if b (sent_by p e now)) → e.numbers.next ≤ s.number
     go true (inl same) =
-        let number : s.number ≡ (sent_by e now).number = ap (λ (t : Sent). t.number) same in
+        let number : s.number ≡ (sent_by p e now).number = ap (λ (t : Sent). t.number) same in
         let near = (allocated_near e.filter e.numbers.next).0 in
         omega arith
     go true (inr j) = absurd j
     go false j = absurd j
-sends_above e call a s i = absurd i
+sends_above p e call a s i = absurd i
 
 -- so no ACK frame names it that came by then: the other took only what had gone
-sends_unnamed : (x y : Party) (call : Call) (a : Answer) → Calls Observed x y call a → (s : Sent) → In s (sents_by x.end call a) → IsNamed (came_to (called x y.given call a) y).took s.number → ⊥
+sends_unnamed : (x y : Party) (call : Call) (a : Answer) → Calls Observed x y call a → (s : Sent) → In s (sents_by x.policy x.end call a) → IsNamed (came_to (called x y.given call a) y).took s.number → ⊥
 sends_unnamed x y call a c s i named =
     let was : IsTaken (came_to y x).took s.number =
     named_taken y.sents (came_to (called x y.given call a) y).took (came_to y x).took c.takes_behind.0.taken c.takes_behind.0.named s.number named in
@@ -253,7 +253,7 @@ sends_unnamed x y call a c s i named =
     let below = c.gives.0.gives.below found.sent found.is.0 in
     let number = found.is.1 in
     let same = was.is in
-    let above = sends_above x.end call a s i in
+    let above = sends_above x.policy x.end call a s i in
     omega arith
 
 -- any call keeps it
@@ -273,8 +273,8 @@ quiet_step x y call a c before = record { quiet = subst (λ (v : Watch). IsQuiet
     leaves = told_leaves (lens x y) t w
 
     -- what went is what the end sends
-    sends : leaves.more ≡ sents_by x.end call a
-    sends = sym (went_is w after leaves.more leaves.own) ∙ went_is w after (sents_by x.end call a) (own_behind x y call a c w refl)
+    sends : leaves.more ≡ sents_by x.policy x.end call a
+    sends = sym (went_is w after leaves.more leaves.own) ∙ went_is w after (sents_by x.policy x.end call a) (own_behind x y call a c w refl)
 
     own : (s : Sent) → In s after.flight.flying → In s after.own
     own s i = subst (λ (ss : List Sent). In s ss) (sym leaves.own) (elim (leaves.flying s i) [

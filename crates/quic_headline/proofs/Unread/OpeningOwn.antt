@@ -6,7 +6,7 @@ use Rattle.std.proofs.lemmas.Bool.{cond_both}
 use Rattle.quic_wire_core.specs.declared.stream_id.Dir.{Dir}
 use Rattle.quic_wire_core.specs.declared.stream_id.Dir.TheVariants.{Bi, Uni}
 use Rattle.quic_wire_core.specs.StreamId.{dir_of, index_of}
-use Rattle.quic_wire.specs.Value.{FrameValue, StopSendingValue, AckValue, ack, stream, reset_stream, stop_sending, max_data, max_stream_data, max_streams, datagram}
+use Rattle.quic_wire.specs.Value.{FrameValue, StopSendingValue, AckValue, ack, stream, reset_stream, stop_sending, max_data, max_stream_data, max_streams, datagram, new_connection_id, retire_connection_id, path_response}
 use Rattle.quic_assembler.specs.declared.assembler.Chunk.{Chunk}
 use Rattle.quic_send_buffer.specs.declared.stream_meta.StreamMeta.{StreamMeta}
 use Rattle.quic_streams_parts.specs.declared.answers.Breach.{Breach}
@@ -47,12 +47,13 @@ use Rattle.quic_machine.specs.Receive.{is_above, names_ungiven, take_frame}
 use Rattle.quic_machine.specs.Poll as poll
 use Rattle.quic_machine.specs.LeaveCases.{by_expired, by_event}
 use Rattle.quic_machine.specs.CallCases.{is_delivery, by_call}
-use Rattle.quic_machine.specs.FrameCases.{Settling, named, ack_taken, acked_keeps, losses_keep, message_leaves}
+use Rattle.quic_machine.specs.FrameCases.{Settling, named, ack_taken, acked_keeps, losses_keep, message_leaves, apart_leaves}
 use Rattle.quic_machine.specs.Steps as steps
 use Rattle.quic_machine.specs.Machine.{IsAnswer, after_call}
 use Rattle.quic_headline.specs.Runs.{Next}
 use Rattle.quic_machine.specs.DraftLaws.{Writing, by_writing}
 use Rattle.quic_machine.specs.Puts as puts
+use Rattle.quic_headline.proofs.Packets.Apart.{by_waits, by_next_id}
 use Rattle.quic_streams_laws.specs.QuietLaws.{by_tells}
 use Rattle.quic_headline.proofs.Packets.Probes.{poll_state}
 
@@ -267,7 +268,10 @@ module _ (own : Counts) where
     on_streams = λ on answer. on_streams_own (is_open e.closing.state) (streams_at e) call a quiet (answer is) i;
     on_messages = λ on answer. i;
     pings = i;
-    times = λ now expiry set. by_expired e now (λ (f : End). Own f.streams) (λ pending tracking timers runs packets. i) (λ pending timers runs. losses_keep (λ (x : End). Own x.streams) settling (with_closing e (ticked e.closing now)) i) expiry;
+    closes = λ reason f now own. i;
+    waits = λ now b set. by_waits (λ (f : End). Own f.streams) b (with_closing e (ticked e.closing now)) i i;
+    changes_id = λ uses answer. by_next_id (λ (f : End). Own f.streams) e a i (λ c. i) (λ c most. i);
+    times = λ now expiry set. by_expired p.words e now (λ (f : End). Own f.streams) (λ pending tracking timers waits asked runs packets. i) (λ pending timers waits asked runs. losses_keep (λ (x : End). Own x.streams) settling (with_closing e (ticked e.closing now)) i) (λ x j. j) expiry;
     polls = λ now set. poll_state Own p e now composed_own i;
     hears = λ arrival d set. cc;
     tells = λ asks. by_event e (λ (f : End). Own f.streams) i (λ told. polled_own e.streams i);
@@ -328,4 +332,7 @@ module _ (own : Counts) where
       go (max_streams g) = count_own (dir_named g.one_way) g.count e.streams i
       go (ack a) = acked a (names_ungiven a e)
       go (datagram m) = message_leaves (λ (x : End). Own x.streams) m e i (λ left. i)
+      go (new_connection_id g) = apart_leaves (λ (x : End). Own x.streams) (new_connection_id g) e tt (λ c. i) (λ c most. i)
+      go (retire_connection_id n) = apart_leaves (λ (x : End). Own x.streams) (retire_connection_id n) e tt (λ c. i) (λ c most. i)
+      go (path_response token) = apart_leaves (λ (x : End). Own x.streams) (path_response token) e tt (λ c. i) (λ c most. i)
       go other = i

@@ -20,7 +20,7 @@ use Rattle.quic_machine.specs.declared.run.Answer.{Answer}
 use Rattle.quic_machine.specs.declared.run.Answer.TheVariants as answers
 use Rattle.quic_machine.specs.Policy.{Policy}
 use Rattle.quic_machine.specs.Parts.{Waiting}
-use Rattle.quic_machine.specs.End.{End}
+use Rattle.quic_machine.specs.End.{End, closed_by, with_closing}
 use Rattle.quic_machine.specs.Receive.{asks_in, after_taken, Outcome}
 use Rattle.quic_machine.specs.Poll.{Polled, zeros_behind, polled}
 use Rattle.quic_machine.specs.PollCases.{ready_at, draft_at, frames_at, by_poll_to, may_leave_at}
@@ -32,12 +32,14 @@ use Rattle.quic_headline.specs.Observer.{Sent, Watch, first_watch, news, Lens, w
 use Rattle.quic_headline.specs.Moments.{acknowledges}
 use Rattle.quic_headline.specs.AcksDue.{takes_marked}
 use Rattle.quic_headline.specs.Waited.{one_asks, count_silent, may_come, stands, is_ping, asks_ping, Wants, since_behind, wants_behind, wants_told, no_wants}
+use Rattle.quic_machine.specs.Closing.{ticked}
+use Rattle.quic_headline.proofs.Packets.Closes.{by_closes}
 use Rattle.quic_headline.proofs.Packets.Intakes.{folded_more}
 use Rattle.quic_headline.proofs.Packets.Delivered.{Arrivals, arrived, with_taken}
 use Rattle.quic_headline.proofs.Packets.Watching.{none_new, one_new}
 use Rattle.quic_headline.proofs.Packets.Probes.{by_going}
 use Rattle.quic_headline.proofs.Packets.Group.{meets}
-use Rattle.quic_headline.proofs.Places.Parties.{sent_by, sent_if, sents_by, told_of, Party, called, came_to, lens, watch_of}
+use Rattle.quic_headline.proofs.Places.Parties.{sent_by, sent_if, sents_by, told_of, Party, called, came_to, lens, watch_of, sent_as}
 use Rattle.quic_headline.proofs.Places.Groups.{Calls, Group}
 use Rattle.quic_headline.proofs.Places.Coming.{by_coming}
 use Rattle.quic_headline.proofs.Places.Steps.{poll_answer}
@@ -48,6 +50,7 @@ use Rattle.quic_headline.proofs.Rest.Standing.{frames_acks, call_leaves}
 use Rattle.quic_headline.proofs.Waited.Marks.{call_due}
 use Rattle.quic_headline.proofs.Waited.Flags.{Flag, says, flag, IsSaid, draft_said, said_padded}
 use Rattle.quic_headline.proofs.Waited.Pings.{ready_still, polled_pinged, call_pinged}
+use Rattle.quic_headline.proofs.Packets.Sends.{by_sends}
 
 -- ---- what is to be acknowledged
 
@@ -132,8 +135,10 @@ arrivals_count : (e : End) (now n : ℕ) (frames : List FrameValue) (i : Intake)
 arrivals_count e now n frames i packets was = record {
   ignored = λ reason opened. none_counts packets i e (was opened).0 (was opened).1 opened;
   noted = λ state reason opened. absurd (let clash : states.Closing ≡ states.Open = sym state ∙ opened in cc);
-  takes = λ state new none mark opened. takes mark (was state);
-  refuses = λ state new f is opened. absurd cc;
+  takes = λ words state new none mark opened. takes mark (was state);
+  drains = λ words state new close is opened. absurd cc;
+  refuses = λ words state new f is opened. absurd cc;
+  exhausts = λ state opened. absurd cc;
 }
   where
     left : End
@@ -161,16 +166,16 @@ module _ (p : Policy) (e : End) (now : ℕ) (k : Flag) where
 
   -- what waits behind a poll did before where its end was ready; and what went waits no more
   pub polled_flags : (polled p e now).end.closing.state ≡ states.Open → (flag k (polled p e now).end.waiting.frames ≡ true → (flag k base ≡ true) ⊎ (flag k e.waiting.frames ≡ true))
-      × (stands (says k) (sent_if (gave (answers.Poll (polled p e now).answer)) (sent_by e now)) ≡ true → flag k (polled p e now).end.waiting.frames ≡ false)
-  polled_flags = by_poll_to p e now (λ (q : Polled). q.end.closing.state ≡ states.Open → (flag k q.end.waiting.frames ≡ true → (flag k base ≡ true) ⊎ (flag k e.waiting.frames ≡ true))
-      × (stands (says k) (sent_if (gave (answers.Poll q.answer)) (sent_by e now)) ≡ true → flag k q.end.waiting.frames ≡ false)) (record {
-        silent = λ opened. ((λ set. inr set), λ some. cc);
-        failed = λ opened. ((λ set. inr set), λ some. cc);
-        nothing = λ is none opened. ((λ set. inl set), λ some. cc);
-        closes = λ opened. cc;
-        gives = λ is may some. by_going (λ (x : End). x.closing.state ≡ states.Open → (flag k x.waiting.frames ≡ true → (flag k base ≡ true) ⊎ (flag k e.waiting.frames ≡ true)) × (stands (says k) (sent_by e now ∷ []) ≡ true → flag k x.waiting.frames ≡ false)) p (draft_at e now)
-            (λ pacing opened. ((λ set. inl (said.waits set)), λ some. said.gone (sym (said_padded base k (draft_at e now).frames (zeros_behind (draft_at e now))) ∙ only (list_any (says k) (frames_at e now)) some)));
-      })
+      × (stands (says k) (sent_if (gave (answers.Poll (polled p e now).answer)) (sent_by p e now)) ≡ true → flag k (polled p e now).end.waiting.frames ≡ false)
+  polled_flags = by_sends p e now (λ (q : Polled) (ss : List Sent). q.end.closing.state ≡ states.Open → (flag k q.end.waiting.frames ≡ true → (flag k base ≡ true) ⊎ (flag k e.waiting.frames ≡ true)) × (stands (says k) ss ≡ true → flag k q.end.waiting.frames ≡ false)) (record {
+    silent = λ opened. ((λ set. inr set), λ some. cc);
+    failed = λ opened. ((λ set. inr set), λ some. cc);
+    nothing = λ is none opened. ((λ set. inl set), λ some. cc);
+    repeats = λ is. ((λ opened. let clash : states.Closing ≡ states.Open = sym is ∙ opened in cc), λ f goes opened. let clash : states.Closing ≡ states.Open = sym is ∙ opened in cc);
+    closes = λ reason is bound. ((λ opened. cc), λ f goes opened. cc);
+    gives = λ is may some. by_going (λ (x : End). x.closing.state ≡ states.Open → (flag k x.waiting.frames ≡ true → (flag k base ≡ true) ⊎ (flag k e.waiting.frames ≡ true)) × (stands (says k) (sent_as e now (draft_at e now) ∷ []) ≡ true → flag k x.waiting.frames ≡ false)) p (draft_at e now)
+        (λ pacing opened. ((λ set. inl (said.waits set)), λ some. said.gone (sym (said_padded base k (draft_at e now).frames (zeros_behind (draft_at e now))) ∙ only (list_any (says k) (frames_at e now)) some)));
+  })
     where
       said : IsSaid base k (draft_at e now)
       said = draft_said base k (ready_at e now).leaving (ready_at e now).end (may_leave_at e now) refl
@@ -214,7 +219,7 @@ module _ (x y : Party) (call : Call) (a : Answer) (c : Calls Observed x y call a
   next = called x y.given call a
 
   abbrev sents : List Sent
-  sents = sents_by x.end call a
+  sents = sents_by x.policy x.end call a
 
   abbrev came : List Packet
   came = news (came_to x y) (came_to next y)
@@ -271,7 +276,7 @@ module _ (x y : Party) (call : Call) (a : Answer) (c : Calls Observed x y call a
 
   acks_next : (b : Bool) → acknowledges sents ≡ b → IsCounted (if b then [] else came ++ w.packets) (if b then false else mark || w.marked) next.end.acknowledging
   acks_next true some =
-      let none = call_answered (λ (p : Pending) (o : Option ℕ). (p.due ≡ false) × (p.asking ≡ 0) × (p.silent ≡ 0)) (λ p. (refl, refl, refl)) x.policy x.end y.given call a c.answer c.served some in
+      let none = call_answered (λ (p : Pending) (o : Option ℕ). (p.due ≡ false) × (p.asking ≡ 0) × (p.silent ≡ 0)) (λ p. (refl, refl, refl)) x.policy x.end y.given call a c.gives.0.owes c.answer c.served some in
       record { due = λ due. absurd (both_ways next.end.acknowledging.due none.0 due); asking = λ asks. (let zero = none.1 in absurd (omega arith)); silent = (let zero = none.2 in omega arith) }
   acks_next false none = record { due = due_on none (is_delivery call) refl; asking = (counts_on none opened_behind).0; silent = (counts_on none opened_behind).1 }
 
@@ -284,11 +289,11 @@ module _ (x y : Party) (call : Call) (a : Answer) (c : Calls Observed x y call a
 -- by which call it is
 module _ (x y : Party) (a : Answer) where
   pinged_next : (call : Call) (c : Calls Observed x y call a) → (called x y.given call a).end.closing.state ≡ states.Open → IsWanted (wants_of x y) x.end → (called x y.given call a).end.waiting.signals.ping ≡ true
-      → (if stands is_ping (sents_by x.end call a) then false else asks_ping call || (wants_of x y).pinged) ≡ true
+      → (if stands is_ping (sents_by x.policy x.end call a) then false else asks_ping call || (wants_of x y).pinged) ≡ true
   pinged_next (calls.Poll now) c still i set =
       let said : a ≡ answers.Poll (polled x.policy x.end now).answer = poll_answer x.policy x.end now a c.answer c.served in
       let left = polled_pinged x.policy x.end now still set in
-      let none : stands is_ping (sent_if (gave a) (sent_by x.end now)) ≡ false = ap (λ (b : Answer). stands is_ping (sent_if (gave b) (sent_by x.end now))) said ∙ left.0 in
+      let none : stands is_ping (sent_if (gave a) (sent_by x.policy x.end now)) ≡ false = ap (λ (b : Answer). stands is_ping (sent_if (gave b) (sent_by x.policy x.end now))) said ∙ left.0 in
       ap (λ (b : Bool). if b then false else (wants_of x y).pinged) none ∙ i.pinged left.1
   pinged_next call c still i set = go (call_pinged x.policy x.end y.given call a refl)
     where
@@ -296,20 +301,20 @@ module _ (x y : Party) (a : Answer) where
       go (inl asked) = or_left (asks_ping call) (wants_of x y).pinged asked
       go (inr same) = or_right (asks_ping call) (wants_of x y).pinged (i.pinged (sym same ∙ set))
 
-  gone_next : (call : Call) (c : Calls Observed x y call a) → (called x y.given call a).end.closing.state ≡ states.Open → IsWanted (wants_of x y) x.end → (k : Flag) → stands (says k) (since_behind call (wants_of x y) (sents_by x.end call a)) ≡ true → flag k (called x y.given call a).end.waiting.frames ≡ false
+  gone_next : (call : Call) (c : Calls Observed x y call a) → (called x y.given call a).end.closing.state ≡ states.Open → IsWanted (wants_of x y) x.end → (k : Flag) → stands (says k) (since_behind call (wants_of x y) (sents_by x.policy x.end call a)) ≡ true → flag k (called x y.given call a).end.waiting.frames ≡ false
   gone_next (calls.Poll now) c still i k some = go (nat_lt 0 (wants_of x y).watch.flight.probes) refl some
     where
       goes_now : List Sent
-      goes_now = sent_if (gave a) (sent_by x.end now)
+      goes_now = sent_if (gave a) (sent_by x.policy x.end now)
 
       said : a ≡ answers.Poll (polled x.policy x.end now).answer
       said = poll_answer x.policy x.end now a c.answer c.served
 
-      left : (flag k (polled x.policy x.end now).end.waiting.frames ≡ true → (flag k (ready_at x.end now).end.waiting.frames ≡ true) ⊎ (flag k x.end.waiting.frames ≡ true)) × (stands (says k) (sent_if (gave (answers.Poll (polled x.policy x.end now).answer)) (sent_by x.end now)) ≡ true → flag k (polled x.policy x.end now).end.waiting.frames ≡ false)
+      left : (flag k (polled x.policy x.end now).end.waiting.frames ≡ true → (flag k (ready_at x.end now).end.waiting.frames ≡ true) ⊎ (flag k x.end.waiting.frames ≡ true)) × (stands (says k) (sent_if (gave (answers.Poll (polled x.policy x.end now).answer)) (sent_by x.policy x.end now)) ≡ true → flag k (polled x.policy x.end now).end.waiting.frames ≡ false)
       left = polled_flags x.policy x.end now k still
 
       new : stands (says k) goes_now ≡ true → flag k (polled x.policy x.end now).end.waiting.frames ≡ false
-      new there = left.1 (sym (ap (λ (b : Answer). stands (says k) (sent_if (gave b) (sent_by x.end now))) said) ∙ there)
+      new there = left.1 (sym (ap (λ (b : Answer). stands (says k) (sent_if (gave b) (sent_by x.policy x.end now))) said) ∙ there)
 
       old : x.end.tracking.probes ≡ 0 → stands (says k) (wants_of x y).since ≡ true → flag k (polled x.policy x.end now).end.waiting.frames ≡ false
       old none there = flips (flag k (polled x.policy x.end now).end.waiting.frames) refl
@@ -337,7 +342,7 @@ wanting_step x y call a c i = record { wanted = λ still. kept still (i.wanted (
   where
     kept : (called x y.given call a).end.closing.state ≡ states.Open → IsWanted (wants_of x y) x.end → IsWanted (wants_of (called x y.given call a) y) (called x y.given call a).end
     kept still j = subst (λ (w : Wants). IsWanted w (called x y.given call a).end) (sym (wants_next x y call a c still j)) (record {
-      acks = acks_next x y call a c still j (acknowledges (sents_by x.end call a)) refl;
+      acks = acks_next x y call a c still j (acknowledges (sents_by x.policy x.end call a)) refl;
       pinged = pinged_next x y a call c still j;
       gone = gone_next x y a call c still j;
     })

@@ -15,8 +15,8 @@ use Rattle.quic_machine.specs.Arrival.{delivered_by}
 use Rattle.quic_machine.specs.Policy.{Policy}
 use Rattle.quic_machine.specs.Parts.{Waiting, signals_wait}
 use Rattle.quic_machine.specs.Closing.{ticked}
-use Rattle.quic_machine.specs.End.{End, with_closing}
-use Rattle.quic_machine.specs.Poll.{Polled, Draft, no_frames, zeros_behind, with_signal_frames, ping_if, with_control_frames, with_message_frames, with_asking, with_ack, ack_fits, ack_if, composed_if, composed, lazied, message_waits, asks_to_go, waits, probed, gated, draft_as, goes, goes_as, whole, alone, probe, nothing, Leaving, Ready, polled, closing}
+use Rattle.quic_machine.specs.End.{End, with_closing, closed_by}
+use Rattle.quic_machine.specs.Poll.{Polled, Draft, no_frames, zeros_behind, with_signal_frames, ping_if, with_control_frames, with_message_frames, with_asking, with_ack, ack_fits, ack_if, composed_if, composed, lazied, message_waits, asks_to_go, waits, probed, gated, draft_as, goes, goes_as, whole, alone, probe, nothing, Leaving, Ready, polled, closing, leaves_unless}
 use Rattle.quic_machine.specs.DraftLaws.{by_entries, by_messages, by_streams}
 use Rattle.quic_machine.specs.PollCases.{ready_at, draft_at, gate_leaves, search_leaves, by_poll_to, ready_closes_not}
 use Rattle.quic_machine.specs.FrameCases.{Settling, Receives, named, acked_keeps, losses_keep, frame_keeps, frame_leaves, by_received, apart_leaves}
@@ -24,18 +24,27 @@ use Rattle.quic_machine.specs.Steps as steps
 use Rattle.quic_machine.specs.InjectionCases.{by_injection}
 use Rattle.quic_machine.specs.LeaveCases.{by_expiry, by_expired, by_event}
 use Rattle.quic_machine.specs.CallCases.{is_poll}
-use Rattle.quic_machine.specs.Machine.{after_delivered, after_call, gave}
+use Rattle.quic_machine.specs.Machine.{after_delivered, after_call, gave, says_last}
+use Rattle.quic_headline.proofs.Packets.Apart.{by_waits}
 use Rattle.quic_headline.specs.Waited.{stands, is_ping, asks_ping}
+use Rattle.quic_headline.proofs.Packets.Closes.{by_closes}
 use Rattle.quic_headline.proofs.Packets.Probes.{by_going}
-use Rattle.quic_headline.proofs.Places.Parties.{sent_by, sent_if}
+use Rattle.quic_headline.proofs.Places.Parties.{sent_by, sent_if, sent_as}
 use Rattle.quic_headline.proofs.Steps.Probes.{begun, ready_whole}
 use Rattle.quic_headline.proofs.Steps.Probing.{IsProbing, unprobed, probe_goes}
+use Rattle.quic_headline.proofs.Packets.Heard.{by_taken}
+use Rattle.quic_headline.proofs.Packets.Sends.{by_sends}
+use Rattle.quic_headline.specs.Observer.{Sent}
 
 -- ---- an end that is ready
 
 -- what waits is what waits once something does for each probe of losses
 pub ready_waiting : (e : End) (now : ℕ) → (ready_at e now).end.waiting ≡ (probed (begun e now)).waiting
-ready_waiting e now = ap (λ (x : End). x.waiting) (search_leaves (gated (probed (begun e now)))) ∙ ap (λ (x : End). x.waiting) (gate_leaves (probed (begun e now)))
+ready_waiting e now = go (probed (begun e now)).path.blocked
+  where
+    go : (b : Bool) → (leaves_unless b (probed (begun e now))).end.waiting ≡ (probed (begun e now)).waiting
+    go true = refl
+    go false = ap (λ (x : End). x.waiting) (search_leaves (gated (probed (begun e now)))) ∙ ap (λ (x : End). x.waiting) (gate_leaves (probed (begun e now)))
 
 -- so it is as it was where no probe of losses waits
 pub ready_still : (e : End) (now : ℕ) → e.tracking.probes ≡ 0 → (ready_at e now).end.waiting ≡ e.waiting
@@ -92,7 +101,7 @@ module _ (p : Policy) (e : End) (now : ℕ) where
   ready_pinged none set = sym (ap (λ (w : Waiting). w.signals.ping) (ready_still e now (unless_whole e now (λ is. both_ways (goes g) none (ap goes_as is))))) ∙ set
 
   -- something goes
-  draft_pinged : (leaving : Leaving) → g.leaving ≡ leaving → goes g ≡ true → (draft_as leaving g.end).end.waiting.signals.ping ≡ true → (stands is_ping (sent_by e now ∷ []) ≡ false) × (e.waiting.signals.ping ≡ true)
+  draft_pinged : (leaving : Leaving) → g.leaving ≡ leaving → goes g ≡ true → (draft_as leaving g.end).end.waiting.signals.ping ≡ true → (stands is_ping (sent_as e now (draft_at e now) ∷ []) ≡ false) × (e.waiting.signals.ping ≡ true)
   draft_pinged whole is some set = absurd (both_ways (composed (lazied g.end)).end.waiting.signals.ping (composed_unpinged (lazied g.end)) set)
   draft_pinged alone is some set = (
       let same = ready_still e now (unless_whole e now (λ all. (let clash : alone ≡ whole = sym is ∙ all in cc))) in (
@@ -106,13 +115,14 @@ module _ (p : Policy) (e : End) (now : ℕ) where
   draft_pinged (nothing held) is some set = absurd (both_ways (goes g) (ap goes_as is) some)
 
   -- where PING waits behind a poll that leaves its end open, it waited before, and none went
-  pub polled_pinged : (polled p e now).end.closing.state ≡ states.Open → (polled p e now).end.waiting.signals.ping ≡ true → (stands is_ping (sent_if (gave (answers.Poll (polled p e now).answer)) (sent_by e now)) ≡ false) × (e.waiting.signals.ping ≡ true)
-  polled_pinged = by_poll_to p e now (λ (q : Polled). q.end.closing.state ≡ states.Open → q.end.waiting.signals.ping ≡ true → (stands is_ping (sent_if (gave (answers.Poll q.answer)) (sent_by e now)) ≡ false) × (e.waiting.signals.ping ≡ true)) (record {
+  pub polled_pinged : (polled p e now).end.closing.state ≡ states.Open → (polled p e now).end.waiting.signals.ping ≡ true → (stands is_ping (sent_if (gave (answers.Poll (polled p e now).answer)) (sent_by p e now)) ≡ false) × (e.waiting.signals.ping ≡ true)
+  polled_pinged = by_sends p e now (λ (q : Polled) (ss : List Sent). q.end.closing.state ≡ states.Open → q.end.waiting.signals.ping ≡ true → (stands is_ping ss ≡ false) × (e.waiting.signals.ping ≡ true)) (record {
     silent = λ opened set. (refl, set);
     failed = λ opened set. (refl, set);
     nothing = λ is none opened set. (refl, ready_pinged none set);
-    closes = λ opened set. cc;
-    gives = λ is may some. by_going (λ (x : End). x.closing.state ≡ states.Open → x.waiting.signals.ping ≡ true → (stands is_ping (sent_by e now ∷ []) ≡ false) × (e.waiting.signals.ping ≡ true)) p (draft_at e now) (λ pacing opened set. draft_pinged g.leaving refl some set);
+    repeats = λ is. ((λ opened set. let clash : states.Closing ≡ states.Open = sym is ∙ opened in cc), λ f goes opened set. let clash : states.Closing ≡ states.Open = sym is ∙ opened in cc);
+    closes = λ reason is bound. ((λ opened set. cc), λ f goes opened set. cc);
+    gives = λ is may some. by_going (λ (x : End). x.closing.state ≡ states.Open → x.waiting.signals.ping ≡ true → (stands is_ping (sent_as e now (draft_at e now) ∷ []) ≡ false) × (e.waiting.signals.ping ≡ true)) p (draft_at e now) (λ pacing opened set. draft_pinged g.leaving refl some set);
   })
 
 -- ---- any other call
@@ -132,11 +142,15 @@ receives_same e = record {
   frame = frame_keeps (SamePing e) (record {
     ack = λ rises a x i. acked_keeps (SamePing e) (settling e) rises a (named a x) i;
     on_streams = λ f x on i. frame_leaves (SamePing e) f x on (λ t. i);
-    apart = λ f x is i. apart_leaves (SamePing e) f x is (λ c. i);
+    apart = λ f x is i. apart_leaves (SamePing e) f x is (λ c. i) (λ c most. i);
     message = λ m x i. i;
   });
-  takes = λ n asks mark x i. i;
+  takes = λ n asks mark x i. by_taken (SamePing e) n asks mark x (λ idle alive. i);
   closes = λ reason x i. i;
+  drains = λ close x i. i;
+  asks_close = λ x i. i;
+  exhausts = λ now x i. i;
+  draws = λ words x i. i;
 }
 
 -- it waits as before, unless the call asks for it
@@ -145,14 +159,14 @@ call_pinged p e theirs (calls.Poll now) a silent = cc
 call_pinged p e theirs calls.Ping a silent = inl refl
 call_pinged p e theirs (calls.Send message makes_room) a silent = inr refl
 call_pinged p e theirs calls.Recv a silent = inr refl
-call_pinged p e theirs (calls.Timeout now) a silent = inr (by_expiry p e now (SamePing e) refl
-    (by_expired e now (SamePing e) (λ acks tracking timers runs packets. refl) (λ acks timers runs. losses_keep (SamePing e) (settling e) (with_closing e (ticked e.closing now)) refl)))
+call_pinged p e theirs (calls.Timeout now) a silent = inr (by_expiry p e now (SamePing e) refl (λ b. by_waits (SamePing e) b (with_closing e (ticked e.closing now)) refl refl)
+    (by_expired p.words e now (SamePing e) (λ acks tracking timers runs packets. refl) (λ acks timers runs. losses_keep (SamePing e) (settling e) (with_closing e (ticked e.closing now)) refl) (λ x j. j)))
 call_pinged p e theirs (calls.Deliver delivery) a silent = inr (go (slice_get theirs delivery.index))
   where
-    go : (o : Option (List ℕ)) → SamePing e (after_delivered p e delivery o)
+    go : (o : Option (List ℕ)) → SamePing e (after_delivered p e (delivered_by (says_last a) delivery) o)
     go None = refl
-    go (Some d) = by_received (SamePing e) (receives_same e) p e (delivered_by delivery) d refl
-call_pinged p e theirs (calls.Inject injection) a silent = inr (by_injection p e injection (SamePing e) refl)
+    go (Some d) = by_received (SamePing e) (receives_same e) p e (delivered_by (says_last a) delivery) d refl
+call_pinged p e theirs (calls.Inject injection) a silent = inr (by_injection p e (says_last a) injection (SamePing e) refl (λ now. refl))
 call_pinged p e theirs calls.Event a silent = inr (by_event e (SamePing e) refl (λ told. refl))
 call_pinged p e theirs (calls.Timer timer) a silent = inr refl
 call_pinged p e theirs calls.NextTimeout a silent = inr refl

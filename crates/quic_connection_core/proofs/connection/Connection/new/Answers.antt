@@ -8,8 +8,8 @@ use Rattle.quic_congestion.specs.Congestion.{HasRoom}
 use Rattle.quic_congestion.specs.Search.{Discovery}
 use Rattle.quic_congestion.specs.SearchBounds.{IsSized}
 use Rattle.quic_congestion.proofs.SizedSearch.{sized_first}
-use Rattle.quic_machine.specs.End.{most_payload, are_sizes_wrong, is_window_small}
-use Rattle.quic_connection_core.specs.Telling.{IsTold}
+use Rattle.quic_machine.specs.End.{most_payload, are_sizes_wrong, is_window_small, are_keys_short, limits_of}
+use Rattle.quic_connection_core.specs.Telling.{IsTold, IsRoomy}
 use Rattle.quic_machine.specs.PathLaws.{size_by}
 use Rattle.quic_connection_core.proofs.Flights.{none_in_flight}
 use Rattle.quic_connection_core.proofs.connection.Connection.new.Goals as goal
@@ -19,8 +19,8 @@ last_none true b c is = absurd cc
 last_none false true c is = absurd cc
 last_none false false c is = is
 
-pub invariant_of-result : goal.invariant_of-result
-invariant_of-result g c =
+pub invariant_of-connection : goal.invariant_of-result
+invariant_of-connection g c =
     let made = c.path.view_is ∙ c.first_path-path.ensures in
     let flight = ap (λ p. p.in_flight) made in
     let t = c.transport-transport.result in
@@ -46,7 +46,7 @@ invariant_of-result g c =
       size = omega (arith, size, shown);
       room = subst (λ (k : ℕ). HasRoom k (g.C.Controller.window_of c.path.inside.congestion)) (sym shown) shows;
     } in
-    (search rules, search rules, record { sized = sized; told = told; window = window }, rw (flight, c.new-3.ensures) (none_in_flight _ _))
+    (search rules, c.negotiate_max_idle_timeout.ensures, search rules, record { sized = sized; told = told; window = window }, rw (flight, c.new-3.ensures) (none_in_flight _ _))
 
 pub returns-clause-roomy : goal.returns-clause-roomy
 returns-clause-roomy g c =
@@ -57,7 +57,8 @@ returns-clause-roomy g c =
     } in
     let built = g.met.F.ControllerFactory.built_for_size c.factory.result.now c.args.now (first_mtu c.transport-transport.result) in
     let shown : g.C.Controller.size_of c.path.inside.congestion ≡ first_mtu c.transport-transport.result = ap (λ p. g.C.Controller.size_of p.congestion) made ∙ built in
-    record { size = shown; room = subst (λ (k : ℕ). HasRoom (first_mtu c.transport-transport.result) k) c.window-window.ensures room }
+    subst (λ w. IsRoomy g.C.Controller.size_of g.C.Controller.window_of w.control (first_mtu w.end.transport)) (sym c.validating.ensures.end)
+    (record { size = shown; room = subst (λ (k : ℕ). HasRoom (first_mtu c.transport-transport.result) k) c.window-window.ensures room })
 
 pub returns-clause-lawful : goal.returns-clause-lawful
 returns-clause-lawful g c =
@@ -73,7 +74,8 @@ returns-clause-lawful g c =
     let mtu : c.from.result ≡ first_mtu (transport_of settings) = c.from.ensures ∙ c.get_initial_mtu-mtu.ensures.value ∙ ap first_mtu c.transport-transport.ensures in
     let room : 2 * first_mtu (transport_of settings) ≤ c.window-window.result = omega (arith, mtu, c.if-window-from.false) in
     let small : is_window_small settings c.window-window.result ≡ false = le-ltb c.window-window.result (2 * first_mtu (transport_of settings)) room in
-    rw (← shown) (rw (read, own, peer, sizes, small) refl)
+    let keys : are_keys_short (limits_of g.K.PacketKey.seal_limit g.K.PacketKey.refusal_limit c.args.keys) ≡ false = search rules in
+    rw (← shown) (rw (read, own, peer, sizes, small, keys) refl)
 
 pub returns-clause-made : goal.returns-clause-made
 returns-clause-made g c =
