@@ -3,3 +3,5 @@ pub mod Messages
 pub mod Mail
 pub mod Openings
 pub mod Readables
+pub mod Again
+pub mod Writables

@@ -1,24 +1,28 @@
 -- What an application is told of: where it asks what is told next and nothing is, nothing is left
 -- to tell, by the run's lists.
-use Rattle.std.specs.Prelude.{ℕ, ◌+◌, ◌-◌, ◌<◌, ◌≡◌, Bool, true, false, nat_lt, not, ◌==◌, ◌&&◌, ◌||◌, if◌then◌else◌, List, [], ◌∷◌, ◌++◌, Some, None}
+use Rattle.std.specs.Prelude.{ℕ, ◌+◌, ◌-◌, ◌<◌, ◌≡◌, Bool, true, false, nat_lt, not, ◌==◌, ◌&&◌, ◌||◌, if◌then◌else◌, max, nat_le, List, [], ◌∷◌, ◌++◌, length, Some, None, Err}
 use Rattle.std.specs.List.{list_any}
 use Rattle.quic_wire_core.specs.declared.stream_id.Side.{Side}
 use Rattle.quic_wire_core.specs.declared.stream_id.Dir.{Dir}
 use Rattle.quic_wire_core.specs.declared.stream_id.Dir.TheVariants.{Bi, Uni}
-use Rattle.quic_wire_core.specs.StreamId.{other_side}
+use Rattle.quic_wire_core.specs.StreamId.{other_side, dir_of}
 use Rattle.quic_wire.specs.Value.{FrameValue, stream, datagram}
-use Rattle.quic_streams_parts.specs.declared.answers.StreamEvent.TheVariants.{Opened, Readable}
+use Rattle.quic_streams_parts.specs.declared.answers.StreamEvent.TheVariants.{Opened, Readable, Writable}
+use Rattle.quic_streams_parts.specs.declared.answers.WriteError.TheVariants.{Blocked}
 use Rattle.quic_streams_parts.specs.Dirs.{is_own}
 use Rattle.quic_machine.specs.declared.answers.Event.TheVariants as events
+use Rattle.quic_machine.specs.declared.answers.State.TheVariants as states
 use Rattle.quic_machine.specs.declared.run.Call.{Call}
 use Rattle.quic_machine.specs.declared.run.Call.TheVariants as calls
 use Rattle.quic_machine.specs.declared.run.Answer.{Answer}
 use Rattle.quic_machine.specs.declared.run.Answer.TheVariants as answers
 use Rattle.quic_machine.specs.Policy.{Policy}
+use Rattle.quic_machine.specs.Start.{AreStarted}
 use Rattle.quic_machine.specs.Machine.{policy_at}
-use Rattle.quic_headline.specs.Runs.{Run, Told, Packet, Intake, nothing_came, and_told, folded, until, given_of, AreServed}
+use Rattle.quic_headline.specs.Runs.{Run, Told, Packet, Intake, nothing_came, and_told, folded, until, given_of, state_at, AreServed, written, ended, reset}
 use Rattle.quic_headline.specs.Observer.{news, took}
 use Rattle.quic_headline.specs.Headline.{IsAt}
+use Rattle.quic_headline.specs.Amounts.{peer_parameters, first_told, stream_limit_in, greatest, left_for}
 use Rattle.quic_headline.specs.Ids.{WasOpened}
 use Rattle.quic_headline.specs.Credit.{was_reset, is_read_up}
 
@@ -169,3 +173,54 @@ reading r side id i = folded (reading_told side (policy_at side r.keys) (given_o
 -- the first RESET_STREAM frame came on it, of those that it is told of, whatever the state of the end
 abbrev pub ReadablesAreTold : Run → Type 0
 ReadablesAreTold r = (side : Side) (i id : ℕ) → AreServed r i → IsAt r i side calls.Event (answers.Event None) → (reading r side id i).waits ≡ false
+
+-- ---- streams that take bytes again (RFC 9000, sections 4.1 and 19.10)
+
+-- whether a call told that a stream takes bytes again
+abbrev pub tells_writable : ℕ → Call → Answer → Bool
+tells_writable id calls.Event (answers.Event (Some (events.Stream (Writable s)))) = s == id
+tells_writable id call a = false
+
+-- whether a write on a stream was blocked, by whichever limit
+abbrev pub is_blocked : ℕ → Call → Answer → Bool
+is_blocked id (calls.Write s bytes) (answers.Write (Err Blocked)) = s == id
+is_blocked id (calls.WriteChunks s buffers) (answers.WriteChunks (Err Blocked)) = s == id
+is_blocked id call a = false
+
+-- whether all was written on a stream that these packets let come, where so much may come at first
+abbrev pub is_used_up : ℕ → ℕ → List Packet → List Told → Bool
+is_used_up first id packets told = nat_le (max first (greatest (stream_limit_in id) packets)) (length (written id told))
+
+-- what came to an end, what was told at it, and whether it is to be told, once bytes of a stream
+-- may be taken, that it takes bytes again
+pub record Writing : Type 0 where
+  pub intake : Intake
+  pub told : List Told
+  pub waits : Bool
+
+-- nothing came
+abbrev pub no_writing : Writing
+no_writing = record { intake = nothing_came; told = []; waits = false }
+
+-- one call more, where this has come behind it: it is to be told from where the stream's limit was
+-- used up, or a write was blocked, until it is
+abbrev pub writing_behind : ℕ → ℕ → Told → Writing → Intake → Writing
+writing_behind first id t w after = record {
+  intake = after;
+  told = w.told ++ t ∷ [];
+  waits = if tells_writable id t.call t.answer then false else w.waits || (is_used_up first id w.intake.took w.told || is_blocked id t.call t.answer);
+}
+
+abbrev pub writing_told : Policy → List (List ℕ) → ℕ → ℕ → Told → Writing → Writing
+writing_told p given first id t w = writing_behind first id t w (and_told p given t w.intake)
+
+-- so it is behind the first so many answers
+abbrev pub writing : (r : Run) → AreStarted r.start → Side → ℕ → ℕ → Writing
+writing r s side id i = folded (writing_told (policy_at side r.keys) (given_of r (other_side side)) (first_told (peer_parameters side r.start s) (is_own side id) (dir_of id)) id) (until r side i) no_writing
+
+-- where an open end is told nothing next, and bytes may be taken of a stream that it neither ended
+-- nor reset, it was told that the stream takes bytes again since its limit was used up last, and
+-- since a write on it was blocked last, by its own limit, that of all data or the send window
+abbrev pub WritablesAreTold : Run → Type 0
+WritablesAreTold r = (s : AreStarted r.start) (side : Side) (i id : ℕ) → AreServed r i → IsAt r i side calls.Event (answers.Event None) → state_at r side i ≡ states.Open → ended id (until r side i) ≡ false → reset id (until r side i) ≡ None → 0 < left_for r s side i id
+    → (writing r s side id i).waits ≡ false

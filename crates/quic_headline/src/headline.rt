@@ -24,7 +24,7 @@ ghost use Rattle.quic_headline.specs.Allowed.{ReadsAreAllowed, ReadsAreOver, Wri
 ghost use Rattle.quic_headline.specs.AcksDue.{AcksAreDue};
 ghost use Rattle.quic_headline.specs.Waited.{EachWaited};
 ghost use Rattle.quic_headline.specs.Begins.{WaitingBegins};
-ghost use Rattle.quic_headline.specs.Events.{MessagesAreTold, OpeningsAreTold, ReadablesAreTold};
+ghost use Rattle.quic_headline.specs.Events.{MessagesAreTold, OpeningsAreTold, ReadablesAreTold, WritablesAreTold};
 ghost use Rattle.quic_headline.specs.Resets.{ResetsAreTold};
 ghost use Rattle.quic_headline.specs.Ids.{IdsAreNew, AcceptedWereOpened};
 ghost use Rattle.quic_headline.specs.ConnectionIds.{SentToFirstId, NoUnknownId, FirstIdStays};
@@ -502,6 +502,15 @@ pub fn openings_are_told()
 /// that packet (RFC 9000, sections 2.2 and 3.2).
 pub fn readables_are_told()
     ensures { (r : Run) (end : World) → IsHonest r → IsRun r end → ReadablesAreTold r }
+{}
+
+/// Where an application that asks an open endpoint what it is told next is told nothing, and bytes
+/// may be taken of a stream that it neither finished nor reset, it was told that the stream takes
+/// bytes again since all was written on it that the peer let come, and since a write on it was
+/// blocked, whether by its own limit, by that of all data or by the send window. A stream that the
+/// peer stopped is told too (RFC 9000, sections 4.1 and 19.10).
+pub fn writables_are_told()
+    ensures { (r : Run) (end : World) → IsHonest r → IsRun r end → WritablesAreTold r }
 {}
 
 /// A run less any choice of its idle events, which are injections and deliveries that their end

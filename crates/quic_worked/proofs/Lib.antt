@@ -52,3 +52,4 @@ pub mod AllowedRun
 pub mod RepeatedRuns
 pub mod BegunRuns
 mod ResetRun
+mod WritableRun

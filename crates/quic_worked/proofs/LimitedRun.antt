@@ -52,19 +52,19 @@ limited_started = record {
 
 -- ---- the events
 
-abbrev both_open : View
+abbrev pub both_open : View
 both_open = record { client = open_view; server = open_view }
 
-abbrev one_sent : View
+abbrev pub one_sent : View
 one_sent = record { client = sent_view; server = open_view }
 
-abbrev one_taken : View
+abbrev pub one_taken : View
 one_taken = record { client = sent_view; server = waiting_view }
 
-abbrev both_sent : View
+abbrev pub both_sent : View
 both_sent = record { client = sent_view; server = sent_view }
 
-abbrev one_heard : View
+abbrev pub one_heard : View
 one_heard = record { client = waiting_view; server = sent_view }
 
 pub opens : IsStep worked_policies limited_start opens_stream (answers.Open (Some 0)) limited_opened
@@ -110,7 +110,7 @@ pub raises : IsStep worked_policies limited_read asks_server (gives_bytes 36) li
 unfolding limited_given
 raises = record { answer = inl refl; end = refl; control = refl; heard = counts_so worked_policies limited_read asks_server (gives_bytes 36); others = refl; lacking = tt }
 
-hears : IsStep worked_policies limited_given client_hears (answers.Deliver receives.Taken) limited_heard
+pub hears : IsStep worked_policies limited_given client_hears (answers.Deliver receives.Taken) limited_heard
 unfolding limited_heard
 hears = record { answer = inl refl; end = refl; control = refl; heard = counts_so worked_policies limited_given client_hears (answers.Deliver receives.Taken); others = refl; lacking = tt }
 
@@ -126,27 +126,27 @@ blocks_again : IsStep worked_policies limited_fourth (writes_on 4 sixteen) (answ
 unfolding limited_heard
 blocks_again = record { answer = inl refl; end = refl; control = refl; heard = counts_so worked_policies limited_fourth (writes_on 4 sixteen) (answers.Write (Err write_errors.Blocked)); others = refl; lacking = λ lacks. cc }
 
-sent_seen : one_sent ≡ view_of limited_sent
+pub sent_seen : one_sent ≡ view_of limited_sent
 unfolding limited_sent
 sent_seen = refl
 
-taken_seen : one_taken ≡ view_of limited_taken
+pub taken_seen : one_taken ≡ view_of limited_taken
 unfolding limited_taken
 taken_seen = refl
 
-accepted_seen : one_taken ≡ view_of limited_accepted
+pub accepted_seen : one_taken ≡ view_of limited_accepted
 unfolding limited_taken
 accepted_seen = refl
 
-read_seen : one_taken ≡ view_of limited_read
+pub read_seen : one_taken ≡ view_of limited_read
 unfolding limited_taken
 read_seen = refl
 
-given_seen : both_sent ≡ view_of limited_given
+pub given_seen : both_sent ≡ view_of limited_given
 unfolding limited_given
 given_seen = refl
 
-heard_seen : one_heard ≡ view_of limited_heard
+pub heard_seen : one_heard ≡ view_of limited_heard
 unfolding limited_heard
 heard_seen = refl
 

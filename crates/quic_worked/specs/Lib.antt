@@ -34,3 +34,4 @@ pub mod Allowed
 pub mod Repeated
 pub mod Begun
 pub mod Reset
+pub mod Writable

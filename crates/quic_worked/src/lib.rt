@@ -36,3 +36,4 @@ pub mod timed;
 pub mod told;
 pub mod undone;
 pub mod worked;
+pub mod writable;

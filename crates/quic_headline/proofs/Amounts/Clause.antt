@@ -40,7 +40,7 @@ use Rattle.quic_machine.specs.Machine.{World, IsAnswer, reads_window, end_at, co
 use Rattle.quic_headline.specs.Runs.{Run, Told, Packet, Intake, In, until, state_at, AreServed, written, reset, ids_of}
 use Rattle.quic_headline.specs.Observer.{Sent, HoldsOffset, HoldsEnd, Watch, took, acked_until}
 use Rattle.quic_headline.specs.Headline.{IsHonest, IsRun, IsAt, used}
-use Rattle.quic_headline.specs.Amounts.{making_at, peer_parameters, first_told, greatest, data_limit_in, stream_limit_in, data_limit, stream_limit, was_stopped, all_written, laid, pieces_of, kept_in, buffered, taken_of, left_for, WritesOn, told_so, MayWrite, WritesTakeWhatLimitsAllow}
+use Rattle.quic_headline.specs.Amounts.{making_at, peer_parameters, first_told, greatest, data_limit_in, stream_limit_in, data_limit, stream_limit, was_stopped, all_written, laid, pieces_of, kept_in, buffered, taken_of, data_left, window_left, left_for, WritesOn, told_so, MayWrite, WritesTakeWhatLimitsAllow}
 use Rattle.quic_headline.proofs.Places.Parties.{Party, came_to}
 use Rattle.quic_headline.proofs.Places.Groups.{Way, Nothing, And, Group, both, beside}
 use Rattle.quic_headline.proofs.Places.Placed.{party_at, Placed, placed, answered, watch_is, start_is}
@@ -183,7 +183,7 @@ ready_is false (Some x) fin none = cc
 
 -- ---- how an end was made
 
-first_is : (side : Side) (id : ℕ) (w : World) (st : AreStarted w) → first_limit (end_at side w).streams id ≡ first_told (peer_parameters side w st) (is_own side id) (dir_of id)
+pub first_is : (side : Side) (id : ℕ) (w : World) (st : AreStarted w) → first_limit (end_at side w).streams id ≡ first_told (peer_parameters side w st) (is_own side id) (dir_of id)
 first_is side id w st = ap (λ (e : End). first_limit e.streams id) (start_is w st side) ∙ go (is_own side id) (dir_of id)
   where
     p : ParameterValues
@@ -202,10 +202,10 @@ window_is side w st = ap (λ (e : End). e.streams.sending.window) (start_is w st
 
 -- ---- all that holds
 
-abbrev Whole : Way
+abbrev pub Whole : Way
 Whole = And Held (And Tallied Opens)
 
-whole : Group Nothing Whole
+pub whole : Group Nothing Whole
 whole = both Nothing Held (And Tallied Opens) held (beside (And Nothing Held) Tallied Opens
     (tallied_group (And Nothing Held) (λ x y h. h.1.0.0.0))
     (opens_group (And Nothing Held) (record {
@@ -214,6 +214,24 @@ whole = both Nothing Held (And Tallied Opens) held (beside (And Nothing Held) Ta
       says = λ x y h. h.1.0.0.1.0.says;
       grows = λ x y call a c. grows_behind (And Nothing Held) (λ x y h. h.1.0.0.0) x y call a c c.gives.1.0.0.1.0;
     })))
+
+-- ---- what is left to all streams
+
+-- an open end has so much room
+pub room_left : (r : Run) (end : World) (honest : IsHonest r) (side : Side) (i : ℕ) (p : Placed Whole r end side i) → state_at r side i ≡ states.Open → room (end_at side p.world).streams.sending ≡ min (data_left r honest.start side i) (window_left r honest.start side i)
+room_left r end honest side i p state =
+    let x : Party = party_at r i p.world side p.sents in
+    let y : Party = party_at r i p.world (other_side side) p.theirs in
+    let told : List Told = until r side i in
+    let open_now : x.end.closing.state ≡ states.Open = p.state ∙ state in
+    let packets_are : took r side i ≡ (came_to x y).took = ap (λ (k : Intake). k.took) (took_is r honest p.world i side p.sents p.theirs) in
+    let acked_are : acked_until r side i ≡ acks x y = ap (λ (w : Watch). w.flight.acked) (watch_is r honest p.world i side p.sents p.theirs) in
+    let tallies : Tallies (tally_of x.made.streams (came_to x y).took told) x.end.streams = p.gives.1.0.still open_now in
+    let all_limit : x.end.streams.sending.limit ≡ data_limit (peer_parameters side r.start honest.start) (took r side i) = tallies.sums.limit ∙ ap (λ (m : ℕ). max m (greatest data_limit_in (came_to x y).took)) (all_is side r.start honest.start) ∙ ap (data_limit (peer_parameters side r.start honest.start)) (sym packets_are) in
+    let buffer : buffered_by x.end.streams.sending ≡ buffered (acked_until r side i) told = keeps x.sents (acks x y) told (told_finished x) x.made.streams (came_to x y).took x.end (p.gives.0.1.still open_now) tallies ∙ ap (λ (ss : List Sent). buffered ss told) (sym acked_are) in
+    let window : x.end.streams.sending.window ≡ (making_at side r.start honest.start).settings.send_window = tallies.sums.window ∙ window_is side r.start honest.start in
+    let accepted : x.end.streams.sending.accepted ≡ all_written told = tallies.sums.accepted in
+    rw (all_limit, accepted, window, buffer) refl
 
 -- ---- the clause
 
@@ -243,9 +261,6 @@ module _ (r : Run) (end : World) (honest : IsHonest r) (all : (side : Side) (i :
       packets_are : took r side i ≡ (came_to x y).took
       packets_are = ap (λ (k : Intake). k.took) (took_is r honest p.world i side p.sents p.theirs)
 
-      acked_are : acked_until r side i ≡ acks x y
-      acked_are = ap (λ (w : Watch). w.flight.acked) (watch_is r honest p.world i side p.sents p.theirs)
-
       tallies : Tallies (tally_of x.made.streams (came_to x y).took told) s
       tallies = p.gives.1.0.still open_now
 
@@ -265,16 +280,12 @@ module _ (r : Run) (end : World) (honest : IsHonest r) (all : (side : Side) (i :
           let known : IsTallied (tally_of x.made.streams (came_to x y).took told) id h = half_tallied (tally_of x.made.streams (came_to x y).took told) s id h there tallies.halves in
           let free : h.reset ≡ None = kept.reset ∙ ap (λ (o : Option ℕ). option_map (λ (code : ℕ). length (written id told)) o) may.kept in
           let stopped : h.stopped ≡ None = not_some h.stopped (known.stopped ∙ ap (was_stopped id) (sym packets_are) ∙ may.goes) in
-          let all_limit : s.sending.limit ≡ data_limit (peer_parameters side r.start honest.start) (took r side i) = tallies.sums.limit ∙ ap (λ (m : ℕ). max m (greatest data_limit_in (came_to x y).took)) (all_is side r.start honest.start) ∙ ap (data_limit (peer_parameters side r.start honest.start)) (sym packets_are) in
           let limit : h.limit ≡ stream_limit (peer_parameters side r.start honest.start) side (took r side i) id = known.limit ∙ ap (λ (m : ℕ). max m (greatest (stream_limit_in id) (came_to x y).took)) (first_is side id r.start honest.start) ∙ ap (λ (ps : List Packet). stream_limit (peer_parameters side r.start honest.start) side ps id) (sym packets_are) in
-          let buffer : buffered_by s.sending ≡ buffered (acked_until r side i) told = keeps x.sents (acks x y) told (told_finished x) x.made.streams (came_to x y).took x.end (p.gives.0.1.still open_now) tallies ∙ ap (λ (ss : List Sent). buffered ss told) (sym acked_are) in
-          let window : s.sending.window ≡ (making_at side r.start honest.start).settings.send_window = tallies.sums.window ∙ window_is side r.start honest.start in
-          let accepted : s.sending.accepted ≡ all_written told = tallies.sums.accepted in
           let bytes : written_on h ≡ length (written id told) = rw free (bytes_written (wrote told id) h kept may.kept) in
           let a : ℕ = data_limit (peer_parameters side r.start honest.start) (took r side i) - all_written told in
           let b : ℕ = stream_limit (peer_parameters side r.start honest.start) side (took r side i) id - length (written id told) in
           let c : ℕ = (making_at side r.start honest.start).settings.send_window - buffered (acked_until r side i) told in
-          let room_is : room s.sending ≡ min a c = rw (all_limit, accepted, window, buffer) refl in
+          let room_is : room s.sending ≡ min a c = room_left r end honest side i p state in
           let own_is : room_on h ≡ b = rw (limit, bytes) refl in
           ap (λ (o : Option SendHalf). written_to o (room s.sending) len) there ∙ ap (λ (m : ℕ). written_to (Some h) m len) room_is ∙ answer_is h a b c len (ready_is h.finished h.reset (kept.finished ∙ may.unended) free) stopped own_is
 

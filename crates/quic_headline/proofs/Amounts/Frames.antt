@@ -56,7 +56,7 @@ module _ (t : Tally) where
   may false true opened far none = (refl, λ e. cc)
   may false false opened far none = cc
 
-  may_send : (s : StreamsState) (id : ℕ) → sending_refusal s id ≡ None → (sends_on (opened_by s id).side id && is_opened (opened_by s id) id) ≡ true
+  pub may_send : (s : StreamsState) (id : ℕ) → sending_refusal s id ≡ None → (sends_on (opened_by s id).side id && is_opened (opened_by s id) id) ≡ true
   may_send s id none = and_from _ _ (ap (λ (side : Side). is_own side id || is_two_way (dir_of id)) (side_now s id) ∙ m.0) (elim (cases_Bool (is_own s.side id)) [
     | inl own ↦ own_same (opens s id) refl own (m.1 own)
     | inr theirs ↦ opened_now s id theirs

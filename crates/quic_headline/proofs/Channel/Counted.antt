@@ -1,5 +1,5 @@
 -- What the peer was told of counts, and how many streams it opened, changes only by frames that open a stream or tell a count: all else leaves both.
-use Rattle.std.proofs.Common.{◌≡◌, ℕ, zero, suc, Bool, true, false, not, ◌==◌, List, [], length, take, Option, Some, None, Result, Ok, Err, refl, sym, subst}
+use Rattle.std.proofs.Common.{◌≡◌, ℕ, zero, suc, Bool, true, false, not, ◌==◌, List, [], ◌∷◌, length, take, Option, Some, None, Result, Ok, Err, refl, sym, subst}
 use Rattle.std.specs.Prelude.{nat_lt, if◌then◌else◌, ◌&&◌, ◌||◌}
 use Rattle.std.specs.Option.{is_some}
 use Rattle.std.proofs.lemmas.Bool.{cond_both}
@@ -62,101 +62,103 @@ use Rattle.quic_headline.proofs.Halves.Words.{CallWords, call_with}
 use Rattle.quic_headline.proofs.Halves.WordsCalls.{call_on_is}
 use Rattle.quic_headline.proofs.Packets.Probes.{poll_state}
 
--- a fact of an end's side, of how many streams it may open, of how many the peer opened, and of
--- what is to be told, which stays where more is
-module _ (K : Side → Counts → Counts → Events → Type 0) (more : (side : Side) (limits remote : Counts) (ev : Events) (event : StreamEvent) → K side limits remote ev → K side limits remote (with_event event ev)) where
-  abbrev pub Flagged : StreamsState → Type 0
-  Flagged s = K s.side s.opening.own_limit s.opening.remote s.events
+-- a fact of an end's side, of how many streams it may open, of how many the peer opened, of what is
+-- to be told, and of the streams whose write the connection blocked, which stays where more is, and
+-- where one joins these
+module _ (K : Side → Counts → Counts → Events → List ℕ → Type 0) (more : (side : Side) (limits remote : Counts) (ev : Events) (blocked : List ℕ) (event : StreamEvent) → K side limits remote ev blocked → K side limits remote (with_event event ev) blocked)
+    (joins : (side : Side) (limits remote : Counts) (ev : Events) (blocked : List ℕ) (id : ℕ) → K side limits remote ev blocked → K side limits remote ev (id ∷ blocked)) where
+  abbrev pub Listed : StreamsState → Type 0
+  Listed s = K s.side s.opening.own_limit s.opening.remote s.events s.sending.blocked
 
   -- something is to be told
-  one_event : (s : StreamsState) (event : StreamEvent) → Flagged s → Flagged (record s { events = with_event event s.events })
-  one_event s event i = more s.side s.opening.own_limit s.opening.remote s.events event i
+  one_event : (s : StreamsState) (event : StreamEvent) → Listed s → Listed (record s { events = with_event event s.events })
+  one_event s event i = more s.side s.opening.own_limit s.opening.remote s.events s.sending.blocked event i
 
   -- ---- small steps
 
-  either : (b : Bool) (x y : StreamsState) → Flagged x → Flagged y → Flagged (if b then x else y)
+  either : (b : Bool) (x y : StreamsState) → Listed x → Listed y → Listed (if b then x else y)
   either true x y i j = i
   either false x y i j = j
 
-  either_streams : (b : Bool) (x y : Streams) → Flagged x.state → Flagged y.state → Flagged (if b then x else y).state
+  either_streams : (b : Bool) (x y : Streams) → Listed x.state → Listed y.state → Listed (if b then x else y).state
   either_streams true x y i j = i
   either_streams false x y i j = j
 
-  done_counts : (b : Bool) (id : ℕ) (s : StreamsState) → Flagged s → Flagged (done_if b id s)
+  done_counts : (b : Bool) (id : ℕ) (s : StreamsState) → Listed s → Listed (done_if b id s)
   done_counts true id s i = i
   done_counts false id s i = i
 
   -- a half is done
-  sent_counts : (s : StreamsState) (id : ℕ) → Flagged s → Flagged (send_done s id)
+  sent_counts : (s : StreamsState) (id : ℕ) → Listed s → Listed (send_done s id)
   sent_counts s id i = done_counts (not (is_own s.side id) && is_done (receiving_status s id)) id (without_send s id) i
 
-  received_counts : (s : StreamsState) (id : ℕ) → Flagged s → Flagged (recv_done s id)
+  received_counts : (s : StreamsState) (id : ℕ) → Listed s → Listed (recv_done s id)
   received_counts s id i = done_counts (not (is_own s.side id) && (not (is_two_way (dir_of id)) || is_done (sending_status s id))) id _ i
 
   -- a stream is blocked
-  joined_counts : (s : StreamsState) (id : ℕ) (h : SendHalf) → Flagged s → Flagged (joined s id h)
-  joined_counts s id h i = either h.blocked s _ i i
+  joined_counts : (s : StreamsState) (id : ℕ) (h : SendHalf) → Listed s → Listed (joined s id h)
+  joined_counts s id h i = either h.blocked s _ i (joins s.side s.opening.own_limit s.opening.remote s.events s.sending.blocked id i)
 
   -- ---- calls of an application
 
-  open_counts : (b : Bool) (dir : Dir) (s : StreamsState) → Flagged s → Flagged (after_open b dir s)
-  open_counts true dir s i = cond_both {A = Option ℕ × Opening} (nat_lt (of dir s.opening.own) (of dir s.opening.own_limit)) _ _ (λ t. Flagged (record s { opening = t.1 })) (λ is. i) (λ is. i)
+  open_counts : (b : Bool) (dir : Dir) (s : StreamsState) → Listed s → Listed (after_open b dir s)
+  open_counts true dir s i = cond_both {A = Option ℕ × Opening} (nat_lt (of dir s.opening.own) (of dir s.opening.own_limit)) _ _ (λ t. Listed (record s { opening = t.1 })) (λ is. i) (λ is. i)
   open_counts false dir s i = i
 
-  accept_counts : (dir : Dir) (s : StreamsState) → Flagged s → Flagged (after_accept dir s)
-  accept_counts dir s i = cond_both {A = Option ℕ × Opening} (nat_lt (of dir s.opening.accepted) (of dir s.opening.remote)) _ _ (λ t. Flagged (record s { opening = t.1 })) (λ is. i) (λ is. i)
+  accept_counts : (dir : Dir) (s : StreamsState) → Listed s → Listed (after_accept dir s)
+  accept_counts dir s i = cond_both {A = Option ℕ × Opening} (nat_lt (of dir s.opening.accepted) (of dir s.opening.remote)) _ _ (λ t. Listed (record s { opening = t.1 })) (λ is. i) (λ is. i)
 
-  blocked_counts : (o : Option SendHalf) (s : StreamsState) (p : Retransmits) (id : ℕ) → Flagged s → Flagged (blocked_at o s p id).state
+  blocked_counts : (o : Option SendHalf) (s : StreamsState) (p : Retransmits) (id : ℕ) → Listed s → Listed (blocked_at o s p id).state
   blocked_counts None s p id i = i
   blocked_counts (Some h) s p id i = either_streams (room s.sending == 0) (blocked_by_all s p id h) (blocked_by_own s p id) (joined_counts s id h i) i
 
-  accepted_counts : (o : Option SendHalf) (s : StreamsState) (id : ℕ) (bytes : List ℕ) → Flagged s → Flagged (accepted_at o s id bytes)
+  accepted_counts : (o : Option SendHalf) (s : StreamsState) (id : ℕ) (bytes : List ℕ) → Listed s → Listed (accepted_at o s id bytes)
   accepted_counts None s id bytes i = i
   accepted_counts (Some h) s id bytes i = either (length bytes == 0) s (grown_by h s id bytes) i i
 
-  written_counts : (r : Result ℕ WriteError) (s : StreamsState) (p : Retransmits) (id : ℕ) (bytes : List ℕ) → Flagged s → Flagged (written_by r s p id bytes).state
+  written_counts : (r : Result ℕ WriteError) (s : StreamsState) (p : Retransmits) (id : ℕ) (bytes : List ℕ) → Listed s → Listed (written_by r s p id bytes).state
   written_counts (Ok n) s p id bytes i = accepted_counts (sending_half s id) s id (take n bytes) i
   written_counts (Err write_errors.Blocked) s p id bytes i = blocked_counts (sending_half s id) s p id i
   written_counts (Err (write_errors.Stopped code)) s p id bytes i = i
   written_counts (Err write_errors.ClosedStream) s p id bytes i = i
   written_counts (Err write_errors.Memory) s p id bytes i = i
 
-  write_counts : (b : Bool) (r : Result ℕ WriteError) (s : StreamsState) (p : Retransmits) (id : ℕ) (bytes : List ℕ) → Flagged s → Flagged (after_write b r s p id bytes).state
+  write_counts : (b : Bool) (r : Result ℕ WriteError) (s : StreamsState) (p : Retransmits) (id : ℕ) (bytes : List ℕ) → Listed s → Listed (after_write b r s p id bytes).state
   write_counts true r s p id bytes i = written_counts r s p id bytes i
   write_counts false r s p id bytes i = i
 
-  chunks_accepted_counts : (o : Option SendHalf) (s : StreamsState) (id n : ℕ) (cs : List (List ℕ)) → Flagged s → Flagged (chunks_accepted_at o s id n cs)
+  chunks_accepted_counts : (o : Option SendHalf) (s : StreamsState) (id n : ℕ) (cs : List (List ℕ)) → Listed s → Listed (chunks_accepted_at o s id n cs)
   chunks_accepted_counts None s id n cs i = i
   chunks_accepted_counts (Some h) s id zero cs i = i
   chunks_accepted_counts (Some h) s id (suc n) cs i = i
 
-  chunks_counts : (b : Bool) (r : Result Written WriteError) (s : StreamsState) (p : Retransmits) (id : ℕ) (cs : List (List ℕ)) → Flagged s → Flagged (after_write_chunks b r s p id cs).state
+  chunks_counts : (b : Bool) (r : Result Written WriteError) (s : StreamsState) (p : Retransmits) (id : ℕ) (cs : List (List ℕ)) → Listed s → Listed (after_write_chunks b r s p id cs).state
   chunks_counts true (Ok w) s p id cs i = chunks_accepted_counts (sending_half s id) s id w.bytes cs i
   chunks_counts true (Err e) s p id cs i = written_counts (Err e) s p id [] i
   chunks_counts false r s p id cs i = i
 
-  ended_counts : (o : Option SendHalf) (s : StreamsState) (id : ℕ) → Flagged s → Flagged (ended_at o s id)
+  ended_counts : (o : Option SendHalf) (s : StreamsState) (id : ℕ) → Listed s → Listed (ended_at o s id)
   ended_counts None s id i = i
   ended_counts (Some h) s id i = i
 
-  finished_counts : (r : Result (Unit {0}) FinishError) (s : StreamsState) (id : ℕ) → Flagged s → Flagged (finished_by r s id)
+  finished_counts : (r : Result (Unit {0}) FinishError) (s : StreamsState) (id : ℕ) → Listed s → Listed (finished_by r s id)
   finished_counts (Ok x) s id i = ended_counts (sending_half s id) s id i
   finished_counts (Err e) s id i = i
 
-  reset_counts : (o : Option SendHalf) (s : StreamsState) (p : Retransmits) (id code : ℕ) → Flagged s → Flagged (reset_at o s p id code).state
+  reset_counts : (o : Option SendHalf) (s : StreamsState) (p : Retransmits) (id code : ℕ) → Listed s → Listed (reset_at o s p id code).state
   reset_counts None s p id code i = i
   reset_counts (Some h) s p id code i = either_streams (is_some h.reset) _ _ i i
 
-  begun_counts : (r : Result (Unit {0}) ReadableError) (o : Option RecvHalf) (s : StreamsState) (id : ℕ) (ordered : Bool) → receiving_half s id ≡ o → Flagged s → Flagged (begun_unless r s id ordered)
+  begun_counts : (r : Result (Unit {0}) ReadableError) (o : Option RecvHalf) (s : StreamsState) (id : ℕ) (ordered : Bool) → receiving_half s id ≡ o → Listed s → Listed (begun_unless r s id ordered)
   begun_counts (Err e) o s id ordered is i = i
-  begun_counts (Ok x) o s id ordered is i = subst (λ (q : Option RecvHalf). Flagged (begun_at q s id ordered)) (sym is) (go o ordered)
+  begun_counts (Ok x) o s id ordered is i = subst (λ (q : Option RecvHalf). Listed (begun_at q s id ordered)) (sym is) (go o ordered)
     where
-      go : (o : Option RecvHalf) (b : Bool) → Flagged (begun_at o s id b)
+      go : (o : Option RecvHalf) (b : Bool) → Listed (begun_at o s id b)
       go None b = i
       go (Some h) true = i
       go (Some h) false = i
 
-  read_counts : (answer : Result (Option Chunk) ReadError) (o : Option RecvHalf) (s : StreamsState) (id most : ℕ) → Flagged s → Flagged (read_by answer o s id most)
+  read_counts : (answer : Result (Option Chunk) ReadError) (o : Option RecvHalf) (s : StreamsState) (id most : ℕ) → Listed s → Listed (read_by answer o s id most)
   read_counts answer None s id most i = i
   read_counts (Ok (Some chunk)) (Some h) s id most i = i
   read_counts (Ok None) (Some h) s id most i = received_counts s id i
@@ -164,29 +166,29 @@ module _ (K : Side → Counts → Counts → Events → Type 0) (more : (side : 
   read_counts (Err read_errors.Blocked) (Some h) s id most i = i
   read_counts (Err read_errors.Memory) (Some h) s id most i = i
 
-  next_counts : (told : Told) (answer : Result (Option Chunk) ReadError) (s : StreamsState) (id most : ℕ) → Flagged s → Flagged (after_next told answer s id most)
+  next_counts : (told : Told) (answer : Result (Option Chunk) ReadError) (s : StreamsState) (id most : ℕ) → Listed s → Listed (after_next told answer s id most)
   next_counts told_bytes answer s id most i = read_counts answer (receiving_half s id) s id most i
   next_counts told_end answer s id most i = i
   next_counts (told_reset code) answer s id most i = i
 
-  stop_counts : (o : Option RecvHalf) (s : StreamsState) (p : Retransmits) (id code : ℕ) → Flagged s → Flagged (stopped_at o s p id code).state
+  stop_counts : (o : Option RecvHalf) (s : StreamsState) (p : Retransmits) (id code : ℕ) → Listed s → Listed (stopped_at o s p id code).state
   stop_counts None s p id code i = i
   stop_counts (Some h) s p id code i = either_streams h.stopped (streams_of s p) (settled (stopped_if (is_some h.final) s id h) (with_stop h.reset id code p)) i (go (is_some h.final))
     where
-      go : (b : Bool) → Flagged (stopped_if b s id h)
+      go : (b : Bool) → Listed (stopped_if b s id h)
       go true = received_counts _ id i
       go false = i
 
-  told_counts : (r : Result (Option ℕ) ClosedStream) (s : StreamsState) (p : Retransmits) (id : ℕ) → Flagged s → Flagged (reset_told r s p id).state
+  told_counts : (r : Result (Option ℕ) ClosedStream) (s : StreamsState) (p : Retransmits) (id : ℕ) → Listed s → Listed (reset_told r s p id).state
   told_counts (Ok (Some code)) s p id i = received_counts s id i
   told_counts (Ok None) s p id i = i
   told_counts (Err e) s p id i = i
 
-  priority_counts : (o : Option SendHalf) (s : StreamsState) (id : ℕ) → (priority : _) → Flagged s → Flagged (priority_at o s id priority)
+  priority_counts : (o : Option SendHalf) (s : StreamsState) (id : ℕ) → (priority : _) → Listed s → Listed (priority_at o s id priority)
   priority_counts None s id priority i = i
   priority_counts (Some h) s id priority i = i
 
-  words : CallWords (λ (done : ℕ → Wrote) (s : StreamsState). Flagged s)
+  words : CallWords (λ (done : ℕ → Wrote) (s : StreamsState). Listed s)
   words = record {
     writes = λ b w s p id bytes i. write_counts b (write_answer b s id (length bytes)) s p id bytes i;
     writes_chunks = λ b w s p id chunks i. chunks_counts b (write_chunks_answer b s id chunks) s p id chunks i;
@@ -204,6 +206,124 @@ module _ (K : Side → Counts → Counts → Events → Type 0) (more : (side : 
 
   -- ---- what is told, and what goes
 
+  composed_counts : (e : End) → Listed e.streams → Listed (composed e).end.streams
+  composed_counts e i = by_writing (λ (d : Draft). Listed d.end.streams) keep e i
+    where
+      keep : Writing (λ (d : Draft). Listed d.end.streams)
+      keep (puts.control kind f) d may j = by_tells Listed d.end.streams j j (λ id. j) (λ dir. j) f
+      keep p d may j = j
+
+  poll_counts : (p : Policy) (e : End) (now : ℕ) → Listed e.streams → Listed (poll.polled p e now).end.streams
+  poll_counts p e now i = poll_state Listed p e now composed_counts i
+
+  -- ---- what is acknowledged or lost
+
+  lost_counts : (o : Option SendHalf) (s : StreamsState) (m : StreamMeta) → Listed s → Listed (lost_at o s m)
+  lost_counts None s m i = i
+  lost_counts (Some h) s m i = either (is_some h.reset) s _ i i
+
+  acked_counts : (o : Option SendHalf) (s : StreamsState) (p : Retransmits) (m : StreamMeta) → Listed s → Listed (acked_at o s p m).state
+  acked_counts None s p m i = i
+  acked_counts (Some h) s p m i = either_streams (is_some h.reset) (streams_of s p) (acked_on h s p m) i
+      (either_streams (is_acked (half_acked h m)) (settled (finished (replaced s m.id (half_acked h m)) m.id) p) (streams_of (replaced s m.id (half_acked h m)) p) (one_event (send_done (replaced s m.id (half_acked h m)) m.id) (stream_events.Finished m.id) (sent_counts (replaced s m.id (half_acked h m)) m.id i)) i)
+
+  reset_acked_counts : (o : Option SendHalf) (s : StreamsState) (p : Retransmits) (id : ℕ) → Listed s → Listed (reset_acked_at o s p id).state
+  reset_acked_counts None s p id i = i
+  reset_acked_counts (Some h) s p id i = either_streams (is_some h.reset) (settled (send_done s id) p) (streams_of s p) (sent_counts s id i) i
+
+  settling : Settling (λ (e : End). Listed e.streams)
+  settling (steps.reset id) e i = reset_acked_counts (sent_half e.streams id) e.streams e.waiting.frames id i
+  settling (steps.acked m) e i = acked_counts (sent_half e.streams m.id) e.streams e.waiting.frames m i
+  settling (steps.lost m) e i = lost_counts (sent_half e.streams m.id) e.streams m i
+  settling s e i = i
+
+  -- any call but a delivery
+  pub listed_call : (p : Policy) (e : End) (theirs : List (List ℕ)) (call : Call) (a : Answer) → is_delivery call ≡ false → IsAnswer p e theirs call a → (asks_event call ≡ true → Listed (polled e.streams).state) → Listed e.streams → Listed (after_call p e theirs call a).streams
+  listed_call p e theirs call a apart is asked i = go (is_on_streams call) refl
+    where
+      nothing : ℕ → Wrote
+      nothing id = record { bytes = []; ended = false; reset = None }
+
+      go : (b : Bool) → is_on_streams call ≡ b → Listed (after_call p e theirs call a).streams
+      go true on =
+          let c = call_on_is p e theirs call a on in
+          subst (λ (s : StreamsState). Listed s) (sym c.leaves) (call_with (λ (done : ℕ → Wrote) (s : StreamsState). Listed s) words (is_open e.closing.state) nothing (streams_at e) i call a (c.answer is))
+      go false off = by_call p e theirs (λ (f : End). Listed f.streams) call a (record {
+        same = i;
+        on_streams = λ on answer. cc;
+        on_messages = λ on answer. i;
+        pings = i;
+        times = λ now expiry set. by_expired e now (λ (f : End). Listed f.streams) (λ pending tracking timers runs packets. i) (λ pending timers runs. losses_keep (λ (x : End). Listed x.streams) settling (with_closing e (ticked e.closing now)) i) expiry;
+        polls = λ now set. poll_counts p e now i;
+        hears = λ arrival d set. cc;
+        tells = λ asks. by_event e (λ (f : End). Listed f.streams) i (λ told. asked asks);
+      })
+
+  -- ---- what comes
+
+  -- a part has another value
+  renewed_counts : (s : StreamsState) (id : ℕ) (old new : RecvHalf) (tells : Bool) → Listed (opened_by s id) → Listed (renewed s id old new tells)
+  renewed_counts s id old new tells i = readable (tells && not (old.stopped || opens s id)) (ended_if (new.stopped && is_some new.final) id (with_recv (opened_by s id) id new)) (ended (new.stopped && is_some new.final))
+    where
+      readable : (b : Bool) (t : StreamsState) → Listed t → Listed (readable_if b id t)
+      readable true t j = one_event t (stream_events.Readable id) j
+      readable false t j = j
+
+      ended : (b : Bool) → Listed (ended_if b id (with_recv (opened_by s id) id new))
+      ended true = received_counts (with_recv (opened_by s id) id new) id i
+      ended false = i
+
+  -- a half takes bytes again
+  again_counts : (t : StreamsState) (id : ℕ) (h : SendHalf) → Listed t → Listed (writable_again t id h)
+  again_counts t id h i = either (room t.sending == 0) (joined t id h) _ (joined_counts t id h i) (one_event t (stream_events.Writable id) i)
+
+  limit_counts : (o : Option SendHalf) (t : StreamsState) (id limit : ℕ) → Listed t → Listed (limit_at o t id limit)
+  limit_counts None t id limit i = i
+  limit_counts (Some h) t id limit i = either (nat_lt h.limit limit) (limit_raised t id h limit) t
+      (either (is_used_up h) (writable_again (with_send t id (limited_half h limit)) id (limited_half h limit)) (with_send t id (limited_half h limit)) (again_counts (with_send t id (limited_half h limit)) id (limited_half h limit) i) i) i
+
+  limit_unless_counts : (o : Option Breach) (s : StreamsState) (id limit : ℕ) → Listed s → Listed (opened_by s id) → Listed (limit_unless o s id limit)
+  limit_unless_counts (Some b) s id limit i opened = i
+  limit_unless_counts None s id limit i opened = limit_counts (sending_for s id) (opened_by s id) id limit opened
+
+  stop_at_counts : (o : Option SendHalf) (t : StreamsState) (id code : ℕ) → Listed t → Listed (stop_at o t id code)
+  stop_at_counts None t id code i = i
+  stop_at_counts (Some h) t id code i = either (is_some h.stopped) t _ i (one_event (with_send t id (stopped_half h code)) (stream_events.Stopped id code) i)
+
+  stop_unless_counts : (o : Option Breach) (s : StreamsState) (f : StopSendingValue) → Listed s → Listed (opened_by s f.id) → Listed (stop_unless o s f)
+  stop_unless_counts (Some b) s f i opened = i
+  stop_unless_counts None s f i opened = stop_at_counts (sending_for s f.id) (opened_by s f.id) f.id f.code opened
+
+  -- a frame, by what it opens and which count it tells
+  pub listed_frame : (f : FrameValue) (e : End) → ((id : ℕ) → OpensStream f id → Listed (opened_by e.streams id)) → ((g : StreamCountValue) → f ≡ max_streams g → Listed (after_max_streams (dir_named g.one_way) g.count e.streams)) → Listed e.streams → Listed (take_frame f e).end.streams
+  listed_frame (stream g) e opens tells i = stream_cases e.streams e.waiting.frames g Listed (λ b is. i) (λ within none. i) (λ h within part u. renewed_counts e.streams g.id h (after_frame h g) true (opens g.id refl))
+  listed_frame (reset_stream g) e opens tells i = reset_cases e.streams e.waiting.frames g Listed (λ b is. i) (λ within none. i) (λ h within part u. renewed_counts e.streams g.id h (after_reset_stream h g.code g.final_size) (not (is_some h.reset)) (opens g.id refl))
+  listed_frame (stop_sending g) e opens tells i = stop_unless_counts (sending_refusal e.streams g.id) e.streams g i (opens g.id refl)
+  listed_frame (max_data limit) e opens tells i = i
+  listed_frame (max_stream_data g) e opens tells i = limit_unless_counts (sending_refusal e.streams g.id) e.streams g.id g.limit i (opens g.id refl)
+  listed_frame (max_streams g) e opens tells i = tells g refl
+  listed_frame (ack a) e opens tells i = go (names_ungiven a e)
+    where
+      go : (b : Bool) → Listed (ack_taken b a e).end.streams
+      go true = i
+      go false = acked_keeps (λ (x : End). Listed x.streams) settling (is_above e.numbers.largest_acked a.largest) a (named a e) i
+  listed_frame (datagram m) e opens tells i = message_leaves (λ (x : End). Listed x.streams) m e i (λ left. i)
+  listed_frame f e opens tells i = i
+
+-- a fact of the same but for the streams that are blocked
+module _ (K : Side → Counts → Counts → Events → Type 0) (more : (side : Side) (limits remote : Counts) (ev : Events) (event : StreamEvent) → K side limits remote ev → K side limits remote (with_event event ev)) where
+  abbrev pub Flagged : StreamsState → Type 0
+  Flagged s = K s.side s.opening.own_limit s.opening.remote s.events
+
+  abbrev AnyBlocked : Side → Counts → Counts → Events → List ℕ → Type 0
+  AnyBlocked side limits remote ev blocked = K side limits remote ev
+
+  more_so : (side : Side) (limits remote : Counts) (ev : Events) (blocked : List ℕ) (event : StreamEvent) → K side limits remote ev → K side limits remote (with_event event ev)
+  more_so side limits remote ev blocked event i = more side limits remote ev event i
+
+  joins_so : (side : Side) (limits remote : Counts) (ev : Events) (blocked : List ℕ) (id : ℕ) → K side limits remote ev → K side limits remote ev
+  joins_so side limits remote ev blocked id i = i
+
   behind_counts : (o : Option ℕ) (s : StreamsState) → K s.side s.opening.own_limit s.opening.remote (after_event s.events) → Flagged s → Flagged (told_behind o s).state
   behind_counts (Some id) s next i = i
   behind_counts None s next i = next
@@ -214,109 +334,13 @@ module _ (K : Side → Counts → Counts → Events → Type 0) (more : (side : 
       (λ is. cond_both s.events.opened.uni _ _ (λ (t : Telling). Flagged t.state) (λ is. untold Uni)
       (λ is. cond_both (room s.sending == 0) _ _ (λ (t : Telling). Flagged t.state) (λ is. next) (λ is. behind_counts (passed s.sending.blocked s.sending.halves.live).found (after_passing s (passed s.sending.blocked s.sending.halves.live)) next i)))
 
-  composed_counts : (e : End) → Flagged e.streams → Flagged (composed e).end.streams
-  composed_counts e i = by_writing (λ (d : Draft). Flagged d.end.streams) keep e i
-    where
-      keep : Writing (λ (d : Draft). Flagged d.end.streams)
-      keep (puts.control kind f) d may j = by_tells Flagged d.end.streams j j (λ id. j) (λ dir. j) f
-      keep p d may j = j
-
-  poll_counts : (p : Policy) (e : End) (now : ℕ) → Flagged e.streams → Flagged (poll.polled p e now).end.streams
-  poll_counts p e now i = poll_state Flagged p e now composed_counts i
-
-  -- ---- what is acknowledged or lost
-
-  lost_counts : (o : Option SendHalf) (s : StreamsState) (m : StreamMeta) → Flagged s → Flagged (lost_at o s m)
-  lost_counts None s m i = i
-  lost_counts (Some h) s m i = either (is_some h.reset) s _ i i
-
-  acked_counts : (o : Option SendHalf) (s : StreamsState) (p : Retransmits) (m : StreamMeta) → Flagged s → Flagged (acked_at o s p m).state
-  acked_counts None s p m i = i
-  acked_counts (Some h) s p m i = either_streams (is_some h.reset) (streams_of s p) (acked_on h s p m) i
-      (either_streams (is_acked (half_acked h m)) (settled (finished (replaced s m.id (half_acked h m)) m.id) p) (streams_of (replaced s m.id (half_acked h m)) p) (one_event (send_done (replaced s m.id (half_acked h m)) m.id) (stream_events.Finished m.id) (sent_counts (replaced s m.id (half_acked h m)) m.id i)) i)
-
-  reset_acked_counts : (o : Option SendHalf) (s : StreamsState) (p : Retransmits) (id : ℕ) → Flagged s → Flagged (reset_acked_at o s p id).state
-  reset_acked_counts None s p id i = i
-  reset_acked_counts (Some h) s p id i = either_streams (is_some h.reset) (settled (send_done s id) p) (streams_of s p) (sent_counts s id i) i
-
-  settling : Settling (λ (e : End). Flagged e.streams)
-  settling (steps.reset id) e i = reset_acked_counts (sent_half e.streams id) e.streams e.waiting.frames id i
-  settling (steps.acked m) e i = acked_counts (sent_half e.streams m.id) e.streams e.waiting.frames m i
-  settling (steps.lost m) e i = lost_counts (sent_half e.streams m.id) e.streams m i
-  settling s e i = i
-
   -- any call but a delivery
   pub flagged_call : (p : Policy) (e : End) (theirs : List (List ℕ)) (call : Call) (a : Answer) → is_delivery call ≡ false → IsAnswer p e theirs call a → (asks_event call ≡ true → Flagged (polled e.streams).state) → Flagged e.streams → Flagged (after_call p e theirs call a).streams
-  flagged_call p e theirs call a apart is asked i = go (is_on_streams call) refl
-    where
-      nothing : ℕ → Wrote
-      nothing id = record { bytes = []; ended = false; reset = None }
-
-      go : (b : Bool) → is_on_streams call ≡ b → Flagged (after_call p e theirs call a).streams
-      go true on =
-          let c = call_on_is p e theirs call a on in
-          subst (λ (s : StreamsState). Flagged s) (sym c.leaves) (call_with (λ (done : ℕ → Wrote) (s : StreamsState). Flagged s) words (is_open e.closing.state) nothing (streams_at e) i call a (c.answer is))
-      go false off = by_call p e theirs (λ (f : End). Flagged f.streams) call a (record {
-        same = i;
-        on_streams = λ on answer. cc;
-        on_messages = λ on answer. i;
-        pings = i;
-        times = λ now expiry set. by_expired e now (λ (f : End). Flagged f.streams) (λ pending tracking timers runs packets. i) (λ pending timers runs. losses_keep (λ (x : End). Flagged x.streams) settling (with_closing e (ticked e.closing now)) i) expiry;
-        polls = λ now set. poll_counts p e now i;
-        hears = λ arrival d set. cc;
-        tells = λ asks. by_event e (λ (f : End). Flagged f.streams) i (λ told. asked asks);
-      })
-
-  -- ---- what comes
-
-  -- a part has another value
-  renewed_counts : (s : StreamsState) (id : ℕ) (old new : RecvHalf) (tells : Bool) → Flagged (opened_by s id) → Flagged (renewed s id old new tells)
-  renewed_counts s id old new tells i = readable (tells && not (old.stopped || opens s id)) (ended_if (new.stopped && is_some new.final) id (with_recv (opened_by s id) id new)) (ended (new.stopped && is_some new.final))
-    where
-      readable : (b : Bool) (t : StreamsState) → Flagged t → Flagged (readable_if b id t)
-      readable true t j = one_event t (stream_events.Readable id) j
-      readable false t j = j
-
-      ended : (b : Bool) → Flagged (ended_if b id (with_recv (opened_by s id) id new))
-      ended true = received_counts (with_recv (opened_by s id) id new) id i
-      ended false = i
-
-  -- a half takes bytes again
-  again_counts : (t : StreamsState) (id : ℕ) (h : SendHalf) → Flagged t → Flagged (writable_again t id h)
-  again_counts t id h i = either (room t.sending == 0) (joined t id h) _ (joined_counts t id h i) (one_event t (stream_events.Writable id) i)
-
-  limit_counts : (o : Option SendHalf) (t : StreamsState) (id limit : ℕ) → Flagged t → Flagged (limit_at o t id limit)
-  limit_counts None t id limit i = i
-  limit_counts (Some h) t id limit i = either (nat_lt h.limit limit) (limit_raised t id h limit) t
-      (either (is_used_up h) (writable_again (with_send t id (limited_half h limit)) id (limited_half h limit)) (with_send t id (limited_half h limit)) (again_counts (with_send t id (limited_half h limit)) id (limited_half h limit) i) i) i
-
-  limit_unless_counts : (o : Option Breach) (s : StreamsState) (id limit : ℕ) → Flagged s → Flagged (opened_by s id) → Flagged (limit_unless o s id limit)
-  limit_unless_counts (Some b) s id limit i opened = i
-  limit_unless_counts None s id limit i opened = limit_counts (sending_for s id) (opened_by s id) id limit opened
-
-  stop_at_counts : (o : Option SendHalf) (t : StreamsState) (id code : ℕ) → Flagged t → Flagged (stop_at o t id code)
-  stop_at_counts None t id code i = i
-  stop_at_counts (Some h) t id code i = either (is_some h.stopped) t _ i (one_event (with_send t id (stopped_half h code)) (stream_events.Stopped id code) i)
-
-  stop_unless_counts : (o : Option Breach) (s : StreamsState) (f : StopSendingValue) → Flagged s → Flagged (opened_by s f.id) → Flagged (stop_unless o s f)
-  stop_unless_counts (Some b) s f i opened = i
-  stop_unless_counts None s f i opened = stop_at_counts (sending_for s f.id) (opened_by s f.id) f.id f.code opened
+  flagged_call p e theirs call a apart is asked i = listed_call AnyBlocked more_so joins_so p e theirs call a apart is asked i
 
   -- a frame, by what it opens and which count it tells
   pub flagged_frame : (f : FrameValue) (e : End) → ((id : ℕ) → OpensStream f id → Flagged (opened_by e.streams id)) → ((g : StreamCountValue) → f ≡ max_streams g → Flagged (after_max_streams (dir_named g.one_way) g.count e.streams)) → Flagged e.streams → Flagged (take_frame f e).end.streams
-  flagged_frame (stream g) e opens tells i = stream_cases e.streams e.waiting.frames g Flagged (λ b is. i) (λ within none. i) (λ h within part u. renewed_counts e.streams g.id h (after_frame h g) true (opens g.id refl))
-  flagged_frame (reset_stream g) e opens tells i = reset_cases e.streams e.waiting.frames g Flagged (λ b is. i) (λ within none. i) (λ h within part u. renewed_counts e.streams g.id h (after_reset_stream h g.code g.final_size) (not (is_some h.reset)) (opens g.id refl))
-  flagged_frame (stop_sending g) e opens tells i = stop_unless_counts (sending_refusal e.streams g.id) e.streams g i (opens g.id refl)
-  flagged_frame (max_data limit) e opens tells i = i
-  flagged_frame (max_stream_data g) e opens tells i = limit_unless_counts (sending_refusal e.streams g.id) e.streams g.id g.limit i (opens g.id refl)
-  flagged_frame (max_streams g) e opens tells i = tells g refl
-  flagged_frame (ack a) e opens tells i = go (names_ungiven a e)
-    where
-      go : (b : Bool) → Flagged (ack_taken b a e).end.streams
-      go true = i
-      go false = acked_keeps (λ (x : End). Flagged x.streams) settling (is_above e.numbers.largest_acked a.largest) a (named a e) i
-  flagged_frame (datagram m) e opens tells i = message_leaves (λ (x : End). Flagged x.streams) m e i (λ left. i)
-  flagged_frame f e opens tells i = i
+  flagged_frame f e opens tells i = listed_frame AnyBlocked more_so joins_so f e opens tells i
 
 -- a fact of an end's side, of how many streams it may open, and of how many the peer opened
 module _ (K : Side → Counts → Counts → Type 0) where

@@ -6,7 +6,7 @@ use Rattle.quic_parameters.specs.Parameters.{ParameterValues}
 use Rattle.quic_config.specs.Transport.{parameters_of, IsInRange}
 use Rattle.quic_streams_parts.specs.Dirs.{of}
 use Rattle.quic_streams_state.specs.declared.state.StreamsState.{StreamsState}
-use Rattle.quic_streams_laws.specs.StartLaws.{few_new, queue_new, few_set_params, queue_set_params}
+use Rattle.quic_streams_laws.specs.StartLaws.{few_new, queue_new, blocked_new, few_set_params, queue_set_params, blocked_set_params}
 use Rattle.quic_streams_laws.specs.WrittenResets.{resets_grow}
 use Rattle.quic_machine.specs.FrameCases.{begun, apart_same}
 use Rattle.quic_wire.specs.Value.{FrameValue}
@@ -63,7 +63,7 @@ pub record WritesHold (x y : Party) : Type 0 where
 -- the same was done
 writes_same : (done more : ℕ → Wrote) (t : Streams) → ((q : ℕ) → more q ≡ done q) → Writes done t → Writes more t
 writes_same done more t same w = record {
-  keeps = record { holds = holds_same done more t.state same w.keeps.holds; few = w.keeps.few; orderly = w.keeps.orderly };
+  keeps = record { holds = holds_same done more t.state same w.keeps.holds; few = w.keeps.few; orderly = w.keeps.orderly; blocked = w.keeps.blocked };
   waits = resets_grow done more t.pending (λ q. subst (Grows (done q)) (sym (same q)) (grows_same (done q))) w.waits;
 }
 
@@ -252,6 +252,7 @@ writes_first x y m = record {
           (holds_new x.side x.making.settings.max_uni x.making.settings.max_bidi x.making.settings.send_window x.making.settings.receive_window x.making.settings.stream_receive_window);
       few = few_set_params start theirs (λ d. none d) counts.0 counts.1 (few_new x.side x.making.settings.max_uni x.making.settings.max_bidi x.making.settings.send_window x.making.settings.receive_window x.making.settings.stream_receive_window);
       orderly = queue_set_params start theirs (queue_new x.side x.making.settings.max_uni x.making.settings.max_bidi x.making.settings.send_window x.making.settings.receive_window x.making.settings.stream_receive_window);
+      blocked = blocked_set_params start theirs (blocked_new x.side x.making.settings.max_uni x.making.settings.max_bidi x.making.settings.send_window x.making.settings.receive_window x.making.settings.stream_receive_window);
     };
     waits = tt;
   };

@@ -21,7 +21,7 @@ use Rattle.quic_streams_state.specs.Reading.{Told, told_bytes, told_end, told_re
 use Rattle.quic_streams_laws.specs.GrowsLaws.{grows_same, grows_write, grows_write_chunks, grows_finish, grows_reset}
 use Rattle.quic_streams_laws.specs.Few.{AreFew}
 use Rattle.quic_streams_laws.specs.FewLaws.{few_any}
-use Rattle.quic_streams_laws.specs.Queued.{IsOrderly}
+use Rattle.quic_streams_laws.specs.Queued.{IsOrderly, IsBlockedRight}
 use Rattle.quic_streams_laws.specs.KeepingLaws.{by_open, by_accept, by_write, by_write_chunks, by_finish, by_reset, by_set_priority, by_read_begun, by_next, by_finalize, by_stop, by_received_reset, ended_on, reset_now_on, priority_on}
 use Rattle.quic_streams_laws.specs.Written.{Wrote, Grows, IsSendHalf, SaysResets, wrote_by, wrote_chunks_by, wrote_end_by, wrote_reset_by}
 use Rattle.quic_streams_laws.specs.WrittenHalves.{prioritized_holds}
@@ -35,7 +35,7 @@ use Rattle.quic_machine.specs.declared.run.Answer.TheVariants as answers
 use Rattle.quic_machine.specs.Calls.{AreNexts, after_nexts}
 use Rattle.quic_machine.specs.StreamCalls.{if_ok, IsRead, IsStreamAnswer, after_on_streams}
 use Rattle.quic_headline.proofs.Halves.Wrote.{done_by, ResetsFirst}
-use Rattle.quic_headline.proofs.Halves.Kept.{orderly_any, Keeping, keeping_kept}
+use Rattle.quic_headline.proofs.Halves.Kept.{orderly_any, blocked_any, Keeping, keeping_kept}
 use Rattle.quic_headline.proofs.Halves.Waiting.{SameResets, write_same, write_chunks_same, stop_same, finalize_same, received_reset_same}
 
 -- all streams hold what was written on them, and what waits beside says how they were reset
@@ -64,6 +64,7 @@ module _ (done : ℕ → Wrote) (s : StreamsState) (p : Retransmits) (w : Writes
           holds = holds_write done s w.keeps.holds b p id bytes;
           few = by_write AreFew few_any b s p id bytes (within id) (λ n old new is on. tt) w.keeps.few;
           orderly = by_write IsOrderly orderly_any b s p id bytes (within id) (λ n old new is on. on) w.keeps.orderly;
+          blocked = by_write IsBlockedRight blocked_any b s p id bytes (within id) (λ n old new is on. on) w.keeps.blocked;
         };
         waits = waits_same more p after (write_same s p b (write_answer b s id (length bytes)) id bytes) (resets_grow done more p (grows_write done s w.keeps.holds b id bytes) w.waits);
       }
@@ -78,6 +79,7 @@ module _ (done : ℕ → Wrote) (s : StreamsState) (p : Retransmits) (w : Writes
           holds = holds_write_chunks done s w.keeps.holds b p id cs;
           few = by_write_chunks AreFew few_any b s p id cs (within id) (λ n old new is on. tt) w.keeps.few;
           orderly = by_write_chunks IsOrderly orderly_any b s p id cs (within id) (λ n old new is on. on) w.keeps.orderly;
+          blocked = by_write_chunks IsBlockedRight blocked_any b s p id cs (within id) (λ n old new is on. on) w.keeps.blocked;
         };
         waits = waits_same more p after (write_chunks_same s p b (write_chunks_answer b s id cs) id cs) (resets_grow done more p (grows_write_chunks done s w.keeps.holds b id cs) w.waits);
       }
@@ -89,6 +91,7 @@ module _ (done : ℕ → Wrote) (s : StreamsState) (p : Retransmits) (w : Writes
       holds = holds_finish done s w.keeps.holds id;
       few = by_finish AreFew few_any s id (λ h is ready. tt) w.keeps.few;
       orderly = by_finish IsOrderly orderly_any s id (λ h is ready. ended_on h) w.keeps.orderly;
+      blocked = by_finish IsBlockedRight blocked_any s id (λ h is ready. ended_on h) w.keeps.blocked;
     };
     waits = resets_grow done (wrote_end_by (finish_answer s id) id done) p (grows_finish done s w.keeps.holds id) w.waits;
   }
@@ -100,6 +103,7 @@ module _ (done : ℕ → Wrote) (s : StreamsState) (p : Retransmits) (w : Writes
       holds = holds_reset done s w.keeps.holds p id code;
       few = by_reset AreFew few_any s p id code (λ h is free. tt) w.keeps.few;
       orderly = by_reset IsOrderly orderly_any s p id code (λ h is free. reset_now_on h) w.keeps.orderly;
+      blocked = by_reset IsBlockedRight blocked_any s p id code (λ h is free. reset_now_on h) w.keeps.blocked;
     };
     waits = resets_reset done s p id code w.keeps.holds w.waits;
   }

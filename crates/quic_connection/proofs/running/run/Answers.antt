@@ -472,3 +472,10 @@ returns-clause-readables_are_told g c =
     let keys : Policies = policies_of g.H.HeaderKey.protection g.K.PacketKey.aead g.R.Rng.stream c.args.ends in
     let r : Run = run_of keys (windows_of g.C.Controller.steps g.C.Controller.window_of) c.args.ends c.args.events.now o.answers.items o.views.items o.given in
     λ honest. c.readables_are_told.ensures r (world_of (windows_of g.C.Controller.steps g.C.Controller.window_of) o.ends o.given) honest (record { codes = c.show_codes.ensures; follows = c.run_events.ensures.follows; from_client = refl; from_server = refl })
+
+pub returns-clause-writables_are_told : goal.returns-clause-writables_are_told
+returns-clause-writables_are_told g c =
+    let o = c.run_events.result in
+    let keys : Policies = policies_of g.H.HeaderKey.protection g.K.PacketKey.aead g.R.Rng.stream c.args.ends in
+    let r : Run = run_of keys (windows_of g.C.Controller.steps g.C.Controller.window_of) c.args.ends c.args.events.now o.answers.items o.views.items o.given in
+    λ honest. c.writables_are_told.ensures r (world_of (windows_of g.C.Controller.steps g.C.Controller.window_of) o.ends o.given) honest (record { codes = c.show_codes.ensures; follows = c.run_events.ensures.follows; from_client = refl; from_server = refl })
