@@ -4,5 +4,6 @@ pub mod ReadAnswers
 pub mod Runs
 mod Pairs
 pub mod Windows
+mod Openings
 pub mod Words
 pub mod Talking

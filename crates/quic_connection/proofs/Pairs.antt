@@ -8,7 +8,7 @@ use Rattle.quic_congestion.specs.Congestion.{Told, Steps, HasRoom, AreSized, las
 use Rattle.quic_machine.specs.declared.answers.ConfigError.{ConfigError}
 use Rattle.quic_machine.specs.declared.answers.ConfigError.TheVariants as config_errors
 use Rattle.quic_config.specs.Transport.{Settings, parameters_of}
-use Rattle.quic_machine.specs.End.{End, IsMade, are_sizes_wrong, is_window_small, refusal_of, most_payload}
+use Rattle.quic_machine.specs.End.{End, IsMade, are_sizes_wrong, is_window_small, KeyLimits, are_keys_short, refusal_of, most_payload}
 use Rattle.quic_machine.specs.Parts.{Windows}
 use Rattle.quic_machine.specs.Start.{IsController}
 use Rattle.quic_connection_core.specs.Telling.{IsRoomy, windows_of}
@@ -33,32 +33,32 @@ if_err_then (Ok a) f p = tt
 if_err_then (Err e) f p = f e p
 
 -- an own id that isn't refused has eight bytes
-pub id_length : {E : Type 0} (settings : Settings) (window : ℕ) (r : Result ParameterValues E) (theirs : ParameterValues) (own peer : List ℕ) → r ≡ Ok theirs → refusal_of settings window r own peer ≡ None → length own ≡ 8
-id_length settings window r theirs own peer is none = go (length own == 8) (length peer == 0) refl (rw is at none)
+pub id_length : {E : Type 0} (settings : Settings) (window : ℕ) (limits : KeyLimits) (r : Result ParameterValues E) (theirs : ParameterValues) (own peer : List ℕ) → r ≡ Ok theirs → refusal_of settings window limits r own peer ≡ None → length own ≡ 8
+id_length settings window limits r theirs own peer is none = go (length own == 8) (length peer == 0) refl (rw is at none)
   where
-    go : (a b : Bool) → (length own == 8) ≡ a → cond (not a || b) (Some config_errors.IdLength) (cond (are_sizes_wrong settings theirs) (Some config_errors.Size) (cond (is_window_small settings window) (Some config_errors.Window) None)) ≡ None → length own ≡ 8
+    go : (a b : Bool) → (length own == 8) ≡ a → cond (not a || b) (Some config_errors.IdLength) (cond (are_sizes_wrong settings theirs) (Some config_errors.Size) (cond (is_window_small settings window) (Some config_errors.Window) (cond (are_keys_short limits) (Some config_errors.KeyLimit) None))) ≡ None → length own ≡ 8
     go true b q h = eqb-true (length own) 8 q
     go false b q h = cc
 
 -- no path has to carry more than a UDP payload may have, where the sizes aren't refused
-pub fits_payload : {E : Type 0} (settings : Settings) (window : ℕ) (r : Result ParameterValues E) (theirs : ParameterValues) (own peer : List ℕ) → r ≡ Ok theirs → refusal_of settings window r own peer ≡ None → settings.min_mtu ≤ most_payload
-fits_payload settings window r theirs own peer is none = go (not (length own == 8) || (length peer == 0)) (nat_lt most_payload settings.initial_mtu) (nat_lt most_payload settings.min_mtu) refl (rw is at none)
+pub fits_payload : {E : Type 0} (settings : Settings) (window : ℕ) (limits : KeyLimits) (r : Result ParameterValues E) (theirs : ParameterValues) (own peer : List ℕ) → r ≡ Ok theirs → refusal_of settings window limits r own peer ≡ None → settings.min_mtu ≤ most_payload
+fits_payload settings window limits r theirs own peer is none = go (not (length own == 8) || (length peer == 0)) (nat_lt most_payload settings.initial_mtu) (nat_lt most_payload settings.min_mtu) refl (rw is at none)
   where
     go : (a b c : Bool) → nat_lt most_payload settings.min_mtu ≡ c
-        → cond a (Some config_errors.IdLength) (cond ((b || c) || nat_lt theirs.max_udp_payload_size settings.min_mtu) (Some config_errors.Size) (cond (is_window_small settings window) (Some config_errors.Window) None)) ≡ None → settings.min_mtu ≤ most_payload
+        → cond a (Some config_errors.IdLength) (cond ((b || c) || nat_lt theirs.max_udp_payload_size settings.min_mtu) (Some config_errors.Size) (cond (is_window_small settings window) (Some config_errors.Window) (cond (are_keys_short limits) (Some config_errors.KeyLimit) None))) ≡ None → settings.min_mtu ≤ most_payload
     go true b c q h = cc
     go false true c q h = cc
     go false false true q h = cc
     go false false false q h = ltb-false most_payload settings.min_mtu q
 
 -- a refusal behind parameters that can be read
-pub refused_for : {E : Type 0} (own_settings : Settings) (window : ℕ) (peer_settings : Settings) (r : Result ParameterValues E) (own peer : List ℕ) (o : Option ConfigError) → r ≡ Ok (parameters_of peer_settings) → o ≡ refusal_of own_settings window r own peer → refusal_for own_settings window peer_settings own peer ≡ o
-refused_for own_settings window peer_settings r own peer o is refusal = sym (rw is at refusal)
+pub refused_for : {E : Type 0} (own_settings : Settings) (window : ℕ) (limits : KeyLimits) (peer_settings : Settings) (r : Result ParameterValues E) (own peer : List ℕ) (o : Option ConfigError) → r ≡ Ok (parameters_of peer_settings) → o ≡ refusal_of own_settings window limits r own peer → refusal_for own_settings window limits peer_settings own peer ≡ o
+refused_for own_settings window limits peer_settings r own peer o is refusal = sym (rw is at refusal)
 
 -- an end that was made shows the window that its controller did
-pub made_window : {E : Type 0} (side : Side) (settings : Settings) (windows : Windows) (r : Result ParameterValues E) (theirs : ParameterValues) (own peer : List ℕ) (now : ℕ) (validated : Bool) (word : ℕ) (e : End)
-    → r ≡ Ok theirs → IsMade side settings windows r own peer now validated word e → e.path.window ≡ windows.present
-made_window side settings windows r theirs own peer now validated word e is made = ap (λ (x : End). x.path.window) (rw is at made)
+pub made_window : {E : Type 0} (side : Side) (settings : Settings) (windows : Windows) (r : Result ParameterValues E) (theirs : ParameterValues) (own peer : List ℕ) (now : ℕ) (validated : Bool) (words : ℕ → ℕ) (e : End)
+    → r ≡ Ok theirs → IsMade side settings windows r own peer now validated words e → e.path.window ≡ windows.present
+made_window side settings windows r theirs own peer now validated words e is made = ap (λ (x : End). x.path.window) (rw is at made)
 
 -- a controller that has room for two datagrams keeps it
 pub is_controller : {C : Type 0} (steps : Steps C) (size_of window_of : C → ℕ) (c : C) (size present : ℕ) → IsRoomy size_of window_of c size → present ≡ window_of c

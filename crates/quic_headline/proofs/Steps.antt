@@ -4,6 +4,7 @@ pub mod Pacing
 pub mod Windows
 pub mod Moved
 pub mod Probes
+pub mod Passing
 pub mod Idle
 pub mod Probing
 pub mod Asking

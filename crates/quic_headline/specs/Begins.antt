@@ -1,6 +1,6 @@
 -- What makes something wait at an end to go (RFC 9000, sections 2.4, 3.1, 3.5, 4.1, 4.2, 4.6, 13.2.1 and 13.3; RFC 9002, sections 6.1 and 6.2.4; RFC 9221, section 5). What waits, the
 -- end says itself; the causes are read off a run's lists.
-use Rattle.std.specs.Prelude.{ℕ, suc, ◌<◌, ◌≤◌, ◌≡◌, ◌⊎◌, ◌==◌, ◌&&◌, ◌||◌, nat_lt, Bool, true, false, List, [], ◌∷◌, ◌++◌, length, drop, Some, Ok, Err}
+use Rattle.std.specs.Prelude.{ℕ, suc, ◌<◌, ◌≤◌, ◌≡◌, ◌⊎◌, ◌==◌, ◌&&◌, ◌||◌, nat_lt, Bool, true, false, List, [], ◌∷◌, ◌++◌, length, drop, Option, Some, Ok, Err}
 use Rattle.std.specs.List.{list_any}
 use Rattle.std.specs.Option.{is_some, is_none}
 use Rattle.quic_wire_core.specs.declared.stream_id.Side.{Side}
@@ -29,7 +29,7 @@ use Rattle.quic_headline.specs.Moments.{acknowledges, went, debt}
 use Rattle.quic_headline.specs.AcksDue.{takes_marked, are_some, waits_out}
 use Rattle.quic_headline.specs.Unread.{stopped_by}
 use Rattle.quic_headline.specs.Messages.{sent_by}
-use Rattle.quic_headline.specs.Waited.{one_asks, count_silent, may_come, stands, is_ping, asks_ping, wants}
+use Rattle.quic_headline.specs.Waited.{one_asks, count_silent, may_come, stands, is_ping, asks_ping, wakes, probes_in_vain, wants}
 
 -- ---- what may wait
 
@@ -111,8 +111,10 @@ HasGone ss q = ⊥
 
 -- ---- what is seen of a call
 
--- What an observer of an end knows of a call: what was told before, the call, what is known before and behind it, the packets that came since the end gave an ACK frame, before it
--- and behind it, when those came before it that ask, and by what losses are judged.
+-- What an observer of an end knows of a call: what was told before, the call, what is known before
+-- and behind it, the packets that came since the end gave an ACK frame, before it and behind it,
+-- when those came before it that ask, when the time without a packet is over, if it is kept, and by
+-- what losses are judged.
 pub record Seen : Type 0 where
   pub told : List Told
   pub now : Told
@@ -121,6 +123,7 @@ pub record Seen : Type 0 where
   pub unanswered : List Packet
   pub unanswered_behind : List Packet
   pub arrivals : List ℕ
+  pub alive : Option ℕ
   pub terms : Terms
 
 -- the packets that came by it
@@ -155,6 +158,11 @@ pub record IsProbed (s : Seen) (q : Thing) : Type 0 where
 -- whether the timer of losses expires at it, and no datagram may be lost by time (RFC 9002, section 6.2.1)
 abbrev pub makes_probes : Seen → Bool
 makes_probes s = is_timely s.now.state s.now.call && (is_none s.before.flight.loss_time && is_past (loss_due s.terms s.before.flight) s.behind.clock)
+
+-- whether it asks for PING, or the time without a packet is over at it (RFC 9000, section 10.1.2),
+-- or it is a poll at which a probe of losses waits in vain (section 8.1)
+abbrev pub makes_ping : Seen → Bool
+makes_ping s = asks_ping s.now.call || (wakes s.now s.behind.clock s.alive || probes_in_vain s.now.call (went s.before s.behind) s.before)
 
 -- ---- calls of the application, and frames that come
 
@@ -208,11 +216,13 @@ may_hasten s =
     (are_some (came s) && one_asks s.unanswered_behind)
     || (takes_marked s.now.call s.now.answer || (waits_out s.now s.arrivals s.behind.clock || (is_poll s.now.call && nat_lt may_come (count_silent s.unanswered))))
 
--- What makes it wait: an ACK frame becomes due; PING is asked for; probes wait where the timer of losses expires; a message is sent; bytes are written, or an end is told; a frame about
--- streams is called for; what a datagram bore is lost; or a probe says it again.
+-- What makes it wait: an ACK frame becomes due; PING is asked for, or the time without a packet is
+-- over, or a probe waits in vain; probes wait where the timer of losses expires; a message is sent;
+-- bytes are written, or an end is told; a frame about streams is called for; what a datagram bore
+-- is lost; or a probe says it again.
 abbrev pub HasCause : Seen → Thing → Type 0
 HasCause s Ack = may_hasten s ≡ true
-HasCause s Ping = asks_ping s.now.call ≡ true
+HasCause s Ping = makes_ping s ≡ true
 HasCause s Probe = makes_probes s ≡ true
 HasCause s (Message message) = In message (sent_by s.now.call s.now.answer)
 HasCause s (Byte id offset) = ((length (written id s.told) ≤ offset) × (offset < length (written id (s.told ++ s.now ∷ [])))) ⊎ WasLost s (Byte id offset)
@@ -231,6 +241,7 @@ seen_at r side i call a = record {
   unanswered = (wants r side i).packets;
   unanswered_behind = (wants r side (suc i)).packets;
   arrivals = (debt r side i).arrivals;
+  alive = (wants r side i).alive;
   terms = terms_of (end_at side r.start);
 }
 

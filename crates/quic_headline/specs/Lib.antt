@@ -29,3 +29,5 @@ pub mod Telling
 pub mod Waited
 pub mod Begins
 pub mod Spread
+pub mod Threefold
+pub mod PeerLimits

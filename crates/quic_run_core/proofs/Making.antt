@@ -76,6 +76,8 @@ are_started client server client_is server_is = record {
   server = made Server server client client_is.says;
   client_gave = refl;
   server_gave = refl;
+  client_heard = refl;
+  server_heard = refl;
 }
   where
     made : (side : Side) (own peer : Options) → parameters_at (making (other_side side) peer).parameters ≡ Ok (parameters_of (settings_of peer))

@@ -26,3 +26,5 @@ mod scripts;
 mod statistics;
 #[cfg(test)]
 mod transfer;
+#[cfg(test)]
+mod validation;

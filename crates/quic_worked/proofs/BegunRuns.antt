@@ -3,7 +3,7 @@ use Rattle.std.proofs.Common.{◌≡◌, ℕ, List, [], ◌∷◌, take, length,
 use Rattle.std.specs.Prelude.{map, ◌==◌, ◌&&◌, nat_lt, Bool}
 use Rattle.std.specs.List.{list_any}
 use Rattle.std.proofs.lemmas.Bool.{both_ways, and_parts, eqb-true, ltb-true}
-use Rattle.quic_wire.specs.Value.{FrameValue, stream}
+use Rattle.quic_wire.specs.Value.{FrameValue, stream, StreamValue}
 use Rattle.quic_streams_parts.specs.Table.{at}
 use Rattle.quic_machine.specs.declared.run.ReadCall.{ReadCall}
 use Rattle.quic_machine.specs.Machine.{World}
@@ -13,7 +13,7 @@ use Rattle.quic_headline.specs.Duties.{AllData, on_half}
 use Rattle.quic_headline.specs.Moments.{went}
 use Rattle.quic_headline.specs.Observer.{Sent, HoldsOffset}
 use Rattle.quic_headline.specs.Waited.{stands}
-use Rattle.quic_headline.specs.Begins.{Ack, Ping, Byte, Frame, LimitOf, byte_waits, asks_for, may_hasten, acknowledged_by, WasLost, still, begins, BeginsAt}
+use Rattle.quic_headline.specs.Begins.{Ack, Ping, Byte, Frame, LimitOf, byte_waits, asks_for, may_hasten, makes_ping, acknowledged_by, WasLost, still, begins, BeginsAt}
 use Rattle.quic_worked.specs.Credit.{narrow_bytes, credit_written, credit_sent, credit_read, credit_given, ReadsEight}
 use Rattle.quic_worked.specs.Raised.{raised_events, raised_told, after_server_ping, first_ping, second_ping, third_came, third_due, limit_came, NeverComes}
 use Rattle.quic_worked.specs.Begun.{sending_seen, reading_seen, raising_seen, pinging_seen, waiting_seen, losing_seen, limit_at_each_poll, ack_at_each_call, ping_at_each_timeout, bytes_at_each_poll}
@@ -109,27 +109,34 @@ limit_shows read h = elim (h (Frame (LimitOf AllData)) refl) [
 
 -- ---- bytes at each poll
 
--- the first frame of some is STREAM of stream 0, with its first byte
+-- the first STREAM frame of some is of stream 0, with its first byte
 abbrev leads : List FrameValue → Bool
+leads [] = false
 leads (stream f ∷ fs) = (f.id == 0) && ((f.offset == 0) && nat_lt 0 (length f.bytes))
-leads fs = false
+leads (f ∷ fs) = leads fs
 
 abbrev head_leads : List Sent → Bool
 head_leads [] = false
 head_leads (s ∷ ss) = leads s.frames
 
-bears_first : (s : Sent) (ss : List Sent) (fs : List FrameValue) → s.frames ≡ fs → leads fs ≡ true → HoldsOffset (s ∷ ss) 0 0
-bears_first s ss (stream f ∷ fs) same is =
+abbrev Leader : List FrameValue → Type 0
+Leader fs = (f : StreamValue) × In (stream f) fs × (f.id ≡ 0) × (f.offset ≡ 0) × (0 < length f.bytes)
+
+leader : (fs : List FrameValue) → leads fs ≡ true → Leader fs
+leader [] is = cc
+leader (stream f ∷ fs) is =
     let both = and_parts (f.id == 0) ((f.offset == 0) && nat_lt 0 (length f.bytes)) is in
     let more = and_parts (f.offset == 0) (nat_lt 0 (length f.bytes)) both.1 in
-    let first : f.offset ≡ 0 = eqb-true f.offset 0 more.0 in
-    let some : 0 < length f.bytes = ltb-true 0 (length f.bytes) more.1 in
-    record { sent = s; among = inl refl; frame = f; carried = subst (λ (gs : List FrameValue). In (stream f) gs) (sym same) (inl refl); of_stream = eqb-true f.id 0 both.0; from = omega (arith, first); below = omega (arith, first, some) }
-bears_first s ss fs same is = cc
+    (f, inl refl, eqb-true f.id 0 both.0, eqb-true f.offset 0 more.0, ltb-true 0 (length f.bytes) more.1)
+leader (f ∷ fs) is = let rest = leader fs is in (rest.0, inr rest.1, rest.2, rest.3, rest.4)
 
 bears : (ss : List Sent) → head_leads ss ≡ true → HoldsOffset ss 0 0
 bears [] is = cc
-bears (s ∷ ss) is = bears_first s ss s.frames refl is
+bears (s ∷ ss) is =
+    let l = leader s.frames is in
+    let first : l.0.offset ≡ 0 = l.3 in
+    let some : 0 < length l.0.bytes = l.4 in
+    record { sent = s; among = inl refl; frame = l.0; carried = l.1; of_stream = l.2; from = omega (arith, first); below = omega (arith, first, some) }
 
 bytes_went : (read : ReadCall) → head_leads (went (sending_seen read).before (sending_seen read).behind) ≡ true
 unfolding limit_came
@@ -190,10 +197,14 @@ none_pinged : third_came.client.waiting.signals.ping ≡ false
 unfolding third_came
 none_pinged = refl
 
+no_ping_made : (read : ReadCall) → makes_ping (waiting_seen read) ≡ false
+unfolding limit_came
+no_ping_made read = refl
+
 pub ping_shows : (read : ReadCall) → BeginsAt (waiting_seen read) third_came.client ping_at_each_timeout.client → ⊥
 ping_shows read h = elim (h Ping refl) [
   | still set stays ↦ both_ways third_came.client.waiting.signals.ping none_pinged set
-  | begins cause ↦ (let clash : false ≡ true = cause in cc)
+  | begins cause ↦ both_ways (makes_ping (waiting_seen read)) (no_ping_made read) cause
 ]
 
 -- ---- no run comes to them

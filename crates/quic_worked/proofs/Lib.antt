@@ -53,3 +53,8 @@ pub mod RepeatedRuns
 pub mod BegunRuns
 mod ResetRun
 mod WritableRun
+mod TimedEnds
+mod EndedRuns
+mod RenamedRuns
+mod UnvalidatedRun
+pub mod Validated

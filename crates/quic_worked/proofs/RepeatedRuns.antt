@@ -1,16 +1,17 @@
 -- What is wanted of an end in worked runs, and machines that give a datagram in which nothing waited.
-use Rattle.std.proofs.Common.{◌≡◌, ◌≤◌, true, false, [], ◌∷◌, ◌++◌, Some, refl, inl, inr, arith}
+use Rattle.std.proofs.Common.{◌≡◌, ◌≤◌, true, false, [], ◌∷◌, ◌++◌, Some, refl, inl, inr, ap, ◌∙◌, arith}
+use Rattle.std.specs.List.{list_any}
 use Rattle.std.proofs.lemmas.Bool.{both_ways}
 use Rattle.quic_wire_core.specs.declared.stream_id.Side.{Side}
 use Rattle.quic_wire_core.specs.declared.stream_id.Side.TheVariants.{Client, Server}
 use Rattle.quic_wire_core.specs.declared.shared.EcnCodepoint.TheVariants.{Ect0}
-use Rattle.quic_wire.specs.Value.{ping, max_data}
+use Rattle.quic_wire.specs.Value.{ping, max_data, padding}
 use Rattle.quic_machine.specs.declared.run.ReadCall.{ReadCall}
-use Rattle.quic_headline.specs.Observer.{watch, sents_until}
+use Rattle.quic_headline.specs.Observer.{Sent, is_close, closes_of, watch, sents_until}
 use Rattle.quic_headline.specs.Headline.{IsHonest}
 use Rattle.quic_headline.specs.InFlight.{is_max_data}
 use Rattle.quic_headline.specs.Polls.{GaveOne}
-use Rattle.quic_headline.specs.Waited.{wants, calls_for_ack, stands, as_size_probe, as_loss_probe, as_ack, as_frames, EachWaited}
+use Rattle.quic_headline.specs.Waited.{wants, calls_for_ack, stands, as_size_probe, as_loss_probe, as_ack, as_frames, as_close, IsCloseAlone, EachWaited}
 use Rattle.quic_worked.specs.Worked.{asks_datagram, gives_bytes}
 use Rattle.quic_worked.specs.Acknowledged.{client_acked}
 use Rattle.quic_worked.specs.Paired.{asks_server}
@@ -25,6 +26,7 @@ use Rattle.quic_worked.proofs.WorkedHonest.{are_started}
 use Rattle.quic_worked.proofs.WorkedKeys.{are_keys}
 use Rattle.quic_worked.proofs.HastyRun.{step_0, step_1, step_2, step_3, step_4, step_5, step_6}
 use Rattle.quic_worked.proofs.LimitedRun.{limited_started, opens, opens_both, writes_first, writes_second, blocks, gives, takes, accepts, reads, raises}
+use Rattle.std.specs.Prelude.{Bool, ◌||◌, replicate}
 
 -- ---- what is wanted
 
@@ -55,13 +57,19 @@ pub limit_said : (read : ReadCall) → stands is_max_data (wants (limited_run re
 unfolding limited_heard
 limit_said read = refl
 
+-- ---- closes
+
+-- what has a close alone closes
+alone_closes : (s : Sent) → IsCloseAlone s → closes_of s ≡ true
+alone_closes s c = ap (list_any is_close) c.alone ∙ ap (λ (b : Bool). b || list_any is_close (replicate c.zeros padding)) c.is
+
 -- ---- PING again
 
 pinged_twice : sents_until ping_again Client 3 ≡ sents_until ping_again Client 2 ++ second_ping ∷ []
 unfolding client_acked
 pinged_twice = refl
 
-ping_unasked : (wants ping_again Client 2).pinged ≡ false
+ping_unasked : ((wants ping_again Client 2).pinged || (wants ping_again Client 2).probed) ≡ false
 unfolding client_acked
 ping_unasked = refl
 
@@ -78,7 +86,8 @@ ping_shows h = elim (h Client 2 0 gave_ping) [
   | as_size_probe probe ↦ (let above : 1200 ≤ 29 = probe.above in absurd (omega (arith, above)))
   | as_loss_probe waits ↦ (let none = no_probe_of_client in absurd (omega (arith, waits, none)))
   | as_ack none frames wanted ↦ (let clash : true ≡ false = none in cc)
-  | as_frames asks each ↦ both_ways (wants ping_again Client 2).pinged ping_unasked (each ping (inl refl))
+  | as_frames asks each ↦ both_ways ((wants ping_again Client 2).pinged || (wants ping_again Client 2).probed) ping_unasked (each ping (inl refl))
+  | as_close closes ↦ (let clash : false ≡ true = alone_closes second_ping closes in cc)
 ]
 
 ping_own : (side : Side) → AreOwn side [] ping_again.events ping_again.answers ping_again.views
@@ -120,6 +129,7 @@ ack_shows h = elim (h Server 7 0 gave_ack) [
   | as_loss_probe waits ↦ (let none = no_probe_of_server in absurd (omega (arith, waits, none)))
   | as_ack none frames wanted ↦ both_ways (calls_for_ack (wants ack_again Server 7)) ack_unwanted wanted
   | as_frames asks each ↦ (let clash : false ≡ true = asks in cc)
+  | as_close closes ↦ (let clash : false ≡ true = alone_closes second_ack closes in cc)
 ]
 
 ack_own : (side : Side) → AreOwn side [] ack_again.events ack_again.answers ack_again.views
@@ -161,6 +171,7 @@ limit_shows read h = elim (h Server 10 0 (gave_limit read)) [
   | as_loss_probe waits ↦ (let none = no_probe_of_limit read in absurd (omega (arith, waits, none)))
   | as_ack none frames wanted ↦ (let clash : true ≡ false = none in cc)
   | as_frames asks each ↦ both_ways (stands is_max_data (wants (limit_again read) Server 10).since) (each (max_data 13) (inl refl)) (limit_was_said read)
+  | as_close closes ↦ (let clash : false ≡ true = alone_closes second_limit closes in cc)
 ]
 
 limit_own : (read : ReadCall) → read.id ≡ 0 → (side : Side) → AreOwn side [] (limit_again read).events (limit_again read).answers (limit_again read).views

@@ -11,13 +11,13 @@ use Rattle.quic_machine.specs.declared.run.Answer.TheVariants as answers
 use Rattle.quic_machine.specs.declared.run.View.{View}
 use Rattle.quic_machine.specs.Machine.{World}
 use Rattle.quic_headline.specs.Runs.{Run}
-use Rattle.quic_worked.specs.Worked.{worked_policies, started, hello_datagram, delivers, sending_events, sending_answers, worked_views, sent_view, open_view, waiting_view, server_counting, once_taken}
+use Rattle.quic_worked.specs.Worked.{worked_policies, started, hello_datagram, delivers, sending_events, sending_answers, worked_views, sent_view, server_counting, once_taken, server_open, server_waiting}
 
 -- ---- a run with and without them
 
 -- the client's datagram with another last byte, which stands in its tag: the header is right, and the key refuses it
 abbrev pub forged_datagram : List ℕ
-forged_datagram = take 33 hello_datagram ++ 0x00 ∷ []
+forged_datagram = take 145 hello_datagram ++ 0x00 ∷ []
 
 -- it is injected at the server at a moment, without a mark
 abbrev pub forges : ℕ → RunEvent
@@ -33,10 +33,10 @@ asks_wait = record { side = Server; call = calls.Timer MaxAckDelay }
 
 -- what is seen of both ends in the worked run once the client gave its datagram, and once the server took it
 abbrev pub sent_seen : View
-sent_seen = record { client = sent_view; server = open_view }
+sent_seen = record { client = sent_view; server = server_open }
 
 abbrev pub taken_seen : View
-taken_seen = record { client = sent_view; server = waiting_view }
+taken_seen = record { client = sent_view; server = server_waiting }
 
 -- the client gives its datagram, the forged one comes a second later, then the datagram, which was under way, once more itself, and the forged one again
 abbrev pub noisy_run : Run
@@ -67,7 +67,7 @@ quiet_run = record noisy_run {
 
 -- the server has counted as received the bytes of so many datagrams as long as the client's, of which so many didn't open
 abbrev pub came_in : ℕ → ℕ → World → World
-came_in count failures w = server_counting (record { received = 34 * count; sent = 0; failures = failures }) w
+came_in count failures w = server_counting (record { received = 146 * count; sent = 0; failures = failures }) w
 
 -- all that the noisy run leaves, and the other one
 abbrev pub noisy_left : World

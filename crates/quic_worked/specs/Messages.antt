@@ -14,7 +14,7 @@ use Rattle.quic_machine.specs.declared.run.View.{View}
 use Rattle.quic_machine.specs.Heard.{heard_datagram}
 use Rattle.quic_machine.specs.Machine.{World}
 use Rattle.quic_headline.specs.Runs.{Packet, Run}
-use Rattle.quic_worked.specs.Worked.{after_event, ran, server_counting, worked_policies, started, once_taken, asks_datagram, delivers, gives_bytes, open_view, view_with}
+use Rattle.quic_worked.specs.Worked.{after_event, ran, server_counting, worked_policies, started, once_taken, asks_datagram, delivers, gives_bytes, open_view, view_with, ids_payload, behind_ids, told_ids, server_open, both_steady}
 use Rattle.quic_worked.specs.Acknowledged.{client_acked, client_datagram, from_server}
 use Rattle.quic_worked.specs.Broken.{duplicate}
 use Rattle.quic_worked.specs.Losses.{asks_ping, ping_payload}
@@ -30,16 +30,17 @@ ping_message = 112 ∷ 105 ∷ 110 ∷ 103 ∷ []
 abbrev pub message_payload : List ℕ
 message_payload = 0x31 ∷ 0x04 ∷ ping_message
 
--- header, number under its mask, payload and tag
+-- header, number under its mask, the client's ids, payload and tag
 abbrev pub message_datagram : List ℕ
 message_datagram =
-    (0x49 ∷ 0x50 ∷ 0x50 ∷ 0x50 ∷ 0x50 ∷ 0x50 ∷ 0x50 ∷ 0x50 ∷ 0x50 ∷ 0x6e ∷ [])
+    (0x48 ∷ 0x50 ∷ 0x50 ∷ 0x50 ∷ 0x50 ∷ 0x50 ∷ 0x50 ∷ 0x50 ∷ 0x50 ∷ 0x00 ∷ [])
+    ++ ids_payload
     ++ (0x31 ∷ 0x04 ∷ 0x70 ∷ 0x69 ∷ 0x6e ∷ 0x67 ∷ [])
     ++ (replicate 8 0x00 ++ replicate 8 0x63)
 
 -- the packet that comes so
 abbrev pub message_packet : Packet
-message_packet = record { number = 0; frames = datagram ping_message ∷ [] }
+message_packet = record { number = 0; frames = behind_ids (datagram ping_message ∷ []) }
 
 -- ---- the events
 
@@ -81,7 +82,7 @@ tells_message = answers.Event (Some events.Message)
 
 -- what is answered until the datagram came once
 abbrev pub message_front : List Answer
-message_front = is_sent ∷ gives_bytes 32 ∷ answers.Deliver receives.Taken ∷ []
+message_front = is_sent ∷ gives_bytes 144 ∷ answers.Deliver receives.Taken ∷ []
 
 -- the answers: the datagram is dropped when it comes again, and the message is told once and read once
 abbrev pub message_answers : List Answer
@@ -153,7 +154,7 @@ messaging happens told given = record {
   start = started;
   events = happens;
   answers = told;
-  views = replicate 13 (record { client = open_view; server = open_view });
+  views = replicate 13 (record { client = open_view; server = server_open });
   from_client = given;
   from_server = [];
 }
@@ -213,12 +214,12 @@ lossy_events =
 abbrev pub lossy_answers : List Answer
 lossy_answers =
     is_sent
-    ∷ gives_bytes 32
+    ∷ gives_bytes 144
     ∷ answers.Ping
     ∷ gives_bytes 29
     ∷ answers.Deliver receives.Taken
     ∷ answers.Ping
-    ∷ gives_bytes 32
+    ∷ gives_bytes 144
     ∷ answers.Deliver receives.Taken
     ∷ []
 
@@ -233,7 +234,7 @@ late_answers = lossy_answers ++ answers.Deliver receives.Taken ∷ gives_message
 -- what the first so many of the events until then leave: a round trip takes 10 ms, and the message went long before that
 unfoldable pub once_late : ℕ → World
 unfolding client_acked
-once_late n = ran worked_policies started (take n lossy_events) (take n lossy_answers)
+once_late n = ran worked_policies both_steady (take n lossy_events) (take n lossy_answers)
 
 -- the message came
 unfoldable pub late_taken : World
@@ -262,15 +263,15 @@ late_views =
     ++ both_seen (Some 1124000000) None (Some 1129000000) None
     ∷ replicate 4 (both_seen None (Some 135000000) (Some 1129000000) None)
 
--- PING, and ACK of number 1 alone
+-- PING, the server's ids, and ACK of number 1 alone
 abbrev pub named_payload : List ℕ
-named_payload = 0x01 ∷ 0x02 ∷ 0x01 ∷ 0x00 ∷ 0x00 ∷ 0x00 ∷ []
+named_payload = 0x01 ∷ told_ids (0x02 ∷ 0x01 ∷ 0x00 ∷ 0x00 ∷ 0x00 ∷ [])
 
 -- the run
 abbrev pub late_run : Run
 late_run = record {
   keys = worked_policies;
-  start = started;
+  start = both_steady;
   events = late_events;
   answers = late_answers;
   views = late_views;
@@ -306,4 +307,4 @@ again_given = message_datagram ∷ client_datagram 1 0 ping_payload ∷ client_d
 
 -- the run of a client that sends a message again
 abbrev pub message_again : Run
-message_again = record (messaging again_events again_answers again_given) { from_server = from_server 0 named_payload ∷ [] }
+message_again = record (messaging again_events again_answers again_given) { start = both_steady; from_server = from_server 0 named_payload ∷ [] }

@@ -6,12 +6,12 @@ use Rattle.quic_machine.specs.declared.run.Answer.TheVariants as answers
 use Rattle.quic_headline.specs.Runs.{Run}
 use Rattle.quic_headline.specs.Observer.{Sent}
 use Rattle.quic_worked.specs.Worked.{worked_policies, started, asks_datagram, gives_bytes, client_id, server_id}
-use Rattle.quic_worked.specs.Acknowledged.{from_server}
+use Rattle.quic_worked.specs.Acknowledged.{from_server, ack_at_once}
 use Rattle.quic_worked.specs.Losses.{asks_ping}
 use Rattle.quic_worked.specs.Paired.{asks_server}
 use Rattle.quic_worked.specs.Timed.{seen_with}
 use Rattle.quic_worked.specs.Hasty.{hasty_events, answers_hasty, hasty_views, ack_of_both, pings}
-use Rattle.quic_worked.specs.Limited.{limited_events, limited_answers, limited_views, limited_run, raised_payload}
+use Rattle.quic_worked.specs.Limited.{limited_events, limited_answers, limited_views, limited_run, raised_payload, raised_limits}
 
 -- a datagram that was given second of an end's, to this id, at moment 0
 abbrev pub second_sent : List ℕ → List FrameValue → ℕ → Sent
@@ -25,7 +25,7 @@ ping_again = record {
   keys = worked_policies;
   start = started;
   events = asks_ping ∷ asks_datagram ∷ asks_datagram ∷ [];
-  answers = answers.Ping ∷ gives_bytes 29 ∷ gives_bytes 29 ∷ [];
+  answers = answers.Ping ∷ gives_bytes 139 ∷ gives_bytes 29 ∷ [];
   views = seen_with None None ∷ replicate 2 (seen_with (Some 1024000000) None);
   from_client = pings 2;
   from_server = [];
@@ -55,13 +55,13 @@ second_ack = second_sent client_id (ack (record { largest = 1; delay = 0; ranges
 
 -- ---- MAX_DATA
 
--- the server says how far the client may come once the word is read, and says it once more
+-- the server says how far the client may come once the word is read, and says it once more, without its ids
 abbrev pub limit_again : ReadCall → Run
 limit_again read = record (limited_run read) {
   events = take 10 (limited_events read) ++ asks_server ∷ [];
   answers = take 10 limited_answers ++ gives_bytes 36 ∷ [];
   views = take 11 limited_views;
-  from_server = from_server 0 raised_payload ∷ from_server 1 raised_payload ∷ [];
+  from_server = from_server 0 raised_payload ∷ from_server 1 (raised_limits ++ ack_at_once) ∷ [];
 }
 
 -- the second

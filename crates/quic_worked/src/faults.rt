@@ -12,7 +12,7 @@ ghost use Rattle.quic_headline.specs.Causes.{NoBlame, TakenOrTooMany};
 ghost use Rattle.quic_headline.specs.Moments.{LossMoments, LossTimerQuiet, AllNamed};
 ghost use Rattle.quic_headline.specs.Polls.{GaveNothing, IsFull, IsHeldBack};
 ghost use Rattle.quic_headline.specs.Headline.{AcceptsAll, NewestOpens, NumbersRise, opened_there, IsHonest, IsRun};
-ghost use Rattle.quic_worked.specs.Worked.{ReadsBy, two_chunks, started, once_ended, at_server, hello_datagram, hello_opening, run_with, worked_run};
+ghost use Rattle.quic_worked.specs.Worked.{ReadsBy, two_chunks, started, once_ended, at_server, hello_datagram, hello_opening, run_with, worked_run, told_ids};
 ghost use Rattle.quic_worked.specs.Acknowledged.{client_datagram};
 ghost use Rattle.quic_worked.specs.Broken.{IsNoRun};
 ghost use Rattle.quic_worked.specs.Machines.{NeverGives, all_dropped};
@@ -28,7 +28,7 @@ ghost use Rattle.quic_worked.specs.Faults.{both_open, own_payload, own_limits, e
 pub fn limits_are_own()
     ensures writes { WritesTakeWhatLimitsAllow own_limits → ⊥ }
     ensures blame { NoBlame own_limits → ⊥ }
-    ensures closes { at_server limited_start.server (client_datagram 0 0 own_payload)
+    ensures closes { at_server limited_start.server (client_datagram 0 0 (told_ids own_payload))
         ≡ Closed (plain_error 3) }
     ensures premises { IsHonest own_limits }
     ensures machine { IsNoRun own_limits }

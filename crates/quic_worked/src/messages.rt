@@ -8,17 +8,19 @@ ghost use Rattle.quic_headline.specs.Runs.{until};
 ghost use Rattle.quic_headline.specs.Observer.{took};
 ghost use Rattle.quic_headline.specs.Headline.{IsHonest, IsRun};
 ghost use Rattle.quic_headline.specs.Messages.{sent_messages, received_messages, MessagesAtMostOnce};
-ghost use Rattle.quic_worked.specs.Worked.{client_gives, from_client};
+ghost use Rattle.quic_worked.specs.Worked.{from_client, told_ids};
 ghost use Rattle.quic_worked.specs.Broken.{IsNoRun};
 ghost use Rattle.quic_worked.specs.Messages.{ping_message, message_payload, message_datagram, message_packet, message_end, message_run, message_twice, message_cut, message_made_up, message_back, message_refused, once_late, late_end, late_run, message_again};
+ghost use Rattle.quic_worked.specs.Acknowledged.{ack_at_once};
+ghost use Rattle.quic_machine.specs.PollCases.{draft_at};
 
-/// A message goes in a frame of its own, with its length (RFC 9221, section 4). Its datagram comes
-/// twice, and is taken once: the application is told once that a message came, reads it once, and
-/// finds none behind it.
+/// A message goes in a frame of its own, with its length (RFC 9221, section 4), behind those that
+/// tell the client's ids. Its datagram comes twice, and is taken once: the application is told once
+/// that a message came, reads it once, and finds none behind it.
 #[tactic(auto, unfolding(crate::specs::Worked::once_taken))]
 pub fn message_comes_once()
     ensures spelling { spelling (datagram ping_message) ≡ message_payload }
-    ensures bytes { from_client 0 message_payload ≡ message_datagram }
+    ensures bytes { from_client 0 (told_ids message_payload) ≡ message_datagram }
     ensures honest { IsHonest message_run }
     ensures run { IsRun message_run message_end }
     ensures took { took message_run Server 8 ≡ message_packet ∷ [] }
@@ -28,12 +30,13 @@ pub fn message_comes_once()
 {}
 
 /// A message whose datagram is lost doesn't go again (RFC 9221, section 5.2), and nothing is waited
-/// for then. Where that datagram comes late, the message is received once all the same.
+/// for then: of what was in it the ids alone go again, with an acknowledgement. Where that datagram
+/// comes late, the message is received once all the same.
 pub fn late_message_comes_once()
     ensures honest { IsHonest late_run }
     ensures run { IsRun late_run late_end }
     ensures lost { (once_late 8).client.tracking.packets ≡ [] }
-    ensures silent { (client_gives (once_late 8).client 110000000).answer ≡ Ok None }
+    ensures silent { (draft_at (once_late 8).client 110000000).bytes ≡ told_ids ack_at_once }
     ensures sent { sent_messages (until late_run Client 11) ≡ ping_message ∷ [] }
     ensures received { received_messages (until late_run Server 11) ≡ ping_message ∷ [] }
     ensures once { MessagesAtMostOnce late_run }

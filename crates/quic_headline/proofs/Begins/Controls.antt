@@ -10,7 +10,7 @@ use Rattle.std.proofs.lemmas.Bool.{or_left, or_right, or_cases, eq-eqb}
 use Rattle.std.proofs.lemmas.List.Folds.{list_any-append}
 use Rattle.quic_wire_core.specs.declared.stream_id.Dir.{Dir}
 use Rattle.quic_wire_core.specs.declared.stream_id.Dir.TheVariants.{Bi, Uni}
-use Rattle.quic_wire.specs.Value.{FrameValue, StopSendingValue, reset_stream, stop_sending, max_data, max_stream_data, data_blocked, stream_data_blocked}
+use Rattle.quic_wire.specs.Value.{FrameValue, StopSendingValue, reset_stream, stop_sending, max_stream_data, stream_data_blocked}
 use Rattle.quic_streams_parts.specs.TableLaws.{nat_cmp-same}
 use Rattle.quic_streams_parts.specs.Dirs.{of}
 use Rattle.quic_retransmits.specs.Retransmits.{Retransmits, nothing_waits, merged, with_id, with_ids, has_id, others_of}

@@ -10,7 +10,8 @@ use Rattle.quic_streams_parts.specs.Table.{Table}
 use Rattle.quic_retransmits.specs.Retransmits.{Retransmits, nothing_waits}
 use Rattle.quic_streams_state.specs.declared.state.StreamsState.{StreamsState}
 use Rattle.quic_machine.specs.End.{End}
-use Rattle.quic_machine.specs.FrameCases.{apart_same}
+use Rattle.quic_wire_core.specs.declared.shared.IssuedCid.{IssuedCid}
+use Rattle.quic_machine.specs.FrameCases.{apart_leaves}
 use Rattle.quic_machine.specs.Tracking.{Carried, TrackedPacket, streams_in, retransmits_in}
 use Rattle.quic_headline.specs.Runs.{In}
 use Rattle.quic_headline.specs.Observer.{Sent}
@@ -25,7 +26,7 @@ use Rattle.quic_headline.proofs.Places.Told.{in_append}
 use Rattle.quic_headline.proofs.Halves.Arrived.{meta_in}
 use Rattle.quic_headline.proofs.Begins.Controls.{none_waits, again_said}
 use Rattle.quic_headline.proofs.Begins.Called.{IsRaised}
-use Rattle.quic_headline.proofs.Begins.Walk.{PendsAt, pend_more, CarriedIs, acked_pend, lost_pend, taken_pend}
+use Rattle.quic_headline.proofs.Begins.Walk.{PendsAt, pend_more, ids_pend, CarriedIs, acked_pend, lost_pend, taken_pend}
 
 -- ---- what a packet carried stands in its datagram
 
@@ -147,6 +148,9 @@ module _ (Start : Thing → Type 0) (flew before : List Sent) (frames : List Fra
   raised_by f among is flying new (LimitOf (StreamCount dir)) raised = inr (inr (one_passes may_end frames f among (data_ends f is)))
   raised_by f among is flying new c raised = absurd raised
 
+  pub ids_begun : (flying acked : List Sent) (e : End) (ids : List IssuedCid) (retired : List ℕ) → Begun flying acked e → BegunAt flying acked e.streams (record e.waiting.frames { new_cids = ids; retire_cids = retired })
+  ids_begun flying acked e ids retired i = record { new = i.new; more = i.more; inside = i.inside; apart = i.apart; pends = ids_pend (By flying i.new) e.streams e.waiting.frames ids retired i.pends }
+
   pub begun_flies : Flies frames Begun
   begun_flies = record {
     losing = begun_loses;
@@ -169,5 +173,5 @@ module _ (Start : Thing → Type 0) (flew before : List Sent) (frames : List Fra
       pends = taken_pend (By flying i.new) f e on (λ is c raised. raised_by f among is flying i.new c raised) i.pends;
     };
     message = λ flying acked m e i. i;
-    apart = λ flying acked f e among is i. subst (Begun flying acked) (sym (apart_same f e is)) i;
+    apart = λ flying acked f e among is i. apart_leaves (Begun flying acked) f e is (λ c. ids_begun flying acked e c.new_cids c.retire_cids i) (λ c most. ids_begun flying acked e c.new_cids c.retire_cids i);
   }

@@ -14,6 +14,7 @@ use Rattle.quic_streams_laws.specs.Keeping.{KeepsBy}
 use Rattle.quic_streams_laws.specs.KeepingLaws.{by_stream, by_reset_frame, by_stop_sending, by_max_data, by_max_stream_data, by_max_streams, by_stream_lost, by_stream_acked, by_reset_acked, by_frame as by_half_frame}
 use Rattle.quic_streams_laws.specs.QuietLaws.{by_told}
 use Rattle.quic_machine.specs.End.{End}
+use Rattle.quic_wire_core.specs.declared.shared.IssuedCid.{IssuedCid}
 use Rattle.quic_machine.specs.Tracking.{Carried, TrackedPacket, dir_named}
 use Rattle.quic_machine.specs.Acked.{reset_acked, stream_acked, packets_acked, stream_lost, streams_lost, carried_lost, packets_lost}
 use Rattle.quic_machine.specs.Receive.{take_frame}
@@ -22,7 +23,7 @@ use Rattle.quic_machine.specs.Poll.{Draft, no_frames, draft_as, lazied_as, Leavi
 use Rattle.quic_machine.specs.DraftLaws.{Writing, by_leave, MayLeave}
 use Rattle.quic_machine.specs.Puts as puts
 use Rattle.quic_headline.specs.Runs.{In}
-use Rattle.quic_headline.specs.Duties.{AllData, StreamCount}
+use Rattle.quic_headline.specs.Duties.{AllData, StreamData, StreamCount}
 use Rattle.quic_headline.specs.Begins.{Control, LimitOf, control_waits, Thing, Byte, Fin, Frame, brings_data}
 use Rattle.quic_headline.proofs.Packets.Flying.{acked_keep}
 use Rattle.quic_headline.proofs.Grown.Flags.{Decides}
@@ -54,6 +55,17 @@ Pends F e = PendsAt F e.streams e.waiting.frames
 -- where more is F
 pub pend_more : (F G : Thing → Type 0) (s : StreamsState) (p : Retransmits) → ((q : Thing) → F q → G q) → PendsAt F s p → PendsAt G s p
 pend_more F G s p more i = record { controls = λ c is. more (Frame c) (i.controls c is); halves = pends_more IsBuffered IsBuffered F G s (λ b x. x) more i.halves; grew = i.grew }
+
+-- ids that wait, and those that are to be retired, are none of these frames
+ids_apart : (p : Retransmits) (ids : List IssuedCid) (retired : List ℕ) (c : Control) → control_waits (record p { new_cids = ids; retire_cids = retired }) c ≡ true → control_waits p c ≡ true
+ids_apart p ids retired (LimitOf AllData) is = is
+ids_apart p ids retired (LimitOf (StreamData id)) is = is
+ids_apart p ids retired (LimitOf (StreamCount dir)) is = is
+ids_apart p ids retired c is = is
+
+-- so with others what waits is F still
+pub ids_pend : (F : Thing → Type 0) (s : StreamsState) (p : Retransmits) (ids : List IssuedCid) (retired : List ℕ) → PendsAt F s p → PendsAt F s (record p { new_cids = ids; retire_cids = retired })
+ids_pend F s p ids retired i = record { controls = λ c is. i.controls c (ids_apart p ids retired c is); halves = i.halves; grew = i.grew }
 
 module _ (F : Thing → Type 0) where
   -- each small change of streams keeps what waits of their halves, where that of the half does

@@ -9,7 +9,7 @@ use Rattle.quic_wire.specs.Value.{FrameValue, padding, max_data, max_streams, da
 use Rattle.quic_streams_parts.specs.Dirs.{of}
 use Rattle.quic_retransmits.specs.Retransmits.{Retransmits}
 use Rattle.quic_retransmits.specs.declared.retransmits.ControlKind.{ControlKind}
-use Rattle.quic_retransmits.specs.declared.retransmits.ControlKind.TheVariants.{ResetStream, StopSending, MaxData, MaxStreamData, MaxStreams, DataBlocked, StreamDataBlocked}
+use Rattle.quic_retransmits.specs.declared.retransmits.ControlKind.TheVariants.{ResetStream, StopSending, MaxData, MaxStreamData, MaxStreams, DataBlocked, StreamDataBlocked, NewConnectionId, RetireConnectionId}
 use Rattle.quic_streams_state.specs.declared.state.StreamsState.{StreamsState}
 use Rattle.quic_streams_state.specs.Control.{Entry, data_entry, count_entry, blocked_entry, flagged, waiting, without_first, kind_of, dir_named, frame_of_first}
 use Rattle.quic_streams_laws.specs.KindLaws.{GoesFirst}
@@ -78,6 +78,8 @@ taken all MaxStreamData p = inr ((λ is. cc), refl)
 taken all (MaxStreams dir) p = inr ((λ is. cc), refl)
 taken all DataBlocked p = inr ((λ is. cc), refl)
 taken all StreamDataBlocked p = inr ((λ is. cc), refl)
+taken all NewConnectionId p = inr ((λ is. cc), refl)
+taken all RetireConnectionId p = inr ((λ is. cc), refl)
 taken (counts one_way) (MaxStreams dir) p = taken_count one_way dir p
 taken (counts one_way) MaxData p = inr ((λ is. cc), refl)
 taken (counts one_way) ResetStream p = inr ((λ is. cc), refl)
@@ -85,6 +87,8 @@ taken (counts one_way) StopSending p = inr ((λ is. cc), refl)
 taken (counts one_way) MaxStreamData p = inr ((λ is. cc), refl)
 taken (counts one_way) DataBlocked p = inr ((λ is. cc), refl)
 taken (counts one_way) StreamDataBlocked p = inr ((λ is. cc), refl)
+taken (counts one_way) NewConnectionId p = inr ((λ is. cc), refl)
+taken (counts one_way) RetireConnectionId p = inr ((λ is. cc), refl)
 taken blocked DataBlocked p = inl refl
 taken blocked MaxData p = inr ((λ is. cc), refl)
 taken blocked ResetStream p = inr ((λ is. cc), refl)
@@ -92,6 +96,8 @@ taken blocked StopSending p = inr ((λ is. cc), refl)
 taken blocked MaxStreamData p = inr ((λ is. cc), refl)
 taken blocked (MaxStreams dir) p = inr ((λ is. cc), refl)
 taken blocked StreamDataBlocked p = inr ((λ is. cc), refl)
+taken blocked NewConnectionId p = inr ((λ is. cc), refl)
+taken blocked RetireConnectionId p = inr ((λ is. cc), refl)
 
 -- what has a first that waits, waits
 flag_set : (b : Bool) (entry : Entry) (s : StreamsState) (f : FrameValue) → frame_of_first (flagged b entry) s ≡ Some f → b ≡ true

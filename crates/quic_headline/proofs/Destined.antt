@@ -1,0 +1,6 @@
+pub mod Sole
+pub mod Issues
+pub mod Own
+pub mod Known
+pub mod Used
+pub mod Issued
