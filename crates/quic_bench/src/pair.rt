@@ -121,12 +121,14 @@ fn id_of(side: Side) -> ConnectionId {
     }
 }
 
-/// The settings of an end. Datagrams keep the size of the lanes.
+/// The settings of an end. Datagrams keep the size of the lanes, and no idle timeout runs, so that
+/// both ends can rest.
 fn transport(limits: &Limits) -> TransportConfig {
     let mut transport = TransportConfig::default();
     transport.initial_mtu(LANE_MTU);
     transport.min_mtu(LANE_MTU);
     transport.mtu_discovery_config(None);
+    transport.max_idle_timeout(None);
     transport.max_concurrent_uni_streams(limits.streams);
     transport.max_concurrent_bidi_streams(limits.streams);
     transport.stream_receive_window(limits.window);

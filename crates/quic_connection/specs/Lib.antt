@@ -1,6 +1,7 @@
 -- The definitions of this crate, and those of lower crates that its clauses cite.
 pub mod Ends
 pub mod GoingOn
+pub mod Rooms
 pub mod OnStreams
 pub mod OnMessages
 pub mod Settled

@@ -24,9 +24,9 @@ pub use quic_congestion::{
 pub use quic_connection_core::{Config, Connection};
 pub use quic_copies::Copies;
 pub use quic_machine::{
-    Answer, Call, ConfigError, Datagram, Delivery, DropReason, EndView, Event, Failed, IdleTimeout,
-    Injection, Instant, LostReason, Nexts, ReadCall, Received, RunEvent, State, Timer, Transmit,
-    TransportConfig, View,
+    Answer, Call, CloseCall, ConfigError, Datagram, Delivery, DropReason, EndView, Event, Failed,
+    IdleTimeout, Injection, Instant, LostReason, NextIdError, Nexts, PeerClose, ReadCall, Received,
+    RunEvent, State, Timer, Transmit, TransportConfig, View,
 };
 pub use quic_messages::{DatagramLimits, DatagramState, Datagrams, SendDatagramError};
 pub use quic_packet::crypto::{
@@ -42,6 +42,7 @@ pub use quic_streams_parts::{
     Written,
 };
 pub use quic_time::{Duration, RttEstimator};
+pub use quic_wire::frame::{ApplicationClose, Close, ConnectionClose};
 pub use quic_wire_core::{
     Code, ConnectionId, Dir, EcnCodepoint, FrameType, Reason, Side, StreamId, TransportError,
     VarInt, VarIntBoundsExceeded,

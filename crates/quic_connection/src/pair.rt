@@ -4,7 +4,7 @@ ghost use Rattle.quic_parameters.specs.ParametersWritten.{written_parameters};
 ghost use Rattle.quic_parameters.specs.ParametersRead.{parameters_at};
 ghost use Rattle.quic_config.specs.Transport.{parameters_of, first_mtu, IsInRange};
 ghost use Rattle.quic_machine.specs.Policy.{KeysCanOpen};
-ghost use Rattle.quic_machine.specs.End.{MadeFrom, refusal_of};
+ghost use Rattle.quic_machine.specs.End.{MadeFrom, limits_of, refusal_of, words_drawn};
 ghost use Rattle.quic_machine.specs.Heard.{nothing_heard};
 ghost use Rattle.quic_machine.specs.Start.{AreStarted, AreControlled, AreKeys};
 ghost use Rattle.quic_machine.specs.declared.answers.ConfigError.TheVariants as config_errors;
@@ -34,7 +34,8 @@ pub struct Making<F, H, K, R> {
     /// Its keys: what the `local` ones seal, the other end's `remote` ones open, and the other way
     /// round.
     pub keys: Keys<H, K>,
-    /// Its random source, of which a word is drawn at once.
+    /// Its random source, of which a word is drawn at once, three for each id that is issued, and
+    /// one more where the peer's address isn't validated.
     pub random: R,
     /// Whether the peer's address is validated already.
     pub validated: bool,
@@ -71,16 +72,19 @@ fn end_for<
 ) -> Result<Connection<H, K, R, C>, ConfigError>
     ensures made { IfOk result (λ c.
         MadeFrom side own.config.settings (windows_at C.initial_of C.window_of c.control)
-        peer_parameters.entry.now own.id peer_id now own.validated (words_of R.stream own.random 0) c.end) }
+        peer_parameters.entry.now own.id peer_id now own.validated (words_of R.stream own.random) c.end) }
     ensures control { IfOk result (λ c. c.control ≡ controller_for F.built own.config now) }
     ensures roomy { IfOk result (λ c. IsRoomy C.size_of C.window_of c.control (first_mtu c.end.transport)) }
     ensures keys { IfOk result (λ c. c.keys ≡ own.keys) }
-    ensures random { IfOk result (λ c. R.stream c.random ≡ after_words 1 (R.stream own.random)) }
+    ensures random { IfOk result (λ c. R.stream c.random ≡ after_words (words_drawn c.end) (R.stream own.random)) }
     ensures heard { IfOk result (λ c. c.heard ≡ nothing_heard) }
     ensures refusal { IfErr result (λ e.
-        Some e ≡ refusal_of own.config.settings (C.window_of (controller_for F.built own.config now)) (parameters_at peer_parameters.entry.now) own.id peer_id) }
+        e ≢ config_errors.Memory
+        → Some e ≡ refusal_of own.config.settings (C.window_of (controller_for F.built own.config now))
+        (limits_of K.seal_limit K.refusal_limit own.keys) (parameters_at peer_parameters.entry.now) own.id peer_id) }
     ensures lawful { OnOk result (
-        refusal_of own.config.settings (C.window_of (controller_for F.built own.config now)) (parameters_at peer_parameters.entry.now) own.id peer_id ≡ None) }
+        refusal_of own.config.settings (C.window_of (controller_for F.built own.config now))
+        (limits_of K.seal_limit K.refusal_limit own.keys) (parameters_at peer_parameters.entry.now) own.id peer_id ≡ None) }
 {
     let Making {
         config,
@@ -111,9 +115,10 @@ impl<H: HeaderKey + Drop, K: PacketKey + Drop, R: Rng + Drop, C: Controller> End
     /// # Errors
     ///
     /// [`ConfigError`], the client's before the server's: `IdLength` where an id hasn't eight
-    /// bytes, `Size` where a size of datagrams is above what a UDP payload may have or the least is
-    /// above what the other end takes, `Window` where the congestion controller's window doesn't
-    /// hold two datagrams of the size that the path begins with, `Memory` where memory lacks.
+    /// bytes, `Size` where a size of datagrams is above what a UDP payload may have or the least
+    /// is above what the other end takes, `Window` where the congestion controller's window
+    /// doesn't hold two datagrams of the size that the path begins with, `KeyLimit` where a key
+    /// may seal or refuse fewer than 16 packets, `Memory` where memory lacks.
     pub fn new<F: ControllerFactory<Controller = C> + Drop>(
         alloc: Global,
         now: Instant,
@@ -124,12 +129,12 @@ impl<H: HeaderKey + Drop, K: PacketKey + Drop, R: Rng + Drop, C: Controller> End
             MadeFrom Side.Client client.config.settings
             (windows_at C.initial_of C.window_of ends.client.control)
             (written_parameters (parameters_of server.config.settings) in_order) client.id server.id now
-            client.validated (words_of R.stream client.random 0) ends.client.end) }
+            client.validated (words_of R.stream client.random) ends.client.end) }
         ensures server { IfOk result (λ ends.
             MadeFrom Side.Server server.config.settings
             (windows_at C.initial_of C.window_of ends.server.control)
             (written_parameters (parameters_of client.config.settings) in_order) server.id client.id now
-            server.validated (words_of R.stream server.random 0) ends.server.end) }
+            server.validated (words_of R.stream server.random) ends.server.end) }
         ensures client_control { IfOk result (λ ends.
             ends.client.control ≡ controller_for F.built client.config now) }
         ensures server_control { IfOk result (λ ends.
@@ -137,23 +142,27 @@ impl<H: HeaderKey + Drop, K: PacketKey + Drop, R: Rng + Drop, C: Controller> End
         ensures client_keys { IfOk result (λ ends. ends.client.keys ≡ client.keys) }
         ensures server_keys { IfOk result (λ ends. ends.server.keys ≡ server.keys) }
         ensures client_random { IfOk result (λ ends.
-            R.stream ends.client.random ≡ after_words 1 (R.stream client.random)) }
+            R.stream ends.client.random ≡ after_words (words_drawn ends.client.end) (R.stream client.random)) }
         ensures server_random { IfOk result (λ ends.
-            R.stream ends.server.random ≡ after_words 1 (R.stream server.random)) }
+            R.stream ends.server.random ≡ after_words (words_drawn ends.server.end) (R.stream server.random)) }
         ensures client_heard { IfOk result (λ ends. ends.client.heard ≡ nothing_heard) }
         ensures server_heard { IfOk result (λ ends. ends.server.heard ≡ nothing_heard) }
         ensures refusal { IfErr result (λ e.
             e ≢ config_errors.Memory
             → IsRefused e client.config.settings server.config.settings
             (C.window_of (controller_for F.built client.config now))
-            (C.window_of (controller_for F.built server.config now)) client.id server.id) }
+            (C.window_of (controller_for F.built server.config now))
+            (limits_of K.seal_limit K.refusal_limit client.keys)
+            (limits_of K.seal_limit K.refusal_limit server.keys) client.id server.id) }
         ensures lawful { OnOk result (
             refusal_for client.config.settings
-            (C.window_of (controller_for F.built client.config now)) server.config.settings
+            (C.window_of (controller_for F.built client.config now))
+            (limits_of K.seal_limit K.refusal_limit client.keys) server.config.settings
             client.id server.id ≡ None) }
         ensures lawful_server { OnOk result (
             refusal_for server.config.settings
-            (C.window_of (controller_for F.built server.config now)) client.config.settings
+            (C.window_of (controller_for F.built server.config now))
+            (limits_of K.seal_limit K.refusal_limit server.keys) client.config.settings
             server.id client.id ≡ None) }
         ensures controlled { IfOk result (λ ends.
             AreControlled (first_world (windows_of C.steps C.window_of) ends)) }
@@ -163,7 +172,7 @@ impl<H: HeaderKey + Drop, K: PacketKey + Drop, R: Rng + Drop, C: Controller> End
         ensures keys { IfOk result (λ ends.
             KeysCanOpen H.protection K.aead client.keys server.keys
             → KeysCanOpen H.protection K.aead server.keys client.keys
-            → AreKeys (policies_of H.protection K.aead R.stream ends)) }
+            → AreKeys (policies_of H.protection K.aead K.seal_limit K.refusal_limit R.stream ends)) }
     {
         // A controller keeps room for two datagrams: a law, which does nothing.
         two_datagrams_have_room::<C>();

@@ -23,6 +23,7 @@ use Rattle.quic_paths.specs.Paths.{PathValue}
 use Rattle.quic_streams_parts.specs.Table.{Table, at, put, added, without}
 use Rattle.quic_sent_packets.specs.Packets.{Ascends, oldest, without_record}
 use Rattle.quic_machine.specs.Tracking.{TrackedPacket, Tracking, Verdict, is_lost, lost_by, kept_by, names, acked_by, not_acked_by, is_behind, tail_of, forgets, forgotten, without_packet, asking_sent, after_sent}
+use Rattle.quic_spaces.specs.Filter.{Filter, is_skipped, allocated}
 use Rattle.quic_machine.specs.Control.{flying}
 use Rattle.quic_connection_core.specs.Flying.{packet_in_flight, flying_packets, is_flying, flight_left, flight_left_any, flight_joined, less, HasAll, IsInFlight}
 use Rattle.quic_connection_core.specs.Tracked.{TakesLost}
@@ -468,3 +469,11 @@ moved_flies g next ps f q i there =
   where
     some_same : (s t : TrackedPacket) → Some s ≡ Some t → s ≡ t
     some_same s t e = cc
+
+-- where a number is given that no packet has, all lie below the next one still
+pub later_flies : (g next : ℕ) (filter : Filter) (ps : Packets) (f : Flight) → IsInFlight g next ps f → IsInFlight g (allocated filter next + 1) ps f
+later_flies g next filter ps f i = record { sums = i.sums; below = λ k d few. (let lt = i.below k d few in let above = higher (is_skipped filter next) in omega (arith, lt, above)); sized = i.sized }
+  where
+    higher : (b : Bool) → next ≤ (if b then next + 1 else next)
+    higher true = omega arith
+    higher false = omega arith

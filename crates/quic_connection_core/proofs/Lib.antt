@@ -13,14 +13,23 @@ pub mod Polls
 pub mod Moved
 pub mod Forms
 mod OnStreams
-mod Lost
+pub mod Lost
 mod Ungiven
 pub mod Probing
 mod Losses
 mod Flights
 pub mod Gates
-mod Items
+pub mod Items
 mod Told
 mod Rooms
 pub mod Marks
-mod Counted
+pub mod Counted
+mod Expiries
+pub mod Closing
+pub mod Living
+pub mod Issued
+pub mod Drawing
+pub mod Receiving
+pub mod Taken
+pub mod Drawn
+mod Made

@@ -193,5 +193,5 @@ detects {H} {K} {R} {C} steps old w judged new by_ack v l loses is counts judges
     told
     ∙ ap (λ (x : ConnectionValue H K R C). telling steps x (told_lost by_ack x.end.closing.clock l) x.end) judges
     ∙ ap (λ (x : ConnectionValue H K R C). (let f : Discovery = asked_if l.others x.end.closing.clock x.end.path.discovery in let y : End = with_searched f x.end in telling steps (telling steps x (told_size x.end.path.discovery f) y) (told_lost by_ack y.closing.clock l) y)) loses
-    ∙ tells steps old by_ack l lost left (record { closing = k.closing; path = k.path }) counts
+    ∙ tells steps old by_ack l lost left (record { closing = k.closing; path = k.path; validation = k.validation }) counts
     ∙ ap (λ (u : Verdict). telling steps old (told_losses by_ack old.end (lost_by u old.end.tracking.packets)) (lost_as u old.end)) is

@@ -9,7 +9,7 @@ use Rattle.quic_streams_parts.specs.Table.{Table, at}
 use Rattle.quic_sent_packets.specs.Packets.{from}
 use Rattle.quic_machine.specs.Tracking.{TrackedPacket, Carried, Tracking, asks_any, Verdict, lost_by, kept_by, acked_by, not_acked_by, after_detection}
 use Rattle.quic_congestion.specs.Search.{Discovery, is_number}
-use Rattle.quic_machine.specs.End.{End, with_tracking, with_discovery}
+use Rattle.quic_machine.specs.End.{End, with_tracking, with_discovery, words_drawn}
 use Rattle.quic_machine.specs.Sizes.{search_acked, with_one_lost, with_all_lost, after_lost}
 use Rattle.quic_machine.specs.FrameCases.{by_searched}
 use Rattle.quic_machine.specs.Acked.{without_known, reset_acked, resets_acked, streams_acked, stream_acked, carried_acked, packet_acked, packets_acked, stream_lost, streams_lost, again, carried_lost, packets_lost, verdict, losses_detected, measured, sampled, answered, without_acked}
@@ -128,35 +128,36 @@ none_lost probe v e none =
     ap (λ (ps : Table TrackedPacket). with_discovery (with_tracking (packets_lost ps e) (record e.tracking { packets = kept_by v e.tracking.packets })) (with_all_lost probe ps e.path.discovery)) none
     ∙ ap (λ (ps : Table TrackedPacket). with_tracking e (record e.tracking { packets = ps })) (all_kept v e.tracking.packets none)
 
--- ---- what is lost leaves timers and clock
+-- ---- what is lost leaves timers and clock, and draws no word
 
 pub record KeepsTime (e f : End) : Type 0 where
   pub timers : f.timers ≡ e.timers
   pub closing : f.closing ≡ e.closing
+  pub words : words_drawn f ≡ words_drawn e
 
 streams_lost_keep : (ms : List StreamMeta) (e : End) → KeepsTime e (streams_lost ms e)
-streams_lost_keep [] e = record { timers = refl; closing = refl }
-streams_lost_keep (m ∷ ms) e = let k = streams_lost_keep ms (stream_lost m e) in record { timers = k.timers; closing = k.closing }
+streams_lost_keep [] e = record { timers = refl; closing = refl; words = refl }
+streams_lost_keep (m ∷ ms) e = let k = streams_lost_keep ms (stream_lost m e) in record { timers = k.timers; closing = k.closing; words = k.words }
 
 packets_lost_keep : (ps : Table TrackedPacket) (e : End) → KeepsTime e (packets_lost ps e)
-packets_lost_keep [] e = record { timers = refl; closing = refl }
+packets_lost_keep [] e = record { timers = refl; closing = refl; words = refl }
 packets_lost_keep (p ∷ ps) e =
     let first = streams_lost_keep p.1.carried.stream_frames e in
     let others = packets_lost_keep ps (carried_lost p.1.carried e) in
-    record { timers = others.timers ∙ first.timers; closing = others.closing ∙ first.closing }
+    record { timers = others.timers ∙ first.timers; closing = others.closing ∙ first.closing; words = others.words ∙ first.words }
 
 -- so does the expiry of the loss timer
 pub loss_expired_keeps : (b : Bool) (e : End) → KeepsTime e (loss_expired b e)
-loss_expired_keeps false e = record { timers = refl; closing = refl }
+loss_expired_keeps false e = record { timers = refl; closing = refl; words = refl }
 loss_expired_keeps true e = judged e.tracking.loss_time
   where
     judged : (o : Option ℕ) → KeepsTime e (loss_judged o e)
-    judged None = record { timers = refl; closing = refl }
+    judged None = record { timers = refl; closing = refl; words = refl }
     judged (Some moment) =
         let lost = lost_by (verdict e) e.tracking.packets in
         let left : End = with_tracking (packets_lost lost e) (after_detection (verdict e) e.tracking) in
         let k = packets_lost_keep lost e in
-        by_searched (after_lost left.closing.clock lost left.path.discovery) left (KeepsTime e) (record { timers = k.timers; closing = k.closing }) (λ most. record { timers = k.timers; closing = k.closing })
+        by_searched (after_lost left.closing.clock lost left.path.discovery) left (KeepsTime e) (record { timers = k.timers; closing = k.closing; words = k.words }) (λ most. record { timers = k.timers; closing = k.closing; words = k.words })
 
 -- ---- an ACK frame
 

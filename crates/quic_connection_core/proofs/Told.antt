@@ -9,7 +9,7 @@ use Rattle.quic_send_buffer.specs.declared.stream_meta.StreamMeta.{StreamMeta}
 use Rattle.quic_congestion.specs.Congestion.{Told, Steps, after_call, after_calls}
 use Rattle.quic_streams_parts.specs.Table.{Table, at}
 use Rattle.quic_machine.specs.Closing.{Closing}
-use Rattle.quic_machine.specs.Parts.{Path}
+use Rattle.quic_machine.specs.Parts.{Path, Validation}
 use Rattle.quic_machine.specs.Tracking.{TrackedPacket, Carried, Tracking, asks_any, acked_by, not_acked_by}
 use Rattle.quic_machine.specs.End.{End, ConnectionValue, with_end, with_tracking, number_of}
 use Rattle.quic_machine.specs.Poll.{Draft, asking, datagram_size, told_draft}
@@ -24,28 +24,29 @@ use Rattle.quic_connection_core.proofs.Lost.{packets_acked_beside, sample_of, re
 abbrev Packets : Type 0
 Packets = Table TrackedPacket
 
--- clock, state and path stay
+-- clock, state and path stay, and so does by what it is validated
 pub record KeepsPath (e f : End) : Type 0 where
   pub closing : f.closing ≡ e.closing
   pub path : f.path ≡ e.path
+  pub validation : f.validation ≡ e.validation
 
 both_keep : (e f h : End) → KeepsPath e f → KeepsPath f h → KeepsPath e h
-both_keep e f h k l = record { closing = l.closing ∙ k.closing; path = l.path ∙ k.path }
+both_keep e f h k l = record { closing = l.closing ∙ k.closing; path = l.path ∙ k.path; validation = l.validation ∙ k.validation }
 
 pub same_path : (e : End) → KeepsPath e e
-same_path e = record { closing = refl; path = refl }
+same_path e = record { closing = refl; path = refl; validation = refl }
 
 known_keep : (o : Option ℕ) (e : End) → KeepsPath e (without_known o e)
 known_keep None e = same_path e
-known_keep (Some n) e = record { closing = refl; path = refl }
+known_keep (Some n) e = record { closing = refl; path = refl; validation = refl }
 
 resets_keep : (rs : List (ℕ × ℕ)) (e : End) → KeepsPath e (resets_acked rs e)
 resets_keep [] e = same_path e
-resets_keep (r ∷ rs) e = let k = resets_keep rs (reset_acked r.0 e) in record { closing = k.closing; path = k.path }
+resets_keep (r ∷ rs) e = let k = resets_keep rs (reset_acked r.0 e) in record { closing = k.closing; path = k.path; validation = k.validation }
 
 streams_keep : (ms : List StreamMeta) (e : End) → KeepsPath e (streams_acked ms e)
 streams_keep [] e = same_path e
-streams_keep (m ∷ ms) e = let k = streams_keep ms (stream_acked m e) in record { closing = k.closing; path = k.path }
+streams_keep (m ∷ ms) e = let k = streams_keep ms (stream_acked m e) in record { closing = k.closing; path = k.path; validation = k.validation }
 
 -- where what a packet carried is acknowledged
 pub acked_keep : (c : Carried) (e : End) → KeepsPath e (carried_acked c e)
@@ -57,11 +58,11 @@ acked_keep c e =
 
 lost_keep : (ms : List StreamMeta) (e : End) → KeepsPath e (streams_lost ms e)
 lost_keep [] e = same_path e
-lost_keep (m ∷ ms) e = let k = lost_keep ms (stream_lost m e) in record { closing = k.closing; path = k.path }
+lost_keep (m ∷ ms) e = let k = lost_keep ms (stream_lost m e) in record { closing = k.closing; path = k.path; validation = k.validation }
 
 -- or lost
 pub carried_lost_keep : (c : Carried) (e : End) → KeepsPath e (carried_lost c e)
-carried_lost_keep c e = let k = lost_keep c.stream_frames e in record { closing = k.closing; path = k.path }
+carried_lost_keep c e = let k = lost_keep c.stream_frames e in record { closing = k.closing; path = k.path; validation = k.validation }
 
 -- or that of packets
 pub packets_lost_keep : (ps : Packets) (e : End) → KeepsPath e (packets_lost ps e)
@@ -103,10 +104,11 @@ popped all rest x is = ap reverse is ∙ reverse-append rest (x ∷ [])
 
 told_same : (e f : End) (p : ℕ × TrackedPacket) → KeepsPath e f → told_packet f p ≡ told_packet e p
 told_same e f p k = ap (λ (c : Closing). told_packet (record f { closing = c }) p) k.closing ∙ ap (λ (x : Path). told_packet (record f { closing = e.closing; path = x }) p) k.path
+    ∙ ap (λ (v : Validation). told_packet (record e { validation = v }) p) k.validation
 
 -- the search learns the same
 search_same : (e f : End) (p : ℕ × TrackedPacket) → KeepsPath e f → KeepsPath (search_acked p e) (search_acked p f)
-search_same e f p k = record { closing = k.closing; path = ap (λ (x : Path). (search_acked p (record e { path = x })).path) k.path }
+search_same e f p k = record { closing = k.closing; path = ap (λ (x : Path). (search_acked p (record e { path = x })).path) k.path; validation = k.validation }
 
 told_all_same : (ps : Packets) (e f : End) → KeepsPath e f → told_packets f ps ≡ told_packets e ps
 told_all_same [] e f k = refl

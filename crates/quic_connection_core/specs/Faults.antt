@@ -1,6 +1,6 @@
 -- What was wrong with a packet, where memory may lack.
-use Rattle.std.specs.Prelude.{◌≡◌, ◌<◌, ◌^◌, ℕ, Bool, List, [], ◌∷◌, Option, Some, None, IfSome, Result, Ok, Err}
-use Rattle.quic_wire.specs.Value.{FrameValue, ack, datagram, max_stream_data}
+use Rattle.std.specs.Prelude.{◌≡◌, ◌<◌, ◌≤◌, ◌^◌, ℕ, Bool, List, [], ◌∷◌, Option, Some, None, IfSome, Result, Ok, Err}
+use Rattle.quic_wire.specs.Value.{FrameValue, ack, datagram, path_challenge, path_response, max_stream_data, connection_close, application_close, new_connection_id, retire_connection_id}
 use Rattle.quic_wire.specs.declared.frame.InvalidFrame.{InvalidFrame}
 use Rattle.quic_streams_parts.specs.declared.answers.ReceivedError.{ReceivedError}
 use Rattle.quic_streams_parts.specs.declared.answers.ReceivedError.TheVariants as errors
@@ -9,7 +9,11 @@ use Rattle.quic_streams_state.specs.State.{streams_of}
 use Rattle.quic_congestion.specs.Congestion.{Told, Steps, after_calls}
 use Rattle.quic_machine.specs.End.{End, ConnectionValue, with_streams}
 use Rattle.quic_wire_core.specs.declared.shared.EcnCodepoint.{EcnCodepoint}
-use Rattle.quic_machine.specs.Receive.{Fault, broke, too_many_pieces, fault_of_breach, Progress, take_frame, after_taken}
+use Rattle.quic_machine.specs.Receive.{Fault, broke, too_many_pieces, closed_by_peer, fault_of_breach, Progress, too_many_ids, take_frame, after_taken}
+use Rattle.quic_retransmits.specs.declared.retransmits.RetireError.{RetireError}
+use Rattle.quic_retransmits.specs.declared.retransmits.RetireError.TheVariants as retiring
+use Rattle.quic_machine.specs.declared.answers.NextIdError.{NextIdError}
+use Rattle.quic_machine.specs.declared.answers.NextIdError.TheVariants as next_errors
 use Rattle.quic_connection_core.specs.declared.connection.receiving.Trouble.{Trouble}
 use Rattle.quic_connection_core.specs.declared.connection.receiving.Trouble.TheVariants as troubles
 
@@ -17,6 +21,7 @@ use Rattle.quic_connection_core.specs.declared.connection.receiving.Trouble.TheV
 abbrev pub fault_view : Trouble → Option Fault
 fault_view (troubles.Broke error) = Some (broke error)
 fault_view troubles.TooManyPieces = Some too_many_pieces
+fault_view (troubles.Closed close) = Some (closed_by_peer close.kept)
 fault_view troubles.Memory = None
 
 -- frames are taken as the machine takes them, up to the fault that is answered, unless memory lacked
@@ -54,15 +59,27 @@ holding s e = with_streams e (streams_of s.state s.pending)
 abbrev pub TakesOn : Result (Unit {0}) Trouble → FrameValue → EndStreams → EndStreams → Type 0
 TakesOn result f old new = (e : End) → TakesAs result (take_frame f (holding old e)) (holding new e)
 
--- a frame that is neither ACK nor DATAGRAM
+-- a frame that is neither ACK nor DATAGRAM, nor a close, nor one of path validation, and speaks of
+-- no connection id
 abbrev pub IsOther : FrameValue → Type 0
 IsOther (ack a) = ⊥
 IsOther (datagram m) = ⊥
+IsOther (connection_close c) = ⊥
+IsOther (application_close c) = ⊥
+IsOther (new_connection_id f) = ⊥
+IsOther (retire_connection_id n) = ⊥
+IsOther (path_challenge token) = ⊥
+IsOther (path_response token) = ⊥
 IsOther f = Unit {0}
 
--- the limit on a stream that a frame tells, if it tells one, has a form as a variable-length integer (RFC 9000, section 16)
+-- the numbers that a frame tells of a limit on a stream, or of a close, have a form as
+-- variable-length integers (RFC 9000, section 16), and so has the number of an id, which asks for
+-- none above it to be retired (section 19.15)
 abbrev pub HasForm : FrameValue → Type 0
 HasForm (max_stream_data f) = f.limit < 2 ^ 62
+HasForm (connection_close c) = (c.code < 2 ^ 62) × (c.frame_type < 2 ^ 62)
+HasForm (application_close c) = c.code < 2 ^ 62
+HasForm (new_connection_id f) = (f.sequence < 2 ^ 62) × (f.retire_prior_to ≤ f.sequence)
 HasForm f = Unit {0}
 
 -- so it is of what was read of a payload
@@ -74,3 +91,15 @@ ItemHasForm (Err x) = Unit {0}
 abbrev pub AllHaveForm : List (Result FrameValue InvalidFrame) → Type 0
 AllHaveForm [] = Unit {0}
 AllHaveForm (i ∷ is) = ItemHasForm i × AllHaveForm is
+
+-- ---- connection ids
+
+-- what it comes to that ids of the peer aren't retired
+abbrev pub IsRetiring : RetireError → Trouble → Type 0
+IsRetiring retiring.LimitExceeded trouble = fault_view trouble ≡ Some too_many_ids
+IsRetiring retiring.Memory trouble = trouble ≡ troubles.Memory
+
+-- why the next id isn't used then
+abbrev pub next_refusal : RetireError → NextIdError
+next_refusal retiring.LimitExceeded = next_errors.TooManyPending
+next_refusal retiring.Memory = next_errors.Memory

@@ -10,7 +10,9 @@ use Rattle.quic_streams_state.specs.Control as control
 use Rattle.quic_streams_state.specs.Frames as of_streams
 use Rattle.quic_messages.specs.Messages.{frame_bytes}
 use Rattle.quic_machine.specs.Tracking.{Carried, TrackedPacket, after_sent}
-use Rattle.quic_machine.specs.Poll.{Draft, frame_room, ack_of, after_ack}
+use Rattle.quic_paths.specs.Responses.{Response}
+use Rattle.quic_machine.specs.Validation.{path_waits, challenge_sent, response_sent, challenge_frame, response_frame}
+use Rattle.quic_machine.specs.Poll.{Draft, whole, least_by, frame_room, ack_of, after_ack}
 use Rattle.quic_machine.specs.End.{End, number_of, with_tracking, with_streams, with_queued, with_ping}
 
 -- ---- messages, and frames about streams, behind so many bytes of a payload that may have so many in all
@@ -65,6 +67,40 @@ content_at e used = content e.transport.send_fairness (frame_room e) used e.stre
 abbrev pub with_content : End → Content → End
 with_content e c = with_queued (with_streams e c.streams) (record e.messages.queues { outgoing = c.outgoing })
 
+-- ---- frames of path validation
+
+-- PATH_CHALLENGE, where it waits
+abbrev pub challenge_list : Option ℕ → List FrameValue
+challenge_list None = []
+challenge_list (Some word) = challenge_frame word ∷ []
+
+-- PATH_RESPONSE, where it waits
+abbrev pub response_list : Option Response → List FrameValue
+response_list None = []
+response_list (Some r) = response_frame r ∷ []
+
+-- both, each where it waits
+abbrev pub path_frames : End → List FrameValue
+path_frames e = challenge_list e.waiting.signals.challenge ++ response_list e.waiting.signals.response
+
+-- how they are written
+abbrev pub path_bytes : End → List ℕ
+path_bytes e = spelled_all (path_frames e)
+
+-- the end after PATH_CHALLENGE went, where it waits
+abbrev pub challenge_gone : Option ℕ → End → End
+challenge_gone None e = e
+challenge_gone (Some word) e = challenge_sent e
+
+-- the end after PATH_RESPONSE went, where it waits
+abbrev pub response_gone : Option Response → End → End
+response_gone None e = e
+response_gone (Some r) e = response_sent e
+
+-- the end after both went, each where it waits
+abbrev pub paths_sent : End → End
+paths_sent e = response_gone e.waiting.signals.response (challenge_gone e.waiting.signals.challenge e)
+
 -- ---- PING
 
 -- PING, where it waits
@@ -89,12 +125,21 @@ pinged e = end_after_ping_if e.waiting.signals.ping e
 -- ---- what asks
 
 -- what asks for an acknowledgement behind so many bytes of a payload: PING, and the others behind it; how they are written, and the end that they leave
-unfoldable pub asked : End → ℕ → Draft
-asked e used = record {
+unfoldable pub asked_behind_paths : End → ℕ → Draft
+asked_behind_paths e used = record {
   frames = ping_list e.waiting.signals.ping ++ (content_at (pinged e) (used + length (ping_bytes e.waiting.signals.ping))).frames;
   bytes = ping_bytes e.waiting.signals.ping ++ (content_at (pinged e) (used + length (ping_bytes e.waiting.signals.ping))).bytes;
   least = 0;
   end = with_content (pinged e) (content_at (pinged e) (used + length (ping_bytes e.waiting.signals.ping)));
+}
+
+-- the same behind frames of path validation, each of which goes where it waits
+unfoldable pub asked : End → ℕ → Draft
+asked e used = record {
+  frames = path_frames e ++ (asked_behind_paths (paths_sent e) (used + length (path_bytes e))).frames;
+  bytes = path_bytes e ++ (asked_behind_paths (paths_sent e) (used + length (path_bytes e))).bytes;
+  least = least_by whole (path_waits e);
+  end = (asked_behind_paths (paths_sent e) (used + length (path_bytes e))).end;
 }
 
 -- ---- ACK

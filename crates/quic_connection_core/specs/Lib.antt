@@ -9,3 +9,5 @@ pub mod Handed
 pub mod Tracked
 pub mod Drawn
 pub mod Leaving
+pub mod Closes
+pub mod Living

@@ -6,6 +6,7 @@ use Rattle.quic_congestion.specs.SearchBounds.{IsSized}
 use Rattle.quic_paths.specs.Paths.{PathValue}
 use Rattle.quic_machine.specs.Parts.{Windows}
 use Rattle.quic_machine.specs.End.{End, ConnectionValue, with_window}
+use Rattle.quic_machine.specs.Validation.{is_blocked, with_blocked}
 
 -- the window with which a controller begins, and the one that it shows
 abbrev pub windows_at : {C : Type 0} → (C → ℕ) → (C → ℕ) → C → Windows
@@ -19,9 +20,9 @@ windows_of steps window c told = window (after_calls steps c told)
 abbrev pub telling : {H K R C : Type 0} → Steps C → ConnectionValue H K R C → List Told → End → ConnectionValue H K R C
 telling steps w told e = record w { control = after_calls steps w.control told; end = e }
 
--- the end of a connection that has read which window its controller shows
+-- the end of a connection that has read which window its controller shows, and whether three times what came went to an address that isn't validated
 abbrev pub reading : {H K R C : Type 0} → (C → ℕ) → ConnectionValue H K R C → End
-reading window w = with_window w.end (window w.control)
+reading window w = with_blocked (with_window w.end (window w.control)) (is_blocked w.end w.heard)
 
 -- keys and random source stay
 abbrev pub KeepsKeys : {H K R C : Type 0} → ConnectionValue H K R C → ConnectionValue H K R C → Type 0

@@ -3,12 +3,13 @@ ghost use Rattle.std.specs.Prelude.{◌≡◌, ◌≢◌, ◌*◌, ◌<◌, ◌^
 ghost use Rattle.quic_parameters.specs.Parameters.{AreInRange};
 ghost use Rattle.quic_parameters.specs.ParametersRead.{parameters_at};
 ghost use Rattle.quic_config.specs.Transport.{Settings, transport_of, first_mtu};
+ghost use Rattle.quic_machine.specs.declared.answers.ConfigError.TheVariants as config_errors;
 ghost use Rattle.quic_machine.specs.declared.answers.State.TheVariants as states;
-ghost use Rattle.quic_machine.specs.End.{MadeFrom, refusal_of, with_end, with_closing, closed_by, with_numbers, with_loss_timer, with_ping, side_of, first_streams, are_sizes_wrong, peer_delay, probe_timeout, HasFailed};
+ghost use Rattle.quic_machine.specs.End.{MadeFrom, refusal_of, limits_of, with_end, with_closing, with_numbers, with_loss_timer, with_ping, with_window, side_of, first_streams, are_sizes_wrong, peer_delay, probe_timeout, HasFailed, closed_by, words_drawn};
 ghost use Rattle.quic_spaces.specs.Filter.{first_filter};
 ghost use Rattle.quic_spaces.specs.Marks.{is_congested};
 ghost use Rattle.quic_connection_core.specs.Drawn.{words_of, after_words};
-ghost use Rattle.quic_connection_core.specs.Telling.{IsRoomy, path_limited, reading, windows_at};
+ghost use Rattle.quic_connection_core.specs.Telling.{IsRoomy, path_limited, windows_at};
 ghost use Rattle.quic_paths.specs.Paths.{new_path};
 ghost use Rattle.quic_machine.specs.Parts.{current_mtu};
 ghost use Rattle.quic_retransmits.specs.Retransmits.{nothing_waits};
@@ -23,9 +24,13 @@ ghost use Rattle.quic_recovery_core.specs.Duplicates.{is_duplicate};
 ghost use Rattle.quic_time.specs.Timers.{no_timers};
 
 mod acked;
+mod closes;
 mod closing;
+mod id_frames;
+mod idle;
 mod ids;
 mod leaving;
+mod limits;
 mod losses;
 mod messages;
 mod packet;
@@ -37,17 +42,20 @@ mod statistics;
 mod stream_frames;
 mod telling;
 mod timeouts;
+mod validation;
 
 use crate::config::Config;
 use crate::connection::closing::Closing;
+use crate::connection::idle::negotiate_max_idle_timeout;
 use crate::connection::ids::{Ids, OWN_ID_LENGTH};
+use crate::connection::limits::are_keys_short;
 use quic_config::MAX_UDP_PAYLOAD;
 use quic_congestion::{Controller, ControllerFactory};
 use quic_machine::{ConfigError, Instant, LostReason, State, TransportConfig};
 use quic_messages::DatagramState;
 use quic_packet::crypto::{HeaderKey, Keys, PacketKey};
 use quic_parameters::TransportParameters;
-use quic_paths::PathData;
+use quic_paths::{PathData, PathResponses};
 use quic_retransmits::Retransmits;
 use quic_spaces::{PacketNumberFilter, PacketSpace, ack_due};
 use quic_stats::ConnectionStats;
@@ -156,10 +164,21 @@ pub struct Connection<H, K, R, C: Controller> {
     // Which packet numbers are left out.
     filter: PacketNumberFilter,
     timers: TimerTable,
+    // How long the connection may be without a packet, if both ends don't let it be so without end;
+    // and whether the next packet that is given and asks lets that time begin anew.
+    idle_timeout: Option<Duration>,
+    permit_idle_reset: bool,
     // The path to the peer, with its controller, its pacer and what is in flight.
     path: PathData<C>,
+    // The answer to the peer's challenge that waits.
+    path_responses: PathResponses,
+    // How many challenges were made, each by a word of the random source.
+    challenges: u64,
     // What the controller showed at the last poll.
     window: u64,
+    // Whether the last poll found that one more datagram would come to more than three times what
+    // came, to a peer whose address isn't validated.
+    blocked: bool,
     // Whether the last poll gave nothing though neither window nor pacer held anything back.
     app_limited: bool,
     transport: TransportConfig,
@@ -184,6 +203,8 @@ impl<H, K, R, C: Controller> Model for Connection<H, K, R, C> {
     ghost use Rattle.quic_parameters.specs.Parameters.{AreInRange};
     ghost use Rattle.quic_wire.specs.AckView.{counts_view};
     ghost use Rattle.quic_machine.specs.End.{ConnectionValue};
+    ghost use Rattle.quic_machine.specs.Idle.{agreed_timeout};
+    ghost use Rattle.quic_paths.specs.Paths.{challenge_to_send};
     ghost use Rattle.quic_connection_core.specs.Telling.{AreSizes};
     ghost use Rattle.quic_connection_core.specs.Flying.{IsInFlight};
 
@@ -203,10 +224,12 @@ impl<H, K, R, C: Controller> Model for Connection<H, K, R, C> {
         marks = record { came = counts_view c.space.ecn_counters; told = counts_view c.space.ecn_feedback };
         timers = c.timers;
         tracking = c.space.tracking;
+        idle_armed = c.permit_idle_reset;
         path = record {
           validated = c.path.validated;
           generation = c.path.generation;
           discovery = c.path.discovery;
+          blocked = c.blocked;
           rtt = c.path.rtt;
           first_after_rtt = c.path.first_after_rtt;
           window = c.window;
@@ -214,18 +237,24 @@ impl<H, K, R, C: Controller> Model for Connection<H, K, R, C> {
           app_limited = c.app_limited;
           marking = c.path.marks;
         };
+        validation = record { challenge = c.path.challenge; drawn = c.challenges };
         transport = c.transport;
         peer_params = c.peer_params;
         streams = c.streams.state;
         messages = record { queues = c.datagrams; to_tell = c.messages_to_tell };
-        waiting = record { signals = record { ping = c.space.ping_pending }; frames = c.streams.pending };
+        waiting = record {
+          signals = record { challenge = challenge_to_send c.path; response = c.path_responses; ping = c.space.ping_pending };
+          frames = c.streams.pending;
+        };
       };
     } };
 
-    // Nothing asks for IMMEDIATE_ACK yet. The size of datagrams lies between 1200 bytes and what
-    // the peer takes, the controller was told no less, and two datagrams fit the window. In flight
-    // is what is tracked, asks, and went on the path.
+    // Nothing asks for IMMEDIATE_ACK yet. The idle timeout is that of both ends' settings. The size
+    // of datagrams lies between 1200 bytes and what the peer takes, the controller was told no
+    // less, and two datagrams fit the window. In flight is what is tracked, asks, and went on the
+    // path.
     ghost invariant = { λ c. (c.space.immediate_ack_pending ≡ false)
+        × (c.idle_timeout ≡ agreed_timeout c.transport c.peer_params)
         × AreInRange c.peer_params
         × AreSizes C.size_of C.window_of c.peer_params.max_udp_payload_size c.path.discovery c.path.congestion c.window
         × IsInFlight c.path.generation c.space.numbers.next c.space.tracking.packets c.path.in_flight };
@@ -241,15 +270,21 @@ impl<H: HeaderKey + Drop, K: PacketKey + Drop, R: Rng + Drop, C: Controller> Con
     /// peer's `Config::write_parameters` wrote them. Both ids were exchanged before. What
     /// `keys.header.local` and `keys.packet.local` seal, the peer's `remote` ones open, and the
     /// other way round. `validated` says whether the peer's address is validated already (RFC 9000,
-    /// section 8): `is_validated` tells it, and nothing is held back for want of it yet. `random`
-    /// is the end's random source: a word of it says which packet number is left out first, and
-    /// each time that one is left out, another word says which is next (RFC 9000, section 21.4).
+    /// section 8): where it isn't, the end sends no more than three times the bytes that come, and
+    /// a PATH_CHALLENGE waits, until the peer has answered one; [`Timer::PathValidation`] is set to
+    /// three probe timeouts later. `random` is the end's random source: a word of it says which
+    /// packet number is left out first, and each time that one is left out, another word says which
+    /// is next (RFC 9000, section 21.4); each PATH_CHALLENGE is a word of its own.
+    /// Each own id but the first takes three words, for itself and its token.
+    ///
+    /// The end issues ids at once, up to as many as the peer takes, the first one among them, and 5
+    /// at most (sections 5.1.1 and 18.2): the peer is told of them by its first datagrams.
     ///
     /// The factory of the configuration makes the congestion controller, for the size of datagrams
     /// that the path begins with.
     ///
-    /// The errors are tested in the order in which [`ConfigError`] lists them. Memory never lacks:
-    /// none is taken.
+    /// The errors are tested in the order in which [`ConfigError`] lists them. Want of memory for
+    /// the ids comes last.
     pub fn new<F: ControllerFactory<Controller = C>>(
         alloc: Global,
         side: Side,
@@ -262,14 +297,14 @@ impl<H: HeaderKey + Drop, K: PacketKey + Drop, R: Rng + Drop, C: Controller> Con
         random: R,
         validated: bool,
     ) -> Result<Connection<H, K, R, C>, ConfigError>
-        ensures made { IfOk result (λ c. MadeFrom side config.now.settings (windows_at C.initial_of C.window_of c.control) peer_parameters.now own_id peer_id now validated (words_of R.stream random 0) c.end) }
+        ensures made { IfOk result (λ c. MadeFrom side config.now.settings (windows_at C.initial_of C.window_of c.control) peer_parameters.now own_id peer_id now validated (words_of R.stream random) c.end) }
         ensures control { IfOk result (λ c. c.control ≡ F.built config.now.factory now (first_mtu (transport_of config.now.settings))) }
         ensures roomy { IfOk result (λ c. IsRoomy C.size_of C.window_of c.control (first_mtu c.end.transport)) }
         ensures keys { IfOk result (λ c. c.keys ≡ keys) }
-        ensures random { IfOk result (λ c. R.stream c.random ≡ after_words 1 (R.stream random)) }
+        ensures random { IfOk result (λ c. R.stream c.random ≡ after_words (words_drawn c.end) (R.stream random)) }
         ensures heard { IfOk result (λ c. c.heard ≡ nothing_heard) }
-        ensures refusal { IfErr result (λ e. Some e ≡ refusal_of config.now.settings (C.window_of (F.built config.now.factory now (first_mtu (transport_of config.now.settings)))) (parameters_at peer_parameters.now) own_id peer_id) }
-        ensures lawful { OnOk result (refusal_of config.now.settings (C.window_of (F.built config.now.factory now (first_mtu (transport_of config.now.settings)))) (parameters_at peer_parameters.now) own_id peer_id ≡ None) }
+        ensures refusal { IfErr result (λ e. e ≢ config_errors.Memory → Some e ≡ refusal_of config.now.settings (C.window_of (F.built config.now.factory now (first_mtu (transport_of config.now.settings)))) (limits_of K.seal_limit K.refusal_limit keys) (parameters_at peer_parameters.now) own_id peer_id) }
+        ensures lawful { OnOk result (refusal_of config.now.settings (C.window_of (F.built config.now.factory now (first_mtu (transport_of config.now.settings)))) (limits_of K.seal_limit K.refusal_limit keys) (parameters_at peer_parameters.now) own_id peer_id ≡ None) }
     {
         let Ok(theirs) = TransportParameters::read(side, peer_parameters) else {
             return Err(ConfigError::Parameters);
@@ -290,21 +325,41 @@ impl<H: HeaderKey + Drop, K: PacketKey + Drop, R: Rng + Drop, C: Controller> Con
         if window < 2 * u64::from(mtu) {
             return Err(ConfigError::Window);
         }
+        if are_keys_short(&keys) {
+            return Err(ConfigError::KeyLimit);
+        }
         path.validated = validated;
         let mut random = random;
         let filter = first_filter(&mut random);
-        Ok(Connection {
+        let mut streams = first_streams(alloc, side, &transport, &theirs);
+        let Ok(ids) = Ids::new(
+            alloc,
+            now,
+            own_id,
+            peer_id,
+            theirs.active_connection_id_limit,
+            &mut random,
+            &mut streams.pending,
+        ) else {
+            return Err(ConfigError::Memory);
+        };
+        let connection = Connection {
             closing: Closing::new(now),
-            ids: Ids::new(own_id, peer_id),
+            ids,
             space: PacketSpace::new(alloc, now),
             filter,
             timers: TimerTable::default(),
+            idle_timeout: negotiate_max_idle_timeout(&transport, &theirs),
+            permit_idle_reset: true,
             path,
+            path_responses: PathResponses::new(),
+            challenges: 0,
             window,
+            blocked: false,
             app_limited: false,
             transport,
             peer_params: theirs,
-            streams: first_streams(alloc, side, &transport, &theirs),
+            streams,
             datagrams: DatagramState::new(alloc),
             messages_to_tell: 0,
             authentication_failures: 0,
@@ -312,10 +367,11 @@ impl<H: HeaderKey + Drop, K: PacketKey + Drop, R: Rng + Drop, C: Controller> Con
             keys,
             random,
             alloc,
-        })
+        };
+        Ok(connection.validating())
     }
 
-    /// Whether the end is no longer open: it is closing, drained or failed.
+    /// Whether the end is no longer open: it is closing, drained or failed (RFC 9000, section 10).
     pub fn is_closed(&self) -> bool
         ensures { IsTrue result ↔ (self.now.end.closing.state ≢ states.Open) }
     {
@@ -337,7 +393,8 @@ impl<H: HeaderKey + Drop, K: PacketKey + Drop, R: Rng + Drop, C: Controller> Con
         self.closing.state() == State::Failed
     }
 
-    /// Whether the peer's address is validated (RFC 9000, section 8).
+    /// Whether the peer's address is validated (RFC 9000, section 8): it was as the end was made,
+    /// or the peer answered a PATH_CHALLENGE. It stays so.
     pub fn is_validated(&self) -> bool
         ensures { result ≡ self.now.end.path.validated }
     {
@@ -359,7 +416,7 @@ impl<H: HeaderKey + Drop, K: PacketKey + Drop, R: Rng + Drop, C: Controller> Con
     }
 
     /// Why the end isn't open: what closed it, or none where nothing did. A failed end has no
-    /// reason.
+    /// reason, whether it had closed before or not.
     pub fn lost(&self) -> Option<&LostReason>
         ensures { option_copied result ≡ self.now.end.closing.reason }
     {
@@ -391,8 +448,8 @@ impl<H: HeaderKey + Drop, K: PacketKey + Drop, R: Rng + Drop, C: Controller> Con
     }
 
     /// The whole payload of a packet of this number was taken, which asks for an acknowledgement or
-    /// doesn't, and came with this mark: its number is to be acknowledged. An error is want of
-    /// memory, and nothing has changed.
+    /// doesn't, and came with this mark: its number is to be acknowledged, and the times without a
+    /// packet begin anew. An error is want of memory, and nothing has changed.
     fn take_number(
         &mut self,
         number: u64,
@@ -417,6 +474,7 @@ impl<H: HeaderKey + Drop, K: PacketKey + Drop, R: Rng + Drop, C: Controller> Con
         if waits {
             self.timers.set(Timer::MaxAckDelay, ack_due(now));
         }
+        self.on_packet_taken();
         self.set_loss_timer();
         Ok(())
     }
@@ -447,7 +505,7 @@ impl<H: HeaderKey + Drop, K: PacketKey + Drop, R: Rng + Drop, C: Controller> Con
 
     /// A poll reads which window the congestion controller shows.
     fn read_window(&mut self)
-        ensures { self.new ≡ with_end self.old (reading C.window_of self.old) }
+        ensures { self.new ≡ with_end self.old (with_window self.old.end (C.window_of self.old.control)) }
     {
         self.window = self.path.congestion.window();
     }
@@ -467,17 +525,10 @@ impl<H: HeaderKey + Drop, K: PacketKey + Drop, R: Rng + Drop, C: Controller> Con
         self.streams.state.side()
     }
 
-    /// Closes for a reason: no timer is set any more.
-    fn close_by(&mut self, reason: LostReason)
-        ensures { self.new ≡ with_end self.old (closed_by reason self.old.end) }
-    {
-        self.closing.close(reason);
-        self.stop_timers();
-    }
-
-    /// Fails for good: no timer is set any more.
+    /// Fails for good: no timer is set any more. The controller isn't told.
     fn fail(&mut self)
         ensures failed { HasFailed self.old self.new }
+        ensures control { self.new.control ≡ self.old.control }
         ensures stopped { self.new.end.timers ≡ no_timers }
     {
         self.closing.fail();
@@ -502,10 +553,10 @@ impl<H: HeaderKey + Drop, K: PacketKey + Drop, R: Rng + Drop, C: Controller> Con
     fn asks_to_go(&self) -> bool
         ensures { result ≡ asks_to_go self.now.end }
     {
-        self.space.ping_pending || self.frames_wait()
+        self.path_frames_wait() || self.space.ping_pending || self.frames_wait()
     }
 
-    /// The same beside PING.
+    /// The same beside PATH_CHALLENGE, PATH_RESPONSE and PING.
     fn frames_wait(&self) -> bool
         ensures { result ≡ (not (is_empty self.now.end.waiting.frames self.now.end.streams) || (message_waits self.now.end || can_send_stream_data self.now.end.streams)) }
     {

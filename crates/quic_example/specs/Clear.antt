@@ -1,8 +1,9 @@
 -- Keys that hide nothing: what they do to headers and payloads, and the laws of keys for it.
-use Rattle.std.specs.Prelude.{◌≡◌, ℕ, ◌+◌, ◌-◌, ◌*◌, List, ◌++◌, length, take, drop, Option, Some, None, if◌then◌else◌, nat_le, nat_eq, ◌&&◌}
+use Rattle.std.specs.Prelude.{◌≡◌, ◌≤◌, ℕ, ◌+◌, ◌-◌, ◌*◌, Bool, true, false, List, ◌++◌, length, take, drop, Option, Some, None, if◌then◌else◌, nat_le, nat_eq, ◌&&◌}
 use Rattle.std.specs.Int.{w128, to_be_bytes}
 use Rattle.std.specs.Cmp.Lexicographic.{pointwise}
-use Rattle.std.proofs.Common.{length-append}
+use Rattle.std.proofs.Common.{length-append, subst, arith}
+use Rattle.std.proofs.lemmas.List.{length-take-le}
 use Rattle.quic_connection.specs.Keys.{Protection, Aead}
 
 -- what the header keys do: the first byte and the number stay as they are
@@ -28,3 +29,14 @@ clear_aead mark = record { seal = sealed mark; unseal = opened mark }
 -- sealing adds 16 bytes
 pub adds_tag : (mark n : ℕ) (header payload : List ℕ) → length (sealed mark n header payload) ≡ length payload + 16
 adds_tag mark n header payload = length-append payload (tag mark n)
+
+-- opening gives no more bytes than there were
+pub opens_no_more : (mark n : ℕ) (header bytes payload : List ℕ) → opened mark n header bytes ≡ Some payload → length payload ≤ length bytes
+opens_no_more mark n header bytes payload = go (nat_le 16 (length bytes) && pointwise nat_eq (drop (length bytes - 16) bytes) (tag mark n))
+  where
+    go : (c : Bool) → (if c then Some (take (length bytes - 16) bytes) else None) ≡ Some payload → length payload ≤ length bytes
+    go true is =
+        let part : take (length bytes - 16) bytes ≡ payload = cc in
+        let count : length (take (length bytes - 16) bytes) ≡ length bytes - 16 = length-take-le (length bytes - 16) bytes (omega arith) in
+        subst (λ (x : List ℕ). length x ≤ length bytes) part (omega (arith, count))
+    go false none = cc

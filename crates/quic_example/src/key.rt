@@ -1,7 +1,7 @@
 //! Keys of the program's own. They hide nothing: keys that do have AES or ChaCha20 here, and the
 //! secrets of a handshake (RFC 9001, section 5).
 ghost use Rattle.std.specs.Prelude.{◌≡◌, refl};
-ghost use Rattle.quic_example.specs.Clear.{clear_protection, clear_aead, tag, adds_tag};
+ghost use Rattle.quic_example.specs.Clear.{clear_protection, clear_aead, tag, adds_tag, opens_no_more};
 
 use quic_connection::{HeaderKey, KeyPair, Keys, NotOpened, PacketKey, TAG_LEN};
 
@@ -78,6 +78,8 @@ impl PacketKey for ClearKey {
     }
 
     ghost adds_tag = { λ key. adds_tag key.mark };
+
+    ghost opens_no_more = { λ key. opens_no_more key.mark };
 }
 
 /// The keys of an end. What it seals by its `local` ones, the peer opens by its `remote` ones.

@@ -1,5 +1,5 @@
-//! Two ends of a connection in one program: a request and an answer on one stream. The program is
-//! the network, the clock and both applications, and shows what each end needs of them.
+//! Two ends of a connection in one program: a request and an answer on one stream, and a close. The
+//! program is the network, the clock and both applications, and shows what each end needs of them.
 #![tactic(auto)]
 
 mod key;
@@ -65,7 +65,8 @@ fn parameters(alloc: Global, side: Side) -> Result<Vec<u8>> {
 /// An end, as a handshake leaves it at moment 0: ids and parameters are exchanged, both ends have
 /// the keys, and the peer's address is validated. Its application has these bytes to write.
 fn make(alloc: Global, side: Side, unwritten: &'static [u8]) -> Result<Box<Party>> {
-    // Its words say which packet numbers are left out: in earnest a peer must not guess them.
+    // Its words say which packet numbers are left out, and are the later ids and their tokens: in
+    // earnest nobody may guess them.
     let random = Pcg64::seed_from_u64(42);
     let end = Connection::new(
         alloc,
@@ -93,7 +94,8 @@ fn boxed(alloc: Global, party: Party) -> Result<Box<Party>, AllocError> {
     Ok(Box::new(alloc, party)?)
 }
 
-/// Lets the client ask and the server answer, until no datagram is under way and no timer is set.
+/// Lets the client ask, the server answer and the client close, until no datagram is under way and
+/// no timer is set.
 fn talk(rt: &(impl Print + AllocGlobal), client: &mut Party, server: &mut Party) -> Result<()> {
     let mut now = Instant::from_nanos(0);
     let Some(id) = client.end.streams().open(Dir::Bi) else {
@@ -117,7 +119,7 @@ fn talk(rt: &(impl Print + AllocGlobal), client: &mut Party, server: &mut Party)
         server.serve(rt, now)?;
     }
     let (client, server) = (client.end.state(), server.end.state());
-    println!(rt; "at rest: the client is {client}, the server is {server}")?;
+    println!(rt; "the client is {client}, the server is {server}")?;
     Ok(())
 }
 

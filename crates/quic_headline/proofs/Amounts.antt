@@ -8,3 +8,4 @@ pub mod Kept
 pub mod Opens
 pub mod NewIds
 pub mod Clause
+pub mod PeerLimits

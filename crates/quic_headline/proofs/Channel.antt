@@ -7,6 +7,9 @@ pub mod Stops
 pub mod Names
 pub mod Counts
 pub mod Messages
+pub mod IdLists
+pub mod IdSteps
+pub mod IdsAgree
 pub mod Plain
 pub mod Passes
 pub mod Below

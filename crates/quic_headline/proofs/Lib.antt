@@ -1,4 +1,5 @@
 pub mod Duties
+pub mod Destined
 pub mod Halves
 pub mod Packets
 pub mod Places
@@ -24,3 +25,5 @@ pub mod Waited
 pub mod Begins
 pub mod Spread
 pub mod AppLimited
+pub mod NextIds
+pub mod Validated

@@ -4,8 +4,10 @@ pub mod Pacing
 pub mod Windows
 pub mod Moved
 pub mod Probes
+pub mod Passing
 pub mod Idle
 pub mod Probing
 pub mod Asking
 pub mod Sized
 pub mod Resized
+pub mod Called

@@ -211,6 +211,7 @@ writing_behind first id t w after = record {
   waits = if tells_writable id t.call t.answer then false else w.waits || (is_used_up first id w.intake.took w.told || is_blocked id t.call t.answer);
 }
 
+-- one call more at the end
 abbrev pub writing_told : Policy → List (List ℕ) → ℕ → ℕ → Told → Writing → Writing
 writing_told p given first id t w = writing_behind first id t w (and_told p given t w.intake)
 

@@ -1,5 +1,5 @@
 -- What every run of two honest ends keeps (RFC 9000, sections 2.2, 2.3 and 12.3): the headline, over the run's lists alone, and in some clauses over the ends that are left.
-use Rattle.std.specs.Prelude.{ℕ, ◌+◌, ◌^◌, ◌<◌, ◌≤◌, ◌≡◌, ◌↔◌, Bool, true, false, eqb, List, [], ◌∷◌, ◌++◌, length, take, drop, slice_get, Option, Some, None, Ok, Err}
+use Rattle.std.specs.Prelude.{ℕ, ◌+◌, ◌-◌, ◌^◌, ◌<◌, ◌≤◌, ◌≡◌, ◌↔◌, Bool, true, false, eqb, List, [], ◌∷◌, ◌++◌, length, take, drop, slice_get, Option, Some, None, Ok, Err}
 use Rattle.std.specs.List.{IsDistinct}
 use Rattle.std.specs.Option.{is_some}
 use Rattle.quic_wire_core.specs.declared.stream_id.Side.{Side}
@@ -57,6 +57,7 @@ UsesOwnIds r = (side : Side) (i id : ℕ) (call : Call) (a : Answer) → IsAt r 
 abbrev pub CodeIsSmall : Call → Type 0
 CodeIsSmall (calls.Reset id code) = code < 2 ^ 62
 CodeIsSmall (calls.Stop id code) = code < 2 ^ 62
+CodeIsSmall (calls.Close close) = close.error_code < 2 ^ 62
 CodeIsSmall call = Unit {0}
 
 -- so it is of the codes of all calls
@@ -234,8 +235,11 @@ AckTimersFollow w = AckTimerFollows w.client × AckTimerFollows w.server
 
 -- ---- numbers
 
--- A datagram has this number: it is the datagram of it, of the id that stands in it and of stated frames (RFC 9000, sections 12.4 and 17.3.1).
+-- A datagram has this number: it is the datagram of it, of the id that stands in it and of stated frames (RFC 9000, sections 12.4 and 17.3.1). No number is 2^62 or more,
+-- nor does one lie 2^31 or more above what it is cut against (sections 12.3 and 17.1).
 pub record IsNumbered (p : Policy) (reference number : ℕ) (datagram : List ℕ) : Type 0 where
+  pub small : number < 2 ^ 62
+  pub near : number - reference < 2 ^ 31
   pub frames : List FrameValue
   pub is : IsDatagram p reference number (destination datagram) frames datagram
 

@@ -1,8 +1,9 @@
 -- What an end waits for, against what an observer of the run's lists knows to be in flight (RFC 9002, sections 2, 6.1.1 and A.1).
 use Rattle.std.specs.Prelude.{ℕ, ◌+◌, ◌≡◌, ◌⊎◌, Bool, true, false, not, if◌then◌else◌, List, [], ◌∷◌, length, map, Option, Some, None}
 use Rattle.std.specs.List.{list_any}
+use Rattle.quic_wire_core.specs.declared.shared.IssuedCid.{IssuedCid}
 use Rattle.quic_wire_core.specs.declared.stream_id.Side.{Side}
-use Rattle.quic_wire.specs.Value.{FrameValue, StreamValue, StopSendingValue, ack, stream, reset_stream, stop_sending, max_data, max_stream_data, max_streams, data_blocked, stream_data_blocked}
+use Rattle.quic_wire.specs.Value.{FrameValue, StreamValue, StopSendingValue, ack, stream, reset_stream, stop_sending, max_data, max_stream_data, max_streams, data_blocked, stream_data_blocked, new_connection_id, retire_connection_id}
 use Rattle.quic_send_buffer.specs.declared.stream_meta.StreamMeta.{StreamMeta}
 use Rattle.quic_machine.specs.declared.answers.State.TheVariants as states
 use Rattle.quic_streams_parts.specs.Table.{Table}
@@ -70,6 +71,18 @@ blocked_in [] = []
 blocked_in (stream_data_blocked f ∷ fs) = f.id ∷ blocked_in fs
 blocked_in (other ∷ fs) = blocked_in fs
 
+-- the ids of NEW_CONNECTION_ID frames
+abbrev pub new_ids_in : List FrameValue → List IssuedCid
+new_ids_in [] = []
+new_ids_in (new_connection_id f ∷ fs) = record { sequence = f.sequence; id = f.id; reset_token = f.token } ∷ new_ids_in fs
+new_ids_in (other ∷ fs) = new_ids_in fs
+
+-- the numbers of RETIRE_CONNECTION_ID frames
+abbrev pub retirements_in : List FrameValue → List ℕ
+retirements_in [] = []
+retirements_in (retire_connection_id n ∷ fs) = n ∷ retirements_in fs
+retirements_in (other ∷ fs) = retirements_in fs
+
 -- all of it: of each kind, that its frames are among these, or what they say, in their order or as a set of streams
 abbrev pub again_in : List FrameValue → Retransmits
 again_in frames = record {
@@ -80,8 +93,8 @@ again_in frames = record {
   stop_sending = stops_in frames;
   max_stream_data = with_ids (limits_in frames) [];
   stream_data_blocked = with_ids (blocked_in frames) [];
-  new_cids = [];
-  retire_cids = [];
+  new_cids = new_ids_in frames;
+  retire_cids = retirements_in frames;
   ack_frequency = false;
 }
 

@@ -1,4 +1,4 @@
--- What doesn't open at an end, and what came before, changes nothing there, so a run less it is a run again (RFC 9000, sections 5.2, 12.2 and 12.3).
+-- What doesn't open at an end, and what came before, changes nothing there while keys last, so a run less it is a run again (RFC 9000, sections 5.2, 12.2 and 12.3).
 use Rattle.std.specs.Prelude.{ℕ, suc, ◌≡◌, Bool, true, false, not, ◌||◌, if◌then◌else◌, List, [], ◌∷◌, ◌++◌, take, slice_get, Option, Some, None}
 use Rattle.quic_wire_core.specs.declared.stream_id.Side.{Side}
 use Rattle.quic_wire_core.specs.StreamId.{other_side}
@@ -11,7 +11,7 @@ use Rattle.quic_machine.specs.declared.run.Call.TheVariants as calls
 use Rattle.quic_machine.specs.declared.run.Answer.{Answer}
 use Rattle.quic_machine.specs.declared.run.Answer.TheVariants as answers
 use Rattle.quic_packet.specs.Datagram.{Opening}
-use Rattle.quic_machine.specs.Machine.{World, policy_at, Follows}
+use Rattle.quic_machine.specs.Machine.{World, policy_at, Follows, says_last}
 use Rattle.quic_headline.specs.Runs.{Run, given_of, handed, is_again, came_open, AreServed}
 use Rattle.quic_headline.specs.Observer.{watch}
 use Rattle.quic_headline.specs.Headline.{IsAt, IsRun}
@@ -53,9 +53,18 @@ SameButCounts end left = left ≡ record end { client_heard = left.client_heard;
 abbrev pub IsRunWithout : (ℕ → Bool) → Run → World → Type 0
 IsRunWithout gone r end = (left : World) × SameButCounts end left × IsRun (erased gone r) left
 
--- so it is less any choice of its idle events
+-- At each end fewer packets fail to open than its peer's key may refuse (RFC 9001, section 6.6): none closes for that, by its answers. Each that doesn't open counts.
+abbrev pub FailuresStayBelow : Run → Type 0
+FailuresStayBelow r = (i : ℕ) (a : Answer) → slice_get r.answers i ≡ Some a → says_last a ≡ false
+
+-- the peers' addresses are validated at both ends (RFC 9000, section 8): else what comes says how much may go, also where it is dropped
+abbrev pub AreValidated : World → Type 0
+AreValidated w = (w.client.path.validated ≡ true) × (w.server.path.validated ≡ true)
+
+-- so it is less any choice of its idle events, where keys last and the addresses are validated from
+-- the start
 abbrev pub Isolated : Run → World → Type 0
-Isolated r end = (gone : ℕ → Bool) → OnlyIdle r gone → IsRunWithout gone r end
+Isolated r end = AreValidated r.start → (gone : ℕ → Bool) → OnlyIdle r gone → FailuresStayBelow r → IsRunWithout gone r end
 
 -- ---- the choice by answers
 
@@ -94,9 +103,9 @@ places_of holds r i = of_both (holds i) (slice_get r.events i) (slice_get r.answ
 abbrev pub answered_idle : Run → ℕ → Bool
 answered_idle r = places_of (λ i event a. is_answered_idle event.call a) r
 
--- less these it is a run again
+-- less these it is a run again, where keys last
 abbrev pub IsolatedByAnswers : Run → World → Type 0
-IsolatedByAnswers r end = IsRunWithout (answered_idle r) r end
+IsolatedByAnswers r end = AreValidated r.start → FailuresStayBelow r → IsRunWithout (answered_idle r) r end
 
 -- ---- the choice by the lists
 
@@ -136,6 +145,6 @@ pub record GoesOnWithout (gone : ℕ → Bool) (r : Run) (i : ℕ) : Type 0 wher
   pub client : AreFirst world.from_client r.from_client
   pub server : AreFirst world.from_server r.from_server
 
--- less these it is a run again, up to each place before which memory served
+-- less these it is a run again, up to each place before which memory served, where keys last
 abbrev pub IsolatedByLists : Run → Type 0
-IsolatedByLists r = (i : ℕ) → AreServed r i → GoesOnWithout (listed_idle r) r i
+IsolatedByLists r = AreValidated r.start → (i : ℕ) → AreServed r i → FailuresStayBelow r → GoesOnWithout (listed_idle r) r i

@@ -29,3 +29,6 @@ pub mod Telling
 pub mod Waited
 pub mod Begins
 pub mod Spread
+pub mod Threefold
+pub mod PeerLimits
+pub mod Validated

@@ -2,10 +2,13 @@
 -- (RFC 9002, sections 2, 5, 6.1, 6.2 and A.1). It reads what an end gave with the keys of its peer.
 use Rattle.std.specs.Prelude.{ℕ, ◌+◌, ◌-◌, ◌*◌, ◌/◌, ◌^◌, ◌<◌, ◌≤◌, ◌≡◌, min, max, not, ◌==◌, ◌&&◌, ◌||◌, Bool, true, false, nat_le, nat_lt, if◌then◌else◌, List, [], ◌∷◌, ◌++◌, filter, length, map, take, Option, Some, None, unwrap_or}
 use Rattle.std.specs.List.{list_any}
+use Rattle.std.specs.Option.{option_to_list}
 use Rattle.quic_wire_core.specs.declared.stream_id.Side.{Side}
 use Rattle.quic_wire_core.specs.StreamId.{other_side}
 use Rattle.quic_wire.specs.Value.{FrameValue, StreamValue, AckValue, ack, stream, connection_close, application_close, asks}
 use Rattle.quic_wire.specs.Items.{items}
+use Rattle.quic_packet.specs.Number.{window}
+use Rattle.quic_packet.specs.Keys.{width_in}
 use Rattle.quic_packet.specs.Datagram.{Opening, opened_packet}
 use Rattle.quic_time.specs.Rtt.{Rtt, assumed_rtt, best_rtt, conservative_rtt, with_sample}
 use Rattle.quic_spaces.specs.Numbers.{greatest_of}
@@ -22,7 +25,8 @@ use Rattle.quic_headline.specs.Runs.{Run, Told, Packet, Intake, In, nothing_came
 -- ---- what was sent
 
 -- A datagram as it was sent: the id to which it went, its number, what that was cut against (RFC 9000, A.2), its frames, when it went, in nanoseconds, and how
--- many bytes it has.
+-- many bytes it has. Of one that closes its connection no moment is kept, since no acknowledgement of it is waited for; and as it may go behind a packet of which
+-- a part was taken, and the lists don't say which, its number's reference is the least with which it has so many bytes.
 pub record Sent : Type 0 where
   pub id : List ℕ
   pub number : ℕ
@@ -56,14 +60,17 @@ pub record HoldsEnd (sents : List Sent) (id : ℕ) : Type 0 where
 
 -- ---- what is in flight
 
--- By what losses are judged at an end: how far below the greatest number that was acknowledged a datagram counts as lost (RFC 9002, section 6.1.1), after what
--- part of a round trip (section 6.1.2); and what the peer told: by how many bits the delays in its ACK frames are shifted, and how long it may hold one back, in
--- nanoseconds (RFC 9000, section 18.2).
+-- By what losses are judged at an end: how far below the greatest number that was acknowledged a
+-- datagram counts as lost (RFC 9002, section 6.1.1), after what part of a round trip (section
+-- 6.1.2); and what the peer told: by how many bits the delays in its ACK frames are shifted, and
+-- how long it may hold one back, in nanoseconds (RFC 9000, section 18.2). And after how long
+-- without a packet PING goes, if it is configured to (section 10.1.2).
 pub record Terms : Type 0 where
   pub threshold : ℕ
   pub part : ℕ × ℕ
   pub exponent : ℕ
   pub delay : ℕ
+  pub keep_alive : Option ℕ
 
 -- those of an end, by its settings and by what its peer told as the connection began
 abbrev pub terms_of : End → Terms
@@ -72,6 +79,7 @@ terms_of e = record {
   part = e.transport.time_threshold;
   exponent = e.peer_params.ack_delay_exponent;
   delay = e.peer_params.max_ack_delay * 1000000;
+  keep_alive = e.transport.keep_alive_interval;
 }
 
 -- the greatest number that was acknowledged so far, if one was; the datagrams that are neither acknowledged nor lost, nor forgotten; those that were acknowledged
@@ -304,21 +312,40 @@ abbrev pub frames_opened : Option Opening → List FrameValue
 frames_opened None = []
 frames_opened (Some o) = frames_of (items o.payload)
 
--- what a datagram that opens so was sent as, cut against this reference, at a moment; one that doesn't open is none
+-- the farthest that a number lies above its reference where it is cut to so many bytes (RFC 9000, section 17.1)
+abbrev pub farthest : ℕ → ℕ
+farthest width = window width / 2 - 1
+
+-- what a number was cut against, in a datagram that closes its connection or doesn't, where it has so many bytes
+abbrev pub reference_for : Bool → ℕ → ℕ → ℕ → ℕ
+reference_for closes number width reference = if closes then number - farthest width else reference
+
+-- when it went
+abbrev pub moment_for : Bool → ℕ → ℕ
+moment_for closes moment = if closes then 0 else moment
+
+-- what a datagram that opens so was sent as at a moment, cut against this reference where it doesn't close; one that doesn't open is none
 abbrev pub sent_as : Option Opening → ℕ → ℕ → List ℕ → List Sent
 sent_as None reference moment d = []
-sent_as (Some o) reference moment d = record { id = destination d; number = o.number; reference = reference; frames = frames_of (items o.payload); moment = moment; size = length d } ∷ []
+sent_as (Some o) reference moment d =
+    let frames = frames_of (items o.payload) in
+    record { id = destination d; number = o.number; reference = reference_for (list_any is_close frames) o.number (width_in o.first) reference; frames = frames; moment = moment_for (list_any is_close frames) moment; size = length d } ∷ []
 
 -- what is in flight once these are sent
 abbrev pub and_all_sent : List Sent → Flight → Flight
 and_all_sent [] f = f
 and_all_sent (s ∷ ss) f = and_all_sent ss (and_sent s f)
 
--- the next datagram goes: the keys of the peer open it where the greatest number is expected that the peer acknowledged
+-- the number that goes next, where these were sent: one above the greatest of theirs, or 0 (RFC 9000, section 12.3)
+abbrev pub next_number : List Sent → ℕ
+next_number [] = 0
+next_number (s ∷ sents) = max (s.number + 1) (next_number sents)
+
+-- the next datagram goes: the keys of the peer open it where its number is expected, which is cut against the greatest that the peer acknowledged
 abbrev pub watch_sent : Policy → List (List ℕ) → Watch → Watch
 watch_sent taker [] w = w
 watch_sent taker (d ∷ ds) w =
-    let sent = sent_as (opened_packet taker.header taker.packet (own_id_length + 1) (acknowledged w.intake.took) d) (acknowledged w.intake.took) w.clock d in
+    let sent = sent_as (opened_packet taker.header taker.packet (own_id_length + 1) (next_number w.own) d) (acknowledged w.intake.took) w.clock d in
     record w { left = ds; own = w.own ++ sent; flight = and_all_sent sent w.flight }
 
 -- how the lists of a run are read for one end: the keys of its peer, its own, all datagrams of its peer, and by what losses are judged
@@ -371,14 +398,14 @@ watch r side i = folded (watch_told (lens_of r side)) (until r side i) (watch_fr
 abbrev pub took : Run → Side → ℕ → List Packet
 took r side i = (watch r side i).intake.took
 
+-- what came in to an end, the latest first: the packets that it took, and before them one that it refused, if it did, of which the frames before the one at fault
+-- keep their effect
+abbrev pub came_in : Run → Side → ℕ → List Packet
+came_in r side i = option_to_list (watch r side i).intake.part ++ took r side i
+
 -- the datagrams that an end gave, as they were sent
 abbrev pub sents_until : Run → Side → ℕ → List Sent
 sents_until r side i = (watch r side i).own
-
--- the number that goes next, where these were sent: one above the greatest of theirs, or 0 (RFC 9000, section 12.3)
-abbrev pub next_number : List Sent → ℕ
-next_number [] = 0
-next_number (s ∷ sents) = max (s.number + 1) (next_number sents)
 
 -- what the number of each of them was cut against
 abbrev pub references_until : Run → Side → ℕ → List ℕ

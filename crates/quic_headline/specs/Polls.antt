@@ -1,10 +1,11 @@
 -- What polls give, and what they hold back (RFC 9002, sections 7, 7.5 and 7.7): an open end gives what waits, unless the congestion window or the pacer holds it back;
 -- and the controller shows the window that comes of what it was told.
-use Rattle.std.specs.Prelude.{ℕ, zero, suc, ◌+◌, ◌<◌, ◌≤◌, ◌≡◌, ◌⊎◌, true, false, List, [], ◌∷◌, ◌++◌, filter, length, replicate, sum_by, slice_get, take, Option, Some, None, Ok, if◌then◌else◌}
+use Rattle.std.specs.Prelude.{ℕ, zero, suc, ◌+◌, ◌<◌, ◌≤◌, ◌≡◌, ◌⊎◌, true, false, List, [], ◌∷◌, ◌++◌, filter, length, replicate, sum_by, slice_get, take, Option, Some, None, Ok, if◌then◌else◌, ◌*◌}
 use Rattle.quic_wire_core.specs.declared.stream_id.Side.{Side}
 use Rattle.quic_wire_core.specs.declared.stream_id.Side.TheVariants.{Client, Server}
 use Rattle.quic_wire_core.specs.StreamId.{other_side}
 use Rattle.quic_wire.specs.Value.{ping, padding}
+use Rattle.quic_time.specs.Clocks.{saturated}
 use Rattle.quic_congestion.specs.Congestion as congestion
 use Rattle.quic_congestion.specs.Search.{Discovery, search_bound, open_probe, poll_names}
 use Rattle.quic_machine.specs.declared.answers.Transmit.{Transmit}
@@ -21,7 +22,7 @@ use Rattle.quic_machine.specs.End.{End, with_closing, with_window}
 use Rattle.quic_machine.specs.Control.{paced_until, with_pacing_timer}
 use Rattle.quic_machine.specs.Poll.{probed, waits}
 use Rattle.quic_machine.specs.Machine.{World, Policies, IsStep, policy_at, end_at, end_met, control_at, given_by, tells, end_view}
-use Rattle.quic_headline.specs.Runs.{Run, In, same_side, state_in, until, AreServed, LeadsTo, written, ended, reset}
+use Rattle.quic_headline.specs.Runs.{Run, In, same_side, state_in, until, AreServed, LeadsTo, written, ended, reset, bytes_handed, bytes_given}
 use Rattle.quic_headline.specs.Observer.{Sent, HoldsOffset, HoldsEnd, asks_of, watch, sents_until, acked_until}
 use Rattle.quic_headline.specs.Headline.{IsAt}
 use Rattle.quic_headline.specs.Moments.{timers_in}
@@ -91,6 +92,12 @@ pub record IsPaced (r : Run) (side : Side) (i : ℕ) (v : View) : Type 0 where
 abbrev pub IsHeldBack : Run → Side → ℕ → View → Type 0
 IsHeldBack r side i v = IsFull r side i v ⊎ IsPaced r side i v
 
+-- Nothing more may go to an address that isn't validated (RFC 9000, section 8.1): with one more datagram of the current size more bytes would have gone than three times those
+-- that came, of which 64 bits hold three times as many.
+pub record IsLimited (r : Run) (side : Side) (i : ℕ) (v : View) : Type 0 where
+  pub unvalidated : (end_in v side).validated ≡ false
+  pub full : saturated (3 * bytes_handed r side i) < bytes_given r side i + mtu_in v side
+
 -- ---- what waits is given
 
 -- A byte was written on a stream that wasn't reset, and is neither in flight nor acknowledged.
@@ -111,13 +118,14 @@ pub record IsEndToGo (r : Run) (side : Side) (i id : ℕ) : Type 0 where
 abbrev pub IsToGo : Run → Side → ℕ → ℕ → Type 0
 IsToGo r side i id = ((offset : ℕ) × IsByteToGo r side i id offset) ⊎ IsEndToGo r side i id
 
--- where a poll of an open end gives nothing though a byte of a stream, or its end, is to go, window or pacer hold it back
+-- where a poll of an open end gives nothing though a byte of a stream, or its end, is to go, window or pacer hold it back, or nothing more may go to an address that isn't
+-- validated
 abbrev pub PollsSendWhatWaits : Run → Type 0
-PollsSendWhatWaits r = (side : Side) (i now id : ℕ) (v : View) → AreServed r (suc i) → GaveNothing r side i now v → IsToGo r side (suc i) id → IsHeldBack r side (suc i) v
+PollsSendWhatWaits r = (side : Side) (i now id : ℕ) (v : View) → AreServed r (suc i) → GaveNothing r side i now v → IsToGo r side (suc i) id → IsHeldBack r side (suc i) v ⊎ IsLimited r side (suc i) v
 
 -- so it is where a message waits (RFC 9221, section 5.4)
 abbrev pub PollsSendMessages : Run → Type 0
-PollsSendMessages r = (side : Side) (i now : ℕ) (message : List ℕ) (v : View) (w : World) → AreServed r (suc i) → GaveNothing r side i now v → LeadsTo r (suc i) w → In message (end_at side w).messages.queues.outgoing → IsHeldBack r side (suc i) v
+PollsSendMessages r = (side : Side) (i now : ℕ) (message : List ℕ) (v : View) (w : World) → AreServed r (suc i) → GaveNothing r side i now v → LeadsTo r (suc i) w → In message (end_at side w).messages.queues.outgoing → IsHeldBack r side (suc i) v ⊎ IsLimited r side (suc i) v
 
 -- ---- step by step
 
@@ -199,10 +207,11 @@ pub record AreLetting (r : Run) (side : Side) (i now : ℕ) : Type 0 where
 abbrev pub AskingGoesWhereLet : Run → Type 0
 AskingGoesWhereLet r = (side : Side) (i now : ℕ) (gave : GaveAsking r side i now) → (watch r side i).flight.probes ≡ 0 → AreLetting r side i now ⊎ IsSizeProbe r side i gave.one.sent
 
--- where a probe waits, a poll that leaves its end open gives a datagram that asks, whatever window and pacer say; one probe fewer waits then (section 7.5)
+-- where a probe waits, a poll that leaves its end open gives a datagram that asks, whatever window and pacer say, and one probe fewer waits then (section 7.5); unless nothing
+-- more may go to an address that isn't validated
 abbrev pub ProbesPass : Run → Type 0
 ProbesPass r = (side : Side) (i now : ℕ) (a : Answer) (v : View) → AreServed r (suc i) → IsAt r i side (calls.Poll now) a → slice_get r.views i ≡ Some v → state_in v side ≡ states.Open → 0 < (watch r side i).flight.probes
-    → GaveAsking r side i now × ((watch r side (suc i)).flight.probes + 1 ≡ (watch r side i).flight.probes)
+    → (GaveAsking r side i now × ((watch r side (suc i)).flight.probes + 1 ≡ (watch r side i).flight.probes)) ⊎ IsLimited r side (suc i) v
 
 -- ---- the window
 

@@ -1,5 +1,5 @@
 -- What a run says of its ends over its lists alone: its events, their answers, the views behind them, and the datagrams that each end gave.
-use Rattle.std.specs.Prelude.{ℕ, zero, suc, ◌+◌, ◌<◌, ◌≤◌, ◌≡◌, ◌⊎◌, max, Bool, true, false, nat_le, ◌==◌, ◌&&◌, ◌||◌, not, if◌then◌else◌, List, [], ◌∷◌, ◌++◌, length, take, slice_get, Option, Some, None, Result, Ok, Err}
+use Rattle.std.specs.Prelude.{ℕ, zero, suc, ◌+◌, ◌<◌, ◌≤◌, ◌≡◌, ◌⊎◌, max, Bool, true, false, nat_le, ◌==◌, ◌&&◌, ◌||◌, not, if◌then◌else◌, List, [], ◌∷◌, ◌++◌, length, take, slice_get, Option, Some, None, Result, Ok, Err, sum_by}
 use Rattle.std.specs.List.{list_any}
 use Rattle.quic_wire_core.specs.declared.stream_id.Side.{Side}
 use Rattle.quic_wire_core.specs.declared.stream_id.Side.TheVariants.{Client, Server}
@@ -413,6 +413,24 @@ count_given (t ∷ ts) = (if gave t.answer then 1 else 0) + count_given ts
 -- the datagrams that an end gave by the first so many answers
 abbrev pub given_until : Run → Side → ℕ → List (List ℕ)
 given_until r side i = take (count_given (until r side i)) (given_of r side)
+
+-- the bytes of a datagram, if there is one
+abbrev pub size_of : Option (List ℕ) → ℕ
+size_of None = 0
+size_of (Some datagram) = length datagram
+
+-- how many bytes a call hands to its end, whatever is made of them: none where there is no such datagram, nor where an injection would open, which isn't made
+abbrev pub bytes_in_call : List (List ℕ) → Call → Answer → ℕ
+bytes_in_call given (calls.Inject injection) (answers.Inject a) = length injection.bytes
+bytes_in_call given call a = size_of (handed given call a)
+
+-- how many bytes were handed to an end by the first so many answers
+abbrev pub bytes_handed : Run → Side → ℕ → ℕ
+bytes_handed r side i = sum_by (λ t. bytes_in_call (given_of r (other_side side)) t.call t.answer) (until r side i)
+
+-- how many bytes the datagrams have that it gave by them
+abbrev pub bytes_given : Run → Side → ℕ → ℕ
+bytes_given r side i = sum_by length (given_until r side i)
 
 -- the greatest number that frames acknowledge, or 0
 abbrev pub acknowledged_in : List FrameValue → ℕ

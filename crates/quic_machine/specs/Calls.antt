@@ -13,8 +13,10 @@ use Rattle.quic_streams_state.specs.State.{Streams}
 use Rattle.quic_streams_state.specs.Telling.{Telling}
 use Rattle.quic_streams_state.specs.Telling as telling
 use Rattle.quic_streams_state.specs.Reading.{Told, told_bytes, next_answer, told_by, after_next, after_read_begun, after_finalize}
-use Rattle.quic_machine.specs.Closing.{Closing, loss_to_tell, after_told}
-use Rattle.quic_machine.specs.End.{End, with_messages, with_ping}
+use Rattle.quic_wire.specs.Value.{application_close}
+use Rattle.quic_machine.specs.declared.answers.LostReason.TheVariants as reasons
+use Rattle.quic_machine.specs.Closing.{Closing, ticked, loss_to_tell, after_told}
+use Rattle.quic_machine.specs.End.{End, with_closing, closing_by, with_messages, with_ping}
 
 -- whether an end sends and receives
 abbrev pub is_open : State → Bool
@@ -28,6 +30,17 @@ is_open states.Failed = false
 -- the end after a call that asks for a PING: two before it goes are one
 abbrev pub end_after_ping : End → End
 end_after_ping e = with_ping e true
+
+-- ---- close (section 10.2)
+
+-- an open end closes, and tells its peer this code and this text; another stays as it is
+abbrev pub closed_in : State → ℕ → ℕ → List ℕ → End → End
+closed_in states.Open now code text e = closing_by reasons.Application (application_close (record { code = code; reason = text })) (with_closing e (ticked e.closing now))
+closed_in state now code text e = e
+
+-- the end after its application closed at a moment
+abbrev pub end_after_close : ℕ → ℕ → List ℕ → End → End
+end_after_close now code text e = closed_in e.closing.state now code text e
 
 -- ---- events (sections 2.4 and 10)
 

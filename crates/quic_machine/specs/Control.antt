@@ -1,6 +1,7 @@
 -- Congestion control at an end (RFC 9002, section 7): what is in flight, what window and pacer hold back, and what the controller is told.
 use Rattle.std.specs.Prelude.{ℕ, ◌+◌, ◌*◌, max, Bool, true, false, not, ◌&&◌, ◌==◌, nat_le, nat_lt, if◌then◌else◌, List, [], ◌∷◌, ◌++◌, sum_by, Option, Some, None}
 use Rattle.std.specs.List.{filter}
+use Rattle.std.specs.Option.{is_none}
 use Rattle.quic_time.specs.Clocks.{saturated}
 use Rattle.quic_time.specs.Rtt.{best_rtt}
 use Rattle.quic_congestion.specs.Congestion.{Told, Sent, Acked, AcksEnded}
@@ -110,9 +111,9 @@ abbrev pub told_sent : Bool → End → ℕ → ℕ → List Told
 told_sent true e size number = Sent e.closing.clock size number ∷ []
 told_sent false e size number = []
 
--- a packet is acknowledged, which counts where it asks
+-- a packet is acknowledged, which counts where it asks, unless the peer has a challenge to answer
 abbrev pub told_packet : End → ℕ × TrackedPacket → List Told
-told_packet e p = if p.1.asks then Acked e.closing.clock p.1.time_sent p.1.size e.path.app_limited e.path.rtt ∷ [] else []
+told_packet e p = if p.1.asks && is_none e.validation.challenge then Acked e.closing.clock p.1.time_sent p.1.size e.path.app_limited e.path.rtt ∷ [] else []
 
 -- those that an ACK frame names are acknowledged
 abbrev pub told_acks_ended : End → List Told

@@ -37,6 +37,7 @@ use Rattle.quic_machine.specs.End.{End, with_closing}
 use Rattle.quic_machine.specs.Acked.{verdict}
 use Rattle.quic_machine.specs.Calls.{is_open}
 use Rattle.quic_machine.specs.MessageCalls.{MessageCallLacks}
+use Rattle.quic_machine.specs.IdFrames.{NextIdLacks}
 use Rattle.quic_machine.specs.Receive.{received}
 use Rattle.quic_machine.specs.Poll.{polled}
 
@@ -85,7 +86,7 @@ StreamCallLacks is_open s p call a = Unit {0}
 -- there is such a datagram, and its frames are taken
 abbrev pub DeliveryTakes : Policy → End → Delivery → Option (List ℕ) → Type 0
 DeliveryTakes p e delivery None = ⊥
-DeliveryTakes p e delivery (Some d) = TakesFrames (received p e (delivered_by delivery) d).answer
+DeliveryTakes p e delivery (Some d) = TakesFrames (received p e (delivered_by false delivery) d).answer
 
 -- a probe takes what has to be sent again of a packet
 abbrev pub MovesRecord : End → Type 0
@@ -101,19 +102,21 @@ LosesOrHasFailed e now =
     ((e.closing.state ≡ states.Open) × (has_come e.timers.loss_detection (ticked e.closing now).clock ≡ true) × IsSome e.tracking.loss_time × (lost_by (verdict (with_closing e (ticked e.closing now))) e.tracking.packets ≢ []))
     ⊎ (e.closing.state ≡ states.Failed)
 
--- a call that says that memory lacks is one that takes some: a call on streams such as above, or one that queues a message; a datagram is composed, packets are lost, or frames are taken
+-- a call that says that memory lacks is one that takes some: a call on streams such as above, or one that queues a message or retirements; a datagram is composed, packets are lost, or frames are taken
 abbrev pub LacksWhere : Policy → End → List (List ℕ) → Call → Answer → Type 0
 LacksWhere p e theirs (calls.Send message makes_room) a = MessageCallLacks e (calls.Send message makes_room) a
+LacksWhere p e theirs calls.UseNextId a = NextIdLacks e a
 LacksWhere p e theirs (calls.Poll now) (answers.Poll (Err x)) = PollTakes p e now
 LacksWhere p e theirs (calls.Timeout now) (answers.Timeout (Err x)) = LosesOrHasFailed e now
 LacksWhere p e theirs (calls.Deliver delivery) (answers.Deliver receives.Failed) = DeliveryTakes p e delivery (slice_get theirs delivery.index)
 LacksWhere p e theirs call a = StreamCallLacks (is_open e.closing.state) e.streams e.waiting.frames call a
 
--- a call for which a run takes memory of its own, before it makes it: a datagram that is given is kept, a message that is sent and what comes are copied, and
--- so are the answers of a read
+-- a call for which a run takes memory of its own, before it makes it: a datagram that is given is kept, a message that is sent, a text of a close and what comes
+-- are copied, and so are the answers of a read
 abbrev pub TakesOfItsOwn : List (List ℕ) → Call → Type 0
 TakesOfItsOwn theirs (calls.Read read) = Unit {0}
 TakesOfItsOwn theirs (calls.Send message makes_room) = Unit {0}
+TakesOfItsOwn theirs (calls.Close close) = Unit {0}
 TakesOfItsOwn theirs (calls.Poll now) = Unit {0}
 TakesOfItsOwn theirs (calls.Deliver delivery) = IsSome (slice_get theirs delivery.index)
 TakesOfItsOwn theirs (calls.Inject injection) = Unit {0}

@@ -6,13 +6,10 @@ use Rattle.quic_packet.specs.Datagram.{Opening, opened_packet}
 use Rattle.quic_packet.specs.Destination.{decoded, fixed_length_id}
 use Rattle.quic_packet.specs.declared.packet.HeaderError.{HeaderError}
 use Rattle.quic_machine.specs.Ids.{known}
+pub use Rattle.quic_machine.specs.Ids.{own_id_length}
 use Rattle.quic_spaces.specs.Numbers.{expected}
 use Rattle.quic_machine.specs.Policy.{Policy}
 use Rattle.quic_machine.specs.End.{End}
-
--- how many bytes an own id has
-abbrev pub own_id_length : ℕ
-own_id_length = 8
 
 -- a packet whose key phase is 0
 abbrev pub in_phase : Option Opening → Option Opening

@@ -5,6 +5,7 @@ use Rattle.quic_congestion.specs.Congestion.{Told, AreSized, last_size, HasRoom}
 use Rattle.quic_wire_core.specs.declared.stream_id.Side.TheVariants.{Client, Server}
 use Rattle.quic_parameters.specs.ParametersRead.{parameters_at}
 use Rattle.quic_config.specs.Transport.{Settings, IsInRange, parameters_of, first_mtu}
+use Rattle.quic_machine.specs.Heard.{nothing_heard}
 use Rattle.quic_machine.specs.Parts.{Windows}
 use Rattle.quic_machine.specs.Policy.{Policy, CanOpen}
 use Rattle.quic_machine.specs.End.{MadeFrom, most_payload}
@@ -13,7 +14,7 @@ use Rattle.quic_machine.specs.Control.{Control}
 use Rattle.quic_machine.specs.Machine.{World, Policies}
 
 -- how one end was made: its settings, the windows that its controller showed, the parameter bytes that the settings come to, its first id, the moment, whether
--- the path was validated, and the first word that its random source answered
+-- the path was validated, and the words that its random source answers
 pub record Making : Type 0 where
   pub settings : Settings
   pub windows : Windows
@@ -21,7 +22,7 @@ pub record Making : Type 0 where
   pub id : List ℕ
   pub moment : ℕ
   pub validated : Bool
-  pub word : ℕ
+  pub words : ℕ → ℕ
 
 -- the parameter bytes say the settings, which are in range, and the id has the length of an own id
 pub record IsMaking (m : Making) : Type 0 where
@@ -37,10 +38,12 @@ pub record AreStarted (w : World) : Type 0 where
   pub server_making : Making
   pub client_is : IsMaking client_making
   pub server_is : IsMaking server_making
-  pub client : MadeFrom Client client_making.settings client_making.windows server_making.parameters client_making.id server_making.id client_making.moment client_making.validated client_making.word w.client
-  pub server : MadeFrom Server server_making.settings server_making.windows client_making.parameters server_making.id client_making.id server_making.moment server_making.validated server_making.word w.server
+  pub client : MadeFrom Client client_making.settings client_making.windows server_making.parameters client_making.id server_making.id client_making.moment client_making.validated client_making.words w.client
+  pub server : MadeFrom Server server_making.settings server_making.windows client_making.parameters server_making.id client_making.id server_making.moment server_making.validated server_making.words w.server
   pub client_gave : w.from_client ≡ []
   pub server_gave : w.from_server ≡ []
+  pub client_heard : w.client_heard ≡ nothing_heard
+  pub server_heard : w.server_heard ≡ nothing_heard
 
 -- protecting keeps the top three bits of the first byte and how many bytes the number has; sealing adds 16 bytes (RFC 9001, sections 5.3 and 5.4)
 pub record IsLawful (p : Policy) : Type 0 where

@@ -37,6 +37,10 @@ KeepsForm change = (s : List ℕ) (first : ℕ) → change s first / 32 ≡ firs
 abbrev pub KeepsLength : OfNumber → Type 0
 KeepsLength change = (s bytes : List ℕ) → length (change s bytes) ≡ length bytes
 
+-- opening gives no more bytes than there were (RFC 9001, 5.3)
+abbrev pub OpensNoMore : Open → Type 0
+OpensNoMore unseal = (number : ℕ) (header bytes payload : List ℕ) → unseal number header bytes ≡ Some payload → length payload ≤ length bytes
+
 -- sealing adds the tag's 16 bytes (RFC 9001, 5.3)
 abbrev pub AddsTag : Seal → Type 0
 AddsTag seal = (number : ℕ) (header payload : List ℕ) → length (seal number header payload) ≡ length payload + 16

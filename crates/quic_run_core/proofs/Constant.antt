@@ -1,12 +1,14 @@
 -- A source of one word, and the words of any source.
 use Rattle.std.proofs.Common.{◌≡◌, ℕ, zero, suc, List, [], ◌∷◌, refl, sym, ap, ◌∙◌}
 use Rattle.std.specs.Prelude.{replicate}
-use Rattle.rand_core.specs.Stream.{Call, u32_call, u64_call, bytes_call, fill_bytes}
+use Rattle.rand_core.specs.Stream.{Call, Stream, u32_call, u64_call, bytes_call, fill_bytes}
 use Rattle.rand_core.specs.Steps.{state_after, word_bytes, fill_via_u64, stream_of}
 use Rattle.rand_core.proofs.StepsLemmas.{meets_fill_bytes}
 use Rattle.quic_run_core.specs.declared.words.Source.{Source}
 use Rattle.quic_run_core.specs.declared.words.Source.TheVariants.{Word, Pcg}
-use Rattle.quic_run_core.specs.Words.{word_steps, source_stream, words_from, GivesForEver}
+use Rattle.quic_connection_core.specs.Drawn.{words_of}
+use Rattle.quic_run_core.specs.declared.words.Words.{Words}
+use Rattle.quic_run_core.specs.Words.{word_steps, stream_from, source_stream, words_from, GivesForEver}
 
 -- bytes are made of the word alone
 keeps_word : (bytes : ℕ → List ℕ) (k w : ℕ) → (word_bytes bytes (λ (x : ℕ). (x, x)) k w).1 ≡ w
@@ -36,3 +38,7 @@ bytes_stay w v n bytes filled =
 pub words_are : (source : Source) (n : ℕ) → words_from source n ≡ (source_stream source).u64_after (replicate n u64_call)
 words_are (Word word) n = sym (gives_for_ever word (replicate n u64_call))
 words_are (Pcg seed) n = refl
+
+-- so what answers as a source does answers its words
+pub words_same : (source : Source) (random : Words) → stream_from random ≡ source_stream source → words_of stream_from random ≡ words_from source
+words_same source random is = λ i n. (ap (λ (s : Stream). s.u64_after (replicate n u64_call)) is ∙ sym (words_are source n)) i

@@ -12,6 +12,7 @@ use Rattle.quic_packet.specs.Keys.{Seal, Open, IsHeaderMate, IsMate, AreMates}
 use Rattle.quic_wire_core.specs.declared.stream_id.Side.{Side}
 use Rattle.quic_wire_core.specs.declared.stream_id.Side.TheVariants.{Client, Server}
 use Rattle.quic_wire_core.specs.StreamId.{other_side}
+use Rattle.quic_machine.specs.End.{KeyLimits}
 use Rattle.quic_machine.specs.Policy.{CanOpen}
 use Rattle.quic_run_core.specs.KeysOf.{keys_of}
 use Rattle.quic_run_core.specs.Plain.{xored, tag, plain_sealed, plain_opened, plain_protection, plain_aead}
@@ -72,6 +73,6 @@ keys_mate Client = record { header = header_mate; packet = plain_mate 0x63 _ _ }
 keys_mate Server = record { header = header_mate; packet = plain_mate 0x73 _ _ }
 
 -- what either end gives, the other one can open
-pub policies_mate : (side : Side) (own peer : ℕ → ℕ) → CanOpen (plain_policy side own) (plain_policy (other_side side) peer)
-policies_mate Client own peer = record { header = header_mate; packet = plain_mate 0x63 _ _ }
-policies_mate Server own peer = record { header = header_mate; packet = plain_mate 0x73 _ _ }
+pub policies_mate : (side : Side) (limits peer_limits : KeyLimits) (own peer : ℕ → ℕ) → CanOpen (plain_policy limits side own) (plain_policy peer_limits (other_side side) peer)
+policies_mate Client limits peer_limits own peer = record { header = header_mate; packet = plain_mate 0x63 _ _ }
+policies_mate Server limits peer_limits own peer = record { header = header_mate; packet = plain_mate 0x73 _ _ }

@@ -12,13 +12,21 @@ abbrev pub mark_of : Side → ℕ
 mark_of Client = 0x63
 mark_of Server = 0x73
 
--- the packet key of an end, with the usual limits
-abbrev pub key_of : Side → PlainKey
-key_of side = record { mark = mark_of side; confidentiality_limit = 8388608; integrity_limit = 8388608 }
+-- the packet key of an end, which seals so many packets at most, and may refuse so many
+abbrev pub key_with : ℕ → ℕ → Side → PlainKey
+key_with seals openings side = record { mark = mark_of side; confidentiality_limit = seals; integrity_limit = openings }
 
--- the keys of an end: what it seals with, and what it opens with
-abbrev pub keys_of : Side → Keys PlainHeaderKey PlainKey
-keys_of side = record {
+-- the keys of an end, what it seals with and what it opens with, with these limits
+abbrev pub keys_with : ℕ → ℕ → Side → Keys PlainHeaderKey PlainKey
+keys_with seals openings side = record {
   header = record { local = record {}; remote = record {} };
-  packet = record { local = key_of side; remote = key_of (other_side side) };
+  packet = record { local = key_with seals openings side; remote = key_with seals openings (other_side side) };
 }
+
+-- how many packets a key seals at most, and may refuse, where nothing is set
+abbrev pub usual_limit : ℕ
+usual_limit = 8388608
+
+-- the keys of an end, with the usual limits
+abbrev pub keys_of : Side → Keys PlainHeaderKey PlainKey
+keys_of side = keys_with usual_limit usual_limit side

@@ -4,6 +4,7 @@ use Rattle.quic_wire_core.specs.declared.stream_id.Side.{Side}
 use Rattle.quic_wire_core.specs.declared.stream_id.Side.TheVariants.{Client, Server}
 use Rattle.quic_congestion.specs.NewReno.{Reno}
 use Rattle.quic_machine.specs.Policy.{Policy}
+use Rattle.quic_machine.specs.End.{KeyLimits}
 use Rattle.quic_machine.specs.Machine.{Policies}
 use Rattle.quic_connection.specs.Ends.{AreOf}
 use Rattle.quic_connection.specs.declared.running.Ends.{Ends}
@@ -14,10 +15,12 @@ use Rattle.quic_run_core.specs.KeysOf.{keys_of}
 use Rattle.quic_run_core.specs.declared.words.Words.{Words}
 use Rattle.quic_run_core.specs.Words.{stream_from}
 
--- what the keys of an end do, and its random source, which answers these words one after another
-abbrev pub plain_policy : Side → (ℕ → ℕ) → Policy
-plain_policy side words = record {
+-- what the keys of an end do, with these limits, and its random source, which answers these words one after another
+abbrev pub plain_policy : KeyLimits → Side → (ℕ → ℕ) → Policy
+plain_policy limits side words = record {
   words = words;
+  seals = limits.seals;
+  openings = limits.openings;
   header = plain_protection;
   packet = record {
     seal = plain_sealed (keys_of side).packet.local.mark;
@@ -25,10 +28,11 @@ plain_policy side words = record {
   };
 }
 
--- what the keys of both do, and their random sources, of which the client's answers the first words and the server's the second
-abbrev pub plain_policies : (ℕ → ℕ) → (ℕ → ℕ) → Policies
-plain_policies client server = record { client = plain_policy Client client; server = plain_policy Server server }
+-- what the keys of both do, of which the client's have the first limits and the server's the second, and their random sources, of which the client's answers the
+-- first words and the server's the second
+abbrev pub plain_policies : KeyLimits → KeyLimits → (ℕ → ℕ) → (ℕ → ℕ) → Policies
+plain_policies client_limits server_limits client server = record { client = plain_policy client_limits Client client; server = plain_policy server_limits Server server }
 
 -- these policies do what the keys and the random sources of these two ends do
 abbrev pub ArePlain : Policies → Ends PlainHeaderKey PlainKey Words Reno → Type 0
-ArePlain k ends = AreOf k (λ _. plain_protection) (λ k. plain_aead k.mark) stream_from ends
+ArePlain k ends = AreOf k (λ _. plain_protection) (λ k. plain_aead k.mark) (λ k. k.confidentiality_limit) (λ k. k.integrity_limit) stream_from ends

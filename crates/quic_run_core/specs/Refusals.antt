@@ -1,6 +1,6 @@
 -- Why a line that makes the ends can't be run.
 use Rattle.quic_machine.specs.declared.answers.ConfigError.{ConfigError}
-use Rattle.quic_machine.specs.declared.answers.ConfigError.TheVariants.{Parameters, IdLength, Size, Window, Memory}
+use Rattle.quic_machine.specs.declared.answers.ConfigError.TheVariants.{Parameters, IdLength, Size, Window, KeyLimit, Memory}
 use Rattle.quic_run_core.specs.declared.script.LineError.{LineError}
 use Rattle.quic_run_core.specs.declared.script.LineError.TheVariants.{BadCommand, OutOfMemory}
 
@@ -10,4 +10,5 @@ line_error Parameters = BadCommand
 line_error IdLength = BadCommand
 line_error Size = BadCommand
 line_error Window = BadCommand
+line_error KeyLimit = BadCommand
 line_error Memory = OutOfMemory

@@ -5,8 +5,8 @@ ghost use Rattle.quic_packet.specs.Keys.{with_header, sample, AreMates};
 ghost use Rattle.quic_wire_core.specs.StreamId.{other_side};
 ghost use Rattle.quic_wire_core.specs.declared.stream_id.Side.{Side};
 ghost use Rattle.quic_run_core.specs.Plain.{xored, mask_first, mask_number, plain_protection, plain_aead};
-ghost use Rattle.quic_run_core.specs.KeysOf.{key_of, keys_of};
-ghost use Rattle.quic_run_core.specs.PlainLaw.{first_form, number_length, adds_tag};
+ghost use Rattle.quic_run_core.specs.KeysOf.{key_with, keys_of, keys_with};
+ghost use Rattle.quic_run_core.specs.PlainLaw.{first_form, number_length, adds_tag, opens_no_more};
 
 use quic_packet::crypto::{HeaderKey, KeyPair, Keys, NotOpened, PacketKey};
 use quic_packet::width_in;
@@ -122,23 +122,25 @@ impl PacketKey for PlainKey {
     }
 
     ghost adds_tag = { λ k. adds_tag k.mark };
+
+    ghost opens_no_more = { λ k. opens_no_more k.mark };
 }
 
 /// How many packets a key may seal, and how many it may fail to open, unless it is given another
 /// limit.
 pub const KEY_LIMIT: u64 = 1 << 23;
 
-/// The packet key of one end: its mark is the letter `c` or `s`.
-fn key_of(side: Side) -> PlainKey
-    ensures { result ≡ key_of side }
+/// The packet key of one end, with these limits: its mark is the letter `c` or `s`.
+fn key_of(side: Side, confidentiality_limit: u64, integrity_limit: u64) -> PlainKey
+    ensures { result ≡ key_with confidentiality_limit integrity_limit side }
 {
     PlainKey {
         mark: match side {
             Side::Client => b'c',
             Side::Server => b's',
         },
-        confidentiality_limit: KEY_LIMIT,
-        integrity_limit: KEY_LIMIT,
+        confidentiality_limit,
+        integrity_limit,
     }
 }
 
@@ -146,14 +148,25 @@ fn key_of(side: Side) -> PlainKey
 pub fn keys_for(side: Side) -> Keys<PlainHeaderKey, PlainKey>
     ensures { result ≡ keys_of side }
 {
+    keys_within(side, KEY_LIMIT, KEY_LIMIT)
+}
+
+/// The keys of one end, of which each seals so many packets at most, and refuses so many.
+pub fn keys_within(
+    side: Side,
+    confidentiality_limit: u64,
+    integrity_limit: u64,
+) -> Keys<PlainHeaderKey, PlainKey>
+    ensures { result ≡ keys_with confidentiality_limit integrity_limit side }
+{
     Keys {
         header: KeyPair {
             local: PlainHeaderKey,
             remote: PlainHeaderKey,
         },
         packet: KeyPair {
-            local: key_of(side),
-            remote: key_of(!side),
+            local: key_of(side, confidentiality_limit, integrity_limit),
+            remote: key_of(!side, confidentiality_limit, integrity_limit),
         },
     }
 }

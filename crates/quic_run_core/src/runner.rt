@@ -1,8 +1,8 @@
 //! Runs a script: reads its lines, and prints what each answers.
-ghost use Rattle.std.specs.Prelude.{◌≡◌, ◌⊎◌, MatchResult, IfErr, IfOk, OnOk, IsSome, string_bytes};
+ghost use Rattle.std.specs.Prelude.{◌≡◌, ◌⊎◌, true, false, MatchResult, IfErr, IfOk, OnOk, IsSome, string_bytes};
 ghost use Rattle.std.specs.Io.KnownBytes.{Appends};
 ghost use Rattle.quic_run_core.specs.Language.{sets, asks, shows, settles, asked_of, said};
-ghost use Rattle.quic_run_core.specs.Scripts.{first_stage, with_made, made_at, IsDone, Does, IsRefused, heading as heading_of};
+ghost use Rattle.quic_run_core.specs.Scripts.{first_stage, with_made, made_at, has_no_ends, IsDone, Does, IsRefused, heading as heading_of};
 ghost use Rattle.quic_run_core.specs.Stages.{stage_of};
 ghost use Rattle.quic_run_core.specs.Reading.{left_of, KnowsEnd};
 ghost use Rattle.quic_run_core.specs.Outcomes.{RanAll, Stopped};
@@ -114,7 +114,7 @@ impl Runner {
     fn call(&mut self, event: &RunEvent) -> Result<String, LineError>
         ensures { MatchResult result
             (λ text. IsDone (asks event.now.side (asked_of event.now.call)) (stage_of self.old) (string_bytes text) (stage_of self.new))
-            (λ e. e ≡ LineError.OutOfMemory) }
+            (λ e. (e ≡ LineError.OutOfMemory) ⊎ ((e ≡ LineError.BadCommand) × (has_no_ends (stage_of self.old) ≡ true))) }
     {
         self.begin()?;
         let mut out = heading(self.alloc, event.side, call_name(&event.call))?;
@@ -130,7 +130,7 @@ impl Runner {
     fn show(&mut self, side: Side, index: usize) -> Result<String, LineError>
         ensures { MatchResult result
             (λ text. IsDone (shows side index) (stage_of self.old) (string_bytes text) (stage_of self.new))
-            (λ e. e ≡ LineError.OutOfMemory) }
+            (λ e. (e ≡ LineError.OutOfMemory) ⊎ ((e ≡ LineError.BadCommand) × (has_no_ends (stage_of self.old) ≡ true))) }
     {
         self.begin()?;
         let mut out = heading(self.alloc, side, "show")?;
@@ -146,7 +146,7 @@ impl Runner {
     fn settle(&mut self, now: Instant) -> Result<String, LineError>
         ensures { MatchResult result
             (λ text. IsDone (settles now) (stage_of self.old) (string_bytes text) (stage_of self.new))
-            (λ e. e ≡ LineError.OutOfMemory) }
+            (λ e. (e ≡ LineError.OutOfMemory) ⊎ ((e ≡ LineError.BadCommand) × (has_no_ends (stage_of self.old) ≡ true))) }
     {
         self.begin()?;
         let mut out = String::new(self.alloc);
@@ -159,10 +159,11 @@ impl Runner {
         Ok(out)
     }
 
-    /// Makes the ends, unless they are made.
+    /// Makes the ends, unless they are made. A bad command: a key lasts too short.
     fn begin(&mut self) -> Result<(), LineError>
         ensures stage { OnOk result (stage_of self.new ≡ with_made (made_at (stage_of self.old)) (stage_of self.old)) }
-        ensures memory { IfErr result (λ e. e ≡ LineError.OutOfMemory) }
+        ensures lasts { OnOk result (has_no_ends (stage_of self.old) ≡ false) }
+        ensures refusal { IfErr result (λ e. (e ≡ LineError.OutOfMemory) ⊎ ((e ≡ LineError.BadCommand) × (has_no_ends (stage_of self.old) ≡ true))) }
     {
         if self.session.is_none() {
             let session = Session::new(self.alloc, &self.client, &self.server)?;
@@ -188,8 +189,9 @@ fn heading(alloc: Global, side: Side, name: &str) -> Result<String, AllocError>
 /// setting.
 ///
 /// `ReadFault`: the reader failed, or gave no end within 2^32 calls. `WriteFault`: the writer
-/// failed, or took nothing. `BadCommand`: a line isn't in the language, or sets an option when the
-/// ends are made. `OutOfMemory`: memory lacked. What was printed before stands.
+/// failed, or took nothing. `BadCommand`: a line isn't in the language, sets an option when the
+/// ends are made, or needs ends where a key lasts too short. `OutOfMemory`: memory lacked. What was
+/// printed before stands.
 pub fn run_script<R: Read + Drop, W: Write>(
     alloc: Global,
     reader: R,

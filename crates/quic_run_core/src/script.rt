@@ -5,11 +5,11 @@ ghost use Rattle.std.specs.List.{list_any};
 ghost use Rattle.std.specs.Option.{SomeIff};
 ghost use Rattle.std.specs.Str.Parse.{IsNumeral, digits_value};
 ghost use Rattle.quic_run_core.specs.Named.{side_named, dir_named, mark_named, timer_named, bytes_named};
-ghost use Rattle.quic_run_core.specs.Language.{number_named, varint_named, switch_in, switch_named, priority_named, first, two, three, reading, resets, stops, delivers, injects, words_left, setting_said, settings_said, call_said, command_said, end_said, words_said, is_skipped, said, command_of, asked_of, asked_read, Reads, words as words_of};
+ghost use Rattle.quic_run_core.specs.Language.{number_named, varint_named, switch_in, switch_named, priority_named, first, two, three, reading, resets, stops, closes, delivers, injects, words_left, setting_said, settings_said, call_said, command_said, end_said, words_said, is_skipped, said, command_of, asked_of, asked_read, Reads, words as words_of};
 
 use bytes::Bytes;
 use hex::FromHexError;
-use quic_connection::{Call, Delivery, Injection, Instant, ReadCall, RunEvent, Timer};
+use quic_connection::{Call, CloseCall, Delivery, Injection, Instant, ReadCall, RunEvent, Timer};
 use quic_wire_core::{Dir, EcnCodepoint, Side, StreamId, VarInt};
 use std::alloc::{AllocError, Global};
 use std::str;
@@ -45,10 +45,18 @@ pub enum Setting {
     Bidi(VarInt),
     /// How many one-way streams the peer may have open at a time. It is cut to 2^60.
     Uni(VarInt),
+    /// How many milliseconds the connection may be without a packet: 0 is without end.
+    Idle(VarInt),
     /// How many bytes of messages are kept unread: 0 where the end takes none.
     Messages(usize),
     /// Whether a greater size of datagrams is looked for.
     Search(bool),
+    /// How many packets the end's key may seal.
+    SealLimit(u64),
+    /// How many packets the peer's key may fail to open at the end.
+    OpenLimit(u64),
+    /// Whether the peer's address is validated from the start.
+    Validated(bool),
     /// The random word that the end is given each time.
     Word(u64),
     /// The seed of the generator whose words the end is given.
@@ -205,6 +213,16 @@ impl<'a> LineWords<'a> {
         })
     }
 
+    fn close_call(&mut self, alloc: Global) -> Result<CloseCall, LineError>
+        ensures { Reads result (λ close. closes close.now close.error_code close.reason) (three closes number_named varint_named bytes_named (words_left self.old.rest)) (words_left self.new.rest) }
+    {
+        Ok(CloseCall {
+            now: self.moment()?,
+            error_code: self.varint()?,
+            reason: self.bytes(alloc)?,
+        })
+    }
+
     fn delivery(&mut self) -> Result<Delivery, LineError>
         ensures { Reads result (λ delivery. delivers delivery.now delivery.ecn delivery.index) (three delivers number_named mark_named number_named (words_left self.old.rest)) (words_left self.new.rest) }
     {
@@ -338,8 +356,12 @@ fn setting_of(name: &str, words: &mut LineWords) -> Result<Setting, LineError>
         "send_window" => Ok(Setting::SendWindow(words.number()?)),
         "bidi" => Ok(Setting::Bidi(words.varint()?)),
         "uni" => Ok(Setting::Uni(words.varint()?)),
+        "idle" => Ok(Setting::Idle(words.varint()?)),
         "messages" => Ok(Setting::Messages(words.index()?)),
         "search" => Ok(Setting::Search(words.switch()?)),
+        "seal_limit" => Ok(Setting::SealLimit(words.number()?)),
+        "open_limit" => Ok(Setting::OpenLimit(words.number()?)),
+        "validated" => Ok(Setting::Validated(words.switch()?)),
         "word" => Ok(Setting::Word(words.number()?)),
         "pcg" => Ok(Setting::Pcg(words.number()?)),
         _ => Err(LineError::BadCommand),
@@ -375,6 +397,8 @@ pub fn call_of(alloc: Global, name: &str, words: &mut LineWords) -> Result<Call,
         "send" => Ok(Call::Send(words.bytes(alloc)?, false)),
         "recv" => Ok(Call::Recv),
         "ping" => Ok(Call::Ping),
+        "close" => Ok(Call::Close(words.close_call(alloc)?)),
+        "use_next_id" => Ok(Call::UseNextId),
         "poll" => Ok(Call::Poll(words.moment()?)),
         "timeout" => Ok(Call::Timeout(words.moment()?)),
         "deliver" => Ok(Call::Deliver(words.delivery()?)),
@@ -382,6 +406,7 @@ pub fn call_of(alloc: Global, name: &str, words: &mut LineWords) -> Result<Call,
         "event" => Ok(Call::Event),
         "timer" => Ok(Call::Timer(words.timer()?)),
         "next" => Ok(Call::NextTimeout),
+        "state" => Ok(Call::State),
         _ => Err(LineError::BadCommand),
     }
 }

@@ -11,7 +11,7 @@ ghost use Rattle.quic_run_core.specs.Words.{stream_from};
 use bytes::Bytes;
 use quic_connection::{
     Answer, Call, Config, ConfigError, Delivery, Ends, Given, Instant, Making, NewReno,
-    NewRenoConfig, ReadCall, Received, RunEvent, TransportConfig, run, step,
+    NewRenoConfig, ReadCall, Received, RunEvent, TransportConfig, View, run, step,
 };
 use quic_run_core::Words;
 use quic_run_core::key::{PlainHeaderKey, PlainKey, keys_for};
@@ -34,6 +34,7 @@ fn id_of(side: Side) -> ConnectionId {
 fn making(
     side: Side,
     transport: TransportConfig,
+    validated: bool,
 ) -> Making<NewRenoConfig, PlainHeaderKey, PlainKey, Words>
     ensures { result.keys ≡ keys_of side }
 {
@@ -44,29 +45,35 @@ fn making(
         id: id_of(side),
         keys: keys_for(side),
         random: Words::word(63),
-        validated: true,
+        validated,
     }
 }
 
 /// Two ends that are made for one another at the moment 0: they and their keys meet what the
-/// promises on runs ask.
-fn ends_with(alloc: Global, transport: TransportConfig) -> Result<BothEnds, ConfigError>
+/// promises on runs ask. The address of the server's peer is validated or isn't.
+fn ends_with(
+    alloc: Global,
+    transport: TransportConfig,
+    validated: bool,
+) -> Result<BothEnds, ConfigError>
     ensures started { IfOk result (λ ends. AreStarted (first_world window_after ends)) }
-    ensures keys { IfOk result (λ ends. AreKeys (policies_of (λ _. plain_protection) (λ k. plain_aead k.mark) stream_from ends)) }
+    ensures keys { IfOk result (λ ends. AreKeys (policies_of (λ _. plain_protection) (λ k. plain_aead k.mark)
+        (λ k. k.confidentiality_limit) (λ k. k.integrity_limit) stream_from ends)) }
 {
     keys_meet_the_premises();
     let now = Instant::from_nanos(0);
-    let client = making(Side::Client, transport);
-    let server = making(Side::Server, transport);
+    let client = making(Side::Client, transport, true);
+    let server = making(Side::Server, transport, validated);
     Ends::new(alloc, now, client, server)
 }
 
 /// Two such ends where nothing is set.
 pub(crate) fn new_ends(alloc: Global) -> Result<BothEnds, ConfigError>
     ensures started { IfOk result (λ ends. AreStarted (first_world window_after ends)) }
-    ensures keys { IfOk result (λ ends. AreKeys (policies_of (λ _. plain_protection) (λ k. plain_aead k.mark) stream_from ends)) }
+    ensures keys { IfOk result (λ ends. AreKeys (policies_of (λ _. plain_protection) (λ k. plain_aead k.mark)
+        (λ k. k.confidentiality_limit) (λ k. k.integrity_limit) stream_from ends)) }
 {
-    ends_with(alloc, TransportConfig::default())
+    ends_with(alloc, TransportConfig::default(), true)
 }
 
 /// Two ends, and the datagrams that they gave.
@@ -84,11 +91,16 @@ impl Pair {
     }
 }
 
-/// Two ends where this is set, which gave nothing yet.
-fn new_pair(alloc: Global, transport: TransportConfig) -> Result<Pair, ConfigError> {
+/// Two ends where this is set, which gave nothing yet; the address of the server's peer is
+/// validated or isn't.
+fn new_pair(
+    alloc: Global,
+    transport: TransportConfig,
+    validated: bool,
+) -> Result<Pair, ConfigError> {
     Ok(Pair {
         alloc,
-        ends: ends_with(alloc, transport)?,
+        ends: ends_with(alloc, transport, validated)?,
         given: Given::new(alloc),
     })
 }
@@ -107,7 +119,19 @@ pub(crate) fn with_pair<T, F: FnOnce(&mut Pair) -> Result<T, Fail>>(
 ) -> Result<T, Fail>
     requires { F.IsAlwaysCallable act }
 {
-    let mut pair = boxed(alloc, new_pair(alloc, transport)?)?;
+    with_server(alloc, transport, true, act)
+}
+
+/// The same, where the address of the server's peer is validated or isn't.
+pub(crate) fn with_server<T, F: FnOnce(&mut Pair) -> Result<T, Fail>>(
+    alloc: Global,
+    transport: TransportConfig,
+    validated: bool,
+    act: F,
+) -> Result<T, Fail>
+    requires { F.IsAlwaysCallable act }
+{
+    let mut pair = boxed(alloc, new_pair(alloc, transport, validated)?)?;
     act(pair.as_mut())
 }
 
@@ -115,6 +139,12 @@ pub(crate) fn with_pair<T, F: FnOnce(&mut Pair) -> Result<T, Fail>>(
 pub(crate) fn ran(alloc: Global, events: &[RunEvent]) -> Result<(Vec<Answer>, bool), ConfigError> {
     let outcome = run(alloc, new_ends(alloc)?, events);
     Ok((outcome.answers, outcome.cut_short))
+}
+
+/// What is seen of new ends behind each event of a run.
+pub(crate) fn viewed(alloc: Global, events: &[RunEvent]) -> Result<Vec<View>, ConfigError> {
+    let outcome = run(alloc, new_ends(alloc)?, events);
+    Ok(outcome.views)
 }
 
 /// The stream that the client opens.
@@ -179,7 +209,7 @@ pub(crate) fn is_served(index: usize, answer: &Answer) -> bool {
     match (index, answer) {
         (0, Answer::Open(Some(id))) => *id == stream(),
         (1, Answer::Write(Ok(5))) | (2, Answer::Finish(Ok(()))) => true,
-        (3, Answer::Poll(Ok(Some(transmit)))) => transmit.size == 34,
+        (3, Answer::Poll(Ok(Some(transmit)))) => transmit.size == 146,
         (4, Answer::Deliver(Received::Taken)) => true,
         (5, Answer::Accept(Some(id))) => *id == stream(),
         (6, read) => is_hello(read),

@@ -25,10 +25,12 @@ pub fn worked_run_has_these_keys()
         → GivesForEver 63 (⟦<Words as Rng>⟧.stream w.random)
         → Serves worked_policies.client
         (policy_of ⟦<PlainHeaderKey as HeaderKey>⟧.protection ⟦<PlainKey as PacketKey>⟧.aead
+        ⟦<PlainKey as PacketKey>⟧.seal_limit ⟦<PlainKey as PacketKey>⟧.refusal_limit
         (words_of ⟦<Words as Rng>⟧.stream) w) w.end }
     ensures server { (w : ConnectionValue PlainHeaderKey PlainKey Words Reno) → w.keys ≡ keys_of Server
         → GivesForEver 63 (⟦<Words as Rng>⟧.stream w.random)
         → Serves worked_policies.server
         (policy_of ⟦<PlainHeaderKey as HeaderKey>⟧.protection ⟦<PlainKey as PacketKey>⟧.aead
+        ⟦<PlainKey as PacketKey>⟧.seal_limit ⟦<PlainKey as PacketKey>⟧.refusal_limit
         (words_of ⟦<Words as Rng>⟧.stream) w) w.end }
 {}

@@ -4,6 +4,8 @@
 #![tactic(auto)]
 
 #[cfg(test)]
+mod closing;
+#[cfg(test)]
 mod config;
 #[cfg(test)]
 mod ends;
@@ -26,3 +28,5 @@ mod scripts;
 mod statistics;
 #[cfg(test)]
 mod transfer;
+#[cfg(test)]
+mod validation;

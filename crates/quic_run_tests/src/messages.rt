@@ -64,7 +64,7 @@ fn assert_makes_room<R: Abort>(rt: &R, pair: &mut Pair) -> Result<(), Fail> {
             _ => panic!(rt; "no answer of a message"),
         }
     }
-    assert_arrives(rt, pair, 0, 36)?;
+    assert_arrives(rt, pair, 0, 148)?;
     assert_read(rt, pair, &[b"bbbb", b"cc"])?;
     for text in [b"dddd".as_slice(), b"ee", b"fffffffff"] {
         match pair.make(&sent(text, true))? {

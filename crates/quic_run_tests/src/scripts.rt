@@ -135,7 +135,7 @@ fn a_reader_that_fails_or_has_no_end_is_a_read_fault(rt: HostRuntime) {
 #[test]
 fn a_writer_that_fails_is_a_write_fault(rt: HostRuntime) {
     let script = b"c open bi\nc poll 0\n".as_slice();
-    let printed = b"c open 0\nc poll none\n".as_slice();
+    let printed = b"c open 0\nc poll 0 138 ect0\n".as_slice();
     for (room, fails, flushes) in [(12, true, true), (12, false, true), (99, true, false)] {
         let mut writer = Full {
             taken: Vec::new(rt.alloc()),

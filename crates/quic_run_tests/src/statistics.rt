@@ -18,9 +18,10 @@ fn one_datagram(bytes: u64) -> UdpStats {
     }
 }
 
-/// One STREAM frame.
-fn one_stream_frame() -> FrameStats {
+/// One STREAM frame, and the ids of an end.
+fn first_frames() -> FrameStats {
     let mut frames = FrameStats::default();
+    frames.new_connection_id = 4;
     frames.stream = 1;
     frames
 }
@@ -40,9 +41,9 @@ fn fresh_path(sent_packets: u64) -> PathStats {
 /// What the client counts that sent `hello`.
 fn sent() -> ConnectionStats {
     ConnectionStats {
-        udp_tx: one_datagram(34),
+        udp_tx: one_datagram(146),
         udp_rx: UdpStats::default(),
-        frame_tx: one_stream_frame(),
+        frame_tx: first_frames(),
         frame_rx: FrameStats::default(),
         path: fresh_path(1),
     }
@@ -52,9 +53,9 @@ fn sent() -> ConnectionStats {
 fn came() -> ConnectionStats {
     ConnectionStats {
         udp_tx: UdpStats::default(),
-        udp_rx: one_datagram(34),
+        udp_rx: one_datagram(146),
         frame_tx: FrameStats::default(),
-        frame_rx: one_stream_frame(),
+        frame_rx: first_frames(),
         path: fresh_path(0),
     }
 }
@@ -78,6 +79,7 @@ fn a_datagram_is_counted(rt: HostRuntime) -> Result<(), Fail> {
 
 /// A datagram of the client with PING, a message and bytes of a stream; one of the server, which
 /// acknowledges it and stops the stream; and the client's, which resets it and acknowledges that.
+/// The first one of either has its ids.
 fn several() -> [RunEvent; 11] {
     let now = Instant::from_nanos(0);
     let first = Delivery {
@@ -110,6 +112,7 @@ fn several() -> [RunEvent; 11] {
 fn frames_of_client() -> FrameStats {
     let mut frames = FrameStats::default();
     frames.ping = 1;
+    frames.new_connection_id = 4;
     frames.datagram = 1;
     frames.stream = 1;
     frames.reset_stream = 1;
@@ -121,6 +124,7 @@ fn frames_of_client() -> FrameStats {
 fn frames_of_server() -> FrameStats {
     let mut frames = FrameStats::default();
     frames.stop_sending = 1;
+    frames.new_connection_id = 4;
     frames.acks = 1;
     frames
 }

@@ -25,11 +25,12 @@ const DELAY: u64 = 20_000_000;
 const MOST: u64 = 10_000;
 
 /// Limits that hold the client up: 128 KiB that the server takes unread, and 64 KiB that the client
-/// keeps until they are acknowledged.
+/// keeps until they are acknowledged. No idle timeout runs.
 fn narrow() -> TransportConfig {
     let mut transport = TransportConfig::default();
     transport.stream_receive_window(VarInt::from_u32(1 << 17));
     transport.send_window(1 << 16);
+    transport.max_idle_timeout(None);
     transport
 }
 

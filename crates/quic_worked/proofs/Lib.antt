@@ -36,6 +36,7 @@ mod HeldRun
 mod PacedRun
 mod FaultRuns
 mod FaultTimes
+mod LongDatagram
 mod LimitedRun
 mod UsedUpRun
 mod SilentEnd
@@ -53,3 +54,10 @@ pub mod RepeatedRuns
 pub mod BegunRuns
 mod ResetRun
 mod WritableRun
+mod TimedEnds
+mod EndedRuns
+mod RenamedRuns
+mod KnownRuns
+mod UnvalidatedRun
+mod AnsweredRun
+pub mod Validated

@@ -14,7 +14,7 @@ use Rattle.quic_headline.specs.Moments.{loss_timer, LossMoments, ack_timer, debt
 use Rattle.quic_worked.specs.Worked.{worked_policies, once_opened, once_written, once_ended, once_sent, gives_bytes}
 use Rattle.quic_worked.specs.Acknowledged.{client_acked}
 use Rattle.quic_worked.specs.Timed.{serves, asks_at, comes_at, once_later, seen_with, timed_run, never_backs_off, never_resets, never_measures, waits_twice, due_at, NeverShows}
-use Rattle.quic_worked.proofs.Steps.{counts_so, still_steady}
+use Rattle.quic_worked.proofs.Steps.{counts_so, still_shut}
 use Rattle.quic_worked.proofs.WorkedRun.{opens, writes, finishes, gives, sent_seen}
 use Rattle.quic_worked.proofs.Codes.{no_codes}
 
@@ -22,27 +22,27 @@ use Rattle.quic_worked.proofs.Codes.{no_codes}
 
 expires : IsStep worked_policies once_sent (serves Client 1024000000) (answers.Timeout (Ok tt)) (once_later 1)
 unfolding once_later
-expires = record { answer = inl refl; end = refl; control = refl; heard = counts_so worked_policies once_sent (serves Client 1024000000) (answers.Timeout (Ok tt)); others = refl; lacking = tt }
+expires = record { answer = inl refl; end = refl; control = refl; heard = counts_so worked_policies once_sent (serves Client 1024000000) (answers.Timeout (Ok tt)); openings = tt; others = refl; lacking = tt }
 
-probes : IsStep worked_policies (once_later 1) (asks_at Client 1024000000) (gives_bytes 29) (once_later 2)
+probes : IsStep worked_policies (once_later 1) (asks_at Client 1024000000) (gives_bytes 138) (once_later 2)
 unfolding once_later
-probes = record { answer = inl refl; end = refl; control = refl; heard = counts_so worked_policies (once_later 1) (asks_at Client 1024000000) (gives_bytes 29); others = refl; lacking = tt }
+probes = record { answer = inl refl; end = refl; control = refl; heard = counts_so worked_policies (once_later 1) (asks_at Client 1024000000) (gives_bytes 138); openings = tt; others = refl; lacking = tt }
 
 takes : IsStep worked_policies (once_later 2) (comes_at Server 1030000000) (answers.Deliver receives.Taken) (once_later 3)
 unfolding once_later
-takes = record { answer = inl refl; end = refl; control = refl; heard = counts_so worked_policies (once_later 2) (comes_at Server 1030000000) (answers.Deliver receives.Taken); others = refl; lacking = tt }
+takes = record { answer = inl refl; end = refl; control = refl; heard = counts_so worked_policies (once_later 2) (comes_at Server 1030000000) (answers.Deliver receives.Taken); openings = tt; others = refl; lacking = tt }
 
 is_due : IsStep worked_policies (once_later 3) (serves Server 1055000000) (answers.Timeout (Ok tt)) (once_later 4)
 unfolding once_later
-is_due = record { answer = inl refl; end = refl; control = refl; heard = counts_so worked_policies (once_later 3) (serves Server 1055000000) (answers.Timeout (Ok tt)); others = refl; lacking = tt }
+is_due = record { answer = inl refl; end = refl; control = refl; heard = counts_so worked_policies (once_later 3) (serves Server 1055000000) (answers.Timeout (Ok tt)); openings = tt; others = refl; lacking = tt }
 
 answers_it : IsStep worked_policies (once_later 4) (asks_at Server 1055000000) (gives_bytes 32) (once_later 5)
 unfolding once_later
-answers_it = record { answer = inl refl; end = refl; control = still_steady; heard = counts_so worked_policies (once_later 4) (asks_at Server 1055000000) (gives_bytes 32); others = refl; lacking = tt }
+answers_it = record { answer = inl refl; end = refl; control = still_shut; heard = counts_so worked_policies (once_later 4) (asks_at Server 1055000000) (gives_bytes 32); openings = tt; others = refl; lacking = tt }
 
 is_answered : IsStep worked_policies (once_later 5) (comes_at Client 1060000000) (answers.Deliver receives.Taken) (once_later 6)
 unfolding once_later
-is_answered = record { answer = inl refl; end = refl; control = refl; heard = counts_so worked_policies (once_later 5) (comes_at Client 1060000000) (answers.Deliver receives.Taken); others = refl; lacking = tt }
+is_answered = record { answer = inl refl; end = refl; control = refl; heard = counts_so worked_policies (once_later 5) (comes_at Client 1060000000) (answers.Deliver receives.Taken); openings = tt; others = refl; lacking = tt }
 
 expired_seen : seen_with (Some 2048000000) None ≡ view_of (once_later 1)
 unfolding once_later

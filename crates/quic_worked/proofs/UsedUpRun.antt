@@ -1,5 +1,5 @@
 -- The run in which an end closes for used-up numbers, event by event: the clause about them holds of it, and speaks of it.
-use Rattle.std.proofs.Common.{◌≡◌, ◌^◌, ◌-◌, ℕ, zero, suc, [], ◌∷◌, take, Option, Some, None, Ok, refl, inl, inr, sym, ap, ◌∙◌, subst, arith}
+use Rattle.std.proofs.Common.{◌≡◌, ◌^◌, ◌-◌, ℕ, zero, suc, [], take, Option, Some, None, Ok, refl, inl, inr, sym, ap, ◌∙◌, subst, arith}
 use Rattle.std.specs.Prelude.{slice_get}
 use Rattle.quic_wire_core.specs.declared.stream_id.Side.{Side}
 use Rattle.quic_wire_core.specs.declared.stream_id.Side.TheVariants.{Client, Server}
@@ -12,38 +12,38 @@ use Rattle.quic_headline.specs.Runs.{acknowledged}
 use Rattle.quic_headline.specs.Observer.{took, sents_until, next_number}
 use Rattle.quic_headline.specs.Causes.{Shows, NumberLimit, AreUsedUp, reason_in}
 use Rattle.quic_headline.specs.Headline.{IsRun}
-use Rattle.quic_worked.specs.Worked.{worked_policies, hello_payload, from_client, opens_stream, writes_hello, finishes_stream, asks_datagram, gives_bytes, open_view, sent_view, ran}
+use Rattle.quic_worked.specs.Worked.{worked_policies, opens_stream, writes_hello, finishes_stream, asks_datagram, gives_bytes, open_view, sent_view, ran, server_open}
 use Rattle.quic_worked.specs.Losses.{asks_ping}
 use Rattle.quic_worked.specs.Closed.{closed_view, two_left, last_events, last_answers, last_ended, last_given, last_pinged, last_closed, last_run}
 use Rattle.quic_worked.proofs.Codes.{no_codes}
 use Rattle.quic_worked.proofs.Steps.{counts_so}
 
 opens : IsStep worked_policies two_left opens_stream (answers.Open (Some 0)) (ran worked_policies two_left (take 1 last_events) (take 1 last_answers))
-opens = record { answer = refl; end = refl; control = refl; heard = counts_so worked_policies two_left opens_stream (answers.Open (Some 0)); others = refl; lacking = tt }
+opens = record { answer = refl; end = refl; control = refl; heard = counts_so worked_policies two_left opens_stream (answers.Open (Some 0)); openings = tt; others = refl; lacking = tt }
 
 writes : IsStep worked_policies (ran worked_policies two_left (take 1 last_events) (take 1 last_answers)) writes_hello (answers.Write (Ok 5)) (ran worked_policies two_left (take 2 last_events) (take 2 last_answers))
-writes = record { answer = inl refl; end = refl; control = refl; heard = counts_so worked_policies (ran worked_policies two_left (take 1 last_events) (take 1 last_answers)) writes_hello (answers.Write (Ok 5)); others = refl; lacking = λ lacks. cc }
+writes = record { answer = inl refl; end = refl; control = refl; heard = counts_so worked_policies (ran worked_policies two_left (take 1 last_events) (take 1 last_answers)) writes_hello (answers.Write (Ok 5)); openings = tt; others = refl; lacking = λ lacks. cc }
 
 finishes : IsStep worked_policies (ran worked_policies two_left (take 2 last_events) (take 2 last_answers)) finishes_stream (answers.Finish (Ok tt)) last_ended
-finishes = record { answer = inl refl; end = refl; control = refl; heard = counts_so worked_policies (ran worked_policies two_left (take 2 last_events) (take 2 last_answers)) finishes_stream (answers.Finish (Ok tt)); others = refl; lacking = λ lacks. cc }
+finishes = record { answer = inl refl; end = refl; control = refl; heard = counts_so worked_policies (ran worked_policies two_left (take 2 last_events) (take 2 last_answers)) finishes_stream (answers.Finish (Ok tt)); openings = tt; others = refl; lacking = λ lacks. cc }
 
-gives : IsStep worked_policies last_ended asks_datagram (gives_bytes 37) last_given
+gives : IsStep worked_policies last_ended asks_datagram (gives_bytes 149) last_given
 unfolding last_given
-gives = record { answer = inl refl; end = refl; control = refl; heard = counts_so worked_policies last_ended asks_datagram (gives_bytes 37); others = refl; lacking = tt }
+gives = record { answer = inl refl; end = refl; control = refl; heard = counts_so worked_policies last_ended asks_datagram (gives_bytes 149); openings = tt; others = refl; lacking = tt }
 
 pings : IsStep worked_policies last_given asks_ping answers.Ping last_pinged
 unfolding last_given
-pings = record { answer = refl; end = refl; control = refl; heard = counts_so worked_policies last_given asks_ping answers.Ping; others = refl; lacking = tt }
+pings = record { answer = refl; end = refl; control = refl; heard = counts_so worked_policies last_given asks_ping answers.Ping; openings = tt; others = refl; lacking = tt }
 
-closes : IsStep worked_policies last_pinged asks_datagram (answers.Poll (Ok None)) last_closed
+closes : IsStep worked_policies last_pinged asks_datagram (gives_bytes 33) last_closed
 unfolding last_closed
-closes = record { answer = inl refl; end = refl; control = refl; heard = counts_so worked_policies last_pinged asks_datagram (answers.Poll (Ok None)); others = refl; lacking = tt }
+closes = record { answer = inl refl; end = refl; control = refl; heard = counts_so worked_policies last_pinged asks_datagram (gives_bytes 33); openings = tt; others = refl; lacking = tt }
 
 abbrev one_sent : View
-one_sent = record { client = sent_view; server = open_view }
+one_sent = record { client = sent_view; server = server_open }
 
 abbrev one_closed : View
-one_closed = record { client = closed_view reasons.NumberLimit; server = open_view }
+one_closed = record { client = closed_view reasons.NumberLimit; server = server_open }
 
 given_seen : one_sent ≡ view_of last_given
 unfolding last_given
@@ -70,7 +70,7 @@ follows = (
   ),
 )
 
-gave_last : from_client (2 ^ 31 - 17) hello_payload ∷ [] ≡ last_closed.from_client
+gave_last : last_run.from_client ≡ last_closed.from_client
 unfolding last_closed
 gave_last = refl
 
@@ -86,7 +86,7 @@ last_is_run = record { codes = no_codes last_run.events refl; follows = follows;
 pub last_shows : Shows last_run Client 5 (Some reasons.NumberLimit)
 last_shows = record { served = refl; view = one_closed; there = refl; is = refl }
 
-pub last_next : next_number (sents_until last_run Client 6) ≡ 2 ^ 31 - 16
+pub last_next : next_number (sents_until last_run Client 6) ≡ 2 ^ 31 - 15
 unfolding last_closed
 last_next = refl
 
@@ -95,7 +95,7 @@ unfolding last_closed
 none_named = refl
 
 used_up : AreUsedUp (next_number (sents_until last_run Client 6)) (acknowledged (took last_run Client 6))
-used_up = subst (λ (n : ℕ). AreUsedUp n (acknowledged (took last_run Client 6))) (sym last_next) (subst (λ (n : ℕ). AreUsedUp (2 ^ 31 - 16) n) (sym none_named) (inr (omega arith)))
+used_up = subst (λ (n : ℕ). AreUsedUp n (acknowledged (took last_run Client 6))) (sym last_next) (subst (λ (n : ℕ). AreUsedUp (2 ^ 31 - 15) n) (sym none_named) (inr (omega arith)))
 
 -- no other view shows it
 reason_of : (v : View) (side : Side) (place : ℕ) → slice_get last_run.views place ≡ Some v → (w : View) → slice_get last_run.views place ≡ Some w → reason_in v side ≡ reason_in w side
@@ -105,9 +105,9 @@ never : (side : Side) (place : ℕ) (w : View) → slice_get last_run.views plac
 never side place w so none shows = let clash : ◌≡◌ {A = Option LostReason} (Some reasons.NumberLimit) None = sym shows.is ∙ reason_of shows.view side place shows.there w so ∙ none in cc
 
 pub last_meets : NumberLimit last_run
-last_meets Client zero shows = absurd (never Client 0 (record { client = open_view; server = open_view }) refl refl shows)
-last_meets Client (suc zero) shows = absurd (never Client 1 (record { client = open_view; server = open_view }) refl refl shows)
-last_meets Client (suc (suc zero)) shows = absurd (never Client 2 (record { client = open_view; server = open_view }) refl refl shows)
+last_meets Client zero shows = absurd (never Client 0 (record { client = open_view; server = server_open }) refl refl shows)
+last_meets Client (suc zero) shows = absurd (never Client 1 (record { client = open_view; server = server_open }) refl refl shows)
+last_meets Client (suc (suc zero)) shows = absurd (never Client 2 (record { client = open_view; server = server_open }) refl refl shows)
 last_meets Client (suc (suc (suc zero))) shows = absurd (never Client 3 one_sent refl refl shows)
 last_meets Client (suc (suc (suc (suc zero)))) shows = absurd (never Client 4 one_sent refl refl shows)
 last_meets Client (suc (suc (suc (suc (suc zero))))) shows = used_up
@@ -115,9 +115,9 @@ last_meets Client (suc (suc (suc (suc (suc (suc place)))))) shows = absurd (past
   where
     past : None ≡ Some shows.view → ⊥
     past e = cc
-last_meets Server zero shows = absurd (never Server 0 (record { client = open_view; server = open_view }) refl refl shows)
-last_meets Server (suc zero) shows = absurd (never Server 1 (record { client = open_view; server = open_view }) refl refl shows)
-last_meets Server (suc (suc zero)) shows = absurd (never Server 2 (record { client = open_view; server = open_view }) refl refl shows)
+last_meets Server zero shows = absurd (never Server 0 (record { client = open_view; server = server_open }) refl refl shows)
+last_meets Server (suc zero) shows = absurd (never Server 1 (record { client = open_view; server = server_open }) refl refl shows)
+last_meets Server (suc (suc zero)) shows = absurd (never Server 2 (record { client = open_view; server = server_open }) refl refl shows)
 last_meets Server (suc (suc (suc zero))) shows = absurd (never Server 3 one_sent refl refl shows)
 last_meets Server (suc (suc (suc (suc zero)))) shows = absurd (never Server 4 one_sent refl refl shows)
 last_meets Server (suc (suc (suc (suc (suc zero))))) shows = absurd (never Server 5 one_closed refl refl shows)

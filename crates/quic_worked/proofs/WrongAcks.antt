@@ -26,7 +26,7 @@ use Rattle.quic_worked.specs.Broken.{hellp, IsNoRun, NeverLeads, asked_run, asks
 use Rattle.quic_worked.specs.Losses.{server_waits, server_polled, client_polled, client_delivered, after_ping, pinged_once, once_lost, changed_again, again_given, again_taken, again_accepted, once_due, once_named, once_acked, once_told, wide_payload, wide_name, first_events, first_answers, first_taken, first_due, first_named, first_acked, first_run, above_acked, falling_events, falling_answers, ping_given, ping_and, word_given, falling}
 use Rattle.quic_worked.specs.Machines.{NeverGives}
 use Rattle.quic_worked.proofs.Waited.{as_many}
-use Rattle.quic_worked.proofs.WorkedNumber.{only_number}
+use Rattle.quic_worked.proofs.WorkedNumber.{only_word}
 use Rattle.quic_worked.proofs.WorkedRun.{takes, hello_packet}
 use Rattle.quic_worked.proofs.BrokenClauses.{reads_in_order, repeats}
 use Rattle.quic_worked.proofs.BrokenRuns.{IsRefused, stops, behind, behind_sent, read_of, other_chunk}
@@ -36,17 +36,17 @@ use Rattle.quic_worked.proofs.Steps.{counts_so}
 
 -- ---- lost bytes go again with another last one
 
-gives_again : IsStep worked_policies once_lost client_polled (gives_unmarked 39) again_given
+gives_again : IsStep worked_policies once_lost client_polled (gives_unmarked 151) again_given
 unfolding again_given
-gives_again = record { answer = inl refl; end = refl; control = refl; heard = counts_so worked_policies once_lost client_polled (gives_unmarked 39); others = refl; lacking = tt }
+gives_again = record { answer = inl refl; end = refl; control = refl; heard = counts_so worked_policies once_lost client_polled (gives_unmarked 151); openings = tt; others = refl; lacking = tt }
 
 takes_again : IsStep worked_policies again_given (delivers_at 5) (answers.Deliver receives.Taken) again_taken
 unfolding again_taken
-takes_again = record { answer = inl refl; end = refl; control = refl; heard = counts_so worked_policies again_given (delivers_at 5) (answers.Deliver receives.Taken); others = refl; lacking = tt }
+takes_again = record { answer = inl refl; end = refl; control = refl; heard = counts_so worked_policies again_given (delivers_at 5) (answers.Deliver receives.Taken); openings = tt; others = refl; lacking = tt }
 
 accepts_again : IsStep worked_policies again_taken accepts_stream (answers.Accept (Some 0)) again_accepted
 unfolding again_taken
-accepts_again = record { answer = refl; end = refl; control = refl; heard = counts_so worked_policies again_taken accepts_stream (answers.Accept (Some 0)); others = refl; lacking = tt }
+accepts_again = record { answer = refl; end = refl; control = refl; heard = counts_so worked_policies again_taken accepts_stream (answers.Accept (Some 0)); openings = tt; others = refl; lacking = tt }
 
 changed_nexts : (read : ReadCall) → read.id ≡ 0 → nexts 0 (until (changed_again read) Server 20) ≡ gives_chunk hellp ∷ []
 changed_nexts read e = ap (λ (n : ℕ). (if n == 0 then gives_chunk hellp ∷ [] else []) ++ []) e
@@ -72,15 +72,15 @@ no_changed_again read by = behind_sent (never_behind_lost (behind refl gives_aga
 
 pub waits_once : IsStep worked_policies once_taken server_waits (answers.Timeout (Ok tt)) once_due
 unfolding once_taken
-waits_once = record { answer = inl refl; end = refl; control = refl; heard = counts_so worked_policies once_taken server_waits (answers.Timeout (Ok tt)); others = refl; lacking = tt }
+waits_once = record { answer = inl refl; end = refl; control = refl; heard = counts_so worked_policies once_taken server_waits (answers.Timeout (Ok tt)); openings = tt; others = refl; lacking = tt }
 
 pub names_once : IsStep worked_policies once_due server_polled (gives_bytes 32) once_named
 unfolding once_named
-names_once = record { answer = inl refl; end = refl; control = refl; heard = counts_so worked_policies once_due server_polled (gives_bytes 32); others = refl; lacking = tt }
+names_once = record { answer = inl refl; end = refl; control = refl; heard = counts_so worked_policies once_due server_polled (gives_bytes 32); openings = tt; others = refl; lacking = tt }
 
 pub takes_name : IsStep worked_policies once_named client_delivered (answers.Deliver receives.Taken) once_acked
 unfolding once_acked
-takes_name = record { answer = inl refl; end = refl; control = refl; heard = counts_so worked_policies once_named client_delivered (answers.Deliver receives.Taken); others = refl; lacking = tt }
+takes_name = record { answer = inl refl; end = refl; control = refl; heard = counts_so worked_policies once_named client_delivered (answers.Deliver receives.Taken); openings = tt; others = refl; lacking = tt }
 
 -- the events until it is given, and their answers
 abbrev named_events : List RunEvent
@@ -148,7 +148,7 @@ twice_told read h = let most : 2 ≤ 1 = (h Client 0 10 refl).0 in omega (arith,
 
 pub tells_once : IsStep worked_policies once_acked asks_event tells_finished once_told
 unfolding once_acked
-tells_once = record { answer = refl; end = refl; control = refl; heard = counts_so worked_policies once_acked asks_event tells_finished; others = refl; lacking = tt }
+tells_once = record { answer = refl; end = refl; control = refl; heard = counts_so worked_policies once_acked asks_event tells_finished; openings = tt; others = refl; lacking = tt }
 
 told_no : IsRefused once_told asks_event tells_finished
 unfolding once_acked
@@ -161,19 +161,19 @@ no_twice_told read = behind_sent (behind refl takes (behind refl waits_once (beh
 
 takes_first : IsStep worked_policies pinged_once (delivers_at 0) (answers.Deliver receives.Taken) first_taken
 unfolding first_taken
-takes_first = record { answer = inl refl; end = refl; control = refl; heard = counts_so worked_policies pinged_once (delivers_at 0) (answers.Deliver receives.Taken); others = refl; lacking = tt }
+takes_first = record { answer = inl refl; end = refl; control = refl; heard = counts_so worked_policies pinged_once (delivers_at 0) (answers.Deliver receives.Taken); openings = tt; others = refl; lacking = tt }
 
 waits_first : IsStep worked_policies first_taken server_waits (answers.Timeout (Ok tt)) first_due
 unfolding first_taken
-waits_first = record { answer = inl refl; end = refl; control = refl; heard = counts_so worked_policies first_taken server_waits (answers.Timeout (Ok tt)); others = refl; lacking = tt }
+waits_first = record { answer = inl refl; end = refl; control = refl; heard = counts_so worked_policies first_taken server_waits (answers.Timeout (Ok tt)); openings = tt; others = refl; lacking = tt }
 
 names_first : IsStep worked_policies first_due server_polled (gives_bytes 32) first_named
 unfolding first_named
-names_first = record { answer = inl refl; end = refl; control = refl; heard = counts_so worked_policies first_due server_polled (gives_bytes 32); others = refl; lacking = tt }
+names_first = record { answer = inl refl; end = refl; control = refl; heard = counts_so worked_policies first_due server_polled (gives_bytes 32); openings = tt; others = refl; lacking = tt }
 
 takes_named : IsStep worked_policies first_named client_delivered (answers.Deliver receives.Taken) first_acked
 unfolding first_acked
-takes_named = record { answer = inl refl; end = refl; control = refl; heard = counts_so worked_policies first_named client_delivered (answers.Deliver receives.Taken); others = refl; lacking = tt }
+takes_named = record { answer = inl refl; end = refl; control = refl; heard = counts_so worked_policies first_named client_delivered (answers.Deliver receives.Taken); openings = tt; others = refl; lacking = tt }
 
 one_flies : length (in_flight first_run Client 10) ≡ 1
 unfolding client_acked
@@ -205,29 +205,30 @@ never_above views f = not_above.never views above_acked f refl
 -- ---- numbers that fall
 
 pub falls_numbers : NumbersRise falling → ⊥
+unfolding once_taken
 falls_numbers h =
     let p = h Client 6 refl in
-    repeats p.0 p.4.0 p.4.1 (only_number p.4.0 p.4.3)
+    repeats p.0 p.4.0 p.4.1 (only_word p.4.0 p.4.3)
 
-gives_ping : IsStep worked_policies (after_ping started) asks_datagram (gives_bytes 29) ping_given
+gives_ping : IsStep worked_policies (after_ping started) asks_datagram (gives_bytes 139) ping_given
 unfolding ping_given
-gives_ping = record { answer = inl refl; end = refl; control = refl; heard = counts_so worked_policies (after_ping started) asks_datagram (gives_bytes 29); others = refl; lacking = tt }
+gives_ping = record { answer = inl refl; end = refl; control = refl; heard = counts_so worked_policies (after_ping started) asks_datagram (gives_bytes 139); openings = tt; others = refl; lacking = tt }
 
 opens_then : IsStep worked_policies ping_given opens_stream (answers.Open (Some 0)) (ping_and 1)
 unfolding ping_given
-opens_then = record { answer = refl; end = refl; control = refl; heard = counts_so worked_policies ping_given opens_stream (answers.Open (Some 0)); others = refl; lacking = tt }
+opens_then = record { answer = refl; end = refl; control = refl; heard = counts_so worked_policies ping_given opens_stream (answers.Open (Some 0)); openings = tt; others = refl; lacking = tt }
 
 writes_then : IsStep worked_policies (ping_and 1) writes_hello (answers.Write (Ok 5)) (ping_and 2)
 unfolding ping_given
-writes_then = record { answer = inl refl; end = refl; control = refl; heard = counts_so worked_policies (ping_and 1) writes_hello (answers.Write (Ok 5)); others = refl; lacking = λ lacks. cc }
+writes_then = record { answer = inl refl; end = refl; control = refl; heard = counts_so worked_policies (ping_and 1) writes_hello (answers.Write (Ok 5)); openings = tt; others = refl; lacking = λ lacks. cc }
 
 finishes_then : IsStep worked_policies (ping_and 2) finishes_stream (answers.Finish (Ok tt)) (ping_and 3)
 unfolding ping_given
-finishes_then = record { answer = inl refl; end = refl; control = refl; heard = counts_so worked_policies (ping_and 2) finishes_stream (answers.Finish (Ok tt)); others = refl; lacking = λ lacks. cc }
+finishes_then = record { answer = inl refl; end = refl; control = refl; heard = counts_so worked_policies (ping_and 2) finishes_stream (answers.Finish (Ok tt)); openings = tt; others = refl; lacking = λ lacks. cc }
 
 gives_then : IsStep worked_policies (ping_and 3) asks_datagram (gives_bytes 34) word_given
 unfolding word_given
-gives_then = record { answer = inl refl; end = refl; control = refl; heard = counts_so worked_policies (ping_and 3) asks_datagram (gives_bytes 34); others = refl; lacking = tt }
+gives_then = record { answer = inl refl; end = refl; control = refl; heard = counts_so worked_policies (ping_and 3) asks_datagram (gives_bytes 34); openings = tt; others = refl; lacking = tt }
 
 -- the last byte of the number in the tag of the second datagram
 abbrev second_byte : List (List ℕ) → ℕ

@@ -19,7 +19,7 @@ use Rattle.quic_machine.specs.Heard.{nothing_heard}
 use Rattle.quic_machine.specs.Machine.{World}
 use Rattle.quic_headline.specs.Runs.{Run}
 use Rattle.quic_worked.specs.Exchange.{with_window, with_uni}
-use Rattle.quic_worked.specs.Worked.{steady, steady_control, ReadsAs, NextAnswers, worked_policies, client_id, server_id, with_server, after_event, end_after_reads, once_sent, once_taken, hello, opens_stream, asks_datagram, delivers, accepts_stream, reads_stream, gives_chunk, all_nexts, two_chunks, gives_bytes, open_view, sent_view, waiting_view}
+use Rattle.quic_worked.specs.Worked.{steady, steady_control, ReadsAs, NextAnswers, worked_policies, client_id, server_id, with_server, after_event, end_after_reads, once_sent, once_taken, hello, opens_stream, asks_datagram, delivers, accepts_stream, reads_stream, gives_chunk, all_nexts, two_chunks, gives_bytes, open_view, sent_view, waiting_view, told_ids}
 use Rattle.quic_worked.specs.Acknowledged.{client_acked, client_datagram, from_server, ack_at_once}
 use Rattle.quic_worked.specs.Reordered.{abc}
 use Rattle.quic_worked.specs.Paired.{writes_on, asks_server, client_hears}
@@ -29,8 +29,8 @@ use Rattle.quic_worked.specs.Paired.{writes_on, asks_server, client_hears}
 -- both ends, where the server has these settings, before anything was given
 abbrev pub ends_of : Settings → World
 ends_of narrow = record {
-  client = new_end Client plain_settings steady (parameters_of narrow) client_id server_id 0 true 63;
-  server = new_end Server narrow steady (parameters_of plain_settings) server_id client_id 0 true 63;
+  client = new_end Client plain_settings steady (parameters_of narrow) client_id server_id 0 true (λ n. 63);
+  server = new_end Server narrow steady (parameters_of plain_settings) server_id client_id 0 true (λ n. 63);
   from_client = [];
   from_server = [];
   client_control = steady_control;
@@ -75,7 +75,7 @@ abbrev pub credit_until : List Answer
 credit_until =
     answers.Open (Some 0)
     ∷ answers.Write (Ok 8)
-    ∷ gives_bytes 37
+    ∷ gives_bytes 149
     ∷ answers.Deliver receives.Taken
     ∷ answers.Accept (Some 0)
     ∷ answers.Read (Ok eight_nexts)
@@ -83,15 +83,15 @@ credit_until =
 
 -- and from there on
 abbrev pub credit_answers : List Answer
-credit_answers = credit_until ++ gives_bytes 33 ∷ answers.Deliver receives.Taken ∷ answers.Write (Ok 8) ∷ []
+credit_answers = credit_until ++ gives_bytes 145 ∷ answers.Deliver receives.Taken ∷ answers.Write (Ok 8) ∷ []
 
--- STREAM with a length and the eight bytes
+-- the client's ids, and STREAM with a length and the eight bytes
 abbrev pub eight_payload : List ℕ
-eight_payload = (0x0a ∷ 0x00 ∷ 0x08 ∷ []) ++ eight
+eight_payload = told_ids ((0x0a ∷ 0x00 ∷ 0x08 ∷ []) ++ eight)
 
--- MAX_DATA of this many bytes (section 19.9), and an acknowledgement
+-- MAX_DATA of this many bytes (section 19.9), the server's ids, and an acknowledgement
 abbrev pub limit_payload : ℕ → List ℕ
-limit_payload limit = 0x10 ∷ limit ∷ ack_at_once
+limit_payload limit = 0x10 ∷ limit ∷ told_ids ack_at_once
 
 -- what the events leave
 abbrev pub credit_opened : World
@@ -104,7 +104,7 @@ credit_written = after_event worked_policies credit_opened (writes_on 0 (eight +
 -- they are given
 unfoldable pub credit_sent : World
 unfolding once_sent
-credit_sent = after_event worked_policies credit_written asks_datagram (gives_bytes 37)
+credit_sent = after_event worked_policies credit_written asks_datagram (gives_bytes 149)
 
 -- and taken
 unfoldable pub credit_taken : World
@@ -122,7 +122,7 @@ credit_read = with_server credit_accepted (end_after_reads credit_accepted.serve
 -- the server gives its datagram
 unfoldable pub credit_given : World
 unfolding credit_taken
-credit_given = after_event worked_policies credit_read asks_server (gives_bytes 33)
+credit_given = after_event worked_policies credit_read asks_server (gives_bytes 145)
 
 -- which is taken
 unfoldable pub credit_heard : World
@@ -163,7 +163,7 @@ count_until =
     ∷ answers.Open None
     ∷ answers.Write (Ok 5)
     ∷ answers.Finish (Ok tt)
-    ∷ gives_bytes 34
+    ∷ gives_bytes 146
     ∷ answers.Deliver receives.Taken
     ∷ answers.Accept (Some 2)
     ∷ answers.Read (Ok all_nexts)
@@ -171,15 +171,15 @@ count_until =
 
 -- and from there on
 abbrev pub count_answers : List Answer
-count_answers = count_until ++ gives_bytes 33 ∷ answers.Deliver receives.Taken ∷ answers.Open (Some 6) ∷ []
+count_answers = count_until ++ gives_bytes 145 ∷ answers.Deliver receives.Taken ∷ answers.Open (Some 6) ∷ []
 
--- STREAM with a length and the end, stream 2, five bytes
+-- the client's ids, and STREAM with a length and the end, stream 2, five bytes
 abbrev pub one_way_payload : List ℕ
-one_way_payload = (0x0b ∷ 0x02 ∷ 0x05 ∷ []) ++ hello
+one_way_payload = told_ids ((0x0b ∷ 0x02 ∷ 0x05 ∷ []) ++ hello)
 
--- MAX_STREAMS of this many one-way streams (section 19.11), and an acknowledgement
+-- MAX_STREAMS of this many one-way streams (section 19.11), the server's ids, and an acknowledgement
 abbrev pub count_payload : ℕ → List ℕ
-count_payload count = 0x13 ∷ count ∷ ack_at_once
+count_payload count = 0x13 ∷ count ∷ told_ids ack_at_once
 
 -- what the events leave
 abbrev pub count_opened : World
@@ -200,7 +200,7 @@ count_ended = after_event worked_policies count_written ends_one_way (answers.Fi
 -- it is given
 unfoldable pub count_sent : World
 unfolding once_sent
-count_sent = after_event worked_policies count_ended asks_datagram (gives_bytes 34)
+count_sent = after_event worked_policies count_ended asks_datagram (gives_bytes 146)
 
 -- and taken
 unfoldable pub count_taken : World
@@ -218,7 +218,7 @@ count_read = with_server count_accepted (end_after_reads count_accepted.server 2
 -- the server gives its datagram
 unfoldable pub count_given : World
 unfolding count_taken
-count_given = after_event worked_policies count_read asks_server (gives_bytes 33)
+count_given = after_event worked_policies count_read asks_server (gives_bytes 145)
 
 -- which is taken
 unfoldable pub count_heard : World

@@ -35,3 +35,7 @@ pub mod Repeated
 pub mod Begun
 pub mod Reset
 pub mod Writable
+pub mod Ended
+pub mod Renamed
+pub mod Known
+pub mod Unvalidated

@@ -14,7 +14,8 @@ use Rattle.quic_machine.specs.declared.run.View.{View}
 use Rattle.quic_machine.specs.Heard.{heard_datagram}
 use Rattle.quic_machine.specs.Machine.{World}
 use Rattle.quic_headline.specs.Runs.{Packet, Run}
-use Rattle.quic_worked.specs.Worked.{after_event, ran, server_counting, worked_policies, started, once_taken, asks_datagram, delivers, gives_bytes, open_view, view_with}
+use Rattle.quic_headline.specs.Observer.{Sent}
+use Rattle.quic_worked.specs.Worked.{after_event, ran, ran_so_far, server_id, server_counting, worked_policies, started, once_taken, asks_datagram, delivers, gives_bytes, open_view, view_with, ids_payload, behind_ids, told_ids, server_open, both_steady}
 use Rattle.quic_worked.specs.Acknowledged.{client_acked, client_datagram, from_server}
 use Rattle.quic_worked.specs.Broken.{duplicate}
 use Rattle.quic_worked.specs.Losses.{asks_ping, ping_payload}
@@ -30,16 +31,17 @@ ping_message = 112 ∷ 105 ∷ 110 ∷ 103 ∷ []
 abbrev pub message_payload : List ℕ
 message_payload = 0x31 ∷ 0x04 ∷ ping_message
 
--- header, number under its mask, payload and tag
+-- header, number under its mask, the client's ids, payload and tag
 abbrev pub message_datagram : List ℕ
 message_datagram =
-    (0x49 ∷ 0x50 ∷ 0x50 ∷ 0x50 ∷ 0x50 ∷ 0x50 ∷ 0x50 ∷ 0x50 ∷ 0x50 ∷ 0x6e ∷ [])
+    (0x48 ∷ 0x50 ∷ 0x50 ∷ 0x50 ∷ 0x50 ∷ 0x50 ∷ 0x50 ∷ 0x50 ∷ 0x50 ∷ 0x00 ∷ [])
+    ++ ids_payload
     ++ (0x31 ∷ 0x04 ∷ 0x70 ∷ 0x69 ∷ 0x6e ∷ 0x67 ∷ [])
     ++ (replicate 8 0x00 ++ replicate 8 0x63)
 
 -- the packet that comes so
 abbrev pub message_packet : Packet
-message_packet = record { number = 0; frames = datagram ping_message ∷ [] }
+message_packet = record { number = 0; frames = behind_ids (datagram ping_message ∷ []) }
 
 -- ---- the events
 
@@ -81,7 +83,7 @@ tells_message = answers.Event (Some events.Message)
 
 -- what is answered until the datagram came once
 abbrev pub message_front : List Answer
-message_front = is_sent ∷ gives_bytes 32 ∷ answers.Deliver receives.Taken ∷ []
+message_front = is_sent ∷ gives_bytes 144 ∷ answers.Deliver receives.Taken ∷ []
 
 -- the answers: the datagram is dropped when it comes again, and the message is told once and read once
 abbrev pub message_answers : List Answer
@@ -153,7 +155,7 @@ messaging happens told given = record {
   start = started;
   events = happens;
   answers = told;
-  views = replicate 13 (record { client = open_view; server = open_view });
+  views = replicate 13 (record { client = open_view; server = server_open });
   from_client = given;
   from_server = [];
 }
@@ -213,12 +215,12 @@ lossy_events =
 abbrev pub lossy_answers : List Answer
 lossy_answers =
     is_sent
-    ∷ gives_bytes 32
+    ∷ gives_bytes 144
     ∷ answers.Ping
     ∷ gives_bytes 29
     ∷ answers.Deliver receives.Taken
     ∷ answers.Ping
-    ∷ gives_bytes 32
+    ∷ gives_bytes 144
     ∷ answers.Deliver receives.Taken
     ∷ []
 
@@ -233,7 +235,7 @@ late_answers = lossy_answers ++ answers.Deliver receives.Taken ∷ gives_message
 -- what the first so many of the events until then leave: a round trip takes 10 ms, and the message went long before that
 unfoldable pub once_late : ℕ → World
 unfolding client_acked
-once_late n = ran worked_policies started (take n lossy_events) (take n lossy_answers)
+once_late n = ran worked_policies both_steady (take n lossy_events) (take n lossy_answers)
 
 -- the message came
 unfoldable pub late_taken : World
@@ -262,15 +264,15 @@ late_views =
     ++ both_seen (Some 1124000000) None (Some 1129000000) None
     ∷ replicate 4 (both_seen None (Some 135000000) (Some 1129000000) None)
 
--- PING, and ACK of number 1 alone
+-- PING, the server's ids, and ACK of number 1 alone
 abbrev pub named_payload : List ℕ
-named_payload = 0x01 ∷ 0x02 ∷ 0x01 ∷ 0x00 ∷ 0x00 ∷ 0x00 ∷ []
+named_payload = 0x01 ∷ told_ids (0x02 ∷ 0x01 ∷ 0x00 ∷ 0x00 ∷ 0x00 ∷ [])
 
 -- the run
 abbrev pub late_run : Run
 late_run = record {
   keys = worked_policies;
-  start = started;
+  start = both_steady;
   events = late_events;
   answers = late_answers;
   views = late_views;
@@ -306,4 +308,39 @@ again_given = message_datagram ∷ client_datagram 1 0 ping_payload ∷ client_d
 
 -- the run of a client that sends a message again
 abbrev pub message_again : Run
-message_again = record (messaging again_events again_answers again_given) { from_server = from_server 0 named_payload ∷ [] }
+message_again = record (messaging again_events again_answers again_given) { start = both_steady; from_server = from_server 0 named_payload ∷ [] }
+
+-- ---- two messages that wait
+
+-- another message of four bytes
+abbrev pub pong_message : List ℕ
+pong_message = 112 ∷ 111 ∷ 110 ∷ 103 ∷ []
+
+-- the client sends both, and gives a datagram
+abbrev pub two_events : List RunEvent
+two_events = sends_message ping_message ∷ sends_message pong_message ∷ asks_datagram ∷ []
+
+-- what that is answered
+abbrev pub two_answers : List Answer
+two_answers = is_sent ∷ is_sent ∷ gives_bytes 150 ∷ []
+
+-- what the first so many of these leave
+unfoldable pub once_two : ℕ → World
+unfolding once_taken
+once_two n = ran_so_far worked_policies started two_events two_answers n
+
+-- the run, where the datagram has these messages of four bytes
+abbrev pub two_run : List ℕ → List ℕ → Run
+two_run first second = record {
+  keys = worked_policies;
+  start = started;
+  events = two_events;
+  answers = two_answers;
+  views = replicate 2 (seen_with None None) ++ seen_with (Some 1024000000) None ∷ [];
+  from_client = client_datagram 0 0 (told_ids ((0x31 ∷ 0x04 ∷ first) ++ 0x31 ∷ 0x04 ∷ second)) ∷ [];
+  from_server = [];
+}
+
+-- the datagram as it was sent
+abbrev pub two_sent : List ℕ → List ℕ → Sent
+two_sent first second = record { id = server_id; number = 0; reference = 0; frames = behind_ids (datagram first ∷ datagram second ∷ []); moment = 0; size = 150 }

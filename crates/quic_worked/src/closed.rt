@@ -39,20 +39,20 @@ pub fn early_pieces_show()
     ensures machine { IsNoRun early_pieces }
 {}
 
-/// A machine that closes for used-up numbers before it gave any has all of them left.
+/// A machine that closes for used-up numbers before it gave any but its close has all of them left.
 pub fn early_limit_shows()
     ensures numbers { NumberLimit early_limit → ⊥ }
     ensures machine { IsNoRun early_limit }
 {}
 
-/// A client that may give one number more gives it, and closes at the next poll for used-up
-/// numbers: one above the number that it gave is 2^31 - 16, and none is acknowledged. It is a run
-/// of the machine, but from no new ends: those give number 0 first, and so 2^31 - 17 datagrams
-/// before this one.
+/// A client that may give one number more gives it, closes at the next poll for used-up numbers,
+/// and gives its close under the number behind it: one above that is 2^31 - 15, and none is
+/// acknowledged. It is a run of the machine, but from no new ends: those give number 0 first, and
+/// so 2^31 - 17 datagrams before this one.
 pub fn used_up_numbers_close()
     ensures run { IsRun last_run last_closed }
     ensures shows { Shows last_run Client 5 (Some reasons.NumberLimit) }
-    ensures next { next_number (sents_until last_run Client 6) ≡ 2 ^ 31 - 16 }
+    ensures next { next_number (sents_until last_run Client 6) ≡ 2 ^ 31 - 15 }
     ensures numbers { NumberLimit last_run }
 {}
 

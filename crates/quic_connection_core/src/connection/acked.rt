@@ -325,11 +325,12 @@ impl<H: HeaderKey + Drop, K: PacketKey + Drop, R: Rng + Drop, C: Controller> Con
         Ok(())
     }
 
-    /// The congestion controller is told that a packet is acknowledged, where it asks.
+    /// The congestion controller is told that a packet is acknowledged, where it asks; but not
+    /// while the peer has a challenge to answer.
     fn tell_acked(&mut self, packet: &SentPacket)
         ensures { (number : ℕ) → self.new ≡ telling C.steps self.old (told_packet self.old.end (number, packet.now)) self.old.end }
     {
-        if !packet.ack_eliciting {
+        if !packet.ack_eliciting || self.path.challenge.is_some() {
             return;
         }
         let now = self.closing.clock();

@@ -1,25 +1,27 @@
 //! Taking a datagram (RFC 9000, sections 5.2, 12 and 13.1).
-ghost use Rattle.std.specs.Prelude.{◌≡◌, ◌≢◌, ◌+◌, ◌≤◌, ◌<◌, ◌^◌, length, slice_range, true, false, Some, None, Ok, IfSome, IfNone, IfOk, IfErr, OnOk, MatchResult};
+ghost use Rattle.std.specs.Prelude.{◌≡◌, ◌≢◌, ◌+◌, ◌-◌, ◌≤◌, ◌<◌, ◌^◌, length, slice_range, true, false, Some, None, Ok, IfSome, IfNone, IfOk, IfErr, OnOk, MatchResult};
 ghost use Rattle.quic_wire.specs.Items.{items};
 ghost use Rattle.quic_packet.specs.Destination.{decoded, fixed_length_id};
 ghost use Rattle.quic_machine.specs.Ids.{known};
 ghost use Rattle.quic_time.specs.Timers.{no_timers};
 ghost use Rattle.quic_wire.specs.FrameView.{frame_view, item_view};
-ghost use Rattle.quic_machine.specs.End.{with_end, hearing, policy_of, closed_by, HasFailed};
-ghost use Rattle.quic_machine.specs.Heard.{heard_datagram, heard_answer, heard_failure};
+ghost use Rattle.quic_machine.specs.End.{with_end, hearing, policy_of, HasFailed, drawing, words_drawn, closed_by};
+ghost use Rattle.quic_machine.specs.Heard.{is_last, heard_datagram, heard_answer, heard_failure};
 ghost use Rattle.quic_machine.specs.Opens.{own_id_length, would_open};
 ghost use Rattle.quic_machine.specs.Arrival.{arriving};
-ghost use Rattle.quic_machine.specs.Receive.{is_above, names_ungiven, received, opened_to, processed, fault_of_breach, plain_error, take_ack, take_frame, take_item, take_items, take_payload, told_received, told_opened, told_processed, told_payload, told_items, told_item, told_ack, item_asks, asks_in, opening, error_of, reason_of, drop_of, violation};
-ghost use Rattle.quic_connection_core.specs.Drawn.{words_of};
+ghost use Rattle.quic_machine.specs.Receive.{is_above, names_ungiven, received, opened_to, processed, fault_of_breach, plain_error, take_ack, take_frame, take_item, take_items, take_payload, told_received, told_opened, told_processed, told_payload, told_items, told_item, told_ack, item_asks, asks_in, opening, ends_as, drop_of, violation, is_read, error_of, reason_of};
+ghost use Rattle.quic_connection_core.specs.Drawn.{words_of, after_words};
 ghost use Rattle.quic_connection_core.specs.Telling.{telling, KeepsRest};
 ghost use Rattle.quic_connection_core.specs.Faults.{fault_view, TellsAs, TakesAs, TakesAllAs, TakesPacketAs, HasForm, ItemHasForm};
 ghost use Rattle.quic_machine.specs.Lacking.{TakesFrames};
 
 use crate::connection::Connection;
+use crate::connection::closes::{take_application_close, take_connection_close};
+use crate::connection::closing::CloseTold;
 use crate::connection::ids::OWN_ID_LENGTH;
 use crate::connection::stream_frames::take_other;
 use quic_congestion::Controller;
-use quic_machine::{DropReason, Instant, LostReason, Received, State};
+use quic_machine::{DropReason, Instant, Received, State};
 use quic_packet::crypto::{HeaderKey, NotOpened, PacketKey};
 use quic_packet::{HeaderError, Opened, open_packet};
 use quic_streams_parts::{Breach, ReceivedError};
@@ -35,6 +37,8 @@ pub(crate) enum Trouble {
     Broke(TransportError),
     /// Too many runs of a stream wait.
     TooManyPieces,
+    /// The peer closed: what it said.
+    Closed(CloseTold),
     /// Memory lacks.
     Memory,
 }
@@ -97,6 +101,16 @@ fn drop_reason(error: HeaderError) -> DropReason
     }
 }
 
+/// Whether the frames of a datagram were taken, all of them or those before the first at fault.
+fn is_read(received: &Received) -> bool
+    ensures { result ≡ is_read received.now }
+{
+    match received {
+        Received::Taken | Received::Closed(_) => true,
+        Received::Dropped(_) | Received::Failed => false,
+    }
+}
+
 impl<H: HeaderKey + Drop, K: PacketKey + Drop, R: Rng + Drop, C: Controller> Connection<
     H,
     K,
@@ -107,27 +121,34 @@ impl<H: HeaderKey + Drop, K: PacketKey + Drop, R: Rng + Drop, C: Controller> Con
     /// sections 5.2 and 12).
     ///
     /// Its bytes count as received, whatever is made of it (section 8.1), and it counts as a
-    /// failure where its packet doesn't open (RFC 9001, section 6.6). A datagram that is dropped
-    /// changes nothing else but what [`stats`](Self::stats) counts, and that the new number of one
-    /// that a closing end opened counts as seen. Where it breaks a rule, the end closes; the frames
-    /// before keep their effect, and its number isn't taken. Where memory lacks, the end fails for
-    /// good. Its number is to be acknowledged once all its frames were taken, at once where it came
-    /// with the mark CE, and its mark counts (sections 13.2.1 and 13.4.1). The datagram's bytes may
-    /// be changed; to what isn't said.
+    /// failure where its packet doesn't open: with the last that the peer's key may refuse, an
+    /// open end closes for [`LostReason::KeyLimit`] (RFC 9001, section 6.6). A datagram that is
+    /// dropped changes nothing else but what [`stats`](Self::stats) counts, and that the new
+    /// number of one that a closing end opened counts as seen, and lets the close go once more
+    /// (section 10.2.1). Where it breaks a rule, the end closes; the frames before keep their
+    /// effect, and its number isn't taken. Where the peer closes, the number is taken, the end is
+    /// drained at once, and the frames behind aren't taken (section 10.2.2). Where memory lacks,
+    /// the end fails for good. Its number is to be acknowledged once all its frames were taken, at
+    /// once where it came with the mark CE, and its mark counts (sections 13.2.1 and 13.4.1). Each
+    /// connection id that is issued for it draws three words of the random source behind its
+    /// frames (section 5.1.1). The datagram's bytes may be changed; to what isn't said.
+    ///
+    /// [`LostReason::KeyLimit`]: quic_machine::LostReason::KeyLimit
     pub fn receive(
         &mut self,
         now: Instant,
         ecn: Option<EcnCodepoint>,
         datagram: &mut [u8],
     ) -> Received
-        ensures answer { result ≢ Received.Failed → result ≡ (received (policy_of H.protection K.aead (words_of R.stream) self.old) self.old.end (arriving now ecn) datagram.old).answer }
-        ensures end { result ≢ Received.Failed → self.new ≡ telling C.steps (hearing self.old (heard_datagram datagram.old result self.old.heard))
-            (told_received (policy_of H.protection K.aead (words_of R.stream) self.old) self.old.end now datagram.old)
-            (received (policy_of H.protection K.aead (words_of R.stream) self.old) self.old.end (arriving now ecn) datagram.old).end }
+        ensures answer { result ≢ Received.Failed → result ≡ (received (policy_of H.protection K.aead K.seal_limit K.refusal_limit (words_of R.stream) self.old) self.old.end (arriving now ecn (is_last (K.refusal_limit self.old.keys.packet.remote) self.old.heard)) datagram.old).answer }
+        ensures end { result ≢ Received.Failed → self.new ≡ drawing self.new.random (telling C.steps (hearing self.old (heard_datagram datagram.old result self.old.heard))
+            (told_received (policy_of H.protection K.aead K.seal_limit K.refusal_limit (words_of R.stream) self.old) self.old.end now datagram.old)
+            (received (policy_of H.protection K.aead K.seal_limit K.refusal_limit (words_of R.stream) self.old) self.old.end (arriving now ecn (is_last (K.refusal_limit self.old.keys.packet.remote) self.old.heard)) datagram.old).end) }
+        ensures random { result ≢ Received.Failed → R.stream self.new.random ≡ after_words (words_drawn self.new.end - words_drawn self.old.end) (R.stream self.old.random) }
         ensures failed { result ≡ Received.Failed → HasFailed self.old self.new }
         ensures before { result ≡ Received.Failed → self.old.end.closing.state ≢ State.Failed }
         ensures stopped { result ≡ Received.Failed → self.new.end.timers ≡ no_timers }
-        ensures lacking { result ≡ Received.Failed → TakesFrames (received (policy_of H.protection K.aead (words_of R.stream) self.old) self.old.end (arriving now ecn) datagram.old).answer }
+        ensures lacking { result ≡ Received.Failed → TakesFrames (received (policy_of H.protection K.aead K.seal_limit K.refusal_limit (words_of R.stream) self.old) self.old.end (arriving now ecn false) datagram.old).answer }
     {
         let len = datagram.len();
         self.stats.udp_rx.on_datagram(len);
@@ -136,20 +157,22 @@ impl<H: HeaderKey + Drop, K: PacketKey + Drop, R: Rng + Drop, C: Controller> Con
     }
 
     /// Takes a datagram that came at this moment with this mark, opening it in place.
+    #[tactic(auto, using(crate::proofs::Drawing::draws_same))]
     fn take_datagram(
         &mut self,
         now: Instant,
         ecn: Option<EcnCodepoint>,
         datagram: &mut [u8],
     ) -> Received
-        ensures answer { result ≢ Received.Failed → result ≡ (received (policy_of H.protection K.aead (words_of R.stream) self.old) self.old.end (arriving now ecn) datagram.old).answer }
-        ensures end { result ≢ Received.Failed → self.new ≡ telling C.steps (hearing self.old (heard_answer result self.old.heard))
-            (told_received (policy_of H.protection K.aead (words_of R.stream) self.old) self.old.end now datagram.old)
-            (received (policy_of H.protection K.aead (words_of R.stream) self.old) self.old.end (arriving now ecn) datagram.old).end }
+        ensures answer { result ≢ Received.Failed → result ≡ (received (policy_of H.protection K.aead K.seal_limit K.refusal_limit (words_of R.stream) self.old) self.old.end (arriving now ecn (is_last (K.refusal_limit self.old.keys.packet.remote) self.old.heard)) datagram.old).answer }
+        ensures end { result ≢ Received.Failed → self.new ≡ drawing self.new.random (telling C.steps (hearing self.old (heard_answer result self.old.heard))
+            (told_received (policy_of H.protection K.aead K.seal_limit K.refusal_limit (words_of R.stream) self.old) self.old.end now datagram.old)
+            (received (policy_of H.protection K.aead K.seal_limit K.refusal_limit (words_of R.stream) self.old) self.old.end (arriving now ecn (is_last (K.refusal_limit self.old.keys.packet.remote) self.old.heard)) datagram.old).end) }
+        ensures random { result ≢ Received.Failed → R.stream self.new.random ≡ after_words (words_drawn self.new.end - words_drawn self.old.end) (R.stream self.old.random) }
         ensures failed { result ≡ Received.Failed → HasFailed self.old self.new }
         ensures before { result ≡ Received.Failed → self.old.end.closing.state ≢ State.Failed }
         ensures stopped { result ≡ Received.Failed → self.new.end.timers ≡ no_timers }
-        ensures lacking { result ≡ Received.Failed → TakesFrames (received (policy_of H.protection K.aead (words_of R.stream) self.old) self.old.end (arriving now ecn) datagram.old).answer }
+        ensures lacking { result ≡ Received.Failed → TakesFrames (received (policy_of H.protection K.aead K.seal_limit K.refusal_limit (words_of R.stream) self.old) self.old.end (arriving now ecn false) datagram.old).answer }
     {
         match self.state() {
             State::Failed => return Received::Dropped(DropReason::Failed),
@@ -160,18 +183,15 @@ impl<H: HeaderKey + Drop, K: PacketKey + Drop, R: Rng + Drop, C: Controller> Con
             return Received::Dropped(drop_reason(error));
         }
         let Ok(opened) = self.unprotect(datagram) else {
-            self.count_failure();
-            return Received::Dropped(DropReason::NotOpened);
+            return self.refuse_packet(now);
         };
         let payload = &datagram[opened.start..opened.end];
-        self.take_opened(now, ecn, &opened, payload)
-    }
-
-    /// A packet didn't open (RFC 9001, section 6.6).
-    fn count_failure(&mut self)
-        ensures { self.new ≡ hearing self.old (heard_failure self.old.heard) }
-    {
-        self.authentication_failures = self.authentication_failures.saturating_add(1);
+        let received = self.take_opened(now, ecn, &opened, payload);
+        if !is_read(&received) {
+            return received;
+        }
+        self.draw_ids();
+        received
     }
 
     /// The own id that a datagram is for, or why it is for none.
@@ -183,11 +203,11 @@ impl<H: HeaderKey + Drop, K: PacketKey + Drop, R: Rng + Drop, C: Controller> Con
     }
 
     /// Whether a datagram would open here, whatever the state of the end, and also where it came
-    /// before: it has a short header with an own id, its packet opens under its number, and its key
-    /// phase is 0. It is opened in place, so `scratch` is a copy of it, whose bytes may be changed;
-    /// the end stays as it is.
+    /// before: it has a short header with an own id, its packet opens under its number, and its
+    /// key phase is 0. It is opened in place, so `scratch` is a copy of it, whose bytes may be
+    /// changed; the end stays as it is.
     pub fn would_open(&self, scratch: &mut [u8]) -> bool
-        ensures { result ≡ would_open (policy_of H.protection K.aead (words_of R.stream) self.now) self.now.end scratch.old }
+        ensures { result ≡ would_open (policy_of H.protection K.aead K.seal_limit K.refusal_limit (words_of R.stream) self.now) self.now.end scratch.old }
     {
         if self.destination_of(scratch).is_err() {
             return false;
@@ -202,8 +222,8 @@ impl<H: HeaderKey + Drop, K: PacketKey + Drop, R: Rng + Drop, C: Controller> Con
     fn unprotect(&self, datagram: &mut [u8]) -> Result<Opened, NotOpened>
         requires { own_id_length + 21 ≤ length datagram.old }
         ensures opened { MatchResult result
-            (λ o. opening (policy_of H.protection K.aead (words_of R.stream) self.now) self.now.end datagram.old ≡ Some (record { first = o.first; number = o.number; payload = slice_range datagram.new o.start o.end }))
-            (λ _. opening (policy_of H.protection K.aead (words_of R.stream) self.now) self.now.end datagram.old ≡ None) }
+            (λ o. opening (policy_of H.protection K.aead K.seal_limit K.refusal_limit (words_of R.stream) self.now) self.now.end datagram.old ≡ Some (record { first = o.first; number = o.number; payload = slice_range datagram.new o.start o.end }))
+            (λ _. opening (policy_of H.protection K.aead K.seal_limit K.refusal_limit (words_of R.stream) self.now) self.now.end datagram.old ≡ None) }
         ensures number { IfOk result (λ o. o.number < 2 ^ 62) }
         ensures start { IfOk result (λ o. o.start ≤ o.end) }
         ensures end { IfOk result (λ o. o.end ≤ length datagram.new) }
@@ -227,11 +247,11 @@ impl<H: HeaderKey + Drop, K: PacketKey + Drop, R: Rng + Drop, C: Controller> Con
         payload: &[u8],
     ) -> Received
         requires { opened.now.number < 2 ^ 62 }
-        ensures answer { result ≢ Received.Failed → result ≡ (opened_to (record { first = opened.now.first; number = opened.now.number; payload = payload.now }) (arriving now ecn) self.old.end).answer }
-        ensures end { result ≢ Received.Failed → self.new ≡ telling C.steps self.old (told_opened (record { first = opened.now.first; number = opened.now.number; payload = payload.now }) now self.old.end) (opened_to (record { first = opened.now.first; number = opened.now.number; payload = payload.now }) (arriving now ecn) self.old.end).end }
+        ensures answer { result ≢ Received.Failed → result ≡ (opened_to (record { first = opened.now.first; number = opened.now.number; payload = payload.now }) (arriving now ecn false) self.old.end).answer }
+        ensures end { result ≢ Received.Failed → self.new ≡ telling C.steps self.old (told_opened (record { first = opened.now.first; number = opened.now.number; payload = payload.now }) now self.old.end) (opened_to (record { first = opened.now.first; number = opened.now.number; payload = payload.now }) (arriving now ecn false) self.old.end).end }
         ensures failed { result ≡ Received.Failed → HasFailed self.old self.new }
         ensures stopped { result ≡ Received.Failed → self.new.end.timers ≡ no_timers }
-        ensures lacking { result ≡ Received.Failed → TakesFrames (opened_to (record { first = opened.now.first; number = opened.now.number; payload = payload.now }) (arriving now ecn) self.old.end).answer }
+        ensures lacking { result ≡ Received.Failed → TakesFrames (opened_to (record { first = opened.now.first; number = opened.now.number; payload = payload.now }) (arriving now ecn false) self.old.end).answer }
     {
         if opened.key_phase() {
             return Received::Dropped(DropReason::KeyPhase);
@@ -241,7 +261,10 @@ impl<H: HeaderKey + Drop, K: PacketKey + Drop, R: Rng + Drop, C: Controller> Con
         }
         match self.state() {
             State::Open => self.process(now, ecn, opened, payload),
-            State::Closing => Received::Dropped(DropReason::Closing),
+            State::Closing => {
+                self.closing.ask();
+                Received::Dropped(DropReason::Closing)
+            }
             State::Drained => Received::Dropped(DropReason::Drained),
             State::Failed => Received::Dropped(DropReason::Failed),
         }
@@ -256,16 +279,16 @@ impl<H: HeaderKey + Drop, K: PacketKey + Drop, R: Rng + Drop, C: Controller> Con
         payload: &[u8],
     ) -> Received
         requires { opened.now.number < 2 ^ 62 }
-        ensures answer { result ≢ Received.Failed → result ≡ (processed (record { first = opened.now.first; number = opened.now.number; payload = payload.now }) (arriving now ecn) self.old.end).answer }
-        ensures end { result ≢ Received.Failed → self.new ≡ telling C.steps self.old (told_processed (record { first = opened.now.first; number = opened.now.number; payload = payload.now }) now self.old.end) (processed (record { first = opened.now.first; number = opened.now.number; payload = payload.now }) (arriving now ecn) self.old.end).end }
+        ensures answer { result ≢ Received.Failed → result ≡ (processed (record { first = opened.now.first; number = opened.now.number; payload = payload.now }) (arriving now ecn false) self.old.end).answer }
+        ensures end { result ≢ Received.Failed → self.new ≡ telling C.steps self.old (told_processed (record { first = opened.now.first; number = opened.now.number; payload = payload.now }) now self.old.end) (processed (record { first = opened.now.first; number = opened.now.number; payload = payload.now }) (arriving now ecn false) self.old.end).end }
         ensures failed { result ≡ Received.Failed → HasFailed self.old self.new }
         ensures stopped { result ≡ Received.Failed → self.new.end.timers ≡ no_timers }
-        ensures lacking { result ≡ Received.Failed → TakesFrames (processed (record { first = opened.now.first; number = opened.now.number; payload = payload.now }) (arriving now ecn) self.old.end).answer }
+        ensures lacking { result ≡ Received.Failed → TakesFrames (processed (record { first = opened.now.first; number = opened.now.number; payload = payload.now }) (arriving now ecn false) self.old.end).answer }
     {
         self.tick(now);
         match self.take_packet(ecn, opened, payload) {
             Ok(()) => Received::Taken,
-            Err(trouble) => self.close_for(trouble),
+            Err(trouble) => self.close_for(trouble, opened.number),
         }
     }
 
@@ -331,7 +354,9 @@ impl<H: HeaderKey + Drop, K: PacketKey + Drop, R: Rng + Drop, C: Controller> Con
         }
     }
 
-    /// Takes a frame. Those that speak of neither packets, streams nor messages do nothing yet.
+    /// Takes a frame. Those that speak of neither packets, streams, messages, ids nor a close do
+    /// nothing yet.
+    #[tactic(auto, using(crate::proofs::Items::tells_nothing))]
     fn take_frame(&mut self, frame: &Frame<'_>) -> Result<(), Trouble>
         requires { HasForm (frame_view frame.now) }
         ensures takes { TakesAs result (take_frame (frame_view frame.now) self.old.end) self.new.end }
@@ -341,6 +366,24 @@ impl<H: HeaderKey + Drop, K: PacketKey + Drop, R: Rng + Drop, C: Controller> Con
         match frame {
             Frame::Ack(frame) => self.take_ack(frame),
             Frame::Datagram { data } => self.take_message(data),
+            Frame::ConnectionClose {
+                error_code,
+                frame_type,
+                reason,
+            } => take_connection_close(self.alloc, *error_code, *frame_type, reason),
+            Frame::ApplicationClose { error_code, reason } => {
+                take_application_close(self.alloc, *error_code, reason)
+            }
+            Frame::PathChallenge(token) => {
+                self.take_path_challenge(*token);
+                Ok(())
+            }
+            Frame::PathResponse(token) => {
+                self.take_path_response(*token);
+                Ok(())
+            }
+            Frame::NewConnectionId(frame) => self.take_new_id(*frame),
+            Frame::RetireConnectionId { sequence } => self.take_retirement(*sequence),
             _ => take_other(&mut self.streams, frame),
         }
     }
@@ -379,23 +422,22 @@ impl<H: HeaderKey + Drop, K: PacketKey + Drop, R: Rng + Drop, C: Controller> Con
         Ok(())
     }
 
-    /// Closes for what was wrong with a packet, or fails.
-    fn close_for(&mut self, trouble: Trouble) -> Received
-        ensures answer { IfSome (fault_view trouble) (λ fault. result ≡ Received.Closed (error_of fault)) }
-        ensures end { IfSome (fault_view trouble) (λ fault. self.new ≡ with_end self.old (closed_by (reason_of fault) self.old.end)) }
+    /// Closes for what was wrong with the packet of a number, or fails; or the peer closed in it.
+    fn close_for(&mut self, trouble: Trouble, number: u64) -> Received
+        requires { number < 2 ^ 62 }
+        ensures answer { IfSome (fault_view trouble) (λ fault. result ≡ (ends_as (Some fault) false number None self.old.end).answer) }
+        ensures end { IfSome (fault_view trouble) (λ fault. self.new ≡ with_end self.old (ends_as (Some fault) false number None self.old.end).end) }
         ensures memory { IfNone (fault_view trouble) (result ≡ Received.Failed) }
         ensures failed { IfNone (fault_view trouble) (HasFailed self.old self.new) }
         ensures stopped { IfNone (fault_view trouble) (self.new.end.timers ≡ no_timers) }
     {
         match trouble {
-            Trouble::Broke(error) => {
-                let answer = Received::Closed(error.copied());
-                self.close_by(LostReason::Transport(error));
-                answer
-            }
-            Trouble::TooManyPieces => {
-                self.close_by(LostReason::Pieces);
-                Received::Closed(plain_error(Code::INTERNAL_ERROR, Reason::TooManyPieces))
+            Trouble::Broke(error) => self.close_for_error(error),
+            Trouble::TooManyPieces => self.close_for_pieces(),
+            Trouble::Closed(close) => {
+                self.space.numbers.take(number);
+                self.close_by_peer(close);
+                Received::Taken
             }
             Trouble::Memory => {
                 self.fail();

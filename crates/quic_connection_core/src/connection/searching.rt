@@ -68,7 +68,7 @@ impl<H: HeaderKey + Drop, K: PacketKey + Drop, R: Rng + Drop, C: Controller> Con
     }
 
     /// Nothing goes, for want of anything to send.
-    fn rest(&mut self) -> Option<Leaving>
+    pub(crate) fn rest(&mut self) -> Option<Leaving>
         ensures none { result ≡ None }
         ensures end { self.new ≡ with_end self.old (with_app_limited self.old.end true) }
     {
@@ -149,7 +149,7 @@ impl<H: HeaderKey + Drop, K: PacketKey + Drop, R: Rng + Drop, C: Controller> Con
     }
 
     /// Messages are dropped that are longer than one may be now.
-    fn drop_oversized(&mut self)
+    pub(crate) fn drop_oversized(&mut self)
         ensures { self.new ≡ with_end self.old (without_longer_if (most_message self.old.end) self.old.end) }
     {
         if let Some(most) = self.datagram_limits().max_size {

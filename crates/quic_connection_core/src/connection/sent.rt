@@ -1,10 +1,11 @@
 //! What a datagram carried, and what becomes of the endpoint once it goes.
 ghost use Rattle.std.specs.Prelude.{◌≡◌, ◌-◌, ◌<◌, ◌^◌, IfSome, OnOk, OnErr, Some, None, true, false, []};
 ghost use Rattle.quic_retransmits.specs.Kept.{made};
-ghost use Rattle.quic_machine.specs.End.{with_tracking, with_number_given, number_of};
+ghost use Rattle.quic_machine.specs.End.{with_tracking, with_number_given, number_of, words_drawn};
 ghost use Rattle.quic_spaces.specs.Numbers.{can_number};
 ghost use Rattle.quic_machine.specs.Tracking.{after_sent};
 ghost use Rattle.quic_machine.specs.Poll.{paid_if};
+ghost use Rattle.quic_machine.specs.Idle.{packet_given};
 ghost use Rattle.quic_machine.specs.Control.{told_sent};
 ghost use Rattle.quic_connection_core.specs.Frames.{tracked_as};
 ghost use Rattle.quic_connection_core.specs.Drawn.{words_of, after_words};
@@ -57,6 +58,9 @@ impl Model for Carried {
 pub(crate) struct SentFrames {
     // Whether it asks for an acknowledgement.
     pub(crate) asks: bool,
+    // Whether PATH_CHALLENGE or PATH_RESPONSE stands in it, so that it has 1200 bytes at least (RFC
+    // 9000, sections 8.2.1 and 8.2.2).
+    pub(crate) requires_padding: bool,
     pub(crate) carried: Carried,
 }
 
@@ -64,10 +68,12 @@ impl SentFrames {
     /// An ACK frame went alone that names numbers up to this one.
     pub(crate) fn acks(alloc: Global, largest_acked: u64) -> Self
         ensures asks { result.asks ≡ false }
+        ensures pads { result.requires_padding ≡ false }
         ensures carried { result.carried ≡ record { largest_acked = Some largest_acked; stream_frames = []; retransmits = nothing_waits } }
     {
         SentFrames {
             asks: false,
+            requires_padding: false,
             carried: Carried {
                 largest_acked: Some(largest_acked),
                 stream_frames: Vec::new(alloc),
@@ -79,10 +85,12 @@ impl SentFrames {
     /// PING went alone, as a probe of a size.
     pub(crate) fn probe(alloc: Global) -> Self
         ensures asks { result.asks ≡ true }
+        ensures pads { result.requires_padding ≡ false }
         ensures carried { result.carried ≡ record { largest_acked = None; stream_frames = []; retransmits = nothing_waits } }
     {
         SentFrames {
             asks: true,
+            requires_padding: false,
             carried: Carried {
                 largest_acked: None,
                 stream_frames: Vec::new(alloc),
@@ -94,11 +102,17 @@ impl SentFrames {
     /// An ACK frame that names numbers up to this one went besides, or none did.
     pub(crate) fn with_ack(self, largest_acked: Option<u64>) -> Self
         ensures asks { result.asks ≡ self.asks }
+        ensures pads { result.requires_padding ≡ self.requires_padding }
         ensures carried { result.carried ≡ record self.carried { largest_acked = largest_acked } }
     {
-        let SentFrames { asks, carried } = self;
+        let SentFrames {
+            asks,
+            requires_padding,
+            carried,
+        } = self;
         SentFrames {
             asks,
+            requires_padding,
             carried: Carried {
                 largest_acked,
                 stream_frames: carried.stream_frames,
@@ -120,15 +134,15 @@ impl<H: HeaderKey + Drop, K: PacketKey + Drop, R: Rng + Drop, C: Controller> Con
     /// want of memory, and nothing has changed.
     pub(crate) fn track(&mut self, size: u16, sent: SentFrames) -> Result<(), AllocError>
         requires { can_number self.old.end.numbers ≡ true }
-        ensures end { OnOk result (self.new.end ≡ paid_if sent.asks (with_number_given (words_of R.stream self.old.random 0) (tracked_as sent.asks size sent.carried self.old.end)) size) }
+        ensures end { OnOk result (self.new.end ≡ packet_given sent.asks (paid_if sent.asks (with_number_given (words_of R.stream self.old.random 0) (tracked_as sent.asks size sent.carried self.old.end)) size)) }
         ensures control { OnOk result (self.new.control ≡ after_calls C.steps self.old.control (told_sent sent.asks self.old.end size (number_of self.old.end))) }
         ensures keys { self.new.keys ≡ self.old.keys }
         ensures heard { OnOk result (self.new.heard ≡ self.old.heard) }
-        ensures random { OnOk result (R.stream self.new.random ≡ after_words (self.new.end.filter.drawn - self.old.end.filter.drawn) (R.stream self.old.random)) }
+        ensures random { OnOk result (R.stream self.new.random ≡ after_words (words_drawn self.new.end - words_drawn self.old.end) (R.stream self.old.random)) }
         ensures err { OnErr result (self.new ≡ self.old) }
     {
         let number = self.number();
-        let SentFrames { asks, carried } = sent;
+        let SentFrames { asks, carried, .. } = sent;
         let packet = SentPacket {
             path_generation: self.path.generation(),
             time_sent: self.closing.clock(),
@@ -142,6 +156,7 @@ impl<H: HeaderKey + Drop, K: PacketKey + Drop, R: Rng + Drop, C: Controller> Con
         if asks {
             self.tell_sent(number, size);
         }
+        self.on_packet_given(asks);
         self.count_sent(size);
         Ok(())
     }
@@ -157,7 +172,7 @@ impl<H: HeaderKey + Drop, K: PacketKey + Drop, R: Rng + Drop, C: Controller> Con
         ensures control { self.new.control ≡ self.old.control }
         ensures keys { self.new.keys ≡ self.old.keys }
         ensures heard { self.new.heard ≡ self.old.heard }
-        ensures random { OnOk result (R.stream self.new.random ≡ after_words (self.new.end.filter.drawn - self.old.end.filter.drawn) (R.stream self.old.random)) }
+        ensures random { OnOk result (R.stream self.new.random ≡ after_words (words_drawn self.new.end - words_drawn self.old.end) (R.stream self.old.random)) }
         ensures err { OnErr result (self.new ≡ self.old) }
     {
         let number = self.number();

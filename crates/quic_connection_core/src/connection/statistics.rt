@@ -41,6 +41,22 @@ impl<H, K, R, C: Controller> Connection<H, K, R, C> {
         frames.ping = frames.ping.saturating_add(1);
     }
 
+    /// A PATH_CHALLENGE frame goes.
+    pub(crate) fn count_challenge(&mut self)
+        ensures { self.new ≡ self.old }
+    {
+        let frames = &mut self.stats.frame_tx;
+        frames.path_challenge = frames.path_challenge.saturating_add(1);
+    }
+
+    /// A PATH_RESPONSE frame goes.
+    pub(crate) fn count_response(&mut self)
+        ensures { self.new ≡ self.old }
+    {
+        let frames = &mut self.stats.frame_tx;
+        frames.path_response = frames.path_response.saturating_add(1);
+    }
+
     /// A packet of so many bytes goes.
     pub(crate) fn count_sent(&mut self, size: u16)
         ensures { self.new ≡ self.old }

@@ -1,5 +1,7 @@
 -- An end that closed for used-up numbers had used them up: a group over the packets, and the clause.
-use Rattle.std.proofs.Common.{◌≡◌, ℕ, suc, ◌+◌, false, List, map, Some, Ok, refl, sym, ap, ◌∙◌, subst, arith}
+use Rattle.std.proofs.Common.{◌≡◌, ℕ, suc, ◌+◌, ◌≤◌, Bool, true, false, not, List, Option, Some, None, inl, inr, refl, sym, ap, ◌∙◌, subst, arith}
+use Rattle.std.specs.Prelude.{if◌then◌else◌}
+use Rattle.quic_spaces.specs.Numbers.{can_number}
 use Rattle.quic_wire_core.specs.declared.stream_id.Side.{Side}
 use Rattle.quic_wire_core.specs.StreamId.{other_side}
 use Rattle.quic_wire.specs.Value.{FrameValue}
@@ -8,13 +10,12 @@ use Rattle.quic_machine.specs.declared.answers.State.TheVariants as states
 use Rattle.quic_machine.specs.declared.answers.LostReason.{LostReason}
 use Rattle.quic_machine.specs.declared.answers.LostReason.TheVariants as reasons
 use Rattle.quic_machine.specs.declared.run.Call.{Call}
-use Rattle.quic_machine.specs.declared.run.Call.TheVariants as calls
 use Rattle.quic_machine.specs.declared.run.Answer.{Answer}
 use Rattle.quic_machine.specs.Closing.{Closing}
 use Rattle.quic_machine.specs.Policy.{Policy}
 use Rattle.quic_machine.specs.End.{End}
-use Rattle.quic_machine.specs.Receive.{Fault, broke, too_many_pieces, Outcome, reason_of, asks_in, after_taken}
-use Rattle.quic_machine.specs.Poll.{polled}
+use Rattle.quic_machine.specs.Receive.{Fault, broke, too_many_pieces, closed_by_peer, Outcome, reason_of}
+use Rattle.quic_machine.specs.Poll.{bounds, may_seal}
 use Rattle.quic_machine.specs.Machine.{World, after_call}
 use Rattle.quic_machine.specs.CallCases.{is_delivery}
 use Rattle.quic_machine.specs.FrameCases.{begun}
@@ -23,8 +24,8 @@ use Rattle.quic_headline.specs.Observer.{Watch, watch, sents_until, next_number}
 use Rattle.quic_headline.specs.Headline.{IsHonest}
 use Rattle.quic_headline.specs.Causes.{AreUsedUp, NumberLimit}
 use Rattle.quic_headline.proofs.Packets.Invariant.{Knows, KnowsIn}
-use Rattle.quic_headline.proofs.Packets.Delivered.{Arrivals, arrived, with_taken}
-use Rattle.quic_headline.proofs.Packets.Stays.{Keeps, keeps_frames, stays_call}
+use Rattle.quic_headline.proofs.Packets.Delivered.{Arrivals, arrived}
+use Rattle.quic_headline.proofs.Packets.Stays.{Keeps, keeps_frames}
 use Rattle.quic_headline.proofs.Packets.Group.{PacketsHold, meets}
 use Rattle.quic_headline.proofs.Packets.Sight.{Sight}
 use Rattle.quic_headline.proofs.Places.Parties.{Party, called, came_to}
@@ -32,78 +33,78 @@ use Rattle.quic_headline.proofs.Places.Groups.{Way, Calls, Group}
 use Rattle.quic_headline.proofs.Places.Coming.{by_coming}
 use Rattle.quic_headline.proofs.Places.Placed.{party_at, Placed, watch_is}
 use Rattle.quic_headline.proofs.Places.Openings.{took_is}
-use Rattle.quic_headline.proofs.Causes.Closing.{PollCloses, poll_closes, keeps, uses_up, used_up, other_keeps}
-use Rattle.quic_headline.proofs.Causes.Closing as closing
+use Rattle.quic_headline.specs.Reasons.{Explains}
+use Rattle.quic_headline.proofs.Causes.Closing.{used_up, next_rises}
+use Rattle.quic_headline.proofs.Causes.Reasons.{call_keeps}
+use Rattle.quic_headline.proofs.Causes.Why.{Cause, was, applies, bound, refuses, exhausts, idles, call_why}
 use Rattle.quic_headline.proofs.Causes.Shown.{reason_shown}
 
--- an end that closed is drained, and where it closed for used-up numbers they are used up, by what came to it
+-- an end says why it isn't open, and where it closed for used-up numbers they are used up, by what came to it
 pub record IsShut (e : End) (i : Intake) : Type 0 where
   pub used : e.closing.reason ≡ Some reasons.NumberLimit → AreUsedUp e.numbers.next (acknowledged i.took)
-  pub drained : (reason : LostReason) → e.closing.reason ≡ Some reason → e.closing.state ≡ states.Drained
+  pub explained : Explains e.closing.state e.closing.reason
 
 -- an open end has no reason to be closed
-open_free : (e : End) (i : Intake) → IsShut e i → e.closing.state ≡ states.Open → (reason : LostReason) → e.closing.reason ≡ Some reason → ⊥
-open_free e i s still_open reason is = (let shut = s.drained reason is in let clash : states.Open ≡ states.Drained = sym still_open ∙ shut in cc)
+open_free : (state : State) (o : Option LostReason) → Explains state o → state ≡ states.Open → (reason : LostReason) → o ≡ Some reason → ⊥
+open_free states.Open None explained is reason same = cc
+open_free states.Open (Some other) explained is reason same = absurd explained
+open_free states.Closing o explained is reason same = cc
+open_free states.Drained o explained is reason same = cc
+open_free states.Failed o explained is reason same = cc
 
--- an end that has the reason, the state and the next number of another
-shut_as : (e f : End) (i : Intake) → closing.Keeps e f → f.numbers.next ≡ e.numbers.next → IsShut e i → IsShut f i
-shut_as e f i k next s = record {
-  used = λ is. subst (λ (n : ℕ). AreUsedUp n (acknowledged i.took)) (sym next) (s.used (sym k.reason ∙ is));
-  drained = λ reason is. k.state ∙ s.drained reason (sym k.reason ∙ is);
-}
-
--- an open end has none, whatever the packets that came
-shut_open : (e f : End) (i j : Intake) → e.closing.state ≡ states.Open → IsShut e i → f.closing.reason ≡ e.closing.reason → IsShut f j
-shut_open e f i j still_open s same = record {
-  used = λ is. absurd (open_free e i s still_open reasons.NumberLimit (sym same ∙ is));
-  drained = λ reason is. absurd (open_free e i s still_open reason (sym same ∙ is));
-}
-
--- ---- a poll
-
-shut_poll : (p : Policy) (e : End) (now : ℕ) (i : Intake) → KnowsIn e.closing.state e.numbers i → IsShut e i → IsShut (polled p e now).end i
-shut_poll p e now i k s = go (poll_closes p e now)
-  where
-    -- an end that isn't open is left as it was
-    known : (state : State) → e.closing.state ≡ state → KnowsIn state e.numbers i → states.Open ≡ state → Knows e.numbers i
-    known states.Open is k same = k
-    known states.Closing is k same = cc
-    known states.Drained is k same = cc
-    known states.Failed is k same = cc
-
-    go : PollCloses e (polled p e now) → IsShut (polled p e now).end i
-    go (keeps kept) = by_state e.closing.state refl
-      where
-        by_state : (state : State) → e.closing.state ≡ state → IsShut (polled p e now).end i
-        by_state states.Open is = shut_open e (polled p e now).end i i is s kept.reason
-        by_state states.Closing is = shut_as e (polled p e now).end i kept (rw is refl) s
-        by_state states.Drained is = shut_as e (polled p e now).end i kept (rw is refl) s
-        by_state states.Failed is = shut_as e (polled p e now).end i kept (rw is refl) s
-    go (uses_up still_open may next reason state) =
-        let knows : Knows e.numbers i = known e.closing.state refl k (sym still_open) in
-        record {
-          used = λ is. subst (λ (n : ℕ). AreUsedUp n (acknowledged i.took)) (sym next) (subst (AreUsedUp e.numbers.next) knows.named (used_up e.numbers may));
-          drained = λ other is. state;
-        }
-
--- ---- any call
-
-shut_call : (p : Policy) (e : End) (theirs : List (List ℕ)) (call : Call) (a : Answer) (i : Intake) → is_delivery call ≡ false → KnowsIn e.closing.state e.numbers i → IsShut e i → IsShut (after_call p e theirs call a) i
-shut_call p e theirs (calls.Poll now) a i apart k s = shut_poll p e now i k s
-shut_call p e theirs call a i apart k s = shut_as e (after_call p e theirs call a) i (other_keeps p e theirs call a refl apart) (stays_call p e theirs call a refl).next s
+-- numbers that are used up stay so as more are given
+used_more : (n m named : ℕ) → n ≤ m → AreUsedUp n named → AreUsedUp m named
+used_more n m named up (inl far) = inl (omega arith)
+used_more n m named up (inr wide) = inr (omega arith)
 
 -- a frame at fault is no reason of numbers
-no_limit : (f : Fault) → Some (reason_of f) ≡ Some reasons.NumberLimit → ⊥
+no_limit : (f : Fault) → reason_of f ≡ reasons.NumberLimit → ⊥
 no_limit (broke error) is = cc
 no_limit too_many_pieces is = cc
+no_limit (closed_by_peer close) is = cc
+
+same_reason : (x y : LostReason) → Some x ≡ Some y → x ≡ y
+same_reason x y is = cc
+
+-- where numbers are the bound, none may be given
+limit_numbers : (p : Policy) (e : End) → bounds p e ≡ Some reasons.NumberLimit → can_number e.numbers ≡ false
+limit_numbers p e limit = go (can_number e.numbers) (may_seal p e) refl limit
+  where
+    go : (numbered sealed : Bool) → can_number e.numbers ≡ numbered → (if not numbered then Some reasons.NumberLimit else (if not sealed then Some reasons.KeyLimit else None)) ≡ Some reasons.NumberLimit → can_number e.numbers ≡ false
+    go false sealed here is = here
+    go true true here is = cc
+    go true false here is = cc
+
+-- ---- any call but a delivery
+
+shut_call : (p : Policy) (e : End) (theirs : List (List ℕ)) (call : Call) (a : Answer) (i : Intake) → is_delivery call ≡ false → KnowsIn e.closing.state e.numbers i → IsShut e i → IsShut (after_call p e theirs call a) i
+shut_call p e theirs call a i apart k s = record {
+  used = λ shown. used (call_why p e theirs call a reasons.NumberLimit shown);
+  explained = call_keeps p e theirs call a s.explained;
+}
+  where
+    used : Cause p e call a reasons.NumberLimit → AreUsedUp (after_call p e theirs call a).numbers.next (acknowledged i.took)
+    used (was old) = used_more e.numbers.next (after_call p e theirs call a).numbers.next (acknowledged i.took) (next_rises p e theirs call a) (s.used old)
+    used (applies close is here for) = cc
+    used (bound here limit) =
+        let knows : Knows e.numbers i = subst (λ (state : State). KnowsIn state e.numbers i) here k in
+        used_more e.numbers.next (after_call p e theirs call a).numbers.next (acknowledged i.took) (next_rises p e theirs call a) (subst (AreUsedUp e.numbers.next) knows.named (used_up e.numbers (limit_numbers p e limit)))
+    used (refuses f for) = absurd (no_limit f for)
+    used (exhausts here last for) = cc
+    used (idles now is here come for) = cc
 
 -- in each case of a delivery
 shut_arrivals : (e : End) (now n : ℕ) (frames : List FrameValue) (i : Intake) → IsShut e i → Arrivals e now n frames i (λ (o : Outcome) (j : Intake). IsShut o.end j)
 shut_arrivals e now n frames i s = record {
   ignored = λ reason. s;
-  noted = λ state reason. record { used = s.used; drained = s.drained };
-  takes = λ still_open new none mark. shut_open e (after_taken n (asks_in (map Ok frames)) mark (arrived e now n frames).end) i (with_taken i n frames) still_open s (ap (λ (c : Closing). c.reason) left.closing);
-  refuses = λ still_open new f is. record { used = λ same. absurd (no_limit f same); drained = λ reason same. refl };
+  noted = λ state reason. record { used = s.used; explained = s.explained };
+  takes = λ words still_open new none mark. record {
+    used = λ shown. absurd (open_free e.closing.state e.closing.reason s.explained still_open reasons.NumberLimit (sym (ap (λ (c : Closing). c.reason) left.closing) ∙ shown));
+    explained = subst (λ (c : Closing). Explains c.state c.reason) (sym left.closing) s.explained;
+  };
+  drains = λ words still_open new close is. record { used = λ shown. absurd (no_limit (closed_by_peer close) (same_reason _ reasons.NumberLimit shown)); explained = tt };
+  refuses = λ words still_open new f is. record { used = λ shown. absurd (no_limit f (same_reason _ reasons.NumberLimit shown)); explained = tt };
+  exhausts = λ still_open. record { used = λ shown. (let clash : ◌≡◌ {A = Option LostReason} (Some reasons.KeyLimit) (Some reasons.NumberLimit) = shown in cc); explained = tt };
 }
   where
     left : Keeps (begun e now n) (arrived e now n frames).end
@@ -128,10 +129,10 @@ module _ (B : Way) (packets : (x y : Party) → B x y → PacketsHold x y) where
 
   pub shut_group : Group B Shut
   shut_group = record {
-    first = λ x y m there here. record { used = λ is. cc; drained = λ reason is. cc };
+    first = λ x y m there here. record { used = λ is. cc; explained = tt };
     writer = λ x y call a c s back. s;
     reader = shut_on;
-    shows = λ x y here there b back s t. record { used = s.used; drained = s.drained };
+    shows = λ x y here there b back s t. record { used = s.used; explained = s.explained };
   }
 
 -- ---- the clause

@@ -5,7 +5,7 @@ use Rattle.std.specs.Option.{IsSome}
 use Rattle.std.proofs.lemmas.Bool.{cond_both}
 use Rattle.std.proofs.lemmas.List.{append-nil}
 use Rattle.quic_wire_core.specs.StreamId.{dir_of}
-use Rattle.quic_wire.specs.Value.{FrameValue, ack, stream, reset_stream, stop_sending, max_data, max_stream_data, max_streams, datagram}
+use Rattle.quic_wire.specs.Value.{FrameValue, ack, stream, reset_stream, stop_sending, max_data, max_stream_data, max_streams, datagram, new_connection_id, retire_connection_id, path_response}
 use Rattle.quic_send_buffer.specs.Buffered.{written}
 use Rattle.quic_streams_parts.specs.Dirs.{is_own, is_two_way}
 use Rattle.quic_streams_parts.specs.Table.{at}
@@ -33,12 +33,13 @@ use Rattle.quic_machine.specs.Receive.{is_above, names_ungiven, take_frame}
 use Rattle.quic_machine.specs.Poll.{Draft, composed, polled}
 use Rattle.quic_machine.specs.DraftLaws.{Writing, by_writing}
 use Rattle.quic_machine.specs.Puts as puts
-use Rattle.quic_machine.specs.FrameCases.{Settling, acked_keeps, losses_keep, named, ack_taken, message_leaves, passed, frames_leave}
+use Rattle.quic_machine.specs.FrameCases.{Settling, acked_keeps, losses_keep, named, ack_taken, message_leaves, passed, frames_leave, apart_leaves}
 use Rattle.quic_machine.specs.Steps as steps
 use Rattle.quic_machine.specs.LeaveCases.{by_expired, by_event}
 use Rattle.quic_machine.specs.CallCases.{is_delivery, by_call}
 use Rattle.quic_machine.specs.Machine.{IsAnswer, after_call}
 use Rattle.quic_headline.specs.Runs.{In, written_by, first_of}
+use Rattle.quic_headline.proofs.Packets.Apart.{by_waits, by_next_id}
 use Rattle.quic_streams_laws.specs.QuietLaws.{by_told}
 use Rattle.quic_headline.proofs.Halves.Wrote.{adds, or_false, first_none}
 use Rattle.quic_headline.proofs.Halves.Words.{CallWords, call_with}
@@ -139,7 +140,10 @@ module _ (t : StreamsState) where
         on_streams = λ on answer. cc;
         on_messages = λ on answer. i;
         pings = i;
-        times = λ now expiry set. by_expired e now (λ (f : End). Heard t f.streams) (λ pending tracking timers runs packets. i) (λ pending timers runs. losses_keep (λ (x : End). Heard t x.streams) settles (with_closing e (ticked e.closing now)) i) expiry;
+        closes = λ reason f now own. i;
+        waits = λ now b set. by_waits (λ (f : End). Heard t f.streams) b (with_closing e (ticked e.closing now)) i i;
+        changes_id = λ uses answer. by_next_id (λ (f : End). Heard t f.streams) e a i (λ c. i) (λ c most. i);
+        times = λ now expiry set. by_expired p.words e now (λ (f : End). Heard t f.streams) (λ pending tracking timers waits asked runs packets. i) (λ pending timers waits asked runs. losses_keep (λ (x : End). Heard t x.streams) settles (with_closing e (ticked e.closing now)) i) (λ x j. j) expiry;
         polls = λ now set. poll_heard p e now i;
         hears = λ arrival d set. cc;
         tells = λ asks. by_event e (λ (f : End). Heard t f.streams) i (λ told. by_polled (Heard t) heard_kept e.streams i);
@@ -161,6 +165,9 @@ module _ (t : StreamsState) where
       acked true = i
       acked false = acked_keeps (λ (x : End). Heard t x.streams) settles (is_above e.numbers.largest_acked a.largest) a (named a e) i
   frame_heard (datagram m) e told i = message_leaves (λ (x : End). Heard t x.streams) m e i (λ left. i)
+  frame_heard (new_connection_id g) e told i = apart_leaves (λ (x : End). Heard t x.streams) (new_connection_id g) e tt (λ c. i) (λ c most. i)
+  frame_heard (retire_connection_id n) e told i = apart_leaves (λ (x : End). Heard t x.streams) (retire_connection_id n) e tt (λ c. i) (λ c most. i)
+  frame_heard (path_response token) e told i = apart_leaves (λ (x : End). Heard t x.streams) (path_response token) e tt (λ c. i) (λ c most. i)
   frame_heard other e told i = i
 
   -- and several

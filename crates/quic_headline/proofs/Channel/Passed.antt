@@ -16,6 +16,7 @@ use Rattle.quic_headline.proofs.Channel.Received.{Allows, Stays}
 use Rattle.quic_headline.proofs.Channel.Told.{stays_frame}
 use Rattle.quic_headline.proofs.Channel.Counts.{Ids, ids_group}
 use Rattle.quic_headline.proofs.Channel.Messages.{MessagesFit, messages_group}
+use Rattle.quic_headline.proofs.Channel.IdsAgree.{IdsAgree, agree_group}
 use Rattle.quic_headline.proofs.Channel.AllStreams.{size_in, AllStreams, all_streams_group}
 use Rattle.quic_headline.proofs.Channel.Assembled.{FitsOpen, sizes_stand}
 use Rattle.quic_headline.proofs.Channel.Passes.{passing_group}
@@ -42,12 +43,17 @@ pub record LimitsHold (W : Way) : Type 1 where
 
 module _ (W : Way) (limits : LimitsHold W) where
   -- ids and messages, sums and limits
+  abbrev Names : Way
+  Names = And Ids (And MessagesFit IdsAgree)
+
   abbrev Parts : Way
-  Parts = And (And Ids MessagesFit) (And AllStreams W)
+  Parts = And Names (And AllStreams W)
 
   parts : Group Before Parts
-  parts = beside Before (And Ids MessagesFit) (And AllStreams W)
-      (beside Before Ids MessagesFit (ids_group Before (record { packets = writing.packets; written = writing.written }) (λ x y h. h.1.0.0.0.1.0.writes.keeps.few)) (messages_group Before)) (beside Before AllStreams W (all_streams_group Before writing) limits.group)
+  parts = beside Before Names (And AllStreams W)
+      (beside Before Ids (And MessagesFit IdsAgree) (ids_group Before (record { packets = writing.packets; written = writing.written }) (λ x y h. h.1.0.0.0.1.0.writes.keeps.few))
+      (beside Before MessagesFit IdsAgree (messages_group Before writing.packets) (agree_group Before writing.packets)))
+      (beside Before AllStreams W (all_streams_group Before writing) limits.group)
 
   sizes : SizesHold (And Before Parts) FitsOpen
   sizes = sizes_stand (And Before Parts) (record {
@@ -64,7 +70,7 @@ module _ (W : Way) (limits : LimitsHold W) where
   -- so each packet passes
   passing : blameless.IsPassing (And Parts PassesAt)
   passing = record {
-    group = both Before Parts PassesAt parts (passing_group (And Before Parts) (λ x y h. h.0.1.0.0.0.0) (λ x y h. h.1.0.0) (λ x y h. h.1.0.1) FitsOpen sizes);
+    group = both Before Parts PassesAt parts (passing_group (And Before Parts) (λ x y h. h.0.1.0.0.0.0) (λ x y h. h.1.0.0) (λ x y h. h.1.0.1.0) (λ x y h. h.1.0.1.1) FitsOpen sizes);
     passes = λ x y h. h.1.1;
   }
 

@@ -20,8 +20,8 @@ messages_group = record {
     comes = record { most = λ n. (let none = often_none n in omega arith) };
   };
   writer = λ x y call a c before back. record {
-    goes = goes_on x.policy x.end y.given call a x.sents x.told c.answer c.served before.goes;
-    comes = comes_more y.end (came_to y x) x.sents (sents_by x.end call a) y.told before.comes;
+    goes = goes_on x.policy x.end y.given call a x.sents x.told c.gives.owes c.answer c.served before.goes;
+    comes = comes_more y.end (came_to y x) x.sents (sents_by x.policy x.end call a) y.told before.comes;
   };
   reader = λ x y call a c before back. record {
     goes = record { most = back.goes.most };

@@ -5,7 +5,7 @@ use Rattle.quic_machine.specs.declared.run.Answer.{Answer}
 use Rattle.quic_machine.specs.Machine.{IsAnswer, fails}
 use Rattle.quic_headline.specs.Runs.{In, ids_of}
 use Rattle.quic_headline.specs.Headline.{used, CodeIsSmall}
-use Rattle.quic_headline.proofs.Places.Parties.{Party, called, showing, AreJoined, turned, Beginning, begun_as, AreMade}
+use Rattle.quic_headline.proofs.Places.Parties.{Party, called, showing, AreJoined, turned, Beginning, begun_as, AreMade, Shown}
 
 -- what is said of one that gives and one that takes
 abbrev pub Way : Type 1
@@ -38,7 +38,7 @@ pub record Group (B G : Way) : Type 0 where
   pub first : (x y : Beginning) → AreMade x y → B (begun_as x y) (begun_as y x) → B (begun_as y x) (begun_as x y) → G (begun_as x y) (begun_as y x)
   pub writer : (x y : Party) (call : Call) (a : Answer) → Calls B x y call a → G x y → G y x → G (called x y.given call a) y
   pub reader : (x y : Party) (call : Call) (a : Answer) → Calls B x y call a → G x y → G y x → G y (called x y.given call a)
-  pub shows : (x y : Party) (here there : ℕ) → B (showing x here) (showing y there) → B (showing y there) (showing x here) → G x y → G y x → G (showing x here) (showing y there)
+  pub shows : (x y : Party) (here there : Shown) → B (showing x here) (showing y there) → B (showing y there) (showing x here) → G x y → G y x → G (showing x here) (showing y there)
 
 -- a call behind which another group holds too
 further : (B G : Way) → Group B G → (x y : Party) (call : Call) (a : Answer) → Calls B x y call a → G x y → G y x → Calls (And B G) x y call a
@@ -124,7 +124,7 @@ pub record Early (B G : Way) : Type 0 where
   pub first : (x y : Beginning) → AreMade x y → G (begun_as x y) (begun_as y x)
   pub writer : (x y : Party) (call : Call) (a : Answer) → Before B x y call a → G x y → G y x → G (called x y.given call a) y
   pub reader : (x y : Party) (call : Call) (a : Answer) → Before B x y call a → G x y → G y x → G y (called x y.given call a)
-  pub shows : (x y : Party) (here there : ℕ) → G x y → G (showing x here) (showing y there)
+  pub shows : (x y : Party) (here there : Shown) → G x y → G (showing x here) (showing y there)
 
 -- what holds before a call, said less
 less_before : (B C : Way) → ((x y : Party) → C x y → B x y) → (x y : Party) (call : Call) (a : Answer) → Before C x y call a → Before B x y call a

@@ -27,7 +27,7 @@ use Rattle.quic_headline.proofs.Timers.Watched.{Observed}
 -- ---- one datagram
 
 -- what stands at a place of both lists
-stands_both : {Y X : Type 0} (P : Y → X → Type 0) (ys : List Y) (xs : List X) (k : ℕ) (y : Y) (x : X) → InStep P ys xs → slice_get ys k ≡ Some y → slice_get xs k ≡ Some x → In y ys × P y x
+pub stands_both : {Y X : Type 0} (P : Y → X → Type 0) (ys : List Y) (xs : List X) (k : ℕ) (y : Y) (x : X) → InStep P ys xs → slice_get ys k ≡ Some y → slice_get xs k ≡ Some x → In y ys × P y x
 stands_both P (v ∷ ys) (u ∷ xs) zero y x a e f =
     let same : v ≡ y = cc in
     let other : u ≡ x = cc in

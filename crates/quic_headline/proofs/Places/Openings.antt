@@ -17,7 +17,7 @@ use Rattle.quic_spaces.specs.Numbers.{expected}
 use Rattle.quic_machine.specs.Start.{IsLawful}
 use Rattle.quic_machine.specs.End.{End}
 use Rattle.quic_machine.specs.Opens.{opens, would_open}
-use Rattle.quic_machine.specs.Machine.{World, policy_at, injected_if}
+use Rattle.quic_machine.specs.Machine.{World, policy_at, says_last, injected_if}
 use Rattle.quic_machine.specs.RunLaws.{one_run}
 use Rattle.quic_headline.specs.Runs.{Run, Packet, Intake, In, IsTaken, IsNamed, until, given_until, count_given, AreServed, opens_by_key, expected_behind}
 use Rattle.quic_headline.specs.Observer.{Sent, Watch, first_watch, frames_opened, watch, took, sents_until, references_until}
@@ -35,16 +35,16 @@ use Rattle.quic_headline.proofs.Places.Placed.{party_at, Placed, watch_is, answe
 -- ---- injections
 
 -- whether bytes open is told by the answer
-told_by_answer : (p : Policy) (e : End) (injection : Injection) (a : Answer) (b c : Bool) → b ≡ c → a ≡ injected_if b p e injection → (a ≡ answers.Opens) ↔ (c ≡ true)
-told_by_answer p e injection a true c same is = (λ told. sym same, λ opened. is)
-told_by_answer p e injection a false c same is = (λ told. cc, λ opened. cc)
+told_by_answer : (p : Policy) (e : End) (injection : Injection) (a : Answer) (b c last : Bool) → b ≡ c → a ≡ injected_if b last p e injection → (a ≡ answers.Opens) ↔ (c ≡ true)
+told_by_answer p e injection a true c last same is = (λ told. sym same, λ opened. is)
+told_by_answer p e injection a false c last same is = (λ told. cc, λ opened. cc)
 
 -- an end that expects this number answers by it
-opens_by : (p : Policy) (e : End) (injection : Injection) (a : Answer) (x : ℕ) → expected e.numbers ≡ x → a ≡ injected_if (would_open p e injection.bytes) p e injection
+opens_by : (p : Policy) (e : End) (injection : Injection) (a : Answer) (x : ℕ) → expected e.numbers ≡ x → a ≡ injected_if (would_open p e injection.bytes) (says_last a) p e injection
     → (a ≡ answers.Opens) ↔ (is_some (opens p (known e.ids) x injection.bytes) ≡ true)
 opens_by p e injection a x expects is =
     let d : List ℕ = injection.bytes in
-    told_by_answer p e injection a (would_open p e d) (is_some (opens p (known e.ids) x d)) (ap (λ (n : ℕ). is_some (opens p (known e.ids) n d)) expects) is
+    told_by_answer p e injection a (would_open p e d) (is_some (opens p (known e.ids) x d)) (says_last a) (ap (λ (n : ℕ). is_some (opens p (known e.ids) n d)) expects) is
 
 -- ---- what ACK frames name
 

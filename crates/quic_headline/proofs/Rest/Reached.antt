@@ -163,7 +163,7 @@ module _ (sents : List Sent) (took : List Packet) (number : ℕ) (frames : List 
       (λ a is. ack_reached (names_ungiven a e) a e (subst (λ (g : FrameValue). In g frames) (sym is) among) tracked i)
       (λ other on. frame_leaves Here f e on (λ t. i))
       (λ other m same. subst Here (sym same) i)
-      (λ other apart. apart_leaves Here f e apart (λ c. i))
+      (λ other apart. apart_leaves Here f e apart (λ c. i) (λ c most. i))
 
   -- it stays reached, or is known, behind all frames
   pub frames_reached : (e : End) → AreTracked sents e.tracking.packets → Here e → Here (passed frames e).end

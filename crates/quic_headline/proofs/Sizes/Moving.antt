@@ -143,5 +143,5 @@ module _ (flew : List Sent) (least before : ℕ) where
     marked = λ flying acked counts marking e m. m;
     on_streams = λ flying acked f e among on m. frame_leaves (Moves flying acked) f e on (λ t. m);
     message = λ flying acked q e m. m;
-    apart = λ flying acked f e among apart m. apart_leaves (Moves flying acked) f e apart (λ c. m);
+    apart = λ flying acked f e among apart m. apart_leaves (Moves flying acked) f e apart (λ c. m) (λ c most. m);
   }

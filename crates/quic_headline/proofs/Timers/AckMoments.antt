@@ -16,10 +16,11 @@ use Rattle.quic_machine.specs.declared.run.Answer.TheVariants as answers
 use Rattle.quic_spaces.specs.Acknowledging.{ack_due}
 use Rattle.quic_machine.specs.Policy.{Policy}
 use Rattle.quic_machine.specs.Closing.{ticked}
-use Rattle.quic_machine.specs.End.{End, with_closing, with_ack_timer}
+use Rattle.quic_machine.specs.End.{End, with_closing, with_ack_timer, closed_by}
 use Rattle.quic_machine.specs.Receive.{asks_in, after_taken, Outcome}
 use Rattle.quic_spaces.specs.Acknowledging.{with_due}
-use Rattle.quic_machine.specs.Poll.{Polled, Draft, polled, draft_as, Leaving}
+use Rattle.quic_machine.specs.Poll.{zeros_behind, Polled, Draft, polled, draft_as, Leaving}
+use Rattle.quic_machine.specs.Poll as poll
 use Rattle.quic_machine.specs.Timeouts.{Expiry, loss_judged}
 use Rattle.quic_machine.specs.Machine.{World, IsAnswer, after_call, fails, gave}
 use Rattle.quic_machine.specs.CallCases.{Plain, is_delivery, by_plain_call}
@@ -31,7 +32,7 @@ use Rattle.quic_machine.specs.PollCases.{ready_at, ready_leaves, draft_at, frame
 use Rattle.quic_machine.specs.DraftLaws.{Writing, by_leave, MayLeave}
 use Rattle.quic_machine.specs.Puts as puts
 use Rattle.quic_headline.specs.Runs.{Run, Told, Packet, Intake, In, folded, AreServed}
-use Rattle.quic_headline.specs.Observer.{Watch, first_watch, news, Lens, watch_told}
+use Rattle.quic_headline.specs.Observer.{Sent, Watch, first_watch, news, Lens, watch_told}
 use Rattle.quic_headline.specs.Headline.{IsHonest}
 use Rattle.quic_headline.specs.Moments.{is_ack, acknowledges, went, arrivals_of, Debt, arrivals_behind, debt_told, first_debt, IsDueFor, AckMoments}
 use Rattle.quic_headline.specs.Waited.{one_asks}
@@ -50,6 +51,12 @@ use Rattle.quic_headline.proofs.Timers.Still.{was_open}
 use Rattle.quic_headline.proofs.Timers.Watched.{Observed, watched_behind, timers_behind, open_behind, went_behind, came_before, came_behind}
 use Rattle.quic_headline.proofs.Packets.Probes.{by_going}
 use Rattle.quic_machine.specs.LeaveCases as expiring
+use Rattle.quic_headline.proofs.Packets.Closes.{by_closes}
+use Rattle.quic_headline.proofs.Packets.Apart.{by_waits, by_next_id}
+use Rattle.quic_headline.proofs.Packets.Sends.{by_sends}
+use Rattle.quic_headline.proofs.Packets.Bare.{one_bare}
+use Rattle.quic_headline.proofs.Packets.Owing as owing
+use Rattle.quic_machine.specs.DraftLaws.{IsClose}
 
 -- ---- what goes
 
@@ -95,13 +102,22 @@ module _ (Q : Pending → Option ℕ → Type 0) (acked : (p : Pending) → Q (a
       keep (puts.control kind f) d is i = λ some. i (any_more d.frames f (control_not f (control_of f kind is.of_kind)) some)
       keep p d may i = λ some. i (any_more d.frames _ refl some)
 
+  -- no ACK frame goes beside a close
+  bare : (f : FrameValue) → IsClose f → (count : ℕ) → (list_any is_ack (f ∷ replicate count padding) || false) ≡ true → ⊥
+  bare f is count some = let clash : ◌≡◌ {A = Bool} false true = sym (one_bare is_ack refl not_ack f is count) ∙ some in cc
+    where
+      not_ack : (g : FrameValue) → IsClose g → is_ack g ≡ false
+      not_ack (ack a) close = absurd close
+      not_ack g close = refl
+
   -- so it is behind a poll that gives one
-  polled_answered : (p : Policy) (e : End) (now : ℕ) → acknowledges (sent_if (gave (answers.Poll (polled p e now).answer)) (sent_by e now)) ≡ true → Q (polled p e now).end.acknowledging (polled p e now).end.timers.max_ack_delay
-  polled_answered p e now = by_poll_to p e now (λ (q : Polled). acknowledges (sent_if (gave (answers.Poll q.answer)) (sent_by e now)) ≡ true → Q q.end.acknowledging q.end.timers.max_ack_delay) (record {
+  polled_answered : (p : Policy) (e : End) (now : ℕ) → owing.Owes e → acknowledges (sent_if (gave (answers.Poll (polled p e now).answer)) (sent_by p e now)) ≡ true → Q (polled p e now).end.acknowledging (polled p e now).end.timers.max_ack_delay
+  polled_answered p e now owes = by_sends p e now (λ (q : Polled) (ss : List Sent). acknowledges ss ≡ true → Q q.end.acknowledging q.end.timers.max_ack_delay) (record {
     silent = λ some. cc;
     failed = λ some. cc;
     nothing = λ is none some. cc;
-    closes = λ some. cc;
+    repeats = λ is. (let x : End = with_closing e (ticked e.closing now) in ((λ some. cc), λ f goes some. absurd (bare f (owing.close_is p x owes f goes) (zeros_behind (draft_as (poll.closing f) x)) some)));
+    closes = λ reason is bound. (let x : End = closed_by reason (ready_at e now).end in ((λ some. cc), λ f goes some. absurd (bare f (owing.close_is p x (owing.error_owes reason (ready_at e now).end) f goes) (zeros_behind (draft_as (poll.closing f) x)) some)));
     gives = λ is may some acks. by_going (λ (x : End). Q x.acknowledging x.timers.max_ack_delay) p (draft_at e now) (λ pacing. draft_answered (ready_at e now).leaving (ready_at e now).end (may_leave_at e now) (sym (any_padded (draft_at e now).frames _) ∙ first_only (list_any is_ack (frames_at e now)) acks));
   })
     where
@@ -110,9 +126,9 @@ module _ (Q : Pending → Option ℕ → Type 0) (acked : (p : Pending) → Q (a
       first_only false is = is
 
   -- and behind any call that does
-  pub call_answered : (p : Policy) (e : End) (theirs : List (List ℕ)) (call : Call) (a : Answer) → IsAnswer p e theirs call a → fails a ≡ false → acknowledges (sents_by e call a) ≡ true → Q (after_call p e theirs call a).acknowledging (after_call p e theirs call a).timers.max_ack_delay
-  call_answered p e theirs (calls.Poll now) a is served some = polled_answered p e now (ap (λ (b : Answer). acknowledges (sent_if (gave b) (sent_by e now))) (sym (poll_answer p e now a is served)) ∙ some)
-  call_answered p e theirs call a is served some = cc
+  pub call_answered : (p : Policy) (e : End) (theirs : List (List ℕ)) (call : Call) (a : Answer) → owing.Owes e → IsAnswer p e theirs call a → fails a ≡ false → acknowledges (sents_by p e call a) ≡ true → Q (after_call p e theirs call a).acknowledging (after_call p e theirs call a).timers.max_ack_delay
+  call_answered p e theirs (calls.Poll now) a owes is served some = polled_answered p e now owes (ap (λ (b : Answer). acknowledges (sent_if (gave b) (sent_by p e now))) (sym (poll_answer p e now a is served)) ∙ some)
+  call_answered p e theirs call a owes is served some = cc
 
 -- ---- a call that isn't a delivery sets no timer of acknowledgements
 
@@ -134,12 +150,12 @@ judged_none None e = refl
 judged_none (Some moment) e = losses_keep (HasTimer e.timers.max_ack_delay) (timer_settles e.timers.max_ack_delay) e refl
 
 -- nor does a timer that expires but that of acknowledgements
-expired_none : (e : End) (now : ℕ) (expiry : Expiry) → SetsNone e (at_expiry e now expiry)
-expired_none e now expiry = by_timers (SetsNone e) (SetsNone e) (λ o f i moment set. i moment (sym (judged_none o f) ∙ set)) each (λ f i. i) expiry (with_closing e (ticked e.closing now)) (λ moment set. set)
+expired_none : (words : ℕ → ℕ) (e : End) (now : ℕ) (expiry : Expiry) → SetsNone e (at_expiry words e now expiry)
+expired_none words e now expiry = by_timers words (SetsNone e) (SetsNone e) (λ o f i moment set. i moment (sym (judged_none o f) ∙ set)) each (λ f i. i) (λ f i moment set. cc) expiry (with_closing e (ticked e.closing now)) (λ moment set. set)
   where
     each : (s : Expired) (f : End) → SetsNone e f → SetsNone e (expiring.after s f)
-    each expiring.of_acks f i = λ moment set. cc
-    each s f i = i
+    each expiring.of_acks f i moment set = cc
+    each s f i moment set = i moment set
 
 draft_none : (leaving : Leaving) (e : End) → MayLeave leaving e → SetsNone e (draft_as leaving e).end
 draft_none leaving e alone = by_leave (λ (d : Draft). SetsNone e d.end) put_keeps leaving e alone (λ moment set. set)
@@ -157,7 +173,8 @@ polled_none p e now = by_poll_to p e now (λ (q : Polled). SetsNone e q.end) (re
   silent = λ moment set. set;
   failed = λ moment set. set;
   nothing = λ is none. ready_none e now;
-  closes = λ moment set. none_set moment set;
+  repeats = λ is. by_closes p (with_closing e (ticked e.closing now)) (λ (q : Polled). SetsNone e q.end) (λ moment set. set) (λ f goes moment set. set);
+  closes = λ reason bound. by_closes p (closed_by reason (ready_at e now).end) (λ (q : Polled). SetsNone e q.end) (λ moment set. none_set moment set) (λ f goes moment set. none_set moment set);
   gives = λ is may some. by_going (SetsNone e) p (draft_at e now) (λ pacing moment set. ready_none e now moment (draft_none (ready_at e now).leaving (ready_at e now).end (may_leave_at e now) moment set));
 })
   where
@@ -168,9 +185,12 @@ call_none : (p : Policy) (e : End) (theirs : List (List ℕ)) (call : Call) (a :
 call_none p e theirs call a apart = by_plain_call p e theirs (SetsNone e) call a cases_keep
   where
     cases_keep : Plain p e call (SetsNone e)
-    cases_keep (cases.times now expiry) may = expired_none e now expiry
+    cases_keep (cases.times now expiry) may = expired_none p.words e now expiry
     cases_keep (cases.polls now) may = polled_none p e now
     cases_keep (cases.hears arrival d) is = (let clash : true ≡ false = sym is ∙ apart in cc)
+    cases_keep (cases.closes reason f now) may = λ moment set. cc
+    cases_keep (cases.waits now b) may = by_waits (SetsNone e) b (with_closing e (ticked e.closing now)) (λ moment set. cc) (λ moment set. set)
+    cases_keep (cases.changes_id a) may = by_next_id (SetsNone e) e a (λ moment set. set) (λ c. λ moment set. set) (λ c most. λ moment set. set)
     cases_keep c may = λ moment set. set
 
 -- ---- a delivery
@@ -184,7 +204,7 @@ pub frames_timer : (fs : List FrameValue) (e : End) → HasTimer e.timers.max_ac
 frames_timer fs e = frames_keep (HasTimer e.timers.max_ack_delay) (frame_keeps (HasTimer e.timers.max_ack_delay) (record {
   ack = λ rises a x i. acked_keeps (HasTimer e.timers.max_ack_delay) (timer_settles e.timers.max_ack_delay) rises a (named a x) i;
   on_streams = λ f x on i. frame_leaves (HasTimer e.timers.max_ack_delay) f x on (λ t. i);
-  apart = λ f x is i. apart_leaves (HasTimer e.timers.max_ack_delay) f x is (λ c. i);
+  apart = λ f x is i. apart_leaves (HasTimer e.timers.max_ack_delay) f x is (λ c. i) (λ c most. i);
   message = λ m x i. i;
 })) fs e refl
 
@@ -211,8 +231,10 @@ arrivals_set : (e : End) (now n : ℕ) (frames : List FrameValue) (i : Intake) �
 arrivals_set e now n frames i = record {
   ignored = λ reason moment set. inl set;
   noted = λ state reason moment set. inl set;
-  takes = λ state new none mark moment set. taken moment (taken_set e (arrived e now n frames).end n (asks_in (map Ok frames)) mark (frames_timer frames (begun e now n)) moment set);
-  refuses = λ state new f is moment set. cc;
+  takes = λ words state new none mark moment set. taken moment (taken_set e (arrived e now n frames).end n (asks_in (map Ok frames)) mark (frames_timer frames (begun e now n)) moment set);
+  drains = λ words state new close is moment set. cc;
+  refuses = λ words state new f is moment set. cc;
+  exhausts = λ state moment set. cc;
 }
   where
     taken : (moment : ℕ) → (e.timers.max_ack_delay ≡ Some moment) ⊎ ((moment ≡ ack_due (arrived e now n frames).end.closing.clock) × (asks_in (map Ok frames) ≡ true))
@@ -297,12 +319,12 @@ debt_step x y call a c i = record { owes = owes }
     after_is : after.intake ≡ came_to (called x y.given call a) y
     after_is = came_behind x y call a c d.watch same
 
-    went_here : went d.watch after ≡ sents_by x.end call a
+    went_here : went d.watch after ≡ sents_by x.policy x.end call a
     went_here = went_behind x y call a c d.watch same
 
-    by_acks : (b : Bool) → acknowledges (sents_by x.end call a) ≡ b → (called x y.given call a).end.closing.state ≡ states.Open → Owes (debt_told (lens x y) t d) (called x y.given call a).end
+    by_acks : (b : Bool) → acknowledges (sents_by x.policy x.end call a) ≡ b → (called x y.given call a).end.closing.state ≡ states.Open → Owes (debt_told (lens x y) t d) (called x y.given call a).end
     by_acks true some still moment set =
-        let stopped = call_answered (λ (q : Pending) (o : Option ℕ). o ≡ None) (λ q. refl) x.policy x.end y.given call a c.answer c.served some in
+        let stopped = call_answered (λ (q : Pending) (o : Option ℕ). o ≡ None) (λ q. refl) x.policy x.end y.given call a c.gives.0.owes c.answer c.served some in
         let clash : ◌≡◌ {A = Option ℕ} None (Some moment) = sym stopped ∙ set in
         cc
     by_acks false none still moment set = go (call_set x y call a c moment set)
@@ -322,7 +344,7 @@ debt_step x y call a c i = record { owes = owes }
     owes : (called x y.given call a).end.closing.state ≡ states.Open → Owes (debt_of (called x y.given call a) y) (called x y.given call a).end
     owes still =
         subst (λ (b : Debt). Owes b (called x y.given call a).end) (sym (folded_more (debt_told (lens x y)) x.told t (debt_first x.final x.began x.initial_rtt)))
-        (by_acks (acknowledges (sents_by x.end call a)) refl still)
+        (by_acks (acknowledges (sents_by x.policy x.end call a)) refl still)
 
 -- over the packets and what observers know of them
 pub debt_group : Group Observed InDebt

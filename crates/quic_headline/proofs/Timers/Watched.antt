@@ -46,15 +46,15 @@ module _ (x y : Party) (call : Call) (a : Answer) (c : Calls Observed x y call a
       ∙ ap (λ (v : Watch). watch_told (lens x y) (told_of call a x.end.closing.state) v) (sym is)
 
   -- what was given more, it knows
-  pub own_behind : watch_behind.own ≡ w.own ++ sents_by x.end call a
+  pub own_behind : watch_behind.own ≡ w.own ++ sents_by x.policy x.end call a
   own_behind =
       ap (λ (v : Watch). v.own) (sym behind_is)
       ∙ c.gives_behind.1.own
-      ∙ ap (λ (ss : List Sent). ss ++ sents_by x.end call a) (sym c.gives.1.own ∙ ap (λ (v : Watch). v.own) (sym is))
+      ∙ ap (λ (ss : List Sent). ss ++ sents_by x.policy x.end call a) (sym c.gives.1.own ∙ ap (λ (v : Watch). v.own) (sym is))
 
   -- it goes at the call
-  pub went_behind : went w watch_behind ≡ sents_by x.end call a
-  went_behind = went_is w watch_behind (sents_by x.end call a) own_behind
+  pub went_behind : went w watch_behind ≡ sents_by x.policy x.end call a
+  went_behind = went_is w watch_behind (sents_by x.policy x.end call a) own_behind
 
   -- it knows what came before the call, and what came by then
   pub came_before : w.intake ≡ came_to x y
