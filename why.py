@@ -78,7 +78,8 @@ def one_of(*names):
 
 OPTIONS = {
     "receive_window": varint, "stream_window": varint, "send_window": natural, "bidi": varint,
-    "uni": varint, "messages": natural, "search": switch, "word": natural, "pcg": natural,
+    "uni": varint, "idle": varint, "messages": natural, "search": switch, "seal_limit": natural,
+    "open_limit": natural, "validated": switch, "word": natural, "pcg": natural,
 }  # fmt: skip
 DIR = one_of("bi", "uni")
 MARK = one_of(*MARKS)
@@ -99,11 +100,14 @@ CALLS = {
     "send": [("H", octets)],
     "recv": [],
     "ping": [],
+    "close": [("T", natural), ("N", varint), ("H", octets)],
+    "use_next_id": [],
     "poll": [("T", natural)],
     "timeout": [("T", natural)],
     "event": [],
     "timer": [("KIND", one_of(*TIMERS))],
     "next": [],
+    "state": [],
 }
 OF_SCRIPTS = {
     "deliver": [("T", natural), ("M", MARK), ("K", natural)],
@@ -117,6 +121,8 @@ OF_PEERS = {
         ("H", octets),
     ],
     "receive": [("T", natural), ("M", MARK), ("H", octets)],
+    "window": [],
+    "stats": [],
 }  # fmt: skip
 
 
@@ -180,7 +186,9 @@ def script_line(words):
     else:
         one_of("c", "s", "settle")(words[0])
         call({**CALLS, **OF_SCRIPTS}, words[1:])
-    return "`set` stands behind another line: options are set before all of these"
+        if words[1] == "set":
+            return "`set` stands behind another line: options are set before all of these"
+    return "an endpoint can't be made: its `seal_limit` or its `open_limit` is below 16"
 
 
 def peer_line(words):

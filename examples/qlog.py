@@ -212,6 +212,8 @@ class Run:
     def __init__(self):
         self.events = {"c": [], "s": []}
         self.packets = {}  # By endpoint and index: number, size and frames, as far as they are known.
+        self.ended = set()  # The endpoints that aren't open any more, as far as that is known.
+        self.reasons = {}  # By endpoint: why it is lost, as its application is told in the end.
 
     def packet(self, side, index):
         return self.packets.setdefault((side, index), {})
@@ -225,12 +227,19 @@ class Run:
             payload = b"" if answer[1] == "-" else bytes.fromhex(answer[1])
             self.packet(side, int(words[2])).update(number=int(answer[0]), frames=frames(payload))
 
+    def closes(self, side, index):
+        """Whether a datagram is known to close the connection."""
+        found = self.packet(side, index).get("frames", [])
+        return any(frame["frame_type"] == "connection_close" for frame in found)
+
     def polled(self, side, words, answer):
         """`E poll T`: which datagram goes, its size and its ECN codepoint."""
         if len(answer) == 3:
             index = int(answer[0])
             self.packet(side, index)["size"] = int(answer[1])
             self.add(side, int(words[2]), "transport:packet_sent", (side, index))
+            if self.closes(side, index):
+                self.ended.add(side)
 
     def delivered(self, side, words, answer):
         """`E deliver T M K`: the other endpoint's datagram arrives."""
@@ -240,19 +249,41 @@ class Run:
             self.add(side, time, "transport:packet_dropped", (*where, answer[1]))
         elif answer[0] != "nodatagram":
             self.add(side, time, "transport:packet_received", where)
-        if answer[0] == "closed":
-            self.add(side, time, "connectivity:connection_closed",
-                     {"owner": "local", "connection_code": int(answer[1])})  # fmt: skip
+        if answer[0] == "taken" and self.closes(*where):
+            self.ended.add(side)
+
+    def refused(self, side, time, code):
+        """What arrives at an endpoint closes it by an error."""
+        self.ended.add(side)
+        data = {"owner": "local", "connection_code": int(code)}
+        self.add(side, time, "connectivity:connection_closed", data)
+
+    def closed(self, side, words):
+        """`E close T N H`: the application closes, which does nothing at an endpoint that isn't open."""
+        if side in self.ended or self.reasons.get(side, "application") != "application":
+            return
+        self.ended.add(side)
+        data = {"owner": "local", "application_code": int(words[3])}
+        data["reason"] = bytes.fromhex(words[4].strip("-")).decode(errors="replace")
+        self.add(side, int(words[2]), "connectivity:connection_closed", data)
+
+    def tell(self, words, answer):
+        """What is known beforehand: what datagrams carry, and why an endpoint is lost."""
+        side, name = words[0], words[1]
+        if name == "show":
+            self.shown(side, words, answer)
+        elif name == "event" and answer[0] == "lost":
+            self.reasons[side] = answer[1]
 
     def take(self, words, answer, time):
         """Takes one line and its answer; calls that have no time stand at that of the line before."""
         side, name = words[0], words[1]
-        if name == "show":
-            self.shown(side, words, answer)
+        if name == "deliver":
+            self.delivered(side, words, answer)
         elif name == "poll":
             self.polled(side, words, answer)
-        elif name == "deliver":
-            self.delivered(side, words, answer)
+        elif name == "close":
+            self.closed(side, words)
         elif name == "write" and answer[0].isdigit():
             self.moved(side, time, words[2], int(answer[0]), "application", "transport")
         elif name in ("read", "pick") and len(answer) == 2 and answer[0].isdigit():
@@ -262,6 +293,10 @@ class Run:
             self.add(side, time, "connectivity:connection_closed", {"trigger": answer[1]})
         elif name == "event" and answer != ["none"]:
             self.add(side, time, "generic:info", {"message": "event " + " ".join(answer)})
+        if name in ("deliver", "inject") and answer[0] == "closed":
+            self.refused(side, time, answer[1])
+        if answer[0] == "failed" or name == "state" and answer[0] != "open":
+            self.ended.add(side)
 
     def moved(self, side, time, stream_id, length, giver, taker):
         """Bytes of a stream go between the application and the connection."""
@@ -275,14 +310,17 @@ def told(text, answers):
     lines = lines_of(text)
     if len(lines) != len(answers):
         raise Failed(f"the script has {len(lines)} lines to be answered, and there are {len(answers)} answers")
-    for words, answer in zip(lines, answers):
-        said = answer.split(" ")
+    told_of = [(words, answer.split(" ")) for words, answer in zip(lines, answers)]
+    for words, said in told_of:
+        if words[0] != "settle" and said[:2] != words[:2]:
+            raise Failed(f"`{' '.join(words)}` isn't answered by `{' '.join(said)}`")
+        if words[0] != "settle":
+            run.tell(words, said[2:])
+    for words, said in told_of:
         if words[0] == "settle":
             time = int(said[1]) if len(said) == 2 and said[1].isdigit() else time
             continue
-        if said[:2] != words[:2]:
-            raise Failed(f"`{' '.join(words)}` isn't answered by `{answer}`")
-        if words[1] in ("poll", "timeout", "deliver", "inject"):
+        if words[1] in ("poll", "timeout", "deliver", "inject", "close"):
             time = int(words[2])
         run.take(words, said[2:], time)
     return run

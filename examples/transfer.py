@@ -7,7 +7,9 @@
 Each endpoint is a `quic-peer` process with a socket of its own, driven by the lines of
 docs/PEER.md. The client writes the file to a stream, and the server sends back what it read there;
 then the digests are compared. In place of a handshake this program hands each endpoint the other's
-parameters and connection ID. The keys are stand-ins that hide nothing.
+parameters and connection ID. The keys are stand-ins that hide nothing. At the end the client closes
+the connection, and the server hears of it. Where nothing comes from one endpoint for five seconds,
+the other gives the connection up.
 """
 import hashlib
 import os
@@ -22,7 +24,9 @@ PROGRAM = os.path.join(os.path.dirname(os.path.dirname(os.path.abspath(__file__)
 PIECE = 64 * 1024  # The most bytes of a write and of a read.
 BURST = 32  # The most datagrams that a party takes, and sends, in one turn.
 LONGEST_WAIT = 1_000_000_000
+IDLE = 5_000  # For how many milliseconds nothing may come.
 START = time.monotonic_ns()
+LOST = {"peer": "the peer closed it", "idle": f"nothing came for {IDLE / 1000:g} seconds"}
 
 
 class Failed(Exception):
@@ -63,10 +67,13 @@ class Endpoint:
         self.notice = self.process.stdout.readline().decode().strip()
         self.socket = bound_socket()
         self.id = secrets.token_hex(8)
+        self.ask("set", "idle", IDLE)
         (self.parameters,) = self.ask("params")
         self.peer = None  # Where datagrams go.
         self.readable = set()
         self.writable = set()
+        self.parting = False  # Whether the connection is to be closed now.
+        self.lost = None  # Why it is lost, once it is.
 
     def ask(self, *words):
         """Writes a line, and gives the words of its answer behind the first."""
@@ -119,13 +126,19 @@ class Endpoint:
             if event == ["none"]:
                 return
             if event[0] == "lost":
-                raise Failed(f"endpoint {self.side} lost the connection: {event[1]}")
+                self.part(event[1])
             if event[0] == "opened":
                 self.readable.update(self.ask("accept", event[1]))
             if event[0] == "readable":
                 self.readable.add(event[1])
             if event[0] == "writable":
                 self.writable.add(event[1])
+
+    def part(self, reason):
+        """The connection is lost for this reason, which is a fault unless it is to be closed."""
+        self.lost = reason
+        if not self.parting:
+            raise Failed(f"endpoint {self.side} lost the connection: {LOST.get(reason, reason)}")
 
     def send(self):
         """Sends the datagrams that are ready: whether there may be more."""
@@ -158,6 +171,11 @@ class Endpoint:
             else:
                 data += bytes.fromhex(answer[1])
         return False
+
+    def figures(self):
+        """What was counted of the endpoint, by the names of its figures."""
+        words = self.ask("stats")
+        return {name: int(value) for name, value in zip(words[::2], words[1::2])}
 
     def close(self):
         """Ends the process, which has run all its lines."""
@@ -206,6 +224,24 @@ def there_and_back(parties, client, server, data):
     return len(set(digests)) == 1
 
 
+def tell_figures(endpoint):
+    """Says how many packets an endpoint lost, and how long a round trip took."""
+    figures = endpoint.figures()
+    lost, sent, rtt = (figures[name] for name in ("lost_packets", "sent_packets", "rtt"))
+    print(f"{endpoint.side}: {lost} of {sent} packets lost, a round trip takes {rtt / 1e6:.2f} ms")
+
+
+def take_leave(parties, client, server):
+    """The client closes the connection, and the server hears of it, or of nothing more."""
+    client.parting = server.parting = True
+    client.ask("close", now(), 0, b"moved".hex())
+    while server.lost is None or client.ask("state")[0] != "drained":
+        if not any([party.turn() for party in parties]):
+            wait(parties)
+    heard = "of it" if server.lost == "peer" else "nothing more"
+    print(f"the client closed the connection, and the server heard {heard}")
+
+
 def contents(path):
     """The bytes of a file."""
     try:
@@ -229,6 +265,9 @@ def two_endpoints():
 def run(parties, client, server, data):
     """Moves bytes there and back between two endpoints that were made: the exit status."""
     same = there_and_back(parties, client, server, data)
+    tell_figures(client)
+    tell_figures(server)
+    take_leave(parties, client, server)
     client.close()
     server.close()
     print("the digests are the same" if same else "THE DIGESTS DIFFER")

@@ -5,7 +5,6 @@ use Rattle.std.specs.Option.{option_or, is_some}
 use Rattle.quic_sets.specs.Runs.{Run, Has}
 use Rattle.quic_sets.specs.Spans.{Span, AreSpans, in_spans, in_span, width_of, with_run}
 use Rattle.quic_assembler.specs.declared.assembler.Chunk.{Chunk}
-use Rattle.quic_assembler.specs.declared.assembler.parts.TheConstants.{MOST_PARTS, SHORT_PART}
 use Rattle.quic_sets.specs.Parts.{Part, start, byte_from}
 
 -- what has arrived
@@ -119,16 +118,24 @@ abbrev pub waiting_bytes : List Part → ℕ
 waiting_bytes [] = 0
 waiting_bytes (p ∷ ps) = length p.1 + waiting_bytes ps
 
+-- so many parts may wait that touch others, and parts of so many bytes each are short: our choice,
+-- as RFC 9000, section 21.7 names no number
+abbrev pub most_parts : ℕ
+most_parts = 2048
+
+abbrev pub short_part : ℕ
+short_part = 64
+
 -- whether there are at most 64 of them for each part
 abbrev pub are_short : List Part → Bool
-are_short ps = leb (waiting_bytes ps) (SHORT_PART * length ps)
+are_short ps = leb (waiting_bytes ps) (short_part * length ps)
 
--- whether there are more than MOST_PARTS parts, more of them touch the one before than there are
+-- whether there are more than 2048 parts, more of them touch the one before than there are
 -- runs, and they are short: then more than half of them go where they are joined, and at most 64
 -- bytes are copied for each of them; so the copies of any number of joins are no more than 128
 -- bytes for each part that goes
 abbrev pub is_crowded : List Part → Bool
-is_crowded ps = ltb MOST_PARTS (length ps) && (ltb (runs_of ps) (length ps - runs_of ps) && are_short ps)
+is_crowded ps = ltb most_parts (length ps) && (ltb (runs_of ps) (length ps - runs_of ps) && are_short ps)
 
 -- the parts, joined where there are too many
 abbrev pub settled : List Part → List Part

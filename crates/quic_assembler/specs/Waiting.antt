@@ -4,8 +4,7 @@ use Rattle.std.specs.Prelude.{◌≡◌, ℕ, ◌+◌, ◌-◌, ◌*◌, ◌^◌
 use Rattle.std.specs.Option.{option_or, is_some}
 use Rattle.std.specs.List.{slice_get}
 use Rattle.quic_assembler.specs.declared.assembler.Chunk.{Chunk}
-use Rattle.quic_assembler.specs.declared.assembler.parts.TheConstants.{MOST_PARTS, SHORT_PART}
-use Rattle.quic_assembler.specs.Arrived.{Arrived, IsLawful, byte_at, waits, is_given, runs_of, begins_run, count_to, in_chunk}
+use Rattle.quic_assembler.specs.Arrived.{Arrived, IsLawful, most_parts, short_part, byte_at, waits, is_given, runs_of, begins_run, count_to, in_chunk}
 use Rattle.quic_sets.specs.Parts.{Part, start, byte_from}
 
 -- whether a part begins at an offset
@@ -34,7 +33,7 @@ begins_then a at bytes offset = begins_part a.parts offset || begins_new a at by
 
 -- whether so many parts, in so many runs and with so many offsets that wait, are too many
 abbrev pub are_too_many : ℕ → ℕ → ℕ → Bool
-are_too_many parts runs offsets = ltb MOST_PARTS parts && (ltb runs (parts - runs) && leb offsets (SHORT_PART * parts))
+are_too_many parts runs offsets = ltb most_parts parts && (ltb runs (parts - runs) && leb offsets (short_part * parts))
 
 -- the same bytes, once they came: where an offset waits its byte stands; at another that wasn't
 -- given the byte that came, if one did. A part begins where one did and where new bytes begin; or,

@@ -168,7 +168,8 @@ impl Assembler {
     ///
     /// # Errors
     ///
-    /// [`IllegalOrderedRead`] for an ordered read after an unordered one; nothing changed.
+    /// - [`IllegalOrderedRead`]: the read is ordered, and came after an unordered one. Nothing
+    ///   changes.
     pub fn ensure_ordering(&mut self, ordered: bool) -> Result<(), IllegalOrderedRead>
         ensures refused { is_err result ≡ (ordered && self.old.unordered) }
         ensures new { self.new ≡ after_ordering self.old ordered }
@@ -201,8 +202,8 @@ impl Assembler {
     ///
     /// # Errors
     ///
-    /// [`AllocError`] where memory lacks; nothing changed. It lacks none where no byte is new and
-    /// the parts needn't be joined.
+    /// - [`AllocError`]: an allocation fails, where a byte is new or segments are to be joined.
+    ///   Nothing changes.
     pub fn insert(
         &mut self,
         offset: u64,
@@ -278,8 +279,8 @@ impl Assembler {
     ///
     /// # Errors
     ///
-    /// [`AllocError`] where memory lacks; nothing changed. An ordered read fails only where it cuts
-    /// a part, and an unordered one only where a byte waits. A read of no bytes never does.
+    /// - [`AllocError`]: an allocation fails: in an ordered read only where it cuts a segment, in
+    ///   an unordered one only where a byte waits, and in none with a `max` of 0. Nothing changes.
     pub fn read(&mut self, max: usize) -> Result<Option<Chunk>, AllocError>
         ensures ok { IfOk result (λ chunk. chunk ≡ given_by self.old max) }
         ensures new { OnOk result (self.new ≡ after_read self.old max) }

@@ -11,6 +11,10 @@ use std::mem;
 pub const PATTERN: usize = 65536;
 
 /// Twice the same 64 KiB: what is written comes from here.
+///
+/// # Errors
+///
+/// - [`AllocError`]: an allocation fails.
 pub fn pattern(alloc: Global) -> Result<Vec<u8>, AllocError> {
     let mut bytes = Vec::with_capacity(alloc, 2 * PATTERN)?;
     for index in 0..2 * PATTERN {
@@ -26,11 +30,18 @@ pub fn open(end: &mut End, dir: Dir) -> Option<StreamId> {
 }
 
 /// Accepts a stream of a kind that the peer opened, if one is left.
-fn accept(end: &mut End, dir: Dir) -> Option<StreamId> {
+pub fn accept(end: &mut End, dir: Dir) -> Option<StreamId> {
     end.streams().accept(dir)
 }
 
 /// Writes on a stream: how many bytes were taken, 0 where none may be.
+///
+/// # Errors
+///
+/// - [`Fault::ClosedStream`]: there is no such stream, or it was finished or reset. No byte is
+///   taken.
+/// - [`Fault::Stopped`]: the peer sent STOP_SENDING for the stream. No byte is taken.
+/// - [`Fault::Memory`]: an allocation fails. No byte is taken.
 pub fn write(end: &mut End, id: StreamId, data: &[u8]) -> Result<usize, Fault> {
     match end.send_stream(id).write(data) {
         Ok(count) => Ok(count),
@@ -40,6 +51,15 @@ pub fn write(end: &mut End, id: StreamId, data: &[u8]) -> Result<usize, Fault> {
 }
 
 /// Writes on a stream all of these bytes, and ends it.
+///
+/// # Errors
+///
+/// - [`Fault::ClosedStream`]: there is no such stream, or it was finished or reset. No byte is
+///   taken.
+/// - [`Fault::Stopped`]: the peer sent STOP_SENDING for the stream. No byte is taken.
+/// - [`Fault::WriteBlocked`]: not all bytes may be written. Those that may be are.
+/// - [`Fault::Memory`]: an allocation fails. All bytes may be written by then, and the stream isn't
+///   ended.
 pub fn write_all(end: &mut End, id: StreamId, data: &[u8]) -> Result<(), Fault> {
     if write(end, id, data)? != data.len() {
         return Err(Fault::WriteBlocked);
@@ -48,12 +68,23 @@ pub fn write_all(end: &mut End, id: StreamId, data: &[u8]) -> Result<(), Fault> 
 }
 
 /// Ends a stream.
+///
+/// # Errors
+///
+/// - [`Fault::ClosedStream`]: there is no such stream, or it was finished or reset. Nothing
+///   changes.
+/// - [`Fault::Stopped`]: the peer sent STOP_SENDING for the stream. Nothing changes.
+/// - [`Fault::Memory`]: an allocation fails. Nothing changes.
 pub fn finish(end: &mut End, id: StreamId) -> Result<(), Fault> {
     end.send_stream(id).finish()?;
     Ok(())
 }
 
 /// Takes all events of an end that reads nothing.
+///
+/// # Errors
+///
+/// - [`Fault::Lost`]: the connection was lost. The events before that are taken.
 pub fn take_events(end: &mut End) -> Result<(), Fault> {
     for _ in 0..u64::MAX {
         match end.poll() {
@@ -92,6 +123,10 @@ impl Events {
     }
 
     /// The next stream that became readable, newly opened ones too; none once all events are taken.
+    ///
+    /// # Errors
+    ///
+    /// - [`Fault::Lost`]: the connection was lost. The events before that are taken.
     pub fn next(&mut self, end: &mut End) -> Result<Option<StreamId>, Fault> {
         for _ in 0..u64::MAX {
             if let Some(dir) = self.accepts {
@@ -160,6 +195,11 @@ impl Reader {
     }
 
     /// Reads all streams that became readable: whether one ended.
+    ///
+    /// # Errors
+    ///
+    /// - [`Fault::Lost`]: the connection was lost. What was read before is counted.
+    /// - [`Fault`]: as [`read`](Self::read) answers. What was read before is counted.
     pub fn read_all(&mut self, end: &mut End, events: &mut Events) -> Result<bool, Fault> {
         let mut has_ended = false;
         for _ in 0..u64::MAX {
@@ -172,6 +212,14 @@ impl Reader {
     }
 
     /// Reads in order all that is there: whether the stream ended.
+    ///
+    /// # Errors
+    ///
+    /// - [`Fault::IllegalOrderedRead`]: the stream was read out of order before. Nothing is read.
+    /// - [`Fault::Reset`]: the peer reset the stream.
+    /// - [`Fault::OtherBytes`]: other bytes came than are expected. What was read before is
+    ///   counted.
+    /// - [`Fault::Memory`]: an allocation fails. What was read before is counted.
     pub fn read(&mut self, end: &mut End, id: StreamId) -> Result<bool, Fault> {
         match end.recv_stream(id).read(true) {
             Ok(mut chunks) => {

@@ -90,6 +90,13 @@ fn expected<R: AllocGlobal>(rt: &R, plan: &Plan) -> Result<Option<Vec<u8>>, Faul
 }
 
 /// One stream is written and read.
+///
+/// # Errors
+///
+/// - [`Fault`]: as [`hold_open`] answers.
+/// - [`Fault::Memory`]: an allocation fails.
+/// - [`Fault::NoStream`]: the stream can't be opened, as the peer's limit is reached.
+/// - [`Fault`]: as [`Pair::measure`] answers.
 pub fn run<R: Clock + CpuClock + AllocGlobal>(
     rt: &R,
     pair: &mut Pair,

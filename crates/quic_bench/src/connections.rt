@@ -28,6 +28,12 @@ fn all_at_rest(alloc: Global, limits: &Limits, count: u64) -> Result<Vec<Box<Bot
 }
 
 /// So many connections come to rest, both ends of each, and are kept.
+///
+/// # Errors
+///
+/// - [`Fault::Clock`]: a clock can't be read.
+/// - [`Fault`]: as [`Pair::new`] and [`Pair::settle`] answer. The connections that were made are
+///   dropped.
 pub fn run<R: Clock + CpuClock + AllocGlobal>(
     rt: &R,
     pair: &mut Pair,

@@ -69,6 +69,12 @@ impl Work for Duplex {
 }
 
 /// So many bytes go each way.
+///
+/// # Errors
+///
+/// - [`Fault::Memory`]: an allocation fails.
+/// - [`Fault::NoStream`]: a stream can't be opened, as the peer's limit is reached.
+/// - [`Fault`]: as [`Pair::measure`] answers.
 pub fn run<R: Clock + CpuClock + AllocGlobal>(
     rt: &R,
     pair: &mut Pair,

@@ -11,12 +11,15 @@ use thiserror::Error;
 /// fits into a register.
 #[derive(Clone, Copy, Debug, PartialEq, Eq, Error)]
 pub enum Fault {
-    /// Memory lacked.
+    /// Out of memory: an allocation failed.
     #[error("out of memory")]
     Memory,
     /// The clock can't be read.
     #[error("the clock can't be read: {0}")]
     Clock(io::ErrorKind),
+    /// Something can't be printed.
+    #[error("it can't be printed: {0}")]
+    Print(io::ErrorKind),
     /// No ends can be made.
     #[error("no ends can be made: {0}")]
     Config(#[from] ConfigError),
@@ -50,7 +53,7 @@ pub enum Fault {
     /// The connection was lost.
     #[error("the connection was lost")]
     Lost,
-    /// Memory lacked within an end, now or before.
+    /// An allocation failed within an endpoint, now or before.
     #[error("an end has failed")]
     Failed,
     /// An end gave no datagram where it had one to send.

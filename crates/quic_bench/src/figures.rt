@@ -12,6 +12,10 @@ pub struct Watch {
 
 impl Watch {
     /// Work begins.
+    ///
+    /// # Errors
+    ///
+    /// - [`io::Error`]: a clock can't be read.
     pub fn start<R: Clock + CpuClock>(rt: &R) -> io::Result<Self> {
         Ok(Watch {
             cpu: rt.process_cpu_time()?,
@@ -20,6 +24,10 @@ impl Watch {
     }
 
     /// How long it has taken, and how much of the processor's time, in nanoseconds.
+    ///
+    /// # Errors
+    ///
+    /// - [`io::Error`]: a clock can't be read.
     pub fn read<R: Clock + CpuClock>(&self, rt: &R) -> io::Result<(u128, u128)> {
         let wall = self.wall.elapsed(rt)?;
         let cpu = rt.process_cpu_time()?.saturating_sub(self.cpu);
@@ -61,6 +69,10 @@ pub struct Figures {
 
 impl Figures {
     /// Prints what varies and what doesn't, on a line. The process held so much memory before.
+    ///
+    /// # Errors
+    ///
+    /// - [`io::Error`]: the line can't be printed. Some of it may be.
     pub fn print_all<R: Print + Files + Alloc>(&self, rt: &R, before: Memory) -> io::Result<()> {
         let Figures {
             ns,
@@ -80,6 +92,10 @@ impl Figures {
     }
 
     /// Prints what doesn't vary, on a line behind a name.
+    ///
+    /// # Errors
+    ///
+    /// - [`io::Error`]: the line can't be printed. Some of it may be.
     pub fn print_counts<R: Print>(&self, rt: &R, name: &str) -> io::Result<()> {
         let Figures {
             units,

@@ -38,6 +38,11 @@ fn take_all(lane: &mut Lane) -> u64 {
 }
 
 /// So many datagrams go through a lane, in whole hundreds.
+///
+/// # Errors
+///
+/// - [`Fault::Clock`]: a clock can't be read.
+/// - [`Fault::Memory`]: an allocation fails. Datagrams may be left in the lane.
 pub fn run<R: Clock + CpuClock>(rt: &R, pair: &mut Pair, count: u64) -> Result<Figures, Fault> {
     pair.begin();
     let watch = Watch::start(rt)?;

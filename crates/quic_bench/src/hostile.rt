@@ -1,71 +1,132 @@
-//! Datagrams come that don't open, and repeats of one that was taken.
-use crate::application::{open, pattern, write};
+//! A peer attacks, which has the keys: what it costs the end that takes its datagrams.
+pub mod attack;
+mod change;
+mod frames;
+pub mod mutated;
+mod peer;
+mod tally;
+mod victim;
+
 use crate::fault::Fault;
 use crate::figures::{Figures, Watch};
-use crate::pair::{Pair, receive};
-use quic_connection::{Dir, DropReason, Instant, Received};
-use std::alloc::AllocError;
+use crate::hostile::attack::{Attack, Plan};
+use crate::hostile::peer::Peer;
+use crate::hostile::victim::Victim;
+use crate::lane::ONE_WAY;
+use crate::pair::{Pair, expire};
+use quic_connection::{DropReason, Instant, Received};
+use std::alloc::Global;
 use std::rt::Clock;
 use std::time::CpuClock;
 
-/// How many bytes a stream frame of the datagram has.
-const FRAME: usize = 1100;
+/// How many packets ask for an acknowledgement before forgotten numbers are named: each second one
+/// is answered by a packet that asks for none, of which 1000 are tracked.
+const TO_FORGET: u64 = 5200;
 
-/// A datagram with bytes of a stream, which the server has taken.
-fn taken_datagram<R: AllocGlobal>(rt: &R, pair: &mut Pair) -> Result<Vec<u8>, Fault> {
-    let data = pattern(rt.alloc())?;
-    let client = &mut pair.ends.as_mut().client;
-    let id = open(client, Dir::Uni).ok_or(Fault::NoStream)?;
-    write(client, id, data.get(..FRAME).unwrap_or(&[]))?;
-    let now = Instant::from_nanos(pair.now);
-    let mut datagram = Vec::new(rt.alloc());
-    if client.poll_transmit(now, &mut datagram)?.is_none() {
-        return Err(Fault::NoDatagram);
-    }
-    let mut copy = Vec::from_slice(rt.alloc(), &datagram)?;
-    if !receive(&mut pair.ends.as_mut().server, pair.now, None, &mut copy)? {
-        return Err(Fault::Dropped(DropReason::Duplicate));
-    }
-    Ok(datagram)
+/// A peer that attacks, and the end that it attacks.
+#[derive(Drop)]
+struct Siege {
+    peer: Peer,
+    victim: Victim,
 }
 
-/// What becomes of a copy of a datagram, which is broken before if it is to be.
-fn answer(
-    pair: &mut Pair,
-    datagram: &[u8],
-    is_broken: bool,
-    copy: &mut Vec<u8>,
-) -> Result<Received, AllocError> {
-    copy.clear();
-    copy.extend_from_slice(datagram)?;
-    if is_broken && let Some(last) = copy.last_mut() {
-        *last ^= 1;
+/// Whether an end has to answer so to a datagram of an attack.
+fn is_due(attack: Attack, answer: &Received) -> bool {
+    match (attack, answer) {
+        (Attack::Unopened, Received::Dropped(DropReason::NotOpened)) => true,
+        (Attack::Repeated, Received::Dropped(DropReason::Duplicate)) => true,
+        (Attack::Unopened | Attack::Repeated, _) => false,
+        (_, Received::Taken) => true,
+        _ => false,
     }
-    let now = Instant::from_nanos(pair.now);
-    Ok(pair.ends.as_mut().server.receive(now, None, copy))
 }
 
-/// So many datagrams come, of which so many of 1000 repeat one that was taken, and the others don't
-/// open. Each has to be dropped.
+impl Siege {
+    /// Nothing was sent.
+    fn new(alloc: Global) -> Self {
+        Siege {
+            peer: Peer::new(alloc),
+            victim: Victim::new(alloc),
+        }
+    }
+
+    /// The peer sends a datagram, which the server takes; then it and its application have a turn.
+    fn round(&mut self, pair: &mut Pair, plan: &Plan) -> Result<(), Fault> {
+        if plan.acknowledges {
+            pair.now = pair.now.saturating_add(ONE_WAY);
+        } else {
+            self.peer.owed.clear();
+        }
+        self.peer.compose(plan)?;
+        let server = &mut pair.ends.as_mut().server;
+        let now = Instant::from_nanos(pair.now);
+        let answer = server.receive(now, None, &mut self.peer.datagram);
+        if !is_due(plan.attack, &answer) {
+            return Err(answer.into());
+        }
+        expire(server, pair.now)?;
+        self.victim.act(server, plan.reads)?;
+        self.victim.transmit(server, pair.now, &mut self.peer.owed)
+    }
+
+    /// So many rounds.
+    fn rounds(&mut self, pair: &mut Pair, plan: &Plan, count: u64) -> Result<(), Fault> {
+        for _ in 0..count {
+            self.round(pair, plan)?;
+        }
+        Ok(())
+    }
+
+    /// What comes before an attack.
+    fn prepare(&mut self, pair: &mut Pair, plan: &Plan) -> Result<(), Fault> {
+        match plan.attack {
+            Attack::Forgotten => {
+                // This PING is never acknowledged.
+                pair.ends.as_mut().server.ping();
+                self.rounds(pair, &Plan::before(Attack::Pings, 0), TO_FORGET)?;
+            }
+            Attack::LateIds => self.rounds(pair, &Plan::before(Attack::NewIds, 1200), 1)?,
+            Attack::Repeated => self.take_first(pair, plan)?,
+            _ => {}
+        }
+        self.peer.items = 0;
+        Ok(())
+    }
+
+    /// The datagram comes that is to be repeated.
+    fn take_first(&mut self, pair: &mut Pair, plan: &Plan) -> Result<(), Fault> {
+        self.peer.compose(plan)?;
+        let server = &mut pair.ends.as_mut().server;
+        match server.receive(Instant::from_nanos(pair.now), None, &mut self.peer.datagram) {
+            Received::Taken => self.victim.act(server, true),
+            answer => Err(answer.into()),
+        }
+    }
+}
+
+/// A peer attacks. The units are the items that it sent, of which a datagram may carry many; the
+/// checksum is how many bytes the server sent.
+///
+/// # Errors
+///
+/// - [`Fault::Memory`], [`Fault::Failed`]: an allocation fails, or the server failed before.
+/// - [`Fault::Taken`], [`Fault::Dropped`], [`Fault::Closed`]: a datagram of the attack got another
+///   answer than it has to get.
+/// - [`Fault`]: as the server's application answers, for example [`Fault::Lost`].
+/// - [`Fault::Clock`]: a clock can't be read.
 pub fn run<R: Clock + CpuClock + AllocGlobal>(
     rt: &R,
     pair: &mut Pair,
-    count: u64,
-    repeats: u64,
+    plan: &Plan,
 ) -> Result<Figures, Fault> {
-    let datagram = taken_datagram(rt, pair)?;
-    let mut copy = Vec::with_capacity(rt.alloc(), datagram.len())?;
+    let mut siege = Siege::new(rt.alloc());
+    siege.prepare(pair, plan)?;
     pair.begin();
+    let (sent, bytes) = (siege.victim.sent, siege.victim.bytes);
     let watch = Watch::start(rt)?;
-    let mut opened = 0u64;
-    for index in 0..count {
-        // 617 and 1000 have no common divisor: each residue comes once in 1000.
-        let is_broken = index % 1000 * 617 % 1000 >= repeats;
-        match answer(pair, &datagram, is_broken, &mut copy)? {
-            Received::Dropped(DropReason::NotOpened) => {}
-            Received::Dropped(DropReason::Duplicate) => opened = opened.wrapping_add(1),
-            other => return Err(other.into()),
-        }
-    }
-    pair.figures(rt, &watch, count, opened)
+    siege.rounds(pair, plan, plan.count)?;
+    pair.up.sent = plan.count;
+    pair.down.sent = siege.victim.sent.saturating_sub(sent);
+    let bytes = siege.victim.bytes.saturating_sub(bytes);
+    pair.figures(rt, &watch, siege.peer.items, bytes)
 }

@@ -84,7 +84,7 @@ impl Lane {
     }
 
     /// The next word of the generator (splitmix64).
-    fn draw(&mut self) -> u64 {
+    pub fn draw(&mut self) -> u64 {
         self.random = self.random.wrapping_add(0x9e37_79b9_7f4a_7c15);
         let word = self.random;
         let word = (word ^ (word >> 30)).wrapping_mul(0xbf58_476d_1ce4_e5b9);
@@ -93,6 +93,10 @@ impl Lane {
     }
 
     /// An empty buffer with room for a datagram, which was used before if possible.
+    ///
+    /// # Errors
+    ///
+    /// - [`AllocError`]: an allocation fails.
     pub fn buffer(&mut self) -> Result<Vec<u8>, AllocError> {
         match self.spare.pop() {
             Some(buffer) => Ok(buffer),
@@ -110,6 +114,10 @@ impl Lane {
     }
 
     /// Sends a datagram at a moment.
+    ///
+    /// # Errors
+    ///
+    /// - [`AllocError`]: an allocation fails. The datagram is counted as sent, and dropped.
     pub fn push(
         &mut self,
         now: u64,

@@ -19,16 +19,22 @@
 //!   bytes one way and then `answer` bytes the other way.
 //! - `messages count= size= ahead=`: so many messages, of which `ahead` at most are under way.
 //! - `connections count=`: so many connections of two ends each come to rest and are kept.
-//! - `hostile count= repeats=`: so many datagrams that don't open, but for so many of 1000 that
-//!   repeat one which was taken.
+//! - `hostile ATTACK count= size= streams= acks= reads=`: a client that has the keys sends so many
+//!   datagrams of at most so many bytes, filled with what the attack's name says (the head of
+//!   `src/hostile/attack.rt` has them), and may open so many streams of each kind. Unless `acks` is
+//!   0 it acknowledges what it gets, and a datagram comes each 10 ms, else all at once. Unless
+//!   `reads` is 0 the server's application reads what comes. `units=` are the frames, ranges or
+//!   pieces that came. In `hostile mutated count= streams= seed=` both ends send, and half of their
+//!   payloads are changed in one byte before they are sealed; lines in front of the figures say
+//!   what became of so many datagrams, and `units=` are those that were changed.
 //! - `floor count=`: so many datagrams through a lane alone, in whole hundreds.
 //!
 //! All take `loss=` and `reorder=` (how many of 1000 datagrams are lost, or come late), `seed=`,
 //! `batch=`, how many datagrams an end takes before it may send, and `window=`, how many bytes may
 //! come of a stream before any is read; `hostile`, `floor` and `connections` do nothing with most
 //! of these. A datagram counts as lost that comes too late for its end to tell whether it came
-//! before. A workload or name that it doesn't know ends it with status 2, and so does work that
-//! can't be done: that loses messages or each datagram, takes none at once, writes or reads no
+//! before. A workload, attack or name that it doesn't know ends it with status 2, and so does work
+//! that can't be done: that loses messages or each datagram, takes none at once, writes or reads no
 //! byte at a time, has pieces of more than 65,536 bytes, or leaves more unread than the window.
 //!
 //! `quic_bench check` does a little of each, and prints counts and a checksum that don't vary.
@@ -53,6 +59,8 @@ mod task;
 use crate::bulk::Plan;
 use crate::fault::Fault;
 use crate::figures::{Figures, Memory};
+use crate::hostile::attack::Attack;
+use crate::hostile::mutated;
 use crate::pair::Pair;
 use crate::task::{Task, Workload};
 use anyhow::Result;
@@ -63,7 +71,7 @@ use std::time::CpuClock;
 
 /// What `check` does: each line is a task. With 17,000 streams beside an idle one, its id falls out
 /// of the ring in which the others stand.
-const CHECKS: [&str; 14] = [
+const CHECKS: [&str; 39] = [
     "bulk bytes=300001 verify=1",
     "bulk bytes=300001 verify=1 loss=50 reorder=50 seed=7",
     "bulk bytes=20001 verify=1 write=50 read=50 idle=3",
@@ -76,7 +84,32 @@ const CHECKS: [&str; 14] = [
     "idle count=200",
     "requests count=200 open=10",
     "messages count=500 size=100 ahead=100",
-    "hostile count=1000 repeats=300",
+    "hostile honest count=20",
+    "hostile unopened count=20",
+    "hostile repeated count=20",
+    "hostile forgotten count=2",
+    "hostile gaps count=100 size=0",
+    "hostile pieces-up count=12",
+    "hostile pieces-down count=12",
+    "hostile pieces-spread count=12",
+    "hostile pieces-joined count=24",
+    "hostile pieces-covered count=20",
+    "hostile padding count=2",
+    "hostile pings count=2",
+    "hostile at-once count=2",
+    "hostile bytes count=2",
+    "hostile starts count=2",
+    "hostile resets count=2",
+    "hostile stops count=4 acks=1",
+    "hostile limits count=4 streams=100",
+    "hostile challenges count=4 acks=1",
+    "hostile new-ids count=4 acks=1",
+    "hostile late-ids count=4 acks=1",
+    "hostile retirements count=4 acks=1",
+    "hostile empty-messages count=2 reads=0",
+    "hostile byte-messages count=2",
+    "hostile streams count=2 size=0",
+    "hostile mutated count=2000 streams=4",
     "floor count=1000",
 ];
 
@@ -127,7 +160,10 @@ fn work<R: Runtime + CpuClock + AllocGlobal>(
         Workload::Idle { count } => streams::run_idle(rt, pair, count),
         Workload::Connections { count } => connections::run(rt, pair, count),
         Workload::Messages { count, size, ahead } => { messages::run(rt, pair, count, size, ahead) }
-        Workload::Hostile { count, repeats } => hostile::run(rt, pair, count, repeats),
+        Workload::Hostile { plan } if plan.attack == Attack::Mutated => {
+            mutated::run(rt, pair, plan.count)
+        }
+        Workload::Hostile { plan } => hostile::run(rt, pair, &plan),
         Workload::Floor { count } => floor::run(rt, pair, count),
     }
 }

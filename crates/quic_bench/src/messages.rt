@@ -79,6 +79,11 @@ impl Work for Messages {
 }
 
 /// So many messages of so many bytes go, of which so many at most are under way.
+///
+/// # Errors
+///
+/// - [`Fault::Memory`]: an allocation fails.
+/// - [`Fault`]: as [`Pair::measure`] answers.
 pub fn run<R: Clock + CpuClock + AllocGlobal>(
     rt: &R,
     pair: &mut Pair,

@@ -9,8 +9,7 @@ use quic_connection::{
     Config, ConfigError, Connection, DropReason, EcnCodepoint, Ends, Instant, Making, NewReno,
     NewRenoConfig, Received, TransportConfig,
 };
-use quic_run_core::Words;
-use quic_run_core::key::{PlainHeaderKey, PlainKey, keys_for};
+use quic_keys::{PlainHeaderKey, PlainKey, Words, keys_for};
 use quic_wire_core::{ConnectionId, Side, VarInt};
 use std::alloc::{AllocError, Global};
 use std::rt::Clock;
@@ -61,9 +60,17 @@ impl Limits {
 /// What the applications of both ends do.
 pub trait Work {
     /// The client's turn.
+    ///
+    /// # Errors
+    ///
+    /// - [`Fault`]: the work can't go on, by its application.
     fn client(&mut self, end: &mut End) -> Result<(), Fault>;
 
     /// The server's turn: whether its application has everything.
+    ///
+    /// # Errors
+    ///
+    /// - [`Fault`]: the work can't go on, by its application.
     fn server(&mut self, end: &mut End) -> Result<bool, Fault>;
 
     /// How many units of work the server's application has.
@@ -121,12 +128,14 @@ fn id_of(side: Side) -> ConnectionId {
     }
 }
 
-/// The settings of an end. Datagrams keep the size of the lanes.
+/// The settings of an end. Datagrams keep the size of the lanes, and no idle timeout runs, so that
+/// both ends can rest.
 fn transport(limits: &Limits) -> TransportConfig {
     let mut transport = TransportConfig::default();
     transport.initial_mtu(LANE_MTU);
     transport.min_mtu(LANE_MTU);
     transport.mtu_discovery_config(None);
+    transport.max_idle_timeout(None);
     transport.max_concurrent_uni_streams(limits.streams);
     transport.max_concurrent_bidi_streams(limits.streams);
     transport.stream_receive_window(limits.window);
@@ -160,6 +169,11 @@ fn boxed(alloc: Global, ends: BothEnds) -> Result<Box<BothEnds>, AllocError> {
 
 impl Pair {
     /// Two ends at the moment 0, which take so many datagrams before they may send.
+    ///
+    /// # Errors
+    ///
+    /// - [`Fault::Config`]: the endpoints can't be made.
+    /// - [`Fault::Memory`]: an allocation fails.
     pub fn new(alloc: Global, limits: &Limits, batch: u64) -> Result<Self, Fault> {
         let ends = boxed(alloc, new_ends(alloc, limits)?)?;
         Ok(Pair {
@@ -173,7 +187,22 @@ impl Pair {
         })
     }
 
+    /// Both ends go, and new ones begin, which are made at the moment 0.
+    ///
+    /// # Errors
+    ///
+    /// - [`Fault::Config`]: the endpoints can't be made. The old ones stay.
+    /// - [`Fault::Memory`]: an allocation fails. The old ones stay.
+    pub fn renew(&mut self, alloc: Global) -> Result<(), Fault> {
+        self.ends = boxed(alloc, new_ends(alloc, &self.limits)?)?;
+        Ok(())
+    }
+
     /// Each end learns the round trip from a PING, as from a handshake, and both come to rest.
+    ///
+    /// # Errors
+    ///
+    /// - [`Fault`]: as [`run`](Self::run) answers.
     pub fn settle(&mut self) -> Result<(), Fault> {
         let ends = self.ends.as_mut();
         ends.client.ping();
@@ -201,6 +230,11 @@ impl Pair {
     }
 
     /// Does a piece of work, and measures what it takes.
+    ///
+    /// # Errors
+    ///
+    /// - [`Fault::Clock`]: a clock can't be read.
+    /// - [`Fault`]: as [`run`](Self::run) answers.
     pub fn measure<R: Clock + CpuClock, W: Work>(
         &mut self,
         rt: &R,
@@ -213,6 +247,10 @@ impl Pair {
     }
 
     /// What work comes to that began with this watch.
+    ///
+    /// # Errors
+    ///
+    /// - [`Fault::Clock`]: a clock can't be read.
     pub fn figures<R: Clock + CpuClock>(
         &self,
         rt: &R,
@@ -234,6 +272,16 @@ impl Pair {
     }
 
     /// Lets both ends run until the server's application has everything.
+    ///
+    /// # Errors
+    ///
+    /// - [`Fault::Dropped`], [`Fault::Closed`], [`Fault::Failed`]: a datagram wasn't taken that had
+    ///   to be. The endpoints stay as they are by then.
+    /// - [`Fault::Failed`], [`Fault::Memory`]: an allocation fails. The endpoints stay as they are
+    ///   by then.
+    /// - [`Fault::Rest`]: no datagram is under way and no timer runs, and the server's application
+    ///   hasn't everything. The endpoints stay as they are by then.
+    /// - [`Fault`]: as the work's turns answer. The endpoints stay as they are by then.
     pub fn run<W: Work>(&mut self, work: &mut W) -> Result<(), Fault> {
         self.run_until(u64::MAX, work)
     }
@@ -315,6 +363,12 @@ fn take(end: &mut End, inbox: &mut Lane, now: u64, batch: u64) -> Result<bool, F
 
 /// Takes a datagram: whether it was taken. None comes twice, so that one that may have come before
 /// is so late that the end can't tell.
+///
+/// # Errors
+///
+/// - [`Fault::Dropped`]: the datagram was dropped, and not as a duplicate.
+/// - [`Fault::Closed`]: the datagram broke a rule, which closed the endpoint.
+/// - [`Fault::Failed`]: an allocation fails, or did before.
 pub fn receive(
     end: &mut End,
     now: u64,
@@ -329,7 +383,11 @@ pub fn receive(
 }
 
 /// Lets timers expire that are due.
-fn expire(end: &mut End, now: u64) -> Result<(), Fault> {
+///
+/// # Errors
+///
+/// - [`Fault::Failed`]: an allocation fails, or did before.
+pub fn expire(end: &mut End, now: u64) -> Result<(), Fault> {
     if let Some(moment) = timer_of(end)
         && moment <= now
     {
@@ -339,6 +397,12 @@ fn expire(end: &mut End, now: u64) -> Result<(), Fault> {
 }
 
 /// Sends until there is nothing to send.
+///
+/// # Errors
+///
+/// - [`Fault::Failed`]: an allocation fails within the endpoint, or did before. What was sent
+///   before stays sent.
+/// - [`Fault::Memory`]: an allocation fails beside it. What was sent before stays sent.
 pub fn transmit(end: &mut End, outbox: &mut Lane, now: u64) -> Result<(), Fault> {
     for _ in 0..u64::MAX {
         let mut bytes = outbox.buffer()?;

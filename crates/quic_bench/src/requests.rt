@@ -87,6 +87,11 @@ fn data(alloc: Global, size: u64) -> Result<Vec<u8>, AllocError> {
 }
 
 /// So many requests of so many bytes, so many at once, each with an answer of so many.
+///
+/// # Errors
+///
+/// - [`Fault::Memory`]: an allocation fails.
+/// - [`Fault`]: as [`Pair::measure`] answers.
 pub fn run<R: Clock + CpuClock + AllocGlobal>(
     rt: &R,
     pair: &mut Pair,

@@ -20,6 +20,10 @@ pub struct Sender {
 
 impl Sender {
     /// Opens a one-way stream for so many bytes, of which a write has so many at most.
+    ///
+    /// # Errors
+    ///
+    /// - [`Fault::NoStream`]: the peer's limit is reached. No stream is opened.
     pub fn open(end: &mut End, bytes: u64, piece: usize) -> Result<Self, Fault> {
         Ok(Sender {
             id: open(end, Dir::Uni).ok_or(Fault::NoStream)?,
@@ -38,6 +42,12 @@ impl Sender {
 
     /// Writes what the stream takes of what is left, from twice the pattern, and ends it behind the
     /// last.
+    ///
+    /// # Errors
+    ///
+    /// - [`Fault::ClosedStream`]: the stream was finished or reset.
+    /// - [`Fault::Stopped`]: the peer sent STOP_SENDING for the stream.
+    /// - [`Fault::Memory`]: an allocation fails. What was written before stays written.
     pub fn send(&mut self, end: &mut End, source: &[u8]) -> Result<(), Fault> {
         for _ in 0..u64::MAX {
             if self.is_finished || self.is_blocked {

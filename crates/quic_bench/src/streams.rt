@@ -105,6 +105,12 @@ impl Work for Streams {
 }
 
 /// So many streams of so many bytes, so many at once, beside so many that are held open.
+///
+/// # Errors
+///
+/// - [`Fault`]: as [`hold_open`] answers.
+/// - [`Fault::Memory`]: an allocation fails.
+/// - [`Fault`]: as [`Pair::measure`] answers.
 pub fn run<R: Clock + CpuClock + AllocGlobal>(
     rt: &R,
     pair: &mut Pair,
@@ -139,6 +145,10 @@ fn to_hold(count: u64) -> Idle {
 }
 
 /// Opens so many streams that stay open, if any.
+///
+/// # Errors
+///
+/// - [`Fault`]: as [`Pair::run`] answers.
 pub fn hold_open(pair: &mut Pair, count: u64) -> Result<(), Fault> {
     if count == 0 {
         return Ok(());
@@ -147,6 +157,10 @@ pub fn hold_open(pair: &mut Pair, count: u64) -> Result<(), Fault> {
 }
 
 /// So many streams are opened, have a byte each, and stay open.
+///
+/// # Errors
+///
+/// - [`Fault`]: as [`Pair::measure`] answers.
 pub fn run_idle<R: Clock + CpuClock>(
     rt: &R,
     pair: &mut Pair,

@@ -1,6 +1,7 @@
 //! What is asked for: a workload, with its names and values.
 use crate::application::PATTERN;
 use crate::bulk::Plan;
+use crate::hostile::attack::{self, Attack};
 use crate::pair::{Limits, Network};
 use anyhow::Result;
 use quic_wire_core::VarInt;
@@ -56,10 +57,9 @@ pub enum Workload {
         size: u64,
         ahead: u64,
     },
-    /// So many datagrams that don't open, but for so many of 1000 that are repeats.
+    /// A peer attacks.
     Hostile {
-        count: u64,
-        repeats: u64,
+        plan: attack::Plan,
     },
     /// So many datagrams through a lane.
     Floor {
@@ -137,8 +137,22 @@ impl Values {
         }
     }
 
-    /// The workload of this name with its values, if there is one.
-    fn workload(&mut self, name: &str) -> Option<Workload> {
+    /// An attack, as they say.
+    fn hostile(&mut self, attack: Attack) -> Workload {
+        Workload::Hostile {
+            plan: attack::Plan {
+                attack,
+                count: self.take("count", 1000),
+                size: self.take("size", 1200).min(PATTERN as u64),
+                streams: self.take("streams", 100_000),
+                acknowledges: self.take("acks", 0) != 0,
+                reads: self.take("reads", 1) != 0,
+            },
+        }
+    }
+
+    /// The workload of this name with its values, if there is one; of `hostile` with this attack.
+    fn workload(&mut self, name: &str, attack: Option<Attack>) -> Option<Workload> {
         Some(match name {
             "bulk" => Workload::Bulk {
                 plan: self.plan(64 << 20, false),
@@ -166,13 +180,10 @@ impl Values {
                 size: self.take("size", 100),
                 ahead: self.take("ahead", 10_000),
             },
-            "hostile" => Workload::Hostile {
-                count: self.take("count", 1_000_000),
-                repeats: self.take("repeats", 500),
-            },
             "floor" => Workload::Floor {
                 count: self.take("count", 1_000_000),
             },
+            "hostile" => self.hostile(attack?),
             _ => return None,
         })
     }
@@ -188,18 +199,31 @@ impl Values {
     }
 }
 
+/// The attack that the word behind the name `hostile` says.
+fn attack_in(name: &str, words: &mut SplitWhitespace<'_>) -> Option<Attack> {
+    if name != "hostile" {
+        return None;
+    }
+    Attack::read(words.next()?)
+}
+
 impl Task {
     /// What a line asks for; none where a workload or a name isn't known, or the work can't be
     /// done.
+    ///
+    /// # Errors
+    ///
+    /// - [`AllocError`]: an allocation fails.
     pub fn read(alloc: Global, line: &str) -> Result<Option<Self>, AllocError> {
         let mut words = line.split_whitespace();
         let Some(name) = words.next() else {
             return Ok(None);
         };
+        let attack = attack_in(name, &mut words);
         let Some(mut values) = Values::read(alloc, words)? else {
             return Ok(None);
         };
-        let Some(workload) = values.workload(name) else {
+        let Some(workload) = values.workload(name, attack) else {
             return Ok(None);
         };
         let task = Task {
@@ -233,6 +257,11 @@ impl Task {
     }
 
     /// What each end lets the other do.
+    ///
+    /// # Errors
+    ///
+    /// - [`VarIntBoundsExceeded`](quic_wire_core::VarIntBoundsExceeded): a number is 2^62 or
+    ///   greater.
     pub fn limits(&self) -> Result<Limits> {
         Ok(Limits {
             streams: VarInt::from_u64(self.streams())?,
@@ -249,6 +278,7 @@ impl Task {
             Workload::Streams { open, idle, .. } => open.saturating_add(idle).saturating_mul(2),
             Workload::Bulk { plan } => plan.idle.saturating_add(100),
             Workload::Idle { count } => count,
+            Workload::Hostile { plan } => plan.streams,
             _ => 100,
         }
     }
@@ -272,7 +302,7 @@ impl Task {
             Workload::Growth { .. } => "growth",
             Workload::Streams { .. } => "streams",
             Workload::Messages { .. } => "messages",
-            Workload::Hostile { .. } => "hostile",
+            Workload::Hostile { plan } => plan.attack.name(),
             Workload::Floor { .. } => "floor",
         }
     }

@@ -7,8 +7,8 @@ use Rattle.quic_config.specs.Configs.{SearchSettings, FrequencySettings, default
 abbrev pub millis_of : ℕ → ℕ
 millis_of nanos = nanos / 1000000
 
--- what an end offers its peer (RFC 9000, section 4), how much it buffers, and how it sends. Times are in nanoseconds, but
--- for the idle timeout
+-- what an end offers its peer (RFC 9000, section 4), how much it buffers, and how it sends. Times
+-- are in nanoseconds, but for the idle timeout
 pub record TransportSettings : Type 0 where
   -- bytes in all streams that the peer may send before any is read
   pub receive_window : ℕ
@@ -47,8 +47,8 @@ pub record TransportSettings : Type 0 where
   -- after what time without a packet one is sent, where it is
   pub keep_alive_interval : Option ℕ
 
--- the counts of streams that the peer may open, the denominator of the time threshold, and both sizes keep their bounds
--- (RFC 9000, sections 4.6 and 14)
+-- the counts of streams that the peer may open, the denominator of the time threshold, and both
+-- sizes keep their bounds (RFC 9000, sections 4.6 and 14)
 pub record AreInBounds (max_bidi max_uni denominator initial_mtu min_mtu : ℕ) : Type 0 where
   pub bidi : max_bidi ≤ 2 ^ 60
   pub uni : max_uni ≤ 2 ^ 60
@@ -56,7 +56,8 @@ pub record AreInBounds (max_bidi max_uni denominator initial_mtu min_mtu : ℕ) 
   pub initial : 1200 ≤ initial_mtu
   pub least : 1200 ≤ min_mtu
 
--- what holds of an end: the settings of its transport, and whether it can be asked when to acknowledge
+-- what holds of an end: the settings of its transport, and whether it can be asked when to
+-- acknowledge
 pub record Settings : Type 0 where
   pub receive_window : ℕ
   pub stream_receive_window : ℕ
@@ -165,15 +166,16 @@ abbrev pub told_timeout : Option ℕ → ℕ
 told_timeout None = 0
 told_timeout (Some ms) = ms
 
--- what the peer is told of the greatest DATAGRAM frame: 0 where none is taken, and at most 65535 bytes (RFC 9221, section
--- 3)
+-- what the peer is told of the greatest DATAGRAM frame: 0 where none is taken, and at most 65535
+-- bytes (RFC 9221, section 3)
 abbrev pub told_frame_size : Option ℕ → ℕ
 told_frame_size None = 0
 told_frame_size (Some size) = min size 65535
 
--- what the peer is told of the settings (RFC 9000, section 18.2): every stream has the same window. The rest is the same
--- for every end: it takes UDP payloads of any size, shifts delays by 3 bits, holds acknowledgements back for at most 25 ms
--- and, where it can be asked when to acknowledge, for 1000 microseconds at least, and keeps 5 ids
+-- what the peer is told of the settings (RFC 9000, section 18.2): every stream has the same window.
+-- The rest is the same for every end: it takes UDP payloads of any size, shifts delays by 3 bits,
+-- holds acknowledgements back for at most 25 ms and, where it can be asked when to acknowledge, for
+-- 1000 microseconds at least, and keeps 5 ids
 abbrev pub parameters_of : Settings → ParameterValues
 parameters_of s = record {
   max_idle_timeout = told_timeout s.max_idle_timeout;
@@ -191,7 +193,8 @@ parameters_of s = record {
   min_ack_delay = if s.ack_frequency_support then Some 1000 else None;
 }
 
--- the settings of an end as it can be configured: windows are variable-length integers, and the others keep their bounds
+-- the settings of an end as it can be configured: windows are variable-length integers, and the
+-- others keep their bounds
 pub record IsInRange (s : Settings) : Type 0 where
   pub receive_window : s.receive_window < 2 ^ 62
   pub stream_receive_window : s.stream_receive_window < 2 ^ 62

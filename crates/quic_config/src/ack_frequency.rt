@@ -34,7 +34,8 @@ impl Model for AckFrequencyConfig {
 }
 
 impl AckFrequencyConfig {
-    /// How many packets that ask for an acknowledgement the peer may take before it sends one.
+    /// How many ack-eliciting packets the peer may take before it sends an acknowledgement. The
+    /// default is 1 packet.
     pub fn ack_eliciting_threshold(&mut self, value: VarInt) -> &mut Self
         ensures same_reference { result.ghost_name ≡ self.entry.ghost_name }
         ensures value { result.now ≡ record self.old { threshold = value } }
@@ -43,7 +44,8 @@ impl AckFrequencyConfig {
         self
     }
 
-    /// How long the peer may hold an acknowledgement back; `None` leaves it its own delay.
+    /// How long the peer may hold an acknowledgement back, a [`Duration`]; `None` leaves it its own
+    /// delay. The default is `None`.
     pub fn max_ack_delay(&mut self, value: Option<Duration>) -> &mut Self
         ensures same_reference { result.ghost_name ≡ self.entry.ghost_name }
         ensures value { result.now ≡ record self.old { max_delay = value } }
@@ -52,7 +54,8 @@ impl AckFrequencyConfig {
         self
     }
 
-    /// How far out of order a packet may come before the peer acknowledges at once.
+    /// How far out of order a packet may come before the peer acknowledges at once, in packets. The
+    /// default is 2 packets.
     pub fn reordering_threshold(&mut self, value: VarInt) -> &mut Self
         ensures same_reference { result.ghost_name ≡ self.entry.ghost_name }
         ensures value { result.now ≡ record self.old { reordering = value } }

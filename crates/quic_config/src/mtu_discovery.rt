@@ -80,7 +80,8 @@ impl MtuDiscoveryConfig {
         self
     }
 
-    /// How long after the end of a search the next one begins.
+    /// How long after the end of a search the next one begins, a [`Duration`]. The default is 600
+    /// seconds.
     pub fn interval(&mut self, value: Duration) -> &mut Self
         ensures same_reference { result.ghost_name ≡ self.entry.ghost_name }
         ensures value { result.now ≡ record self.old { interval = value } }
@@ -89,7 +90,8 @@ impl MtuDiscoveryConfig {
         self
     }
 
-    /// The greatest size that is looked for, in bytes; more than 65527 counts as 65527.
+    /// The greatest size that is looked for, in bytes. More than 65527 is cut to 65527. The default
+    /// is 1452 bytes.
     pub fn upper_bound(&mut self, value: u16) -> &mut Self
         ensures same_reference { result.ghost_name ≡ self.entry.ghost_name }
         ensures value { result.now ≡ record self.old { upper_bound = min value max_udp_payload } }
@@ -98,7 +100,8 @@ impl MtuDiscoveryConfig {
         self
     }
 
-    /// How long after a black hole the next search begins.
+    /// How long after a black hole the next search begins, a [`Duration`]. The default is 60
+    /// seconds.
     pub fn black_hole_cooldown(&mut self, value: Duration) -> &mut Self
         ensures same_reference { result.ghost_name ≡ self.entry.ghost_name }
         ensures value { result.now ≡ record self.old { cooldown = value } }
@@ -107,7 +110,8 @@ impl MtuDiscoveryConfig {
         self
     }
 
-    /// The least difference of two sizes that is worth a probe, in bytes; less than 2 counts as 2.
+    /// The least difference of two sizes that is worth a probe, in bytes. Less than 2 is raised to
+    /// 2. The default is 20 bytes.
     pub fn minimum_change(&mut self, value: u16) -> &mut Self
         ensures same_reference { result.ghost_name ≡ self.entry.ghost_name }
         ensures value { result.now ≡ record self.old { least_change = max value 2 } }

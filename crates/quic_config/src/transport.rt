@@ -35,7 +35,8 @@ impl Model for IdleTimeout {
 impl From<VarInt> for IdleTimeout {
     ghost from_gives = { λ ms t. t ≡ ms };
 
-    /// So many milliseconds.
+    /// The timeout of so many milliseconds, up to 2^62 - 1. With 0 the endpoint sets none (RFC
+    /// 9000, section 18.2).
     fn from(ms: VarInt) -> IdleTimeout {
         IdleTimeout(ms)
     }
@@ -49,7 +50,12 @@ impl TryFrom<Duration> for IdleTimeout {
 
     ghost try_from_gives = { λ timeout r. r ≡ Ok (millis_of timeout) };
 
-    /// The whole milliseconds of a time. Every `Duration` has that many, so there's never an error.
+    /// The timeout of a [`Duration`], cut to whole milliseconds. Below a millisecond that is 0,
+    /// with which the endpoint sets none.
+    ///
+    /// # Errors
+    ///
+    /// - [`VarIntBoundsExceeded`]: never, as every `Duration` has fewer than 2^62 milliseconds.
     fn try_from(timeout: Duration) -> Result<IdleTimeout, VarIntBoundsExceeded> {
         let ms = VarInt::from_u64(timeout.as_millis())?;
         Ok(IdleTimeout(ms))
@@ -138,7 +144,8 @@ impl Model for TransportConfig {
 
 impl TransportConfig {
     /// How many bytes the peer may send on all streams before any is read (RFC 9000, section 4.1).
-    /// An end that never raises its limits takes no more in all.
+    /// An endpoint that never raises its limits takes no more in all. The default is 2^62 - 1
+    /// bytes, the greatest value.
     pub fn receive_window(&mut self, value: VarInt) -> &mut Self
         ensures same_reference { result.ghost_name ≡ self.entry.ghost_name }
         ensures value { result.now ≡ record self.old { receive_window = value } }
@@ -148,7 +155,8 @@ impl TransportConfig {
     }
 
     /// How many bytes the peer may send on one stream before any is read (RFC 9000, section 4.1).
-    /// An end that never raises its limits takes no more on it in all.
+    /// An endpoint that never raises its limits takes no more on it in all. The default is 1250000
+    /// bytes.
     pub fn stream_receive_window(&mut self, value: VarInt) -> &mut Self
         ensures same_reference { result.ghost_name ≡ self.entry.ghost_name }
         ensures value { result.now ≡ record self.old { stream_receive_window = value } }
@@ -157,7 +165,8 @@ impl TransportConfig {
         self
     }
 
-    /// How many bytes may be written that the peer hasn't acknowledged.
+    /// How many bytes may be written that the peer hasn't acknowledged, on all streams. The default
+    /// is 10000000 bytes.
     pub fn send_window(&mut self, value: u64) -> &mut Self
         ensures same_reference { result.ghost_name ≡ self.entry.ghost_name }
         ensures value { result.now ≡ record self.old { send_window = value } }
@@ -166,8 +175,8 @@ impl TransportConfig {
         self
     }
 
-    /// How many two-way streams the peer may have open at a time; more than 2^60 count as 2^60 (RFC
-    /// 9000, section 4.6).
+    /// How many bidirectional streams the peer may have open at a time (RFC 9000, section 4.6).
+    /// More than 2^60 are cut to 2^60. The default is 100 streams.
     pub fn max_concurrent_bidi_streams(&mut self, value: VarInt) -> &mut Self
         ensures same_reference { result.ghost_name ≡ self.entry.ghost_name }
         ensures value { result.now ≡ record self.old { max_bidi = min value (2 ^ 60) } }
@@ -176,8 +185,8 @@ impl TransportConfig {
         self
     }
 
-    /// How many one-way streams the peer may have open at a time; more than 2^60 count as 2^60 (RFC
-    /// 9000, section 4.6).
+    /// How many unidirectional streams the peer may have open at a time (RFC 9000, section 4.6).
+    /// More than 2^60 are cut to 2^60. The default is 100 streams.
     pub fn max_concurrent_uni_streams(&mut self, value: VarInt) -> &mut Self
         ensures same_reference { result.ghost_name ≡ self.entry.ghost_name }
         ensures value { result.now ≡ record self.old { max_uni = min value (2 ^ 60) } }
@@ -186,8 +195,10 @@ impl TransportConfig {
         self
     }
 
-    /// How long the connection may be without a packet before the end drops it; `None` is without
-    /// end (RFC 9000, section 10.1).
+    /// How long the connection may be without a packet before the endpoint drops it, in
+    /// milliseconds; `None` sets no timeout (RFC 9000, section 10.1). The default is 30000 ms. The
+    /// lesser of this and the peer's timeout counts, or the only one that is set, and no less than
+    /// three probe timeouts.
     pub fn max_idle_timeout(&mut self, value: Option<IdleTimeout>) -> &mut Self
         ensures same_reference { result.ghost_name ≡ self.entry.ghost_name }
         ensures value { result.now ≡ record self.old { max_idle_timeout = value } }
@@ -197,6 +208,8 @@ impl TransportConfig {
     }
 
     /// How many bytes of messages may wait unread; `None` takes no messages (RFC 9221, section 3).
+    /// The default is 1250000 bytes. The peer is told of at most 65535 as its
+    /// max_datagram_frame_size.
     pub fn datagram_receive_buffer_size(&mut self, value: Option<usize>) -> &mut Self
         ensures same_reference { result.ghost_name ≡ self.entry.ghost_name }
         ensures value { result.now ≡ record self.old { datagram_receive_buffer_size = value } }
@@ -205,7 +218,7 @@ impl TransportConfig {
         self
     }
 
-    /// How many bytes of messages may wait to be sent.
+    /// How many bytes of messages may be queued to be sent. The default is 1048576 bytes.
     pub fn datagram_send_buffer_size(&mut self, value: usize) -> &mut Self
         ensures same_reference { result.ghost_name ≡ self.entry.ghost_name }
         ensures value { result.now ≡ record self.old { datagram_send_buffer_size = value } }
@@ -215,7 +228,7 @@ impl TransportConfig {
     }
 
     /// Whether streams of one priority take turns with each datagram; else the one that began is
-    /// sent to its end.
+    /// sent to its FIN. The default is `true`.
     pub fn send_fairness(&mut self, value: bool) -> &mut Self
         ensures same_reference { result.ghost_name ≡ self.entry.ghost_name }
         ensures value { result.now ≡ record self.old { send_fairness = value } }
@@ -224,7 +237,8 @@ impl TransportConfig {
         self
     }
 
-    /// How far below an acknowledged number a packet is lost (RFC 9002, section 6.1.1).
+    /// How many packet numbers below an acknowledged one a packet lies to count as lost (RFC 9002,
+    /// section 6.1.1). The default is 3 packets.
     pub fn packet_threshold(&mut self, value: u32) -> &mut Self
         ensures same_reference { result.ghost_name ≡ self.entry.ghost_name }
         ensures value { result.now ≡ record self.old { packet_threshold = value } }
@@ -234,7 +248,8 @@ impl TransportConfig {
     }
 
     /// After what part of a round trip a packet is lost, where a later one was acknowledged:
-    /// `numerator / denominator` (RFC 9002, section 6.1.2). The denominator has to be above 0.
+    /// `numerator / denominator` (RFC 9002, section 6.1.2). The denominator has to be above 0. The
+    /// default is 9/8.
     pub fn time_threshold(&mut self, numerator: u32, denominator: u32) -> &mut Self
         requires { 0 < denominator }
         ensures same_reference { result.ghost_name ≡ self.entry.ghost_name }
@@ -244,7 +259,8 @@ impl TransportConfig {
         self
     }
 
-    /// The round trip that is taken before one is measured (RFC 9002, section 6.2.2).
+    /// The round trip that is taken before one is measured (RFC 9002, section 6.2.2), a
+    /// [`Duration`]. The default is 333 ms.
     pub fn initial_rtt(&mut self, value: Duration) -> &mut Self
         ensures same_reference { result.ghost_name ≡ self.entry.ghost_name }
         ensures value { result.now ≡ record self.old { initial_rtt = value } }
@@ -253,8 +269,9 @@ impl TransportConfig {
         self
     }
 
-    /// The bytes of the greatest datagram at first; fewer than 1200 count as 1200 (RFC 9000,
-    /// section 14). Above 65527 no connection is made (`ConfigError::Size`).
+    /// The greatest size of a datagram at first, in bytes (RFC 9000, section 14). Less than 1200 is
+    /// raised to 1200, and less than [`min_mtu`](Self::min_mtu) counts as that. Above 65527 no
+    /// connection is made (`ConfigError::Size`). The default is 1200 bytes.
     pub fn initial_mtu(&mut self, value: u16) -> &mut Self
         ensures same_reference { result.ghost_name ≡ self.entry.ghost_name }
         ensures value { result.now ≡ record self.old { initial_mtu = max value 1200 } }
@@ -263,9 +280,9 @@ impl TransportConfig {
         self
     }
 
-    /// The bytes of a datagram that every path carries; fewer than 1200 count as 1200 (RFC 9000,
-    /// section 14). Above 65527, or above the peer's max_udp_payload_size, no connection is made
-    /// (`ConfigError::Size`).
+    /// The size of a datagram that every path carries, in bytes (RFC 9000, section 14). Less than
+    /// 1200 is raised to 1200. Above 65527, or above the peer's max_udp_payload_size, no connection
+    /// is made (`ConfigError::Size`). The default is 1200 bytes.
     pub fn min_mtu(&mut self, value: u16) -> &mut Self
         ensures same_reference { result.ghost_name ≡ self.entry.ghost_name }
         ensures value { result.now ≡ record self.old { min_mtu = max value 1200 } }
@@ -275,8 +292,8 @@ impl TransportConfig {
     }
 
     /// How path MTU discovery looks for a larger size of datagrams; `None` looks for none (RFC
-    /// 9000, section 14.3). By default sizes of up to 1452 bytes are looked for; none above the
-    /// peer's max_udp_payload_size ever is.
+    /// 9000, section 14.3). The default is [`MtuDiscoveryConfig::default`], which looks for sizes
+    /// of up to 1452 bytes; none above the peer's max_udp_payload_size ever is looked for.
     pub fn mtu_discovery_config(&mut self, value: Option<MtuDiscoveryConfig>) -> &mut Self
         ensures same_reference { result.ghost_name ≡ self.entry.ghost_name }
         ensures value { result.now ≡ record self.old { mtu_discovery_config = value } }
@@ -285,7 +302,8 @@ impl TransportConfig {
         self
     }
 
-    /// Whether a datagram that asks for an acknowledgement is filled up to the path's size.
+    /// Whether a datagram that is ack-eliciting is filled up to the path's size. The default is
+    /// `false`.
     pub fn pad_to_mtu(&mut self, value: bool) -> &mut Self
         ensures same_reference { result.ghost_name ≡ self.entry.ghost_name }
         ensures value { result.now ≡ record self.old { pad_to_mtu = value } }
@@ -294,7 +312,8 @@ impl TransportConfig {
         self
     }
 
-    /// How the peer is asked to acknowledge; `None` doesn't ask (QUIC Acknowledgement Frequency).
+    /// How the peer is to be asked to acknowledge; `None` doesn't ask (QUIC Acknowledgement
+    /// Frequency). The default is `None`. A connection asks for nothing yet, whatever is set.
     pub fn ack_frequency_config(&mut self, value: Option<AckFrequencyConfig>) -> &mut Self
         ensures same_reference { result.ghost_name ≡ self.entry.ghost_name }
         ensures value { result.now ≡ record self.old { ack_frequency_config = value } }
@@ -304,7 +323,7 @@ impl TransportConfig {
     }
 
     /// How many probe timeouts losses last where the congestion is persistent (RFC 9002, section
-    /// 7.6.1).
+    /// 7.6.1). The default is 3.
     pub fn persistent_congestion_threshold(&mut self, value: u32) -> &mut Self
         ensures same_reference { result.ghost_name ≡ self.entry.ghost_name }
         ensures value { result.now ≡ record self.old { persistent_congestion_threshold = value } }
@@ -313,8 +332,8 @@ impl TransportConfig {
         self
     }
 
-    /// After what time without a packet one is sent so that the connection stays; `None` sends
-    /// none.
+    /// After what time without a packet one is sent so that the connection stays, a [`Duration`];
+    /// `None` sends none (RFC 9000, section 10.1.2). The default is `None`.
     pub fn keep_alive_interval(&mut self, value: Option<Duration>) -> &mut Self
         ensures same_reference { result.ghost_name ≡ self.entry.ghost_name }
         ensures value { result.now ≡ record self.old { keep_alive_interval = value } }

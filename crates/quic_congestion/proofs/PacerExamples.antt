@@ -58,7 +58,8 @@ first = refl
 then_waits : answer_of (pacing_after (repeated 80 0) (new_pacing 50000000 2000000 1000 0)) (at 0) ≡ Some 1600000
 then_waits = refl
 
--- of 81 datagrams at 0, 41 at 800000 and 81 at 2400000 each time all but the last go with their tokens
+-- of 81 datagrams at 0, 41 at 800000 and 81 at 2400000 each time all but the last go with their
+-- tokens
 bursts : covered_bytes (repeated 81 0 ++ repeated 41 800000 ++ repeated 81 2400000) (new_pacing 50000000 2000000 1000 0) ≡ 200000
 bursts = refl
 

@@ -1,5 +1,5 @@
--- No more bytes go with their tokens than the pacer has tokens for, and five quarters of the greatest window in each
--- shortest round trip since.
+-- No more bytes go with their tokens than the pacer has tokens for, and five quarters of the
+-- greatest window in each shortest round trip since.
 use Rattle.std.proofs.Common.{◌≡◌, ℕ, ◌+◌, ◌-◌, ◌*◌, ◌/◌, ◌^◌, ◌<◌, ◌≤◌, Bool, true, false, ◌&&◌, ◌||◌, ◌==◌, cond, nat_le, nat_lt, List, [], ◌∷◌, is_none, Option, None, refl, ap, sym, subst, ◌∙◌, inl, inr, arith, div-mul-le_self, mul-le-mul_right}
 use Rattle.std.proofs.lemmas.Bool.{cond_both, leb-true, ltb-true, eqb-true, or_cases}
 use Rattle.std.proofs.lemmas.Nat.{le-div}
@@ -35,7 +35,8 @@ gained_grows rtt r w window t some longer smaller =
 
 -- ---- a call
 
--- what an ask at a moment does, with a round trip of at least so long and a window of at most so many bytes
+-- what an ask at a moment does, with a round trip of at least so long and a window of at most so
+-- many bytes
 record Step (rtt window : ℕ) (p : Pacing) (moment : ℕ) (q : Pacing) : Type 0 where
   after : p.refilled ≤ q.refilled
   before : q.refilled ≤ moment

@@ -3,8 +3,8 @@ use Rattle.std.proofs.Common.{ℕ, ◌+◌, ◌*◌, ◌/◌, ◌<◌, ◌≤◌
 use native.Mathlib.Nat.{lt-div-mul-add, div-le_of_le-mul}
 use Rattle.quic_congestion.specs.Pacer.{gained, time_for}
 
--- with the quotients a = rtt * missing / window and k = a / 5: five windows in k parts are no more than what is missing in
--- a round trip
+-- with the quotients a = rtt * missing / window and k = a / 5: five windows in k parts are no more
+-- than what is missing in a round trip
 steps_most : (rtt missing window a k : ℕ) → a * window ≤ rtt * missing → k * 5 ≤ a → window * 5 * (k * 4) ≤ (4 * rtt) * missing
 steps_most rtt missing window a k scaled fifth =
     let times : k * 5 * window ≤ a * window = mul-le-mul_right window fifth in

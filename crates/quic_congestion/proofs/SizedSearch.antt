@@ -1,5 +1,7 @@
--- The size of datagrams stays between the least that each path carries and what the peer takes, whatever the search for a greater one comes to: it grows with an
--- acknowledged probe, and falls only where packets are lost that show that the path carries less. No probe is smaller than the size.
+-- The size of datagrams stays between the least that each path carries and what the peer takes,
+-- whatever the search for a greater one comes to: it grows with an acknowledged probe, and falls
+-- only where packets are lost that show that the path carries less. No probe is smaller than the
+-- size.
 use Rattle.std.proofs.Common.{◌≡◌, ℕ, ◌+◌, ◌-◌, ◌/◌, ◌≤◌, leb, ap, Bool, true, false, cond, ltb, Option, Some, None, refl, sym, ◌∙◌, subst, ◌⊎◌, inl, inr, arith}
 use Rattle.std.specs.Prelude.{⊤, ◌==◌, IfSome}
 use Rattle.std.specs.Int.{abs_diff}

@@ -1,4 +1,5 @@
--- Bursts of lost packets, by which a path that carries less than before is found out (RFC 8899, section 4.3).
+-- Bursts of lost packets, by which a path that carries less than before is found out (RFC 8899,
+-- section 4.3).
 use Rattle.std.specs.Prelude.{ℕ, ◌+◌, ◌==◌, ltb, leb, min, max, Bool, not, cond, ◌&&◌, ◌||◌, List, [], ◌∷◌, length, take, Option, Some, None}
 use Rattle.std.specs.List.{filter}
 
@@ -7,8 +8,9 @@ pub record Burst : Type 0 where
   pub last : ℕ
   pub size : ℕ
 
--- the size that every path carries; the size that is known to arrive, and the number of the packet that showed it; the
--- burst that may still grow; and the sizes of the suspicious bursts that are kept, the greatest first
+-- the size that every path carries; the size that is known to arrive, and the number of the packet
+-- that showed it; the burst that may still grow; and the sizes of the suspicious bursts that are
+-- kept, the greatest first
 pub record Bursts : Type 0 where
   pub least : ℕ
   pub acked : ℕ
@@ -20,8 +22,8 @@ pub record Bursts : Type 0 where
 abbrev pub no_bursts : ℕ → Bursts
 no_bursts least = record { least = least; acked = least; number = 0; current = None; kept = [] }
 
--- whether the path may have begun to carry less: but for sizes that every path carries, and where a later packet at least
--- as large arrived
+-- whether the path may have begun to carry less: but for sizes that every path carries, and where a
+-- later packet at least as large arrived
 abbrev pub is_suspicious : Bursts → Burst → Bool
 is_suspicious b burst = not (leb burst.size b.least || (ltb burst.last b.number && leb burst.size b.acked))
 
@@ -69,8 +71,8 @@ lost_behind (Some burst) number size b =
 abbrev pub after_lost : ℕ → ℕ → Bursts → Bursts
 after_lost number size b = lost_behind b.current number size b
 
--- a packet that is no probe was acknowledged: less than what is known to arrive says nothing, as much renews it, and more
--- shows that bursts of no more than this were due to something else
+-- a packet that is no probe was acknowledged: less than what is known to arrive says nothing, as
+-- much renews it, and more shows that bursts of no more than this were due to something else
 abbrev pub after_acknowledged : ℕ → ℕ → Bursts → Bursts
 after_acknowledged number size b =
     cond (ltb size b.acked) b
@@ -85,12 +87,13 @@ after_probe number size b = record b { acked = size; number = number; kept = [] 
 abbrev pub is_black_hole : Bursts → Bool
 is_black_hole b = ltb 3 (length (ended b).kept)
 
--- the losses were told: the current burst ends, and of a path that carries less nothing more is held
+-- the losses were told: the current burst ends, and of a path that carries less nothing more is
+-- held
 abbrev pub after_told : Bursts → Bursts
 after_told b = cond (is_black_hole b) (record (ended b) { kept = [] }) (ended b)
 
--- what happens to packets: a number and a size of one that was lost, acknowledged, or an acknowledged probe; and the
--- question for a black hole
+-- what happens to packets: a number and a size of one that was lost, acknowledged, or an
+-- acknowledged probe; and the question for a black hole
 pub data Sign : Type 0 where
   PacketLost : ℕ → ℕ → Sign
   PacketAcknowledged : ℕ → ℕ → Sign

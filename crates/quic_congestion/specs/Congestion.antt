@@ -18,8 +18,8 @@ pub record TakesSize {C : Type 0} (size window : C → ℕ) (old : C) (given : �
   pub size_taken : size new ≡ given
   pub room_stays : given < 2 ^ 16 → HasRoom (size old) (window old) → HasRoom (size new) (window new)
 
--- what a controller is told: bytes went, a packet was acknowledged, a batch of acknowledgements ended, packets were lost or
--- marked, or datagrams have a new size
+-- what a controller is told: bytes went, a packet was acknowledged, a batch of acknowledgements
+-- ended, packets were lost or marked, or datagrams have a new size
 pub data Told : Type 0 where
   Sent : (now bytes last : ℕ) → Told
   Acked : (now sent bytes : ℕ) (app_limited : Bool) (rtt : Rtt) → Told

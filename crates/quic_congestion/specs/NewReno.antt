@@ -1,5 +1,5 @@
--- The window of NewReno (RFC 9002, section 7 and appendix B). Windows, thresholds and sizes are in bytes, moments in
--- nanoseconds.
+-- The window of NewReno (RFC 9002, section 7 and appendix B). Windows, thresholds and sizes are in
+-- bytes, moments in nanoseconds.
 use Rattle.std.specs.Prelude.{ℕ, ◌+◌, ◌-◌, ◌*◌, ◌/◌, ◌^◌, max, min, Bool, ◌||◌, if◌then◌else◌, nat_le, nat_lt, List}
 use Rattle.quic_congestion.specs.Congestion.{Told, Steps, after_calls}
 
@@ -17,8 +17,9 @@ default_reno = record { initial = 12000; numerator = 1; denominator = 2 }
 abbrev pub loss_leaves : RenoSettings → ℕ → ℕ
 loss_leaves s window = window * s.numerator / s.denominator
 
--- the size handed in last, the window, the threshold below which it grows by what is acknowledged, when recovery began, and
--- the acknowledged bytes that count towards the window's next growth above the threshold
+-- the size handed in last, the window, the threshold below which it grows by what is acknowledged,
+-- when recovery began, and the acknowledged bytes that count towards the window's next growth above
+-- the threshold
 pub record Reno : Type 0 where
   pub settings : RenoSettings
   pub size : ℕ
@@ -46,7 +47,8 @@ bytes_sum a b = min (a + b) (2 ^ 64 - 1)
 abbrev pub is_past : Reno → ℕ → Bool
 is_past r sent = nat_le sent r.recovery
 
--- the window after bytes are acknowledged below the threshold; what it has above the threshold then counts
+-- the window after bytes are acknowledged below the threshold; what it has above the threshold then
+-- counts
 abbrev pub grown : Reno → ℕ → Reno
 grown r window = record r {
   window = window;

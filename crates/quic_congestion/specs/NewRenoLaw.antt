@@ -1,4 +1,5 @@
--- NewReno keeps what is said of every controller: the size handed in last, and the room for two datagrams of it.
+-- NewReno keeps what is said of every controller: the size handed in last, and the room for two
+-- datagrams of it.
 use Rattle.std.specs.Prelude.{ℕ, ◌+◌, ◌-◌, ◌*◌, ◌<◌, ◌≤◌, ◌^◌, max, min, Bool, true, false, ◌||◌, if◌then◌else◌, nat_le, nat_lt, refl}
 use Rattle.std.proofs.Common.{arith}
 use Rattle.quic_congestion.specs.Congestion.{KeepsRoom, TakesSize}

@@ -8,8 +8,8 @@ use Rattle.quic_congestion.specs.Bursts.{Bursts, no_bursts, is_black_hole, after
 
 -- ---- one search
 
--- the bounds of the sizes that are looked at; the size probed last, at first the low bound; the number of the probe that is
--- open; and how often that size was lost, up to three times
+-- the bounds of the sizes that are looked at; the size probed last, at first the low bound; the
+-- number of the probe that is open; and how often that size was lost, up to three times
 pub record Search : Type 0 where
   pub low : ℕ
   pub high : ℕ
@@ -67,7 +67,8 @@ failed s = failed_if s.probe s
 
 -- ---- one search after another
 
--- the configuration; the search that is under way; and the moment from which on the next begins, where none is
+-- the configuration; the search that is under way; and the moment from which on the next begins,
+-- where none is
 pub record Plan : Type 0 where
   pub settings : SearchSettings
   pub current : Option Search

@@ -37,12 +37,14 @@ pub record StaysBetween (least : ℕ) (d : Discovery) : Type 0 where
   pub limit : IsAbove least d.limit
   pub plan : IsPlanIf least d.limit d.plan
 
--- the open probe, and the next one, is no smaller than the size: the low bound isn't, or the last probe isn't, which came through or is the size itself
+-- the open probe, and the next one, is no smaller than the size: the low bound isn't, or the last
+-- probe isn't, which came through or is the size itself
 abbrev pub Reaches : ℕ → Option Search → Type 0
 Reaches size None = ⊤
 Reaches size (Some s) = ((s.lost ≡ 0) × (s.probe ≡ None) × (size ≤ s.last)) ⊎ (size ≤ s.low)
 
--- no size above a bound is probed: the last one and the high bound aren't, or the search began there and ends at once
+-- no size above a bound is probed: the last one and the high bound aren't, or the search began
+-- there and ends at once
 abbrev pub Ends : ℕ → Option Search → Type 0
 Ends bound None = ⊤
 Ends bound (Some s) = ((s.last ≤ bound) × (s.high ≤ bound)) ⊎ ((s.low ≡ s.last) × (s.high ≡ s.last) × (s.lost ≡ 0) × (s.probe ≡ None))
@@ -52,7 +54,8 @@ abbrev pub EndsIf : Option ℕ → Option Plan → Type 0
 EndsIf limit None = ⊤
 EndsIf limit (Some plan) = Ends (within limit plan.settings.upper_bound) plan.current
 
--- The size lies between the least and what the peer takes, and so does the size that it falls to; no probe is smaller, and none is above the search's bound.
+-- The size lies between the least and what the peer takes, and so does the size that it falls to;
+-- no probe is smaller, and none is above the search's bound.
 pub record IsSized (least most : ℕ) (d : Discovery) : Type 0 where
   pub between : StaysBetween least d
   pub limit : d.limit ≡ Some most

@@ -6,7 +6,8 @@ use Rattle.quic_congestion.specs.Search.{Discovery, SearchCall, Reset, Polled, L
 abbrev pub BeginsWith : ℕ → ℕ → Option ℕ → ℕ → Type 0
 BeginsWith size least limit n = (n ≡ size) ⊎ ((n ≡ least) ⊎ (limit ≡ Some n))
 
--- a size that comes with a call: it is handed in, is the peer's limit, or is that of the open probe, which is acknowledged
+-- a size that comes with a call: it is handed in, is the peer's limit, or is that of the open
+-- probe, which is acknowledged
 abbrev pub Brings : SearchCall → Discovery → ℕ → Type 0
 Brings (Reset size least) d n = (n ≡ size) ⊎ (n ≡ least)
 Brings (Limited limit) d n = n ≡ limit

@@ -112,7 +112,9 @@ pub trait Controller: Drop {
 
     /// A second controller in the same state.
     ///
-    /// An `Err` is want of memory.
+    /// # Errors
+    ///
+    /// - [`AllocError`]: an allocation fails. Nothing changes.
     fn try_clone(&self) -> Result<Self, AllocError>
         ensures same { IfOk result (λ twin. twin ≡ self.now) };
 

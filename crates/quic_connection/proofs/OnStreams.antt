@@ -11,6 +11,7 @@ use Rattle.quic_machine.specs.declared.run.Answer.TheVariants as answers
 use Rattle.quic_machine.specs.Policy.{Policy}
 use Rattle.quic_machine.specs.End.{End, with_streams, streams_at}
 use Rattle.quic_machine.specs.Control.{Control}
+use Rattle.quic_machine.specs.Heard.{Heard}
 use Rattle.quic_machine.specs.Calls.{is_open}
 use Rattle.quic_machine.specs.StreamCalls.{is_on_streams, IsRead, IsStreamAnswer, after_on_streams}
 use Rattle.quic_machine.specs.Lacking.{StreamCallLacks, LacksWhere}
@@ -46,45 +47,46 @@ on_streams_served b s call a is = absurd is
 
 -- ---- at an end
 
--- What a call at an end has to meet, whose controller shows these windows; it gives no datagram, and tells the controller nothing.
-pub record IsCallAt (p : Policy) (control : Control) (e : End) (theirs : List (List ℕ)) (call : Call) (a : Answer) (next : End) : Type 0 where
+-- What a call at an end has to meet, whose controller shows these windows; it gives no datagram,
+-- and tells the controller nothing.
+pub record IsCallAt (p : Policy) (control : Control) (heard : Heard) (e : End) (theirs : List (List ℕ)) (call : Call) (a : Answer) (next : End) : Type 0 where
   pub answer : IsAnswer p e theirs call a
   pub lacking : LacksWhere p e theirs call a
-  pub end : IsLeft (fails a) p control e theirs call a next
-  pub told : IsTold (fails a) p control e theirs call control
+  pub end : IsLeft (fails a) p control heard e theirs call a next
+  pub told : IsTold (fails a) p control heard e theirs call control
   pub given : gives p e call a ≡ []
 
 -- no end fails that is left so
-left_whole : (p : Policy) (control : Control) (e : End) (theirs : List (List ℕ)) (call : Call) (a : Answer) (next : End) → fails a ≡ false → next ≡ end_left p control e theirs call a → IsLeft (fails a) p control e theirs call a next
-left_whole p control e theirs call a next kept left = rw kept left
+left_whole : (p : Policy) (control : Control) (heard : Heard) (e : End) (theirs : List (List ℕ)) (call : Call) (a : Answer) (next : End) → fails a ≡ false → next ≡ end_left p control heard e theirs call a → IsLeft (fails a) p control heard e theirs call a next
+left_whole p control heard e theirs call a next kept left = rw kept left
 
-told_whole : (p : Policy) (control : Control) (e : End) (theirs : List (List ℕ)) (call : Call) (a : Answer) → fails a ≡ false → IsTold false p control e theirs call control → IsTold (fails a) p control e theirs call control
-told_whole p control e theirs call a kept told = rw kept told
+told_whole : (p : Policy) (control : Control) (heard : Heard) (e : End) (theirs : List (List ℕ)) (call : Call) (a : Answer) → fails a ≡ false → IsTold false p control heard e theirs call control → IsTold (fails a) p control heard e theirs call control
+told_whole p control heard e theirs call a kept told = rw kept told
 
 -- a call on streams is such a call
-by_streams : (p : Policy) (control : Control) (e : End) (theirs : List (List ℕ)) (call : Call) (a : Answer) (next : End) → is_on_streams call ≡ true → fails a ≡ false
-    → IsStreamAnswer (is_open e.closing.state) e.streams call a → StreamCallLacks (is_open e.closing.state) e.streams e.waiting.frames call a → next ≡ end_on_streams e call a → IsCallAt p control e theirs call a next
-by_streams p control e theirs (calls.Open dir) a next on kept is lacks left = record { answer = is; lacking = lacks; end = left_whole p control e theirs (calls.Open dir) a next kept left; told = told_whole p control e theirs (calls.Open dir) a kept refl; given = refl }
-by_streams p control e theirs (calls.Accept dir) a next on kept is lacks left = record { answer = is; lacking = lacks; end = left_whole p control e theirs (calls.Accept dir) a next kept left; told = told_whole p control e theirs (calls.Accept dir) a kept refl; given = refl }
-by_streams p control e theirs (calls.Write id bytes) a next on kept is lacks left = record { answer = is; lacking = lacks; end = left_whole p control e theirs (calls.Write id bytes) a next kept left; told = told_whole p control e theirs (calls.Write id bytes) a kept refl; given = refl }
-by_streams p control e theirs (calls.WriteChunks id chunks) a next on kept is lacks left = record { answer = is; lacking = lacks; end = left_whole p control e theirs (calls.WriteChunks id chunks) a next kept left; told = told_whole p control e theirs (calls.WriteChunks id chunks) a kept refl; given = refl }
-by_streams p control e theirs (calls.Finish id) a next on kept is lacks left = record { answer = is; lacking = lacks; end = left_whole p control e theirs (calls.Finish id) a next kept left; told = told_whole p control e theirs (calls.Finish id) a kept refl; given = refl }
-by_streams p control e theirs (calls.Reset id code) a next on kept is lacks left = record { answer = is; lacking = lacks; end = left_whole p control e theirs (calls.Reset id code) a next kept left; told = told_whole p control e theirs (calls.Reset id code) a kept refl; given = refl }
-by_streams p control e theirs (calls.SetPriority id priority) a next on kept is lacks left = record { answer = is; lacking = lacks; end = left_whole p control e theirs (calls.SetPriority id priority) a next kept left; told = told_whole p control e theirs (calls.SetPriority id priority) a kept refl; given = refl }
-by_streams p control e theirs (calls.Read read) a next on kept is lacks left = record { answer = is; lacking = lacks; end = left_whole p control e theirs (calls.Read read) a next kept left; told = told_whole p control e theirs (calls.Read read) a kept refl; given = refl }
-by_streams p control e theirs (calls.Stop id code) a next on kept is lacks left = record { answer = is; lacking = lacks; end = left_whole p control e theirs (calls.Stop id code) a next kept left; told = told_whole p control e theirs (calls.Stop id code) a kept refl; given = refl }
-by_streams p control e theirs (calls.ReceivedReset id) a next on kept is lacks left = record { answer = is; lacking = lacks; end = left_whole p control e theirs (calls.ReceivedReset id) a next kept left; told = told_whole p control e theirs (calls.ReceivedReset id) a kept refl; given = refl }
-by_streams p control e theirs call a next on kept is lacks left = absurd is
+by_streams : (p : Policy) (control : Control) (heard : Heard) (e : End) (theirs : List (List ℕ)) (call : Call) (a : Answer) (next : End) → is_on_streams call ≡ true → fails a ≡ false
+    → IsStreamAnswer (is_open e.closing.state) e.streams call a → StreamCallLacks (is_open e.closing.state) e.streams e.waiting.frames call a → next ≡ end_on_streams e call a → IsCallAt p control heard e theirs call a next
+by_streams p control heard e theirs (calls.Open dir) a next on kept is lacks left = record { answer = is; lacking = lacks; end = left_whole p control heard e theirs (calls.Open dir) a next kept left; told = told_whole p control heard e theirs (calls.Open dir) a kept refl; given = refl }
+by_streams p control heard e theirs (calls.Accept dir) a next on kept is lacks left = record { answer = is; lacking = lacks; end = left_whole p control heard e theirs (calls.Accept dir) a next kept left; told = told_whole p control heard e theirs (calls.Accept dir) a kept refl; given = refl }
+by_streams p control heard e theirs (calls.Write id bytes) a next on kept is lacks left = record { answer = is; lacking = lacks; end = left_whole p control heard e theirs (calls.Write id bytes) a next kept left; told = told_whole p control heard e theirs (calls.Write id bytes) a kept refl; given = refl }
+by_streams p control heard e theirs (calls.WriteChunks id chunks) a next on kept is lacks left = record { answer = is; lacking = lacks; end = left_whole p control heard e theirs (calls.WriteChunks id chunks) a next kept left; told = told_whole p control heard e theirs (calls.WriteChunks id chunks) a kept refl; given = refl }
+by_streams p control heard e theirs (calls.Finish id) a next on kept is lacks left = record { answer = is; lacking = lacks; end = left_whole p control heard e theirs (calls.Finish id) a next kept left; told = told_whole p control heard e theirs (calls.Finish id) a kept refl; given = refl }
+by_streams p control heard e theirs (calls.Reset id code) a next on kept is lacks left = record { answer = is; lacking = lacks; end = left_whole p control heard e theirs (calls.Reset id code) a next kept left; told = told_whole p control heard e theirs (calls.Reset id code) a kept refl; given = refl }
+by_streams p control heard e theirs (calls.SetPriority id priority) a next on kept is lacks left = record { answer = is; lacking = lacks; end = left_whole p control heard e theirs (calls.SetPriority id priority) a next kept left; told = told_whole p control heard e theirs (calls.SetPriority id priority) a kept refl; given = refl }
+by_streams p control heard e theirs (calls.Read read) a next on kept is lacks left = record { answer = is; lacking = lacks; end = left_whole p control heard e theirs (calls.Read read) a next kept left; told = told_whole p control heard e theirs (calls.Read read) a kept refl; given = refl }
+by_streams p control heard e theirs (calls.Stop id code) a next on kept is lacks left = record { answer = is; lacking = lacks; end = left_whole p control heard e theirs (calls.Stop id code) a next kept left; told = told_whole p control heard e theirs (calls.Stop id code) a kept refl; given = refl }
+by_streams p control heard e theirs (calls.ReceivedReset id) a next on kept is lacks left = record { answer = is; lacking = lacks; end = left_whole p control heard e theirs (calls.ReceivedReset id) a next kept left; told = told_whole p control heard e theirs (calls.ReceivedReset id) a kept refl; given = refl }
+by_streams p control heard e theirs call a next on kept is lacks left = absurd is
 
 -- the same, where the streams were lent
-pub at_end : (p : Policy) (control : Control) (e : End) (theirs : List (List ℕ)) (call : Call) (b : Bool) (old new : EndStreams) (a : Answer) → is_on_streams call ≡ true → b ≡ is_open e.closing.state → old.state ≡ e.streams → old.pending ≡ e.waiting.frames
-    → IsCallOn b old call a new → IsCallAt p control e theirs call a (with_streams e (streams_of new.state new.pending))
-at_end p control e theirs call b old new a on opened state pending c =
+pub at_end : (p : Policy) (control : Control) (heard : Heard) (e : End) (theirs : List (List ℕ)) (call : Call) (b : Bool) (old new : EndStreams) (a : Answer) → is_on_streams call ≡ true → b ≡ is_open e.closing.state → old.state ≡ e.streams → old.pending ≡ e.waiting.frames
+    → IsCallOn b old call a new → IsCallAt p control heard e theirs call a (with_streams e (streams_of new.state new.pending))
+at_end p control heard e theirs call b old new a on opened state pending c =
     let is : IsStreamAnswer (is_open e.closing.state) e.streams call a = rw (opened, state) at c.answer in
     let lacks : StreamCallLacks (is_open e.closing.state) e.streams e.waiting.frames call a = rw (opened, state, pending) at c.lacking in
     let both : streams_of new.state new.pending ≡ left_by b old call a = joined (left_by b old call a) new.state new.pending c.state c.pending in
     let left : streams_of new.state new.pending ≡ after_on_streams (is_open e.closing.state) (streams_at e) call a = rw (opened, state, pending) at both in
-    by_streams p control e theirs call a (with_streams e (streams_of new.state new.pending)) on (on_streams_served (is_open e.closing.state) e.streams call a is) is lacks (ap (with_streams e) left)
+    by_streams p control heard e theirs call a (with_streams e (streams_of new.state new.pending)) on (on_streams_served (is_open e.closing.state) e.streams call a is) is lacks (ap (with_streams e) left)
   where
     joined : (t : Streams) (s : StreamsState) (q : Retransmits) → s ≡ t.state → q ≡ t.pending → streams_of s q ≡ t
     joined t s q state pending = rw (state, pending) refl

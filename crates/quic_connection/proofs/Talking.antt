@@ -259,9 +259,9 @@ answered_none (Ok (Some transmit)) none kept = cc
 answered_none (Err failed) none kept = cc
 
 -- an end that is open didn't fail
-kept_open : (b : Bool) (p : Policy) (control : Control) (e : End) (theirs : List (List ℕ)) (call : Call) (a : Answer) (next : End) → IsLeft b p control e theirs call a next → next.closing.state ≡ states.Open → b ≡ false
-kept_open false p control e theirs call a next left opened = refl
-kept_open true p control e theirs call a next left opened = let failed = left.0 in cc
+kept_open : (b : Bool) (p : Policy) (control : Control) (heard : Heard) (e : End) (theirs : List (List ℕ)) (call : Call) (a : Answer) (next : End) → IsLeft b p control heard e theirs call a next → next.closing.state ≡ states.Open → b ≡ false
+kept_open false p control heard e theirs call a next left opened = refl
+kept_open true p control heard e theirs call a next left opened = let failed = left.0 in cc
 
 -- so at an open end
 none_at : (p : Policy) (e : End) (theirs : List (List ℕ)) (now : ℕ) (a : Answer) → IsAnswer p e theirs (calls.Poll now) a → gave a ≡ false → fails a ≡ false → a ≡ no_datagram
@@ -277,7 +277,7 @@ none_by : (k : Policies) (side : Side) (now : ℕ) (w to : World) → IsPolled k
 none_by k side now w to p opened =
     let same = passed_none (gave p.answer) k side now (length (given_by side w)) p.next to p.gives p.delivered in
     let step : IsStep k w (poll_event side now) p.answer to = rw same p.poll in
-    let kept = kept_open (fails p.answer) (policy_at side k) (control_at side w) (end_at side w) (given_by (other_side side) w) (calls.Poll now) p.answer (end_at side to) step.end opened in
+    let kept = kept_open (fails p.answer) (policy_at side k) (control_at side w) (heard_at side w) (end_at side w) (given_by (other_side side) w) (calls.Poll now) p.answer (end_at side to) step.end opened in
     let is = none_at (policy_at side k) (end_met w (poll_event side now)) (given_by (other_side side) w) now p.answer step.answer p.gives kept in
     rw is at step
 

@@ -4,16 +4,16 @@ use Rattle.std.specs.Prelude.{replicate}
 use Rattle.rand_core.specs.Stream.{Stream, u64_call, after}
 use Rattle.quic_packet.specs.Keys.{Protection, Aead}
 use Rattle.quic_machine.specs.Policy.{Policy, keys_policy}
-use Rattle.quic_machine.specs.End.{ConnectionValue, policy_of}
+use Rattle.quic_machine.specs.End.{ConnectionValue, policy_of, words_drawn}
 use Rattle.quic_machine.specs.Machine.{Policies}
-use Rattle.quic_connection_core.specs.Drawn.{words_of, after_words}
+use Rattle.quic_connection_parts.specs.Drawn.{words_of, after_words}
 use Rattle.quic_connection.specs.declared.running.Ends.{Ends}
 use Rattle.quic_connection.specs.Ends.{GoesOn, GoOn, Serves, AreOf, policies_of}
 
 -- ---- words of a random source
 
 -- words behind words
-words_behind : (k m : ℕ) (s : Stream) → (after_words k s).u64_after (replicate m u64_call) ≡ s.u64_after (replicate (m + k) u64_call)
+pub words_behind : (k m : ℕ) (s : Stream) → (after_words k s).u64_after (replicate m u64_call) ≡ s.u64_after (replicate (m + k) u64_call)
 words_behind zero m s = ap (λ (n : ℕ). s.u64_after (replicate n u64_call)) (let same : m ≡ m + 0 = omega arith in same)
 words_behind (suc k) m s = words_behind k m (after u64_call s) ∙ ap (λ (n : ℕ). s.u64_after (replicate n u64_call)) (let same : suc (m + k) ≡ m + suc k = omega arith in same)
 
@@ -28,7 +28,7 @@ goes_same stream w = record {
   keys = refl;
   served = λ o. o;
   drawn = λ o. (omega arith);
-  random = λ o. ap (λ (k : ℕ). after_words k (stream w.random)) (let none : 0 ≡ w.end.filter.drawn - w.end.filter.drawn = omega arith in none);
+  random = λ o. ap (λ (k : ℕ). after_words k (stream w.random)) (let none : 0 ≡ words_drawn w.end - words_drawn w.end = omega arith in none);
 }
 
 -- and further
@@ -40,10 +40,10 @@ goes_then stream a b c first next = record {
   random = λ o.
       let one = first.drawn (next.served o) in
       let two = next.drawn o in
-      let sum : c.end.filter.drawn - b.end.filter.drawn + (b.end.filter.drawn - a.end.filter.drawn) ≡ c.end.filter.drawn - a.end.filter.drawn = omega arith in
+      let sum : words_drawn c.end - words_drawn b.end + (words_drawn b.end - words_drawn a.end) ≡ words_drawn c.end - words_drawn a.end = omega arith in
       next.random o
-      ∙ ap (λ (s : Stream). after_words (c.end.filter.drawn - b.end.filter.drawn) s) (first.random (next.served o))
-      ∙ after_both (b.end.filter.drawn - a.end.filter.drawn) (c.end.filter.drawn - b.end.filter.drawn) (stream a.random)
+      ∙ ap (λ (s : Stream). after_words (words_drawn c.end - words_drawn b.end) s) (first.random (next.served o))
+      ∙ after_both (words_drawn b.end - words_drawn a.end) (words_drawn c.end - words_drawn b.end) (stream a.random)
       ∙ ap (λ (k : ℕ). after_words k (stream a.random)) sum;
 }
 
@@ -55,25 +55,25 @@ go_then stream a b c first next = record { client = goes_then stream a.client b.
 
 -- ---- policies of two ends
 
-module _ {H K R C : Type 0} (protection : H → Protection) (aead : K → Aead) (stream : R → Stream) where
+module _ {H K R C : Type 0} (protection : H → Protection) (aead : K → Aead) (seals openings : K → ℕ) (stream : R → Stream) where
   -- what an end's own policy says goes on
-  pub serve_on : (k : Policy) (old new : ConnectionValue H K R C) → Serves k (policy_of protection aead (words_of stream) old) old.end → GoesOn stream old new → Serves k (policy_of protection aead (words_of stream) new) new.end
+  pub serve_on : (k : Policy) (old new : ConnectionValue H K R C) → Serves k (policy_of protection aead seals openings (words_of stream) old) old.end → GoesOn stream old new → Serves k (policy_of protection aead seals openings (words_of stream) new) new.end
   serve_on k old new s g = record {
-    keys = s.keys ∙ ap (λ ks. keys_policy protection aead ks k.words) (sym g.keys);
+    keys = s.keys ∙ ap (λ ks. keys_policy protection aead seals openings ks k.words) (sym g.keys);
     words = λ o n high.
         let more = g.drawn o in
-        let low : old.end.filter.drawn ≤ n = omega arith in
-        let sum : n - new.end.filter.drawn + (new.end.filter.drawn - old.end.filter.drawn) ≡ n - old.end.filter.drawn = omega arith in
+        let low : words_drawn old.end ≤ n = omega arith in
+        let sum : n - words_drawn new.end + (words_drawn new.end - words_drawn old.end) ≡ n - words_drawn old.end = omega arith in
         s.words (g.served o) n low
         ∙ ap (λ (m : ℕ). words_of stream old.random m) (sym sum)
-        ∙ sym (words_behind (new.end.filter.drawn - old.end.filter.drawn) (n - new.end.filter.drawn) (stream old.random))
-        ∙ ap (λ (s : Stream). s.u64_after (replicate (n - new.end.filter.drawn) u64_call)) (sym (g.random o));
+        ∙ sym (words_behind (words_drawn new.end - words_drawn old.end) (n - words_drawn new.end) (stream old.random))
+        ∙ ap (λ (s : Stream). s.u64_after (replicate (n - words_drawn new.end) u64_call)) (sym (g.random o));
   }
 
   -- the ends' own policies
-  pub are_own : (ends : Ends H K R C) → AreOf (policies_of protection aead stream ends) protection aead stream ends
+  pub are_own : (ends : Ends H K R C) → AreOf (policies_of protection aead seals openings stream ends) protection aead seals openings stream ends
   are_own ends = record { client = record { keys = refl; words = λ o n h. refl }; server = record { keys = refl; words = λ o n h. refl } }
 
   -- they go on
-  pub are_on : (k : Policies) (old new : Ends H K R C) → AreOf k protection aead stream old → GoOn stream old new → AreOf k protection aead stream new
+  pub are_on : (k : Policies) (old new : Ends H K R C) → AreOf k protection aead seals openings stream old → GoOn stream old new → AreOf k protection aead seals openings stream new
   are_on k old new s g = record { client = serve_on k.client old.client new.client s.client g.client; server = serve_on k.server old.server new.server s.server g.server }

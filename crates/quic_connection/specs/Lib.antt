@@ -1,9 +1,11 @@
 -- The definitions of this crate, and those of lower crates that its clauses cite.
 pub mod Ends
 pub mod GoingOn
+pub mod Rooms
 pub mod OnStreams
 pub mod OnMessages
 pub mod Settled
+pub mod Lone
 pub use Rattle.quic_headline.specs.Runs
 pub use Rattle.quic_headline.specs.Observer
 pub use Rattle.quic_headline.specs.Headline
@@ -13,6 +15,7 @@ pub use Rattle.quic_headline.specs.Grown
 pub use Rattle.quic_headline.specs.InFlight
 pub use Rattle.quic_headline.specs.Causes
 pub use Rattle.quic_headline.specs.Moments
+pub use Rattle.quic_headline.specs.Promises
 pub use Rattle.quic_machine.specs.Policy
 pub use Rattle.quic_machine.specs.Closing
 pub use Rattle.quic_machine.specs.Tracking
@@ -31,7 +34,7 @@ pub use Rattle.quic_machine.specs.StreamCalls
 pub use Rattle.quic_spaces.specs.Numbers
 pub use Rattle.quic_spaces.specs.Filter
 pub use Rattle.quic_spaces.specs.Loss
-pub use Rattle.quic_connection_core.specs.Drawn
+pub use Rattle.quic_connection_parts.specs.Drawn
 pub use Rattle.quic_streams_parts.specs.Table
 pub use Rattle.quic_streams_state.specs.State
 pub use Rattle.quic_streams_state.specs.Opening

@@ -26,7 +26,8 @@ abbrev pub MayLack : DatagramLimits → Messages → Call → Answer → Type 0
 MayLack limits old (calls.Send message makes_room) (answers.Send answer) = answer ≡ Err send_errors.Memory → send_answer limits makes_room message old ≡ Ok tt
 MayLack limits old call a = Unit {0}
 
--- A call on messages with these limits may be answered so, lacking memory only where it takes some, and leaves them so.
+-- A call on messages with these limits may be answered so, lacking memory only where it takes some,
+-- and leaves them so.
 pub record IsCallOn (limits : DatagramLimits) (old : Messages) (call : Call) (a : Answer) (new : Messages) : Type 0 where
   pub answer : MayAnswer limits old call a
   pub lacking : MayLack limits old call a

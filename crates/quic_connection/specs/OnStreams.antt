@@ -11,7 +11,8 @@ use Rattle.quic_machine.specs.Lacking.{StreamCallLacks}
 abbrev pub left_by : Bool → EndStreams → Call → Answer → Streams
 left_by is_open old call a = after_on_streams is_open (streams_of old.state old.pending) call a
 
--- A call on the streams of an end, which is open or isn't, may be answered so, lacking memory only where it takes some, and leaves them so.
+-- A call on the streams of an end, which is open or isn't, may be answered so, lacking memory only
+-- where it takes some, and leaves them so.
 pub record IsCallOn (is_open : Bool) (old : EndStreams) (call : Call) (a : Answer) (new : EndStreams) : Type 0 where
   pub answer : IsStreamAnswer is_open old.state call a
   pub lacking : StreamCallLacks is_open old.state old.pending call a

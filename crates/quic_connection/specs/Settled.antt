@@ -56,8 +56,9 @@ pub data Round : Type 0 where
   -- both were polled, and neither gave a datagram: a timer is waited for next, if one is set
   quiet : Round
 
--- behind a poll of an end that gave a datagram, or none: it is polled again until it gives none, and then the other, the client first.
--- Where a datagram was given, a new round begins behind the server
+-- behind a poll of an end that gave a datagram, or none: it is polled again until it gives none,
+-- and then the other, the client first. Where a datagram was given, a new round begins behind the
+-- server
 abbrev pub polled_on : Side → Bool → Bool → Round
 polled_on side before true = asks side true
 polled_on Client before false = asks Server before
@@ -94,8 +95,8 @@ abbrev pub IsPassedOn : Bool → Policies → Side → ℕ → ℕ → World →
 IsPassedOn true k side now index w to = (answer : Answer) × IsStep k w (delivery_event side now index) answer to
 IsPassedOn false k side now index w to = to ≡ w
 
--- Both ends are open, and one is polled at a moment, which gives a datagram or none; a datagram is delivered to the other one at once,
--- without a mark.
+-- Both ends are open, and one is polled at a moment, which gives a datagram or none; a datagram is
+-- delivered to the other one at once, without a mark.
 pub record IsPolled (k : Policies) (side : Side) (now : ℕ) (has_given : Bool) (w to : World) : Type 0 where
   pub are_open : AreOpen w
   pub answer : Answer
@@ -112,8 +113,8 @@ pub record IsHandled (k : Policies) (moment : ℕ) (w to : World) : Type 0 where
   pub server_answer : Answer
   pub server : IsStep k middle (timeout_event Server moment) server_answer to
 
--- Both ends are open behind a round that gave no datagram. The earliest timer of loss, of acknowledgements or of pacing is waited for,
--- unless it has come, and both handle the moment.
+-- Both ends are open behind a round that gave no datagram. The earliest timer of loss, of
+-- acknowledgements or of pacing is waited for, unless it has come, and both handle the moment.
 pub record IsWaited (k : Policies) (now moment : ℕ) (w to : World) : Type 0 where
   pub are_open : AreOpen w
   pub wake : ℕ
@@ -131,7 +132,8 @@ IsTalk k now quiet w (awaits ∷ turns) moment end to =
 IsTalk k now quiet w (polls ∷ turns) moment end to = ⊥
 IsTalk k now (asks side before) w (awaits ∷ turns) moment end to = ⊥
 
--- Such turns, from one place to another, where so many polls were left before them, and so many are behind them.
+-- Such turns, from one place to another, where so many polls were left before them, and so many are
+-- behind them.
 pub record Talks (k : Policies) (now moment : ℕ) (at end : Round) (before after : ℕ) (from to : World) : Type 0 where
   pub turns : List Turn
   pub talk : IsTalk k now at from turns moment end to
@@ -185,9 +187,10 @@ pub record IsCutOff (k : Policies) (now : ℕ) (at : Round) (before : ℕ) (from
 abbrev pub no_datagram : Answer
 no_datagram = answers.Poll (Ok None)
 
--- Two ends rest at a moment, behind turns from one before. It is judged by answers: at this moment the client and then the server were
--- polled, both answered `None`, and no call was made behind these; both are open, and wait for no moment. Whether their paths are
--- validated (RFC 9000, section 8.1) isn't asked.
+-- Two ends rest at a moment, behind turns from one before. It is judged by answers: at this moment
+-- the client and then the server were polled, both answered `None`, and no call was made behind
+-- these; both are open, and wait for no moment. Whether their paths are validated (RFC 9000,
+-- section 8.1) isn't asked.
 pub record AreAtRest (k : Policies) (now : ℕ) (from : World) (moment : ℕ) (to : World) : Type 0 where
   pub turns : List Turn
   pub before : World
@@ -205,8 +208,9 @@ EndsAs (Ok (Some rest)) k turns moment end last to = (rest ≡ moment) × (end �
 EndsAs (Ok None) k turns moment end last to = (to ≡ last) × (HasClosed last ⊎ (polls_in turns ≡ most_polls))
 EndsAs (Err e) k turns moment end last to = IsCut k moment end last to
 
--- Two ends talked from a moment on, in rounds of which the first polls the client, with at most 10000 polls: they rest at the moment that
--- was answered, behind a round without a datagram, or were given up where an end isn't open or no poll was left, or memory lacked.
+-- Two ends talked from a moment on, in rounds of which the first polls the client, with at most
+-- 10000 polls: they rest at the moment that was answered, behind a round without a datagram, or
+-- were given up where an end isn't open or no poll was left, or memory lacked.
 pub record Settles {E : Type 0} (k : Policies) (now : ℕ) (from : World) (answer : Result (Option ℕ) E) (to : World) : Type 0 where
   pub turns : List Turn
   pub moment : ℕ

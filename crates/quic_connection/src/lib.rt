@@ -8,12 +8,15 @@
 //! its `poll_timeout` says when `handle_timeout` is due.
 #![tactic(auto)]
 
+mod alone;
 mod on_messages;
 mod on_streams;
 mod pair;
 mod running;
 mod settling;
+mod views;
 
+pub use alone::{Alone, run_alone};
 pub use bytes::Bytes;
 pub use pair::Making;
 pub use quic_assembler::Chunk;
@@ -24,9 +27,9 @@ pub use quic_congestion::{
 pub use quic_connection_core::{Config, Connection};
 pub use quic_copies::Copies;
 pub use quic_machine::{
-    Answer, Call, ConfigError, Datagram, Delivery, DropReason, EndView, Event, Failed, IdleTimeout,
-    Injection, Instant, LostReason, Nexts, ReadCall, Received, RunEvent, State, Timer, Transmit,
-    TransportConfig, View,
+    Answer, Call, CloseCall, ConfigError, Datagram, Delivery, DropReason, EndView, Event, Failed,
+    IdleTimeout, Injection, Instant, LostReason, NextIdError, Nexts, PeerClose, ReadCall, Received,
+    RunEvent, State, Timer, Transmit, TransportConfig, View,
 };
 pub use quic_messages::{DatagramLimits, DatagramState, Datagrams, SendDatagramError};
 pub use quic_packet::crypto::{
@@ -41,7 +44,9 @@ pub use quic_streams_parts::{
     ClosedStream, FinishError, ReadError, ReadableError, StreamEvent, UpdateError, WriteError,
     Written,
 };
+pub use quic_streams_state::BlockedBy;
 pub use quic_time::{Duration, RttEstimator};
+pub use quic_wire::frame::{ApplicationClose, Close, ConnectionClose};
 pub use quic_wire_core::{
     Code, ConnectionId, Dir, EcnCodepoint, FrameType, Reason, Side, StreamId, TransportError,
     VarInt, VarIntBoundsExceeded,

@@ -1,53 +1,28 @@
 //! Runs of two ends over a network: one event at a time, or a list of them.
-ghost use Rattle.std.specs.Prelude.{◌≡◌, ◌++◌, [], length, ◌≤◌, ◌<◌, vec_len, vec_capacity, slice_get, IsSome, IfOk, OnErr, true, false};
+ghost use Rattle.std.specs.Prelude.{◌≡◌, ◌++◌, [], length, ◌≤◌, ◌<◌, vec_len, vec_capacity, slice_get, IsSome, IfOk, OnOk, OnErr, true, false};
 ghost use Rattle.quic_wire_core.specs.StreamId.{other_side};
 ghost use Rattle.quic_machine.specs.End.{policy_of, with_end};
-ghost use Rattle.quic_machine.specs.Machine.{Policies, IsAnswer, reads_window, IsLeft, IsTold, IsHeard, fails, gives, given_by, IsStep, view_of, end_view, Follows};
-ghost use Rattle.quic_machine.specs.CallCases.{is_poll};
+ghost use Rattle.quic_machine.specs.Machine.{World, Policies, IsAnswer, reads_window, IsLeft, IsTold, IsHeard, CountsOpenings, fails, gives, given_by, IsStep, Follows};
 ghost use Rattle.quic_machine.specs.Lacking.{LacksWhere, TakesOfItsOwn};
 ghost use Rattle.quic_machine.specs.Start.{AreStarted};
-ghost use Rattle.quic_time.specs.Timers.{each_timer};
-ghost use Rattle.quic_headline.specs.Waited.{EachWaited};
-ghost use Rattle.quic_headline.specs.Begins.{WaitingBegins};
-ghost use Rattle.quic_headline.specs.Queue.{MessagesGo, MessagesGoInOrder};
-ghost use Rattle.quic_headline.specs.Telling.{ControllersAreTold};
-ghost use Rattle.quic_headline.specs.Spread.{PacerIsOfHistory};
-ghost use Rattle.quic_headline.specs.Causes.{NoBlame, TooManyPieces, NumberLimit, TakenOrTooMany};
-ghost use Rattle.quic_headline.specs.Headline.{CodeIsSmall, AreCodes, OrderedPrefix, Slices, Once, EndAfterAll, BlockedOnlyWithoutBytes, AcceptsAll, FinishedMeansArrived, FinishedIsTold, AcknowledgedWereTaken, NamesWereTaken, OpensExactly, NewestOpens, LossTimersFollow, AckTimersFollow, NumbersRise};
-ghost use Rattle.quic_headline.specs.Amounts.{WritesTakeWhatLimitsAllow};
-ghost use Rattle.quic_headline.specs.Duties.{DutiesStand};
-ghost use Rattle.quic_headline.specs.Grown.{GrownLimitsWait};
-ghost use Rattle.quic_headline.specs.Messages.{MessagesAtMostOnce};
-ghost use Rattle.quic_headline.specs.InFlight.{TracksInFlight};
-ghost use Rattle.quic_headline.specs.Isolated.{Isolated, IsolatedByAnswers, IsolatedByLists};
-ghost use Rattle.quic_headline.specs.Moments.{LossMoments, LossTimerQuiet, AckMoments};
-ghost use Rattle.quic_headline.specs.Polls.{PollsSendWhatWaits, PollsSendMessages, PacerSetsItsTimer, AskingGoesWhereLet, ProbesPass, WindowIsOfHistory};
-ghost use Rattle.quic_headline.specs.Rest.{DeliveredAtRest, NothingOwedAtRest};
-ghost use Rattle.quic_headline.specs.AcksDue.{AcksAreDue};
-ghost use Rattle.quic_headline.specs.Resets.{ResetsAreTold};
-ghost use Rattle.quic_headline.specs.Ids.{IdsAreNew, AcceptedWereOpened};
-ghost use Rattle.quic_headline.specs.ConnectionIds.{SentToFirstId, NoUnknownId, FirstIdStays};
-ghost use Rattle.quic_headline.specs.Reasons.{ClosedHasAReason};
-ghost use Rattle.quic_headline.specs.Views.{ViewsTell};
-ghost use Rattle.quic_headline.specs.Events.{MessagesAreTold, OpeningsAreTold, ReadablesAreTold, WritablesAreTold};
-ghost use Rattle.quic_headline.specs.Sizes.{SizeIsOfHistory, SizesMove, DatagramsAreSized};
-ghost use Rattle.quic_headline.specs.Allowed.{ReadsAreAllowed, ReadsAreOver, WritesAreAllowed, ResetsAreAllowed};
-ghost use Rattle.quic_headline.specs.Credit.{CreditIsBounded, CountsAreBounded};
-ghost use Rattle.quic_headline.specs.Undone.{NoneOpenedOnlyForUndone};
-ghost use Rattle.quic_headline.specs.Unread.{BlockedOnlyForUnread};
-ghost use Rattle.quic_connection_core.specs.Telling.{windows_of, KeepsKeys};
-ghost use Rattle.quic_connection.specs.Ends.{world_of, first_world, world_left, policies_of, kept, AreOf, GoesOn, GoOn, OnHonest, OnRun, AtEachPlace};
-ghost use Rattle.quic_connection_core.specs.Drawn.{words_of};
+ghost use Rattle.quic_headline.specs.Headline.{CodeIsSmall, AreCodes, LossTimersFollow, AckTimersFollow};
+ghost use Rattle.quic_headline.specs.Promises.{Delivers, Streams, Limits, Waits, Messages, Tells, Acknowledges, Loses, Paces, Sizes, Numbers, Identifies, Validates, Causes, Closes, Times, Rests, Isolates};
+ghost use Rattle.quic_wire_core.specs.declared.stream_id.Side.TheVariants.{Client, Server};
+ghost use Rattle.quic_connection_parts.specs.Telling.{windows_of, KeepsKeys};
+ghost use Rattle.quic_connection.specs.Rooms.{HasRoomBehind};
+ghost use Rattle.quic_connection.specs.Ends.{world_of, first_world, world_left, policies_of, kept, AreOf, GoesOn, GoOn, may_move, OnHonest, OnRun, AtEachPlace};
+ghost use Rattle.quic_connection_parts.specs.Drawn.{words_of};
 ghost use Rattle.quic_connection.specs.declared.running.Given.{Given};
 
+use crate::views::{Rooms, rooms_behind, view};
 use crate::{on_messages, on_streams};
 use bytes::Bytes;
 use quic_congestion::Controller;
 use quic_connection_core::Connection;
 use quic_headline::headline;
 use quic_machine::{
-    Answer, Call, Datagram, Delivery, EndView, Failed, Injection, Instant, LostReason, RunEvent,
-    Timer, Transmit, View,
+    Answer, Call, CloseCall, Datagram, Delivery, Failed, Injection, Instant, RunEvent, Transmit,
+    View,
 };
 use quic_packet::crypto::{HeaderKey, PacketKey};
 use quic_wire_core::Side;
@@ -103,9 +78,13 @@ pub struct Outcome<H, K, R, C: Controller> {
 
 /// Makes the call of one event, and appends a datagram that it gives. The ends keep their keys, and
 /// draw words of their random sources: policies that do what both did before (`AreOf`) do so still.
-/// The call answers want of memory only where it takes some. An error is want of memory of its own,
-/// with no call made and nothing changed: it takes some at each poll, whether that gives a datagram
-/// or not, where it keeps the answers of a read, and where it copies what comes.
+/// The call answers that it is out of memory only where it allocates.
+///
+/// # Errors
+///
+/// - [`AllocError`]: an allocation of this call's own fails. No call is made, and nothing changes.
+///   It allocates at each poll, whether that gives a datagram or not, where it keeps the answers of
+///   a read, and where it copies what comes or a close's text.
 pub fn step<H: HeaderKey + Drop, K: PacketKey + Drop, R: Rng + Drop, C: Controller>(
     alloc: Global,
     ends: &mut Ends<H, K, R, C>,
@@ -113,7 +92,7 @@ pub fn step<H: HeaderKey + Drop, K: PacketKey + Drop, R: Rng + Drop, C: Controll
     event: &RunEvent,
 ) -> Result<Answer, AllocError>
     ensures step { IfOk result (λ a.
-        (k : Policies) → AreOf k H.protection K.aead R.stream ends.old
+        (k : Policies) → AreOf k H.protection K.aead K.seal_limit K.refusal_limit R.stream ends.old
         → IsStep k (world_of (windows_of C.steps C.window_of) ends.old given.old) event.now a (world_of (windows_of C.steps C.window_of) ends.new given.new)) }
     ensures goes_on { GoOn R.stream ends.old ends.new }
     ensures err { OnErr result (ends.new ≡ ends.old) }
@@ -134,7 +113,7 @@ fn make<H: HeaderKey + Drop, K: PacketKey + Drop, R: Rng + Drop, C: Controller>(
     event: &RunEvent,
 ) -> Result<Answer, AllocError>
     ensures step { IfOk result (λ a.
-        IsStep (policies_of H.protection K.aead R.stream ends.old) (world_of (windows_of C.steps C.window_of) ends.old given.old)
+        IsStep (policies_of H.protection K.aead K.seal_limit K.refusal_limit R.stream ends.old) (world_of (windows_of C.steps C.window_of) ends.old given.old)
         event.now a (world_of (windows_of C.steps C.window_of) ends.new given.new)) }
     ensures goes_on { GoOn R.stream ends.old ends.new }
     ensures err { OnErr result (ends.new ≡ ends.old) }
@@ -162,13 +141,18 @@ fn make<H: HeaderKey + Drop, K: PacketKey + Drop, R: Rng + Drop, C: Controller>(
     }
 }
 
-/// Makes one call at one end whose peer is elsewhere, and appends a datagram that it gives. The end
-/// keeps its keys, and draws words of its random source only at a poll. A datagram of the peer is
-/// handed in by [`Connection::receive`]: [`Call::Deliver`] finds none here.
+/// Makes one call at one end whose peer is elsewhere, and appends a datagram that it gives. The
+/// end keeps its keys, and draws words of its random source only at a poll, at a moment that comes
+/// or where a datagram does. A datagram of the peer is handed in by [`Connection::receive`]:
+/// [`Call::Deliver`] finds none here.
 ///
-/// The call answers want of memory only where it takes some. An error is want of memory of its own,
-/// with no call made and nothing changed: it takes some at each poll, whether that gives a datagram
-/// or not, where it keeps the answers of a read, and where it copies what comes.
+/// The call answers that it is out of memory only where it allocates.
+///
+/// # Errors
+///
+/// - [`AllocError`]: an allocation of this call's own fails. No call is made, and nothing changes.
+///   It allocates at each poll, whether that gives a datagram or not, where it keeps the answers of
+///   a read, and where it copies what comes or a close's text.
 pub fn call_at<H: HeaderKey + Drop, K: PacketKey + Drop, R: Rng + Drop, C: Controller>(
     alloc: Global,
     end: &mut Connection<H, K, R, C>,
@@ -176,26 +160,28 @@ pub fn call_at<H: HeaderKey + Drop, K: PacketKey + Drop, R: Rng + Drop, C: Contr
     call: &Call,
 ) -> Result<Answer, AllocError>
     ensures answer { IfOk result (λ a.
-        IsAnswer (policy_of H.protection K.aead (words_of R.stream) end.old)
-        (reads_window (windows_of C.steps C.window_of end.old.control) call.now end.old.end) [] call.now a) }
+        IsAnswer (policy_of H.protection K.aead K.seal_limit K.refusal_limit (words_of R.stream) end.old)
+        (reads_window (windows_of C.steps C.window_of end.old.control) end.old.heard call.now end.old.end) [] call.now a) }
     ensures lacking { IfOk result (λ a.
-        LacksWhere (policy_of H.protection K.aead (words_of R.stream) end.old)
-        (reads_window (windows_of C.steps C.window_of end.old.control) call.now end.old.end) [] call.now a) }
+        LacksWhere (policy_of H.protection K.aead K.seal_limit K.refusal_limit (words_of R.stream) end.old)
+        (reads_window (windows_of C.steps C.window_of end.old.control) end.old.heard call.now end.old.end) [] call.now a) }
     ensures end { IfOk result (λ a.
-        IsLeft (fails a) (policy_of H.protection K.aead (words_of R.stream) end.old)
-        (windows_of C.steps C.window_of end.old.control) end.old.end [] call.now a end.new.end) }
+        IsLeft (fails a) (policy_of H.protection K.aead K.seal_limit K.refusal_limit (words_of R.stream) end.old)
+        (windows_of C.steps C.window_of end.old.control) end.old.heard end.old.end [] call.now a end.new.end) }
     ensures control { IfOk result (λ a.
-        IsTold (fails a) (policy_of H.protection K.aead (words_of R.stream) end.old)
-        (windows_of C.steps C.window_of end.old.control) end.old.end [] call.now
+        IsTold (fails a) (policy_of H.protection K.aead K.seal_limit K.refusal_limit (words_of R.stream) end.old)
+        (windows_of C.steps C.window_of end.old.control) end.old.heard end.old.end [] call.now
         (windows_of C.steps C.window_of end.new.control)) }
     ensures heard { IfOk result (λ a.
         IsHeard (fails a) [] call.now a end.old.heard end.new.heard) }
+    ensures openings { IfOk result (λ a.
+        CountsOpenings (K.refusal_limit end.old.keys.packet.remote) end.old.end.closing.state end.old.heard a) }
     ensures appended { IfOk result (λ a.
         given.new.items
-        ≡ given.old.items ++ gives (policy_of H.protection K.aead (words_of R.stream) end.old)
-        (reads_window (windows_of C.steps C.window_of end.old.control) call.now end.old.end) call.now a) }
-    ensures keys { is_poll call.now ≡ false → KeepsKeys end.old end.new }
-    ensures polled { is_poll call.now ≡ true → GoesOn R.stream end.old end.new }
+        ≡ given.old.items ++ gives (policy_of H.protection K.aead K.seal_limit K.refusal_limit (words_of R.stream) end.old)
+        (reads_window (windows_of C.steps C.window_of end.old.control) end.old.heard call.now end.old.end) call.now a) }
+    ensures keys { may_move call.now ≡ false → KeepsKeys end.old end.new }
+    ensures draws { may_move call.now ≡ true → GoesOn R.stream end.old end.new }
     ensures err { OnErr result (end.new ≡ end.old) }
     ensures err_given { OnErr result (given.new.items ≡ given.old.items) }
     ensures own { OnErr result (TakesOfItsOwn [] call.now) }
@@ -204,7 +190,7 @@ pub fn call_at<H: HeaderKey + Drop, K: PacketKey + Drop, R: Rng + Drop, C: Contr
 }
 
 /// Makes one call at one end; `theirs` are the datagrams of the other one.
-fn at_end<H: HeaderKey + Drop, K: PacketKey + Drop, R: Rng + Drop, C: Controller>(
+pub(crate) fn at_end<H: HeaderKey + Drop, K: PacketKey + Drop, R: Rng + Drop, C: Controller>(
     alloc: Global,
     end: &mut Connection<H, K, R, C>,
     mine: &mut Vec<Datagram>,
@@ -212,26 +198,28 @@ fn at_end<H: HeaderKey + Drop, K: PacketKey + Drop, R: Rng + Drop, C: Controller
     call: &Call,
 ) -> Result<Answer, AllocError>
     ensures answer { IfOk result (λ a.
-        IsAnswer (policy_of H.protection K.aead (words_of R.stream) end.old)
-        (reads_window (windows_of C.steps C.window_of end.old.control) call.now end.old.end) theirs.now call.now a) }
+        IsAnswer (policy_of H.protection K.aead K.seal_limit K.refusal_limit (words_of R.stream) end.old)
+        (reads_window (windows_of C.steps C.window_of end.old.control) end.old.heard call.now end.old.end) theirs.now call.now a) }
     ensures lacking { IfOk result (λ a.
-        LacksWhere (policy_of H.protection K.aead (words_of R.stream) end.old)
-        (reads_window (windows_of C.steps C.window_of end.old.control) call.now end.old.end) theirs.now call.now a) }
+        LacksWhere (policy_of H.protection K.aead K.seal_limit K.refusal_limit (words_of R.stream) end.old)
+        (reads_window (windows_of C.steps C.window_of end.old.control) end.old.heard call.now end.old.end) theirs.now call.now a) }
     ensures end { IfOk result (λ a.
-        IsLeft (fails a) (policy_of H.protection K.aead (words_of R.stream) end.old)
-        (windows_of C.steps C.window_of end.old.control) end.old.end theirs.now call.now a end.new.end) }
+        IsLeft (fails a) (policy_of H.protection K.aead K.seal_limit K.refusal_limit (words_of R.stream) end.old)
+        (windows_of C.steps C.window_of end.old.control) end.old.heard end.old.end theirs.now call.now a end.new.end) }
     ensures control { IfOk result (λ a.
-        IsTold (fails a) (policy_of H.protection K.aead (words_of R.stream) end.old)
-        (windows_of C.steps C.window_of end.old.control) end.old.end theirs.now call.now
+        IsTold (fails a) (policy_of H.protection K.aead K.seal_limit K.refusal_limit (words_of R.stream) end.old)
+        (windows_of C.steps C.window_of end.old.control) end.old.heard end.old.end theirs.now call.now
         (windows_of C.steps C.window_of end.new.control)) }
     ensures heard { IfOk result (λ a.
         IsHeard (fails a) theirs.now call.now a end.old.heard end.new.heard) }
+    ensures openings { IfOk result (λ a.
+        CountsOpenings (K.refusal_limit end.old.keys.packet.remote) end.old.end.closing.state end.old.heard a) }
     ensures given { IfOk result (λ a.
         mine.new.items
-        ≡ mine.old.items ++ gives (policy_of H.protection K.aead (words_of R.stream) end.old)
-        (reads_window (windows_of C.steps C.window_of end.old.control) call.now end.old.end) call.now a) }
-    ensures keys { is_poll call.now ≡ false → KeepsKeys end.old end.new }
-    ensures polled { is_poll call.now ≡ true → GoesOn R.stream end.old end.new }
+        ≡ mine.old.items ++ gives (policy_of H.protection K.aead K.seal_limit K.refusal_limit (words_of R.stream) end.old)
+        (reads_window (windows_of C.steps C.window_of end.old.control) end.old.heard call.now end.old.end) call.now a) }
+    ensures keys { may_move call.now ≡ false → KeepsKeys end.old end.new }
+    ensures draws { may_move call.now ≡ true → GoesOn R.stream end.old end.new }
     ensures err { OnErr result (end.new ≡ end.old) }
     ensures err_given { OnErr result (mine.new.items ≡ mine.old.items) }
     ensures own { OnErr result (TakesOfItsOwn theirs.now call.now) }
@@ -260,6 +248,8 @@ fn at_end<H: HeaderKey + Drop, K: PacketKey + Drop, R: Rng + Drop, C: Controller
         Call::Send(message, makes_room) => send_at(alloc, end, message, *makes_room),
         Call::Recv => Ok(recv_at(end)),
         Call::Ping => Ok(ping_at(end)),
+        Call::Close(close) => close_at(alloc, end, close),
+        Call::UseNextId => Ok(use_next_id_at(end)),
         Call::Poll(now) => poll_at(alloc, end, mine, *now),
         Call::Timeout(now) => Ok(timeout_at(end, *now)),
         Call::Deliver(delivery) => deliver_at(alloc, end, theirs, delivery),
@@ -267,6 +257,7 @@ fn at_end<H: HeaderKey + Drop, K: PacketKey + Drop, R: Rng + Drop, C: Controller
         Call::Event => Ok(Answer::Event(end.poll())),
         Call::Timer(timer) => Ok(Answer::Timer(end.timer(*timer))),
         Call::NextTimeout => Ok(Answer::NextTimeout(end.poll_timeout())),
+        Call::State => Ok(Answer::State(end.state(), end.is_validated())),
     }
 }
 
@@ -278,23 +269,23 @@ fn send_at<H: HeaderKey + Drop, K: PacketKey + Drop, R: Rng + Drop, C: Controlle
     makes_room: bool,
 ) -> Result<Answer, AllocError>
     ensures answer { IfOk result (λ a.
-        IsAnswer (policy_of H.protection K.aead (words_of R.stream) end.old)
-        (reads_window (windows_of C.steps C.window_of end.old.control) (Call.Send message.now makes_room) end.old.end) [] (Call.Send message.now makes_room) a) }
+        IsAnswer (policy_of H.protection K.aead K.seal_limit K.refusal_limit (words_of R.stream) end.old)
+        (reads_window (windows_of C.steps C.window_of end.old.control) end.old.heard (Call.Send message.now makes_room) end.old.end) [] (Call.Send message.now makes_room) a) }
     ensures lacking { IfOk result (λ a.
-        LacksWhere (policy_of H.protection K.aead (words_of R.stream) end.old)
-        (reads_window (windows_of C.steps C.window_of end.old.control) (Call.Send message.now makes_room) end.old.end) [] (Call.Send message.now makes_room) a) }
+        LacksWhere (policy_of H.protection K.aead K.seal_limit K.refusal_limit (words_of R.stream) end.old)
+        (reads_window (windows_of C.steps C.window_of end.old.control) end.old.heard (Call.Send message.now makes_room) end.old.end) [] (Call.Send message.now makes_room) a) }
     ensures end { IfOk result (λ a.
-        IsLeft (fails a) (policy_of H.protection K.aead (words_of R.stream) end.old)
-        (windows_of C.steps C.window_of end.old.control) end.old.end [] (Call.Send message.now makes_room) a end.new.end) }
+        IsLeft (fails a) (policy_of H.protection K.aead K.seal_limit K.refusal_limit (words_of R.stream) end.old)
+        (windows_of C.steps C.window_of end.old.control) end.old.heard end.old.end [] (Call.Send message.now makes_room) a end.new.end) }
     ensures control { IfOk result (λ a.
-        IsTold (fails a) (policy_of H.protection K.aead (words_of R.stream) end.old)
-        (windows_of C.steps C.window_of end.old.control) end.old.end [] (Call.Send message.now makes_room)
+        IsTold (fails a) (policy_of H.protection K.aead K.seal_limit K.refusal_limit (words_of R.stream) end.old)
+        (windows_of C.steps C.window_of end.old.control) end.old.heard end.old.end [] (Call.Send message.now makes_room)
         (windows_of C.steps C.window_of end.new.control)) }
     ensures heard { IfOk result (λ a.
         IsHeard (fails a) [] (Call.Send message.now makes_room) a end.old.heard end.new.heard) }
     ensures given { IfOk result (λ a.
-        gives (policy_of H.protection K.aead (words_of R.stream) end.old)
-        (reads_window (windows_of C.steps C.window_of end.old.control) (Call.Send message.now makes_room) end.old.end) (Call.Send message.now makes_room) a ≡ []) }
+        gives (policy_of H.protection K.aead K.seal_limit K.refusal_limit (words_of R.stream) end.old)
+        (reads_window (windows_of C.steps C.window_of end.old.control) end.old.heard (Call.Send message.now makes_room) end.old.end) (Call.Send message.now makes_room) a ≡ []) }
     ensures keys { KeepsKeys end.old end.new }
     ensures err { OnErr result (end.new ≡ end.old) }
 {
@@ -307,20 +298,20 @@ fn send_at<H: HeaderKey + Drop, K: PacketKey + Drop, R: Rng + Drop, C: Controlle
 fn recv_at<H: HeaderKey + Drop, K: PacketKey + Drop, R: Rng + Drop, C: Controller>(
     end: &mut Connection<H, K, R, C>,
 ) -> Answer
-    ensures answer { IsAnswer (policy_of H.protection K.aead (words_of R.stream) end.old)
-        (reads_window (windows_of C.steps C.window_of end.old.control) Call.Recv end.old.end) [] Call.Recv
+    ensures answer { IsAnswer (policy_of H.protection K.aead K.seal_limit K.refusal_limit (words_of R.stream) end.old)
+        (reads_window (windows_of C.steps C.window_of end.old.control) end.old.heard Call.Recv end.old.end) [] Call.Recv
         result }
-    ensures lacking { LacksWhere (policy_of H.protection K.aead (words_of R.stream) end.old)
-        (reads_window (windows_of C.steps C.window_of end.old.control) Call.Recv end.old.end) [] Call.Recv
+    ensures lacking { LacksWhere (policy_of H.protection K.aead K.seal_limit K.refusal_limit (words_of R.stream) end.old)
+        (reads_window (windows_of C.steps C.window_of end.old.control) end.old.heard Call.Recv end.old.end) [] Call.Recv
         result }
-    ensures end { IsLeft (fails result) (policy_of H.protection K.aead (words_of R.stream) end.old)
-        (windows_of C.steps C.window_of end.old.control) end.old.end [] Call.Recv result end.new.end }
-    ensures control { IsTold (fails result) (policy_of H.protection K.aead (words_of R.stream) end.old)
-        (windows_of C.steps C.window_of end.old.control) end.old.end [] Call.Recv
+    ensures end { IsLeft (fails result) (policy_of H.protection K.aead K.seal_limit K.refusal_limit (words_of R.stream) end.old)
+        (windows_of C.steps C.window_of end.old.control) end.old.heard end.old.end [] Call.Recv result end.new.end }
+    ensures control { IsTold (fails result) (policy_of H.protection K.aead K.seal_limit K.refusal_limit (words_of R.stream) end.old)
+        (windows_of C.steps C.window_of end.old.control) end.old.heard end.old.end [] Call.Recv
         (windows_of C.steps C.window_of end.new.control) }
     ensures heard { IsHeard (fails result) [] Call.Recv result end.old.heard end.new.heard }
-    ensures given { gives (policy_of H.protection K.aead (words_of R.stream) end.old)
-        (reads_window (windows_of C.steps C.window_of end.old.control) Call.Recv end.old.end) Call.Recv result
+    ensures given { gives (policy_of H.protection K.aead K.seal_limit K.refusal_limit (words_of R.stream) end.old)
+        (reads_window (windows_of C.steps C.window_of end.old.control) end.old.heard Call.Recv end.old.end) Call.Recv result
         ≡ [] }
     ensures keys { KeepsKeys end.old end.new }
 {
@@ -332,25 +323,81 @@ fn recv_at<H: HeaderKey + Drop, K: PacketKey + Drop, R: Rng + Drop, C: Controlle
 fn ping_at<H: HeaderKey + Drop, K: PacketKey + Drop, R: Rng + Drop, C: Controller>(
     end: &mut Connection<H, K, R, C>,
 ) -> Answer
-    ensures answer { IsAnswer (policy_of H.protection K.aead (words_of R.stream) end.old)
-        (reads_window (windows_of C.steps C.window_of end.old.control) Call.Ping end.old.end) [] Call.Ping
+    ensures answer { IsAnswer (policy_of H.protection K.aead K.seal_limit K.refusal_limit (words_of R.stream) end.old)
+        (reads_window (windows_of C.steps C.window_of end.old.control) end.old.heard Call.Ping end.old.end) [] Call.Ping
         result }
-    ensures lacking { LacksWhere (policy_of H.protection K.aead (words_of R.stream) end.old)
-        (reads_window (windows_of C.steps C.window_of end.old.control) Call.Ping end.old.end) [] Call.Ping
+    ensures lacking { LacksWhere (policy_of H.protection K.aead K.seal_limit K.refusal_limit (words_of R.stream) end.old)
+        (reads_window (windows_of C.steps C.window_of end.old.control) end.old.heard Call.Ping end.old.end) [] Call.Ping
         result }
-    ensures end { IsLeft (fails result) (policy_of H.protection K.aead (words_of R.stream) end.old)
-        (windows_of C.steps C.window_of end.old.control) end.old.end [] Call.Ping result end.new.end }
-    ensures control { IsTold (fails result) (policy_of H.protection K.aead (words_of R.stream) end.old)
-        (windows_of C.steps C.window_of end.old.control) end.old.end [] Call.Ping
+    ensures end { IsLeft (fails result) (policy_of H.protection K.aead K.seal_limit K.refusal_limit (words_of R.stream) end.old)
+        (windows_of C.steps C.window_of end.old.control) end.old.heard end.old.end [] Call.Ping result end.new.end }
+    ensures control { IsTold (fails result) (policy_of H.protection K.aead K.seal_limit K.refusal_limit (words_of R.stream) end.old)
+        (windows_of C.steps C.window_of end.old.control) end.old.heard end.old.end [] Call.Ping
         (windows_of C.steps C.window_of end.new.control) }
     ensures heard { IsHeard (fails result) [] Call.Ping result end.old.heard end.new.heard }
-    ensures given { gives (policy_of H.protection K.aead (words_of R.stream) end.old)
-        (reads_window (windows_of C.steps C.window_of end.old.control) Call.Ping end.old.end) Call.Ping result
+    ensures given { gives (policy_of H.protection K.aead K.seal_limit K.refusal_limit (words_of R.stream) end.old)
+        (reads_window (windows_of C.steps C.window_of end.old.control) end.old.heard Call.Ping end.old.end) Call.Ping result
         ≡ [] }
     ensures keys { KeepsKeys end.old end.new }
 {
     end.ping();
     Answer::Ping
+}
+
+/// The application closes, with a copy of its text.
+fn close_at<H: HeaderKey + Drop, K: PacketKey + Drop, R: Rng + Drop, C: Controller>(
+    alloc: Global,
+    end: &mut Connection<H, K, R, C>,
+    close: &CloseCall,
+) -> Result<Answer, AllocError>
+    ensures answer { IfOk result (λ a.
+        IsAnswer (policy_of H.protection K.aead K.seal_limit K.refusal_limit (words_of R.stream) end.old)
+        (reads_window (windows_of C.steps C.window_of end.old.control) end.old.heard (Call.Close close.entry.now) end.old.end) [] (Call.Close close.entry.now) a) }
+    ensures lacking { IfOk result (λ a.
+        LacksWhere (policy_of H.protection K.aead K.seal_limit K.refusal_limit (words_of R.stream) end.old)
+        (reads_window (windows_of C.steps C.window_of end.old.control) end.old.heard (Call.Close close.entry.now) end.old.end) [] (Call.Close close.entry.now) a) }
+    ensures end { IfOk result (λ a.
+        IsLeft (fails a) (policy_of H.protection K.aead K.seal_limit K.refusal_limit (words_of R.stream) end.old)
+        (windows_of C.steps C.window_of end.old.control) end.old.heard end.old.end [] (Call.Close close.entry.now) a end.new.end) }
+    ensures control { IfOk result (λ a.
+        IsTold (fails a) (policy_of H.protection K.aead K.seal_limit K.refusal_limit (words_of R.stream) end.old)
+        (windows_of C.steps C.window_of end.old.control) end.old.heard end.old.end [] (Call.Close close.entry.now)
+        (windows_of C.steps C.window_of end.new.control)) }
+    ensures heard { IfOk result (λ a.
+        IsHeard (fails a) [] (Call.Close close.entry.now) a end.old.heard end.new.heard) }
+    ensures given { IfOk result (λ a.
+        gives (policy_of H.protection K.aead K.seal_limit K.refusal_limit (words_of R.stream) end.old)
+        (reads_window (windows_of C.steps C.window_of end.old.control) end.old.heard (Call.Close close.entry.now) end.old.end) (Call.Close close.entry.now) a ≡ []) }
+    ensures keys { KeepsKeys end.old end.new }
+    ensures err { OnErr result (end.new ≡ end.old) }
+{
+    let reason = Bytes::copy_from_slice(alloc, close.reason.as_slice())?;
+    end.close(close.now, close.error_code, reason);
+    Ok(Answer::Close)
+}
+
+/// The next id of the peer is used.
+fn use_next_id_at<H: HeaderKey + Drop, K: PacketKey + Drop, R: Rng + Drop, C: Controller>(
+    end: &mut Connection<H, K, R, C>,
+) -> Answer
+    ensures answer { IsAnswer (policy_of H.protection K.aead K.seal_limit K.refusal_limit (words_of R.stream) end.old)
+        (reads_window (windows_of C.steps C.window_of end.old.control) end.old.heard Call.UseNextId end.old.end) [] Call.UseNextId
+        result }
+    ensures lacking { LacksWhere (policy_of H.protection K.aead K.seal_limit K.refusal_limit (words_of R.stream) end.old)
+        (reads_window (windows_of C.steps C.window_of end.old.control) end.old.heard Call.UseNextId end.old.end) [] Call.UseNextId
+        result }
+    ensures end { IsLeft (fails result) (policy_of H.protection K.aead K.seal_limit K.refusal_limit (words_of R.stream) end.old)
+        (windows_of C.steps C.window_of end.old.control) end.old.heard end.old.end [] Call.UseNextId result end.new.end }
+    ensures control { IsTold (fails result) (policy_of H.protection K.aead K.seal_limit K.refusal_limit (words_of R.stream) end.old)
+        (windows_of C.steps C.window_of end.old.control) end.old.heard end.old.end [] Call.UseNextId
+        (windows_of C.steps C.window_of end.new.control) }
+    ensures heard { IsHeard (fails result) [] Call.UseNextId result end.old.heard end.new.heard }
+    ensures given { gives (policy_of H.protection K.aead K.seal_limit K.refusal_limit (words_of R.stream) end.old)
+        (reads_window (windows_of C.steps C.window_of end.old.control) end.old.heard Call.UseNextId end.old.end) Call.UseNextId result
+        ≡ [] }
+    ensures keys { KeepsKeys end.old end.new }
+{
+    Answer::UseNextId(end.use_next_id())
 }
 
 /// A poll, whose datagram is kept.
@@ -361,24 +408,24 @@ fn poll_at<H: HeaderKey + Drop, K: PacketKey + Drop, R: Rng + Drop, C: Controlle
     now: Instant,
 ) -> Result<Answer, AllocError>
     ensures answer { IfOk result (λ a.
-        IsAnswer (policy_of H.protection K.aead (words_of R.stream) end.old)
-        (reads_window (windows_of C.steps C.window_of end.old.control) (Call.Poll now) end.old.end) [] (Call.Poll now) a) }
+        IsAnswer (policy_of H.protection K.aead K.seal_limit K.refusal_limit (words_of R.stream) end.old)
+        (reads_window (windows_of C.steps C.window_of end.old.control) end.old.heard (Call.Poll now) end.old.end) [] (Call.Poll now) a) }
     ensures lacking { IfOk result (λ a.
-        LacksWhere (policy_of H.protection K.aead (words_of R.stream) end.old)
-        (reads_window (windows_of C.steps C.window_of end.old.control) (Call.Poll now) end.old.end) [] (Call.Poll now) a) }
+        LacksWhere (policy_of H.protection K.aead K.seal_limit K.refusal_limit (words_of R.stream) end.old)
+        (reads_window (windows_of C.steps C.window_of end.old.control) end.old.heard (Call.Poll now) end.old.end) [] (Call.Poll now) a) }
     ensures end { IfOk result (λ a.
-        IsLeft (fails a) (policy_of H.protection K.aead (words_of R.stream) end.old)
-        (windows_of C.steps C.window_of end.old.control) end.old.end [] (Call.Poll now) a end.new.end) }
+        IsLeft (fails a) (policy_of H.protection K.aead K.seal_limit K.refusal_limit (words_of R.stream) end.old)
+        (windows_of C.steps C.window_of end.old.control) end.old.heard end.old.end [] (Call.Poll now) a end.new.end) }
     ensures control { IfOk result (λ a.
-        IsTold (fails a) (policy_of H.protection K.aead (words_of R.stream) end.old)
-        (windows_of C.steps C.window_of end.old.control) end.old.end [] (Call.Poll now)
+        IsTold (fails a) (policy_of H.protection K.aead K.seal_limit K.refusal_limit (words_of R.stream) end.old)
+        (windows_of C.steps C.window_of end.old.control) end.old.heard end.old.end [] (Call.Poll now)
         (windows_of C.steps C.window_of end.new.control)) }
     ensures heard { IfOk result (λ a.
         IsHeard (fails a) [] (Call.Poll now) a end.old.heard end.new.heard) }
     ensures given { IfOk result (λ a.
         mine.new.items
-        ≡ mine.old.items ++ gives (policy_of H.protection K.aead (words_of R.stream) end.old)
-        (reads_window (windows_of C.steps C.window_of end.old.control) (Call.Poll now) end.old.end) (Call.Poll now) a) }
+        ≡ mine.old.items ++ gives (policy_of H.protection K.aead K.seal_limit K.refusal_limit (words_of R.stream) end.old)
+        (reads_window (windows_of C.steps C.window_of end.old.control) end.old.heard (Call.Poll now) end.old.end) (Call.Poll now) a) }
     ensures goes_on { GoesOn R.stream end.old end.new }
     ensures err { OnErr result (end.new ≡ end.old) }
     ensures err_given { OnErr result (mine.new.items ≡ mine.old.items) }
@@ -406,20 +453,20 @@ fn timeout_at<H: HeaderKey + Drop, K: PacketKey + Drop, R: Rng + Drop, C: Contro
     end: &mut Connection<H, K, R, C>,
     now: Instant,
 ) -> Answer
-    ensures answer { IsAnswer (policy_of H.protection K.aead (words_of R.stream) end.old)
-        (reads_window (windows_of C.steps C.window_of end.old.control) (Call.Timeout now) end.old.end) [] (Call.Timeout now) result }
-    ensures lacking { LacksWhere (policy_of H.protection K.aead (words_of R.stream) end.old)
-        (reads_window (windows_of C.steps C.window_of end.old.control) (Call.Timeout now) end.old.end) [] (Call.Timeout now) result }
-    ensures end { IsLeft (fails result) (policy_of H.protection K.aead (words_of R.stream) end.old)
-        (windows_of C.steps C.window_of end.old.control) end.old.end [] (Call.Timeout now) result end.new.end }
-    ensures control { IsTold (fails result) (policy_of H.protection K.aead (words_of R.stream) end.old)
-        (windows_of C.steps C.window_of end.old.control) end.old.end [] (Call.Timeout now)
+    ensures answer { IsAnswer (policy_of H.protection K.aead K.seal_limit K.refusal_limit (words_of R.stream) end.old)
+        (reads_window (windows_of C.steps C.window_of end.old.control) end.old.heard (Call.Timeout now) end.old.end) [] (Call.Timeout now) result }
+    ensures lacking { LacksWhere (policy_of H.protection K.aead K.seal_limit K.refusal_limit (words_of R.stream) end.old)
+        (reads_window (windows_of C.steps C.window_of end.old.control) end.old.heard (Call.Timeout now) end.old.end) [] (Call.Timeout now) result }
+    ensures end { IsLeft (fails result) (policy_of H.protection K.aead K.seal_limit K.refusal_limit (words_of R.stream) end.old)
+        (windows_of C.steps C.window_of end.old.control) end.old.heard end.old.end [] (Call.Timeout now) result end.new.end }
+    ensures control { IsTold (fails result) (policy_of H.protection K.aead K.seal_limit K.refusal_limit (words_of R.stream) end.old)
+        (windows_of C.steps C.window_of end.old.control) end.old.heard end.old.end [] (Call.Timeout now)
         (windows_of C.steps C.window_of end.new.control) }
     ensures heard { IsHeard (fails result) [] (Call.Timeout now) result end.old.heard end.new.heard }
-    ensures given { gives (policy_of H.protection K.aead (words_of R.stream) end.old)
-        (reads_window (windows_of C.steps C.window_of end.old.control) (Call.Timeout now) end.old.end) (Call.Timeout now) result
+    ensures given { gives (policy_of H.protection K.aead K.seal_limit K.refusal_limit (words_of R.stream) end.old)
+        (reads_window (windows_of C.steps C.window_of end.old.control) end.old.heard (Call.Timeout now) end.old.end) (Call.Timeout now) result
         ≡ [] }
-    ensures keys { KeepsKeys end.old end.new }
+    ensures draws { GoesOn R.stream end.old end.new }
 {
     Answer::Timeout(end.handle_timeout(now))
 }
@@ -432,21 +479,23 @@ fn deliver_at<H: HeaderKey + Drop, K: PacketKey + Drop, R: Rng + Drop, C: Contro
     delivery: &Delivery,
 ) -> Result<Answer, AllocError>
     ensures answer { IfOk result (λ a.
-        IsAnswer (policy_of H.protection K.aead (words_of R.stream) end.old)
-        (reads_window (windows_of C.steps C.window_of end.old.control) (Call.Deliver delivery.entry.now) end.old.end) theirs.now (Call.Deliver delivery.entry.now) a) }
+        IsAnswer (policy_of H.protection K.aead K.seal_limit K.refusal_limit (words_of R.stream) end.old)
+        (reads_window (windows_of C.steps C.window_of end.old.control) end.old.heard (Call.Deliver delivery.entry.now) end.old.end) theirs.now (Call.Deliver delivery.entry.now) a) }
     ensures lacking { IfOk result (λ a.
-        LacksWhere (policy_of H.protection K.aead (words_of R.stream) end.old)
-        (reads_window (windows_of C.steps C.window_of end.old.control) (Call.Deliver delivery.entry.now) end.old.end) theirs.now (Call.Deliver delivery.entry.now) a) }
+        LacksWhere (policy_of H.protection K.aead K.seal_limit K.refusal_limit (words_of R.stream) end.old)
+        (reads_window (windows_of C.steps C.window_of end.old.control) end.old.heard (Call.Deliver delivery.entry.now) end.old.end) theirs.now (Call.Deliver delivery.entry.now) a) }
     ensures end { IfOk result (λ a.
-        IsLeft (fails a) (policy_of H.protection K.aead (words_of R.stream) end.old)
-        (windows_of C.steps C.window_of end.old.control) end.old.end theirs.now (Call.Deliver delivery.entry.now) a end.new.end) }
+        IsLeft (fails a) (policy_of H.protection K.aead K.seal_limit K.refusal_limit (words_of R.stream) end.old)
+        (windows_of C.steps C.window_of end.old.control) end.old.heard end.old.end theirs.now (Call.Deliver delivery.entry.now) a end.new.end) }
     ensures control { IfOk result (λ a.
-        IsTold (fails a) (policy_of H.protection K.aead (words_of R.stream) end.old)
-        (windows_of C.steps C.window_of end.old.control) end.old.end theirs.now (Call.Deliver delivery.entry.now)
+        IsTold (fails a) (policy_of H.protection K.aead K.seal_limit K.refusal_limit (words_of R.stream) end.old)
+        (windows_of C.steps C.window_of end.old.control) end.old.heard end.old.end theirs.now (Call.Deliver delivery.entry.now)
         (windows_of C.steps C.window_of end.new.control)) }
     ensures heard { IfOk result (λ a.
         IsHeard (fails a) theirs.now (Call.Deliver delivery.entry.now) a end.old.heard end.new.heard) }
-    ensures keys { KeepsKeys end.old end.new }
+    ensures openings { IfOk result (λ a.
+        CountsOpenings (K.refusal_limit end.old.keys.packet.remote) end.old.end.closing.state end.old.heard a) }
+    ensures draws { GoesOn R.stream end.old end.new }
     ensures err { OnErr result (end.new ≡ end.old) }
     ensures own { OnErr result (IsSome (slice_get theirs.now delivery.entry.now.index)) }
 {
@@ -466,18 +515,20 @@ fn inject_at<H: HeaderKey + Drop, K: PacketKey + Drop, R: Rng + Drop, C: Control
     injection: &Injection,
 ) -> Result<Answer, AllocError>
     ensures answer { IfOk result (λ a.
-        IsAnswer (policy_of H.protection K.aead (words_of R.stream) end.old)
-        (reads_window (windows_of C.steps C.window_of end.old.control) (Call.Inject injection.entry.now) end.old.end) [] (Call.Inject injection.entry.now) a) }
+        IsAnswer (policy_of H.protection K.aead K.seal_limit K.refusal_limit (words_of R.stream) end.old)
+        (reads_window (windows_of C.steps C.window_of end.old.control) end.old.heard (Call.Inject injection.entry.now) end.old.end) [] (Call.Inject injection.entry.now) a) }
     ensures end { IfOk result (λ a.
-        IsLeft (fails a) (policy_of H.protection K.aead (words_of R.stream) end.old)
-        (windows_of C.steps C.window_of end.old.control) end.old.end [] (Call.Inject injection.entry.now) a end.new.end) }
+        IsLeft (fails a) (policy_of H.protection K.aead K.seal_limit K.refusal_limit (words_of R.stream) end.old)
+        (windows_of C.steps C.window_of end.old.control) end.old.heard end.old.end [] (Call.Inject injection.entry.now) a end.new.end) }
     ensures control { IfOk result (λ a.
-        IsTold (fails a) (policy_of H.protection K.aead (words_of R.stream) end.old)
-        (windows_of C.steps C.window_of end.old.control) end.old.end [] (Call.Inject injection.entry.now)
+        IsTold (fails a) (policy_of H.protection K.aead K.seal_limit K.refusal_limit (words_of R.stream) end.old)
+        (windows_of C.steps C.window_of end.old.control) end.old.heard end.old.end [] (Call.Inject injection.entry.now)
         (windows_of C.steps C.window_of end.new.control)) }
     ensures heard { IfOk result (λ a.
         IsHeard (fails a) [] (Call.Inject injection.entry.now) a end.old.heard end.new.heard) }
-    ensures keys { KeepsKeys end.old end.new }
+    ensures openings { IfOk result (λ a.
+        CountsOpenings (K.refusal_limit end.old.keys.packet.remote) end.old.end.closing.state end.old.heard a) }
+    ensures draws { GoesOn R.stream end.old end.new }
     ensures err { OnErr result (end.new ≡ end.old) }
 {
     let mut scratch = Vec::from_slice(alloc, injection.bytes.as_slice())?;
@@ -486,53 +537,6 @@ fn inject_at<H: HeaderKey + Drop, K: PacketKey + Drop, R: Rng + Drop, C: Control
     }
     let mut copy = Vec::from_slice(alloc, injection.bytes.as_slice())?;
     Ok(Answer::Inject(end.receive(injection.now, injection.ecn, &mut copy)))
-}
-
-/// When each timer of an end expires, if it is set.
-fn timers<H: HeaderKey + Drop, K: PacketKey + Drop, R: Rng + Drop, C: Controller>(
-    end: &Connection<H, K, R, C>,
-) -> [Option<Instant>; 9]
-    ensures { result ≡ each_timer end.now.end.timers }
-{
-    [
-        end.timer(Timer::LossDetection),
-        end.timer(Timer::Idle),
-        end.timer(Timer::Close),
-        end.timer(Timer::KeyDiscard),
-        end.timer(Timer::PathValidation),
-        end.timer(Timer::KeepAlive),
-        end.timer(Timer::Pacing),
-        end.timer(Timer::PushNewCid),
-        end.timer(Timer::MaxAckDelay),
-    ]
-}
-
-/// What is seen of an end.
-fn end_view<H: HeaderKey + Drop, K: PacketKey + Drop, R: Rng + Drop, C: Controller>(
-    end: &Connection<H, K, R, C>,
-) -> EndView
-    ensures { result ≡ end_view (windows_of C.steps C.window_of end.now.control) end.now.end }
-{
-    EndView {
-        state: end.state(),
-        reason: end.lost().map(LostReason::copied),
-        validated: end.is_validated(),
-        timers: timers(end),
-        window: end.window(),
-        current_mtu: end.current_mtu(),
-    }
-}
-
-/// What is seen of both ends, whatever they gave.
-fn view<H: HeaderKey + Drop, K: PacketKey + Drop, R: Rng + Drop, C: Controller>(
-    ends: &Ends<H, K, R, C>,
-) -> View
-    ensures { (given : Given) → result ≡ view_of (world_of (windows_of C.steps C.window_of) ends.now given) }
-{
-    View {
-        client: end_view(&ends.client),
-        server: end_view(&ends.server),
-    }
 }
 
 /// Makes each event's call in turn, once: one answer and one view for each, until memory lacks in
@@ -546,20 +550,28 @@ fn view<H: HeaderKey + Drop, K: PacketKey + Drop, R: Rng + Drop, C: Controller>(
 /// packet that was taken, each stream that a frame of such a packet opened is there to be accepted,
 /// a stream is told to be finished only where the other end took all of it, an acknowledgement that
 /// came names only what the other end took, and packet numbers rise, one or two at a time. No end
-/// closes but for more than 2048 runs of a stream that wait to be read, or for used-up numbers, and
-/// each packet of the other end that comes is taken whole, but for such runs; each datagram with a
-/// number above all that the other end took opens there as it was sent; each goes to the id with
-/// which the other end began, and none is dropped for its id. No stream is told to be
-/// finished twice, and where an open end has nothing left to tell, each was that is wholly
-/// acknowledged and wasn't reset, and no other; all that was written waits to go, is under way, or
-/// arrived, and so does each limit that was said; a limit that grew waits to be said; a write at an
-/// open end takes what the peer's limits and the send window leave; a message is received at most
-/// as often as the other end sent it; a poll of an open end gives what waits, of streams and of
-/// messages, unless the congestion window is full or the pacer names a later moment, to which its
-/// timer is set, and gives nothing that these hold back but probes; no datagram has more bytes than
-/// the current size but an MTU probe, and that size grows only by one that was acknowledged; the
-/// window that a view shows is that of the controller behind all that it was told; what the pacer
-/// holds follows from the polls up to there and the bytes that went; and an open end tracks exactly
+/// closes for a rule that the other one broke, for its application but where that closed it, for
+/// its peer but where that had closed, for being idle but where its idle timer expired, for too
+/// many runs of a stream that wait to be read but where these are more than 2048, or for used-up
+/// numbers or keys but where they are, and each packet of the other end that comes is taken whole,
+/// but for such runs; each datagram with a number above all that the other end took opens there as
+/// it was sent; each goes to an id that its giver was told and hadn't retired, and none that comes
+/// to an open end is dropped for its id unless the peer retired that; `use_next_id` is refused only
+/// where the peer told of no further id, or more than 50 retirements would wait; while an end shows
+/// its peer's address as not validated, all that it gave has at most three times the bytes that
+/// were handed to it; and an open end keeps to the limits in the bytes of its peer's parameters and
+/// in the frames that came. No stream is told to be finished twice, and where an open end has
+/// nothing left to tell, each was that is wholly acknowledged and wasn't reset, and no other; all
+/// that was written waits to go, is under way, or arrived, and so does each limit that was said; a
+/// limit that grew waits to be said; a write at an open end takes what the peer's limits and the
+/// send window leave; a message is received at most as often as the other end sent it; a poll of an
+/// open end gives what waits, of streams and of messages, unless the congestion window is full, or
+/// the pacer names a later moment, to which its timer is set, or nothing more may go to an address
+/// that isn't validated, and gives nothing that window and pacer hold back but probes; no datagram
+/// has more bytes than the current size but an MTU probe, and that size grows only by one that was
+/// acknowledged; the window that a view shows is that of the controller behind all that it was
+/// told; what the pacer holds follows from the polls up to there and the bytes that went, where the
+/// search for a greater size goes in steps of three bytes at least; and an open end tracks exactly
 /// the datagrams that it gave and that are neither acknowledged, nor lost by number or by time, nor
 /// forgotten, shows its loss timer set to the moment that is due for them and its own round trips,
 /// and not set once all that ask were named, and its timer of acknowledgements to one that is due
@@ -571,147 +583,53 @@ fn view<H: HeaderKey + Drop, K: PacketKey + Drop, R: Rng + Drop, C: Controller>(
 ///
 /// Nor is a stream opened or accepted twice, or accepted where no frame opened it; a reset is told
 /// only with the code that the other end's application gave; each view shows why an end isn't open,
-/// unless it failed; and what is answered of timers is what views show of them.
+/// unless it failed; and what is answered of timers, of the state and of whether the peer's address
+/// is validated is what views show of them.
 ///
 /// At each place, also where memory lacks, and with any keys, an open end of two that were made for
 /// one another has its loss timer set exactly where it tracks a datagram that asks; and one that
 /// began so has its timer of acknowledgements set only where a packet that asks came since the last
 /// acknowledgement went. And the run less any of its injections, and any deliveries that an end
 /// dropped while it wasn't closing, is a run again, with the same answers, views and datagrams, and
-/// the same ends but for what these count: what doesn't open, and what came before, changes nothing
-/// else (RFC 9000, sections 5.2, 12.2 and 12.3).
+/// the same ends but for what these count, where the addresses of both peers are validated from the
+/// start, and no end closes since its peer's key refused as many packets as it may: what doesn't
+/// open, and what came before, changes nothing else (RFC 9000, sections 5.2, 12.2 and 12.3).
+///
+/// The contract says all that in families: each is a record whose fields are its clauses
+/// (`Promises` in `specs/` of `quic_headline`).
 pub fn run<H: HeaderKey + Drop, K: PacketKey + Drop, R: Rng + Drop, C: Controller>(
     alloc: Global,
     ends: Ends<H, K, R, C>,
     events: &[RunEvent],
 ) -> Outcome<H, K, R, C>
-    ensures follows { Follows (policies_of H.protection K.aead R.stream ends) (first_world (windows_of C.steps C.window_of) ends)
+    ensures follows { Follows (policies_of H.protection K.aead K.seal_limit K.refusal_limit R.stream ends) (first_world (windows_of C.steps C.window_of) ends)
         events.now
         result.answers.items result.views.items (world_left (windows_of C.steps C.window_of) result) }
     ensures whole { result.cut_short ≡ false → length result.answers.items ≡ length events.now }
     ensures stopped { result.cut_short ≡ true → length result.answers.items < length events.now }
     ensures goes_on { GoOn R.stream ends result.ends }
-    ensures ordered_prefix { OnHonest H.protection K.aead R.stream (windows_of C.steps C.window_of) ends events.now result
-        OrderedPrefix }
-    ensures slices { OnHonest H.protection K.aead R.stream (windows_of C.steps C.window_of) ends events.now result Slices }
-    ensures once { OnHonest H.protection K.aead R.stream (windows_of C.steps C.window_of) ends events.now result Once }
-    ensures end_after_all { OnHonest H.protection K.aead R.stream (windows_of C.steps C.window_of) ends events.now result EndAfterAll }
-    ensures blocked_only_without_bytes { OnHonest H.protection K.aead R.stream (windows_of C.steps C.window_of) ends events.now
-        result
-        BlockedOnlyWithoutBytes }
-    ensures accepts_all { OnHonest H.protection K.aead R.stream (windows_of C.steps C.window_of) ends events.now result AcceptsAll }
-    ensures ids_are_new { OnHonest H.protection K.aead R.stream (windows_of C.steps C.window_of) ends events.now result IdsAreNew }
-    ensures accepted_were_opened { OnHonest H.protection K.aead R.stream (windows_of C.steps C.window_of) ends events.now result
-        AcceptedWereOpened }
-    ensures resets_are_told { OnHonest H.protection K.aead R.stream (windows_of C.steps C.window_of) ends events.now result
-        ResetsAreTold }
-    ensures finished_means_arrived { OnHonest H.protection K.aead R.stream (windows_of C.steps C.window_of) ends events.now result
-        FinishedMeansArrived }
-    ensures finished_is_told { OnHonest H.protection K.aead R.stream (windows_of C.steps C.window_of) ends events.now result
-        FinishedIsTold }
-    ensures duties_stand { OnHonest H.protection K.aead R.stream (windows_of C.steps C.window_of) ends events.now result DutiesStand }
-    ensures grown_limits_wait { OnHonest H.protection K.aead R.stream (windows_of C.steps C.window_of) ends events.now result
-        GrownLimitsWait }
-    ensures messages_at_most_once { OnHonest H.protection K.aead R.stream (windows_of C.steps C.window_of) ends events.now result
-        MessagesAtMostOnce }
-    ensures writes_take_what_limits_allow { OnHonest H.protection K.aead R.stream (windows_of C.steps C.window_of) ends events.now
-        result
-        WritesTakeWhatLimitsAllow }
-    ensures polls_send_what_waits { OnHonest H.protection K.aead R.stream (windows_of C.steps C.window_of) ends events.now result
-        PollsSendWhatWaits }
-    ensures polls_send_messages { OnHonest H.protection K.aead R.stream (windows_of C.steps C.window_of) ends events.now result
-        PollsSendMessages }
-    ensures pacer_sets_its_timer { OnHonest H.protection K.aead R.stream (windows_of C.steps C.window_of) ends events.now result
-        PacerSetsItsTimer }
-    ensures asking_goes_where_let { OnHonest H.protection K.aead R.stream (windows_of C.steps C.window_of) ends events.now result
-        AskingGoesWhereLet }
-    ensures datagrams_are_sized { OnHonest H.protection K.aead R.stream (windows_of C.steps C.window_of) ends events.now result
-        DatagramsAreSized }
-    ensures probes_pass { OnHonest H.protection K.aead R.stream (windows_of C.steps C.window_of) ends events.now result
-        ProbesPass }
-    ensures window_is_of_history { OnHonest H.protection K.aead R.stream (windows_of C.steps C.window_of) ends events.now result
-        WindowIsOfHistory }
-    ensures size_is_of_history { OnHonest H.protection K.aead R.stream (windows_of C.steps C.window_of) ends events.now result
-        SizeIsOfHistory }
-    ensures sizes_move { OnHonest H.protection K.aead R.stream (windows_of C.steps C.window_of) ends events.now result SizesMove }
-    ensures tracks_in_flight { OnHonest H.protection K.aead R.stream (windows_of C.steps C.window_of) ends events.now result
-        TracksInFlight }
-    ensures loss_moments { OnHonest H.protection K.aead R.stream (windows_of C.steps C.window_of) ends events.now result LossMoments }
-    ensures ack_moments { OnHonest H.protection K.aead R.stream (windows_of C.steps C.window_of) ends events.now result AckMoments }
-    ensures acks_are_due { OnHonest H.protection K.aead R.stream (windows_of C.steps C.window_of) ends events.now result AcksAreDue }
-    ensures acknowledged_were_taken { OnHonest H.protection K.aead R.stream (windows_of C.steps C.window_of) ends events.now result
-        AcknowledgedWereTaken }
-    ensures names_were_taken { OnHonest H.protection K.aead R.stream (windows_of C.steps C.window_of) ends events.now result
-        NamesWereTaken }
-    ensures opens_exactly { OnHonest H.protection K.aead R.stream (windows_of C.steps C.window_of) ends events.now result
-        OpensExactly }
-    ensures newest_opens { OnHonest H.protection K.aead R.stream (windows_of C.steps C.window_of) ends events.now result NewestOpens }
-    ensures loss_timer_quiet { OnHonest H.protection K.aead R.stream (windows_of C.steps C.window_of) ends events.now result
-        LossTimerQuiet }
-    ensures views_tell { OnHonest H.protection K.aead R.stream (windows_of C.steps C.window_of) ends events.now result ViewsTell }
-    ensures loss_timers_follow { AtEachPlace H.protection K.aead R.stream (windows_of C.steps C.window_of) ends events.now result
+    ensures delivers { OnHonest H.protection K.aead K.seal_limit K.refusal_limit R.stream (windows_of C.steps C.window_of) ends events.now result Delivers }
+    ensures streams { OnHonest H.protection K.aead K.seal_limit K.refusal_limit R.stream (windows_of C.steps C.window_of) ends events.now result Streams }
+    ensures limits { OnHonest H.protection K.aead K.seal_limit K.refusal_limit R.stream (windows_of C.steps C.window_of) ends events.now result Limits }
+    ensures waits { OnHonest H.protection K.aead K.seal_limit K.refusal_limit R.stream (windows_of C.steps C.window_of) ends events.now result Waits }
+    ensures messages { OnHonest H.protection K.aead K.seal_limit K.refusal_limit R.stream (windows_of C.steps C.window_of) ends events.now result Messages }
+    ensures tells { OnHonest H.protection K.aead K.seal_limit K.refusal_limit R.stream (windows_of C.steps C.window_of) ends events.now result Tells }
+    ensures acknowledges { OnHonest H.protection K.aead K.seal_limit K.refusal_limit R.stream (windows_of C.steps C.window_of) ends events.now result Acknowledges }
+    ensures loses { OnHonest H.protection K.aead K.seal_limit K.refusal_limit R.stream (windows_of C.steps C.window_of) ends events.now result Loses }
+    ensures paces { OnHonest H.protection K.aead K.seal_limit K.refusal_limit R.stream (windows_of C.steps C.window_of) ends events.now result Paces }
+    ensures sizes { OnHonest H.protection K.aead K.seal_limit K.refusal_limit R.stream (windows_of C.steps C.window_of) ends events.now result Sizes }
+    ensures numbers { OnHonest H.protection K.aead K.seal_limit K.refusal_limit R.stream (windows_of C.steps C.window_of) ends events.now result Numbers }
+    ensures identifies { OnHonest H.protection K.aead K.seal_limit K.refusal_limit R.stream (windows_of C.steps C.window_of) ends events.now result Identifies }
+    ensures validates { OnHonest H.protection K.aead K.seal_limit K.refusal_limit R.stream (windows_of C.steps C.window_of) ends events.now result Validates }
+    ensures causes { OnHonest H.protection K.aead K.seal_limit K.refusal_limit R.stream (windows_of C.steps C.window_of) ends events.now result Causes }
+    ensures closes { OnHonest H.protection K.aead K.seal_limit K.refusal_limit R.stream (windows_of C.steps C.window_of) ends events.now result Closes }
+    ensures times { OnHonest H.protection K.aead K.seal_limit K.refusal_limit R.stream (windows_of C.steps C.window_of) ends events.now result Times }
+    ensures rests { OnHonest H.protection K.aead K.seal_limit K.refusal_limit R.stream (windows_of C.steps C.window_of) ends events.now result Rests }
+    ensures loss_timers_follow { AtEachPlace H.protection K.aead K.seal_limit K.refusal_limit R.stream (windows_of C.steps C.window_of) ends events.now result
         AreStarted LossTimersFollow }
-    ensures ack_timers_follow { AtEachPlace H.protection K.aead R.stream (windows_of C.steps C.window_of) ends events.now result
+    ensures ack_timers_follow { AtEachPlace H.protection K.aead K.seal_limit K.refusal_limit R.stream (windows_of C.steps C.window_of) ends events.now result
         AckTimersFollow AckTimersFollow }
-    ensures isolated { OnRun H.protection K.aead R.stream (windows_of C.steps C.window_of) ends events.now result Isolated }
-    ensures isolated_by_answers { OnRun H.protection K.aead R.stream (windows_of C.steps C.window_of) ends events.now result
-        IsolatedByAnswers }
-    ensures isolated_by_lists { OnRun H.protection K.aead R.stream (windows_of C.steps C.window_of) ends events.now result
-        (λ r end. AreStarted r.start → IsolatedByLists r) }
-    ensures numbers_rise { OnHonest H.protection K.aead R.stream (windows_of C.steps C.window_of) ends events.now result NumbersRise }
-    ensures sent_to_first_id { OnHonest H.protection K.aead R.stream (windows_of C.steps C.window_of) ends events.now result
-        SentToFirstId }
-    ensures no_unknown_id { OnHonest H.protection K.aead R.stream (windows_of C.steps C.window_of) ends events.now result NoUnknownId }
-    ensures first_id_stays { OnHonest H.protection K.aead R.stream (windows_of C.steps C.window_of) ends events.now result
-        FirstIdStays }
-    ensures no_blame { OnHonest H.protection K.aead R.stream (windows_of C.steps C.window_of) ends events.now result NoBlame }
-    ensures closed_has_a_reason { OnHonest H.protection K.aead R.stream (windows_of C.steps C.window_of) ends events.now result
-        ClosedHasAReason }
-    ensures too_many_pieces { OnHonest H.protection K.aead R.stream (windows_of C.steps C.window_of) ends events.now result
-        TooManyPieces }
-    ensures number_limit { OnHonest H.protection K.aead R.stream (windows_of C.steps C.window_of) ends events.now result NumberLimit }
-    ensures taken_or_too_many { OnHonest H.protection K.aead R.stream (windows_of C.steps C.window_of) ends events.now result
-        TakenOrTooMany }
-    ensures delivered_at_rest { OnHonest H.protection K.aead R.stream (windows_of C.steps C.window_of) ends events.now result
-        DeliveredAtRest }
-    ensures nothing_owed_at_rest { OnHonest H.protection K.aead R.stream (windows_of C.steps C.window_of) ends events.now result
-        NothingOwedAtRest }
-    ensures blocked_only_for_unread { OnHonest H.protection K.aead R.stream (windows_of C.steps C.window_of) ends events.now result
-        BlockedOnlyForUnread }
-    ensures none_opened_only_for_undone { OnHonest H.protection K.aead R.stream (windows_of C.steps C.window_of) ends events.now result
-        NoneOpenedOnlyForUndone }
-    ensures credit_is_bounded { OnHonest H.protection K.aead R.stream (windows_of C.steps C.window_of) ends events.now result
-        CreditIsBounded }
-    ensures counts_are_bounded { OnHonest H.protection K.aead R.stream (windows_of C.steps C.window_of) ends events.now result
-        CountsAreBounded }
-    ensures reads_are_allowed { OnHonest H.protection K.aead R.stream (windows_of C.steps C.window_of) ends events.now result
-        ReadsAreAllowed }
-    ensures reads_are_over { OnHonest H.protection K.aead R.stream (windows_of C.steps C.window_of) ends events.now result
-        ReadsAreOver }
-    ensures writes_are_allowed { OnHonest H.protection K.aead R.stream (windows_of C.steps C.window_of) ends events.now result
-        WritesAreAllowed }
-    ensures resets_are_allowed { OnHonest H.protection K.aead R.stream (windows_of C.steps C.window_of) ends events.now result
-        ResetsAreAllowed }
-    ensures controllers_are_told { OnHonest H.protection K.aead R.stream (windows_of C.steps C.window_of) ends events.now result
-        ControllersAreTold }
-    ensures messages_go { OnHonest H.protection K.aead R.stream (windows_of C.steps C.window_of) ends events.now result
-        MessagesGo }
-    ensures messages_go_in_order { OnHonest H.protection K.aead R.stream (windows_of C.steps C.window_of) ends events.now result
-        MessagesGoInOrder }
-    ensures each_waited { OnHonest H.protection K.aead R.stream (windows_of C.steps C.window_of) ends events.now result
-        EachWaited }
-    ensures waiting_begins { OnHonest H.protection K.aead R.stream (windows_of C.steps C.window_of) ends events.now result
-        WaitingBegins }
-    ensures pacer_is_of_history { OnHonest H.protection K.aead R.stream (windows_of C.steps C.window_of) ends events.now result
-        PacerIsOfHistory }
-    ensures messages_are_told { OnHonest H.protection K.aead R.stream (windows_of C.steps C.window_of) ends events.now result
-        MessagesAreTold }
-    ensures openings_are_told { OnHonest H.protection K.aead R.stream (windows_of C.steps C.window_of) ends events.now result
-        OpeningsAreTold }
-    ensures readables_are_told { OnHonest H.protection K.aead R.stream (windows_of C.steps C.window_of) ends events.now result
-        ReadablesAreTold }
-    ensures writables_are_told { OnHonest H.protection K.aead R.stream (windows_of C.steps C.window_of) ends events.now result
-        WritablesAreTold }
+    ensures isolates { OnRun H.protection K.aead K.seal_limit K.refusal_limit R.stream (windows_of C.steps C.window_of) ends events.now result Isolates }
 {
     // What every run of the machine keeps: laws, which do nothing.
     headline::ordered_prefix();
@@ -744,6 +662,8 @@ pub fn run<H: HeaderKey + Drop, K: PacketKey + Drop, R: Rng + Drop, C: Controlle
     headline::acks_are_due();
     headline::acknowledged_were_taken();
     headline::names_were_taken();
+    headline::acks_name_all();
+    headline::acks_count_marks();
     headline::opens_exactly();
     headline::newest_opens();
     headline::loss_timer_quiet();
@@ -754,12 +674,25 @@ pub fn run<H: HeaderKey + Drop, K: PacketKey + Drop, R: Rng + Drop, C: Controlle
     headline::isolated_by_answers();
     headline::isolated_by_lists();
     headline::numbers_rise();
-    headline::sent_to_first_id();
-    headline::no_unknown_id();
-    headline::first_id_stays();
+    headline::ids_are_issued();
+    headline::ids_are_in_use();
+    headline::unknown_only_where_retired();
+    headline::told_ids_are_known();
+    headline::newest_opens_at_end();
+    headline::no_id_is_exact();
+    headline::too_many_is_exact();
     headline::no_blame();
     headline::closed_has_a_reason();
     headline::too_many_pieces();
+    headline::application_closed();
+    headline::idle_expired();
+    headline::key_limited();
+    headline::keys_last();
+    headline::peer_closed();
+    headline::threefold();
+    headline::validated_by_answer();
+    headline::answers_validate();
+    headline::limits_are_the_peers();
     headline::number_limit();
     headline::taken_or_too_many();
     headline::delivered_at_rest();
@@ -776,12 +709,25 @@ pub fn run<H: HeaderKey + Drop, K: PacketKey + Drop, R: Rng + Drop, C: Controlle
     headline::messages_go();
     headline::messages_go_in_order();
     headline::each_waited();
+    headline::pings_go();
     headline::waiting_begins();
     headline::pacer_is_of_history();
     headline::messages_are_told();
     headline::openings_are_told();
     headline::readables_are_told();
     headline::writables_are_told();
+    headline::idle_moments();
+    headline::alive_moments();
+    headline::path_moments();
+    headline::closed_timers();
+    headline::close_moments();
+    headline::close_moments_stay();
+    headline::drains_in_time();
+    headline::closes_say_why();
+    headline::peer_closes_come();
+    headline::closes_are_owed();
+    headline::owed_closes_go();
+    headline::drained_are_silent();
     show_codes(events);
     run_events(alloc, ends, events)
 }
@@ -799,9 +745,43 @@ fn show_codes(events: &[RunEvent])
 fn show_code(call: &Call)
     ensures { CodeIsSmall call.now }
 {
-    if let Call::Reset(_, code) | Call::Stop(_, code) = call {
+    if let Call::Reset(_, code)
+    | Call::Stop(_, code)
+    | Call::Close(
+        CloseCall {
+            error_code: code,
+            ..
+        },
+    ) = call
+    {
         let _ = code.into_inner();
     }
+}
+
+/// Makes room for the answer to this event, and for what is seen behind it. An error is want of
+/// memory.
+fn make_room<H: HeaderKey + Drop, K: PacketKey + Drop, R: Rng + Drop, C: Controller>(
+    alloc: Global,
+    ends: &Ends<H, K, R, C>,
+    given: &Given,
+    event: &RunEvent,
+    answers: &mut Vec<Answer>,
+    views: &mut Vec<View>,
+) -> Result<Rooms, AllocError>
+    ensures answers { answers.new.items ≡ answers.old.items }
+    ensures views { views.new.items ≡ views.old.items }
+    ensures answer_room { OnOk result (vec_len answers.new < vec_capacity answers.new) }
+    ensures view_room { OnOk result (vec_len views.new < vec_capacity views.new) }
+    ensures client_empty { IfOk result (λ rooms. vec_len rooms.client ≡ 0) }
+    ensures server_empty { IfOk result (λ rooms. vec_len rooms.server ≡ 0) }
+    ensures client_room { IfOk result (λ rooms. HasRoomBehind Client (world_of (windows_of C.steps C.window_of) ends.now given.now) event.now
+        (vec_capacity rooms.client)) }
+    ensures server_room { IfOk result (λ rooms. HasRoomBehind Server (world_of (windows_of C.steps C.window_of) ends.now given.now) event.now
+        (vec_capacity rooms.server)) }
+{
+    answers.reserve(1)?;
+    views.reserve(1)?;
+    rooms_behind(alloc, ends, given, event)
 }
 
 /// Makes each event's call in turn.
@@ -810,7 +790,7 @@ fn run_events<H: HeaderKey + Drop, K: PacketKey + Drop, R: Rng + Drop, C: Contro
     mut ends: Ends<H, K, R, C>,
     events: &[RunEvent],
 ) -> Outcome<H, K, R, C>
-    ensures follows { Follows (policies_of H.protection K.aead R.stream ends) (first_world (windows_of C.steps C.window_of) ends)
+    ensures follows { Follows (policies_of H.protection K.aead K.seal_limit K.refusal_limit R.stream ends) (first_world (windows_of C.steps C.window_of) ends)
         events.now
         result.answers.items result.views.items (world_left (windows_of C.steps C.window_of) result) }
     ensures whole { result.cut_short ≡ false → length result.answers.items ≡ length events.now }
@@ -822,16 +802,17 @@ fn run_events<H: HeaderKey + Drop, K: PacketKey + Drop, R: Rng + Drop, C: Contro
     let mut views = Vec::new(alloc);
     let mut cut_short = false;
     for event in events {
-        if answers.reserve(1).is_err() || views.reserve(1).is_err() {
+        let made = make_room(alloc, &ends, &given, event, &mut answers, &mut views);
+        let Ok(rooms) = made else {
             cut_short = true;
             break;
-        }
+        };
         let Ok(answer) = step(alloc, &mut ends, &mut given, event) else {
             cut_short = true;
             break;
         };
         answers.push_reserved(answer);
-        views.push_reserved(view(&ends));
+        views.push_reserved(view(&ends, rooms));
     }
     Outcome {
         answers,

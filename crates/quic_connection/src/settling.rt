@@ -6,7 +6,7 @@ ghost use Rattle.quic_machine.specs.End.{End};
 ghost use Rattle.quic_machine.specs.Machine.{Policies, given_by, gave};
 ghost use Rattle.quic_machine.specs.Control.{Control};
 ghost use Rattle.quic_machine.specs.Heard.{Heard};
-ghost use Rattle.quic_connection_core.specs.Telling.{windows_of};
+ghost use Rattle.quic_connection_parts.specs.Telling.{windows_of};
 ghost use Rattle.quic_connection.specs.Ends.{world_of, AreOf, GoOn};
 ghost use Rattle.quic_connection.specs.Settled.{Talks, Leads, asks, quiet, polled_on, IsPolled, IsHandled, IsHalfHandled, IsHalfPolled, IsCutOff, AreOpen, AreAtRest, HasClosed, Settles, end_wakes, wakes};
 ghost use Rattle.quic_connection.specs.declared.running.Given.{Given};
@@ -36,18 +36,19 @@ const MOST_POLLS: u64 = 10_000;
 ///
 /// # Errors
 ///
-/// [`AllocError`] is want of memory of its own; the calls that were made before stay made.
+/// - [`AllocError`]: an allocation of this call's own fails. The calls that were made before stay
+///   made.
 pub fn settle<H: HeaderKey + Drop, K: PacketKey + Drop, R: Rng + Drop, C: Controller>(
     alloc: Global,
     ends: &mut Ends<H, K, R, C>,
     given: &mut Given,
     now: Instant,
 ) -> Result<Option<Instant>, AllocError>
-    ensures settles { (k : Policies) → AreOf k H.protection K.aead R.stream ends.old
+    ensures settles { (k : Policies) → AreOf k H.protection K.aead K.seal_limit K.refusal_limit R.stream ends.old
         → Settles k now (world_of (windows_of C.steps C.window_of) ends.old given.old) result (world_of (windows_of C.steps C.window_of) ends.new given.new) }
     ensures goes_on { GoOn R.stream ends.old ends.new }
     ensures rest { IfOk result (λ moment. IfSome moment (λ moment.
-        (k : Policies) → AreOf k H.protection K.aead R.stream ends.old
+        (k : Policies) → AreOf k H.protection K.aead K.seal_limit K.refusal_limit R.stream ends.old
         → AreAtRest k now (world_of (windows_of C.steps C.window_of) ends.old given.old) moment (world_of (windows_of C.steps C.window_of) ends.new given.new))) }
     ensures later { IfOk result (λ moment. IfSome moment (λ moment. now ≤ moment)) }
 {
@@ -75,15 +76,15 @@ fn talk<H: HeaderKey + Drop, K: PacketKey + Drop, R: Rng + Drop, C: Controller>(
     left: &mut u64,
 ) -> Result<bool, AllocError>
     ensures talks { result ≡ Ok true
-        → (k : Policies) → AreOf k H.protection K.aead R.stream ends.old
+        → (k : Policies) → AreOf k H.protection K.aead K.seal_limit K.refusal_limit R.stream ends.old
         → Talks k now now (asks Client false) quiet
         left.old left.new (world_of (windows_of C.steps C.window_of) ends.old given.old) (world_of (windows_of C.steps C.window_of) ends.new given.new) }
     ensures stops { result ≡ Ok false
-        → (k : Policies) → AreOf k H.protection K.aead R.stream ends.old
+        → (k : Policies) → AreOf k H.protection K.aead K.seal_limit K.refusal_limit R.stream ends.old
         → Leads k now now (asks Client false) left.old
         left.new (world_of (windows_of C.steps C.window_of) ends.old given.old) (world_of (windows_of C.steps C.window_of) ends.new given.new) }
     ensures cut { OnErr result (
-        (k : Policies) → AreOf k H.protection K.aead R.stream ends.old
+        (k : Policies) → AreOf k H.protection K.aead K.seal_limit K.refusal_limit R.stream ends.old
         → IsCutOff k now (asks Client false) left.old
         (world_of (windows_of C.steps C.window_of) ends.old given.old) (world_of (windows_of C.steps C.window_of) ends.new given.new)) }
     ensures goes_on { GoOn R.stream ends.old ends.new }
@@ -110,17 +111,17 @@ fn round<H: HeaderKey + Drop, K: PacketKey + Drop, R: Rng + Drop, C: Controller>
     left: &mut u64,
 ) -> Result<Option<bool>, AllocError>
     ensures talks { IfOk result (λ gave. IfSome gave (λ gave.
-        (k : Policies) → AreOf k H.protection K.aead R.stream ends.old
+        (k : Policies) → AreOf k H.protection K.aead K.seal_limit K.refusal_limit R.stream ends.old
         → Talks k now now (asks Client false)
         (polled_on Server gave false) left.old left.new (world_of (windows_of C.steps C.window_of) ends.old given.old)
         (world_of (windows_of C.steps C.window_of) ends.new given.new))) }
     ensures stops { IfOk result (λ gave.
         IfNone gave (
-        (k : Policies) → AreOf k H.protection K.aead R.stream ends.old
+        (k : Policies) → AreOf k H.protection K.aead K.seal_limit K.refusal_limit R.stream ends.old
         → Leads k now now (asks Client false) left.old
         left.new (world_of (windows_of C.steps C.window_of) ends.old given.old) (world_of (windows_of C.steps C.window_of) ends.new given.new))) }
     ensures cut { OnErr result (
-        (k : Policies) → AreOf k H.protection K.aead R.stream ends.old
+        (k : Policies) → AreOf k H.protection K.aead K.seal_limit K.refusal_limit R.stream ends.old
         → IsCutOff k now (asks Client false) left.old
         (world_of (windows_of C.steps C.window_of) ends.old given.old) (world_of (windows_of C.steps C.window_of) ends.new given.new)) }
     ensures goes_on { GoOn R.stream ends.old ends.new }
@@ -149,19 +150,19 @@ fn poll_all<H: HeaderKey + Drop, K: PacketKey + Drop, R: Rng + Drop, C: Controll
 ) -> Result<Option<bool>, AllocError>
     ensures talks { IfOk result (λ gave. IfSome gave (λ gave.
         (before : Bool)
-        → (k : Policies) → AreOf k H.protection K.aead R.stream ends.old
+        → (k : Policies) → AreOf k H.protection K.aead K.seal_limit K.refusal_limit R.stream ends.old
         → Talks k now now (asks side before)
         (polled_on side (before || gave) false) left.old left.new (world_of (windows_of C.steps C.window_of) ends.old given.old)
         (world_of (windows_of C.steps C.window_of) ends.new given.new))) }
     ensures stops { IfOk result (λ gave.
         IfNone gave (
         (before : Bool)
-        → (k : Policies) → AreOf k H.protection K.aead R.stream ends.old
+        → (k : Policies) → AreOf k H.protection K.aead K.seal_limit K.refusal_limit R.stream ends.old
         → Leads k now now (asks side before) left.old
         left.new (world_of (windows_of C.steps C.window_of) ends.old given.old) (world_of (windows_of C.steps C.window_of) ends.new given.new))) }
     ensures cut { OnErr result (
         (before : Bool)
-        → (k : Policies) → AreOf k H.protection K.aead R.stream ends.old
+        → (k : Policies) → AreOf k H.protection K.aead K.seal_limit K.refusal_limit R.stream ends.old
         → IsCutOff k now (asks side before) left.old
         (world_of (windows_of C.steps C.window_of) ends.old given.old) (world_of (windows_of C.steps C.window_of) ends.new given.new)) }
     ensures goes_on { GoOn R.stream ends.old ends.new }
@@ -191,11 +192,11 @@ fn poll_once<H: HeaderKey + Drop, K: PacketKey + Drop, R: Rng + Drop, C: Control
     requires some_left { 0 < left.old }
     requires opened { AreOpen (world_of (windows_of C.steps C.window_of) ends.old given.old) }
     ensures polled { IfOk result (λ gave.
-        (k : Policies) → AreOf k H.protection K.aead R.stream ends.old
+        (k : Policies) → AreOf k H.protection K.aead K.seal_limit K.refusal_limit R.stream ends.old
         → IsPolled k side now gave
         (world_of (windows_of C.steps C.window_of) ends.old given.old) (world_of (windows_of C.steps C.window_of) ends.new given.new)) }
     ensures cut { OnErr result (
-        (k : Policies) → AreOf k H.protection K.aead R.stream ends.old
+        (k : Policies) → AreOf k H.protection K.aead K.seal_limit K.refusal_limit R.stream ends.old
         → (world_of (windows_of C.steps C.window_of) ends.new given.new ≡ world_of (windows_of C.steps C.window_of) ends.old given.old)
         ⊎ IsHalfPolled k side now (world_of (windows_of C.steps C.window_of) ends.old given.old) (world_of (windows_of C.steps C.window_of) ends.new given.new)) }
     ensures goes_on { GoOn R.stream ends.old ends.new }
@@ -239,11 +240,11 @@ fn time_out<H: HeaderKey + Drop, K: PacketKey + Drop, R: Rng + Drop, C: Controll
     now: Instant,
 ) -> Result<(), AllocError>
     ensures handled { OnOk result (
-        (k : Policies) → AreOf k H.protection K.aead R.stream ends.old
+        (k : Policies) → AreOf k H.protection K.aead K.seal_limit K.refusal_limit R.stream ends.old
         → IsHandled k now (world_of (windows_of C.steps C.window_of) ends.old given.old)
         (world_of (windows_of C.steps C.window_of) ends.new given.new)) }
     ensures cut { OnErr result (
-        (k : Policies) → AreOf k H.protection K.aead R.stream ends.old
+        (k : Policies) → AreOf k H.protection K.aead K.seal_limit K.refusal_limit R.stream ends.old
         → (world_of (windows_of C.steps C.window_of) ends.new given.new ≡ world_of (windows_of C.steps C.window_of) ends.old given.old)
         ⊎ IsHalfHandled k now (world_of (windows_of C.steps C.window_of) ends.old given.old) (world_of (windows_of C.steps C.window_of) ends.new given.new)) }
     ensures goes_on { GoOn R.stream ends.old ends.new }

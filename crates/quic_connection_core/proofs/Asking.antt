@@ -1,6 +1,7 @@
 -- How what asks for an acknowledgement goes behind the frames of a payload.
-use Rattle.std.proofs.Common.{◌≡◌, ℕ, ◌+◌, ◌-◌, Bool, true, false, List, [], ◌∷◌, ◌++◌, length, None, refl, sym, ap, inl, inr, ◌∙◌, arith}
+use Rattle.std.proofs.Common.{◌≡◌, ℕ, ◌+◌, ◌-◌, Bool, true, false, List, [], ◌∷◌, ◌++◌, ◌||◌, length, Option, Some, None, max, refl, sym, ap, inl, inr, ◌∙◌, arith}
 use Rattle.std.specs.Prelude.{map, nat_lt, if◌then◌else◌}
+use Rattle.std.specs.Option.{is_some}
 use Rattle.std.proofs.lemmas.List.{append_assoc, append-nil, length-append}
 use Rattle.quic_wire.specs.Value.{FrameValue, stream, datagram}
 use Rattle.quic_wire.specs.Writing.{spelling, spelled_all}
@@ -11,13 +12,19 @@ use Rattle.quic_streams_state.specs.Frames as of_streams
 use Rattle.quic_messages.specs.Messages.{frame_bytes}
 use Rattle.quic_machine.specs.Tracking.{Carried, acked_in, carried_in}
 use Rattle.quic_machine.specs.End.{End, with_streams, with_queued}
-use Rattle.quic_machine.specs.Poll.{Draft, frame_room, fits, ping_if, behind_control, with_control_frames, with_message, with_messages_of, with_message_frames, behind_stream, with_stream_frames, with_asking, asking}
-use Rattle.quic_connection_core.specs.Frames.{control_part, message_part, messages_left, message_frames, stream_part, Content, content, content_at, with_content, ping_list, ping_bytes, end_after_ping_if, pinged, asked}
-use Rattle.quic_connection_core.proofs.Content.{Marked, marked_both, marked_asks, message_long, content_marked, content_carried}
+use Rattle.quic_paths.specs.Responses.{Response}
+use Rattle.quic_machine.specs.Validation.{path_waits, challenge_frame, response_frame}
+use Rattle.quic_machine.specs.Poll.{Draft, whole, least_by, frame_room, fits, challenge_if, response_if, ping_if, with_challenge_frame, with_response_frame, with_ping_frame, behind_control, with_control_frames, with_message, with_messages_of, with_message_frames, behind_stream, with_stream_frames, with_asking, asking}
+use Rattle.quic_connection_parts.specs.Frames.{control_part, message_part, messages_left, message_frames, stream_part, Content, content, content_at, with_content, challenge_list, response_list, path_frames, path_bytes, challenge_gone, response_gone, paths_sent, ping_list, ping_bytes, end_after_ping_if, pinged, asked_behind_paths, asked}
+use Rattle.quic_connection_parts.proofs.Content.{Marked, marked_both, marked_asks, message_long, content_marked, content_carried}
 
--- what goes behind the frames of a draft
+-- what goes behind the frames of a draft that let its datagram have any size
 abbrev pub behind : Draft → Draft → Draft
-behind d x = record { frames = d.frames ++ x.frames; bytes = d.bytes ++ x.bytes; least = d.least; end = x.end }
+behind d x = record { frames = d.frames ++ x.frames; bytes = d.bytes ++ x.bytes; least = x.least; end = x.end }
+
+-- what goes behind the frames of a draft, and lets its datagram have any size
+abbrev behind_freely : Draft → Draft → Draft
+behind_freely d x = record { frames = d.frames ++ x.frames; bytes = d.bytes ++ x.bytes; least = d.least; end = x.end }
 
 -- ---- messages
 
@@ -111,10 +118,10 @@ unfolding pinged_draft
 ping_goes true d = refl
 ping_goes false d = rw (append-nil d.frames, append-nil d.bytes) refl
 
--- what asks goes behind the frames of a draft
-pub asked_behind : (d : Draft) → with_asking d ≡ behind d (asked d.end (length d.bytes))
-unfolding asked content_behind pinged_draft
-asked_behind d =
+-- they go behind frames of path validation
+behind_paths : (d : Draft) → with_stream_frames (with_message_frames (with_control_frames (with_ping_frame d))) ≡ behind_freely d (asked_behind_paths d.end (length d.bytes))
+unfolding asked_behind_paths content_behind pinged_draft
+behind_paths d =
     let b : Bool = d.end.waiting.signals.ping in
     let long : length (d.bytes ++ ping_bytes b) ≡ length d.bytes + length (ping_bytes b) = length-append d.bytes (ping_bytes b) in
     ap (λ (x : Draft). with_stream_frames (with_message_frames (with_control_frames x))) (ping_goes b d)
@@ -123,11 +130,92 @@ asked_behind d =
     ∙ together (content_at (end_after_ping_if b d.end) (length d.bytes + length (ping_bytes b)))
   where
     together : (a : Content) → content_behind (pinged_draft d.end.waiting.signals.ping d) a
-        ≡ behind d (record { frames = ping_list d.end.waiting.signals.ping ++ a.frames; bytes = ping_bytes d.end.waiting.signals.ping ++ a.bytes; least = 0; end = with_content (end_after_ping_if d.end.waiting.signals.ping d.end) a })
+        ≡ behind_freely d (record { frames = ping_list d.end.waiting.signals.ping ++ a.frames; bytes = ping_bytes d.end.waiting.signals.ping ++ a.bytes; least = 0; end = with_content (end_after_ping_if d.end.waiting.signals.ping d.end) a })
     together a =
         let fs = append_assoc d.frames (ping_list d.end.waiting.signals.ping) a.frames in
         let bs = append_assoc d.bytes (ping_bytes d.end.waiting.signals.ping) a.bytes in
         rw (fs, bs) refl
+
+-- ---- frames of path validation, and the others behind them
+
+-- a draft with any size, behind which each goes that waits
+abbrev with_paths : Option ℕ → Option Response → Draft → Draft
+with_paths o r d = record {
+  frames = d.frames ++ (challenge_list o ++ response_list r);
+  bytes = d.bytes ++ spelled_all (challenge_list o ++ response_list r);
+  least = least_by whole (is_some o || is_some r);
+  end = response_gone r (challenge_gone o d.end);
+}
+
+both_go : (o : Option ℕ) (r : Option Response) (d : Draft) → d.least ≡ 0 → response_if r (challenge_if o d) ≡ with_paths o r d
+both_go None None d none = rw (append-nil d.frames, append-nil d.bytes) (ap (λ (n : ℕ). record d { least = n }) none)
+both_go (Some word) None d none =
+    let bs : spelling (challenge_frame word) ++ [] ≡ spelling (challenge_frame word) = append-nil (spelling (challenge_frame word)) in
+    ap (λ (n : ℕ). record (challenge_if (Some word) d) { least = max n 1200 }) none
+    ∙ ap (λ (x : List ℕ). record (challenge_if (Some word) d) { bytes = d.bytes ++ x; least = 1200 }) (sym bs)
+both_go None (Some r) d none =
+    let bs : spelling (response_frame r) ++ [] ≡ spelling (response_frame r) = append-nil (spelling (response_frame r)) in
+    ap (λ (n : ℕ). record (response_if (Some r) d) { least = max n 1200 }) none
+    ∙ ap (λ (x : List ℕ). record (response_if (Some r) d) { bytes = d.bytes ++ x; least = 1200 }) (sym bs)
+both_go (Some word) (Some r) d none =
+    let f : FrameValue = challenge_frame word in
+    let g : FrameValue = response_frame r in
+    let x : Draft = response_if (Some r) (challenge_if (Some word) d) in
+    let fs : (d.frames ++ f ∷ []) ++ g ∷ [] ≡ d.frames ++ (f ∷ g ∷ []) = append_assoc d.frames (f ∷ []) (g ∷ []) in
+    let bs : (d.bytes ++ spelling f) ++ spelling g ≡ d.bytes ++ (spelling f ++ (spelling g ++ [])) = append_assoc d.bytes (spelling f) (spelling g) ∙ ap (λ (z : List ℕ). d.bytes ++ (spelling f ++ z)) (sym (append-nil (spelling g))) in
+    ap (λ (n : ℕ). record x { least = max (max n 1200) 1200 }) none
+    ∙ ap (λ (z : List FrameValue). record x { frames = z; least = 1200 }) fs
+    ∙ ap (λ (z : List ℕ). record x { frames = d.frames ++ (f ∷ g ∷ []); bytes = z; least = 1200 }) bs
+
+unfoldable paths_draft : Draft → Draft
+paths_draft d = with_paths d.end.waiting.signals.challenge d.end.waiting.signals.response d
+
+paths_go : (d : Draft) → d.least ≡ 0 → with_response_frame (with_challenge_frame d) ≡ paths_draft d
+unfolding paths_draft
+paths_go d none = answered d.end.waiting.signals.challenge ∙ both_go d.end.waiting.signals.challenge d.end.waiting.signals.response d none
+  where
+    answered : (o : Option ℕ) → with_response_frame (challenge_if o d) ≡ response_if d.end.waiting.signals.response (challenge_if o d)
+    answered None = refl
+    answered (Some word) = refl
+
+-- what asks goes behind the frames of a draft that let its datagram have any size
+pub asked_behind : (d : Draft) → d.least ≡ 0 → with_asking d ≡ behind d (asked d.end (length d.bytes))
+unfolding asked paths_draft
+asked_behind d none =
+    ap (λ (x : Draft). with_stream_frames (with_message_frames (with_control_frames (with_ping_frame x)))) (paths_go d none)
+    ∙ behind_paths (paths_draft d)
+    ∙ ap (λ (k : ℕ). behind_freely (paths_draft d) (asked_behind_paths (paths_sent d.end) k)) (length-append d.bytes (path_bytes d.end))
+    ∙ together (asked_behind_paths (paths_sent d.end) (length d.bytes + length (path_bytes d.end)))
+  where
+    together : (a : Draft) → behind_freely (paths_draft d) a ≡ behind d (record { frames = path_frames d.end ++ a.frames; bytes = path_bytes d.end ++ a.bytes; least = least_by whole (path_waits d.end); end = a.end })
+    together a =
+        let fs = append_assoc d.frames (path_frames d.end) a.frames in
+        let bs = append_assoc d.bytes (path_bytes d.end) a.bytes in
+        rw (fs, bs) refl
+
+-- ---- how frames of path validation are written
+
+spelled_both : (fs gs : List FrameValue) → spelled_all (fs ++ gs) ≡ spelled_all fs ++ spelled_all gs
+spelled_both [] gs = refl
+spelled_both (f ∷ fs) gs = ap (λ (z : List ℕ). spelling f ++ z) (spelled_both fs gs) ∙ sym (append_assoc (spelling f) (spelled_all fs) (spelled_all gs))
+
+-- PATH_CHALLENGE leaves PATH_RESPONSE waiting
+response_stays : (o : Option ℕ) (e : End) → (challenge_gone o e).waiting.signals.response ≡ e.waiting.signals.response
+response_stays None e = refl
+response_stays (Some word) e = refl
+
+pub paths_written : (e y : End) (old mid new : List ℕ) → y ≡ challenge_gone e.waiting.signals.challenge e → mid ≡ old ++ spelled_all (challenge_list e.waiting.signals.challenge) → new ≡ mid ++ spelled_all (response_list y.waiting.signals.response) → new ≡ old ++ path_bytes e
+paths_written e y old mid new left first second =
+    let c : List ℕ = spelled_all (challenge_list e.waiting.signals.challenge) in
+    let same : y.waiting.signals.response ≡ e.waiting.signals.response = ap (λ (z : End). z.waiting.signals.response) left ∙ response_stays e.waiting.signals.challenge e in
+    second
+    ∙ ap (λ (r : Option Response). mid ++ spelled_all (response_list r)) same
+    ∙ ap (λ (z : List ℕ). z ++ spelled_all (response_list e.waiting.signals.response)) first
+    ∙ append_assoc old c (spelled_all (response_list e.waiting.signals.response))
+    ∙ ap (λ (z : List ℕ). old ++ z) (sym (spelled_both (challenge_list e.waiting.signals.challenge) (response_list e.waiting.signals.response)))
+
+pub paths_gone : (e y : End) → y ≡ challenge_gone e.waiting.signals.challenge e → response_gone y.waiting.signals.response y ≡ paths_sent e
+paths_gone e y left = ap (λ (z : End). response_gone z.waiting.signals.response z) left ∙ ap (λ (r : Option Response). response_gone r (challenge_gone e.waiting.signals.challenge e)) (response_stays e.waiting.signals.challenge e)
 
 -- ---- what it says
 
@@ -139,11 +227,6 @@ pinged_room e = go e.waiting.signals.ping
     go true = refl
     go false = refl
 
--- so does what asks
-pub asked_room : (e : End) (used : ℕ) → frame_room (asked e used).end ≡ frame_room e
-unfolding asked
-asked_room e used = pinged_room e
-
 -- and as many numbers are given
 pub pinged_numbers : (e : End) → (pinged e).numbers ≡ e.numbers
 pinged_numbers e = go e.waiting.signals.ping
@@ -152,34 +235,82 @@ pinged_numbers e = go e.waiting.signals.ping
     go true = refl
     go false = refl
 
+-- so it is of frames of path validation
+pub paths_room : (e : End) → frame_room (paths_sent e) ≡ frame_room e
+paths_room e = go e.waiting.signals.challenge e.waiting.signals.response
+  where
+    go : (o : Option ℕ) (r : Option Response) → frame_room (response_gone r (challenge_gone o e)) ≡ frame_room e
+    go None None = refl
+    go None (Some r) = refl
+    go (Some word) None = refl
+    go (Some word) (Some r) = refl
+
+pub paths_numbers : (e : End) → (paths_sent e).numbers ≡ e.numbers
+paths_numbers e = go e.waiting.signals.challenge e.waiting.signals.response
+  where
+    go : (o : Option ℕ) (r : Option Response) → (response_gone r (challenge_gone o e)).numbers ≡ e.numbers
+    go None None = refl
+    go None (Some r) = refl
+    go (Some word) None = refl
+    go (Some word) (Some r) = refl
+
+-- and of what asks
+pub asked_room : (e : End) (used : ℕ) → frame_room (asked e used).end ≡ frame_room e
+unfolding asked asked_behind_paths
+asked_room e used = pinged_room (paths_sent e) ∙ paths_room e
+
 pub asked_numbers : (e : End) (used : ℕ) → (asked e used).end.numbers ≡ e.numbers
-unfolding asked
-asked_numbers e used = pinged_numbers e
+unfolding asked asked_behind_paths
+asked_numbers e used = pinged_numbers (paths_sent e) ∙ paths_numbers e
 
 ping_marked : (b : Bool) → Marked (ping_list b) (ping_bytes b)
 ping_marked true = inl (refl, omega arith)
 ping_marked false = inr (refl, refl)
 
-pub asked_marked : (e : End) (used : ℕ) → Marked (asked e used).frames (asked e used).bytes
-unfolding asked
-asked_marked e used =
+rest_marked : (e : End) (used : ℕ) → Marked (asked_behind_paths e used).frames (asked_behind_paths e used).bytes
+unfolding asked_behind_paths
+rest_marked e used =
     let a : Content = content_at (pinged e) (used + length (ping_bytes e.waiting.signals.ping)) in
     marked_both (ping_list e.waiting.signals.ping) a.frames (ping_bytes e.waiting.signals.ping) a.bytes (ping_marked e.waiting.signals.ping)
     (content_marked (pinged e).transport.send_fairness (frame_room (pinged e)) (used + length (ping_bytes e.waiting.signals.ping)) (pinged e).streams (pinged e).waiting.frames (pinged e).messages.queues.outgoing)
+
+paths_marked : (o : Option ℕ) (r : Option Response) → Marked (challenge_list o ++ response_list r) (spelled_all (challenge_list o ++ response_list r))
+paths_marked None None = inr (refl, refl)
+paths_marked None (Some r) = inl (refl, omega arith)
+paths_marked (Some word) r = inl (refl, omega arith)
+
+pub asked_marked : (e : End) (used : ℕ) → Marked (asked e used).frames (asked e used).bytes
+unfolding asked
+asked_marked e used =
+    let rest : Draft = asked_behind_paths (paths_sent e) (used + length (path_bytes e)) in
+    marked_both (path_frames e) rest.frames (path_bytes e) rest.bytes (paths_marked e.waiting.signals.challenge e.waiting.signals.response) (rest_marked (paths_sent e) (used + length (path_bytes e)))
 
 -- PING carries nothing
 ping_carried : (b : Bool) (fs : List FrameValue) → carried_in (ping_list b ++ fs) ≡ carried_in fs
 ping_carried true fs = refl
 ping_carried false fs = refl
 
-pub asked_carried : (e : End) (used : ℕ) → carried_in (asked e used).frames ≡ carried_in (content_at (pinged e) (used + length (ping_bytes e.waiting.signals.ping))).frames
+rest_carried : (e : End) (used : ℕ) → carried_in (asked_behind_paths e used).frames ≡ carried_in (content_at (pinged e) (used + length (ping_bytes e.waiting.signals.ping))).frames
+unfolding asked_behind_paths
+rest_carried e used = ping_carried e.waiting.signals.ping (content_at (pinged e) (used + length (ping_bytes e.waiting.signals.ping))).frames
+
+-- nor do frames of path validation
+paths_carried : (o : Option ℕ) (r : Option Response) (fs : List FrameValue) → carried_in ((challenge_list o ++ response_list r) ++ fs) ≡ carried_in fs
+paths_carried None None fs = refl
+paths_carried None (Some r) fs = refl
+paths_carried (Some word) None fs = refl
+paths_carried (Some word) (Some r) fs = refl
+
+pub asked_carried : (e : End) (used : ℕ) → carried_in (asked e used).frames ≡ carried_in (asked_behind_paths (paths_sent e) (used + length (path_bytes e))).frames
 unfolding asked
-asked_carried e used = ping_carried e.waiting.signals.ping (content_at (pinged e) (used + length (ping_bytes e.waiting.signals.ping))).frames
+asked_carried e used = paths_carried e.waiting.signals.challenge e.waiting.signals.response (asked_behind_paths (paths_sent e) (used + length (path_bytes e))).frames
 
 -- what asks names no number
 pub asked_names_none : (e : End) (used : ℕ) → acked_in (asked e used).frames ≡ None
 asked_names_none e used =
-    ap (λ (c : Carried). c.largest_acked) (asked_carried e used ∙ content_carried (pinged e).transport.send_fairness (frame_room (pinged e)) (used + length (ping_bytes e.waiting.signals.ping)) (pinged e).streams (pinged e).waiting.frames (pinged e).messages.queues.outgoing)
+    let x : End = paths_sent e in
+    let some : ℕ = used + length (path_bytes e) in
+    ap (λ (c : Carried). c.largest_acked) (asked_carried e used ∙ rest_carried x some ∙ content_carried (pinged x).transport.send_fairness (frame_room (pinged x)) (some + length (ping_bytes x.waiting.signals.ping)) (pinged x).streams (pinged x).waiting.frames (pinged x).messages.queues.outgoing)
 
 -- ---- PING went, and the others go behind it
 
@@ -187,20 +318,44 @@ module _ (e x : End) (used behind_ping : ℕ) (left : x ≡ pinged e) (grown : b
   content_same : content_at x behind_ping ≡ content_at (pinged e) (used + length (ping_bytes e.waiting.signals.ping))
   content_same = ap (λ (y : End). content_at y behind_ping) left ∙ ap (λ (k : ℕ). content_at (pinged e) k) grown
 
-  pub asked_written : (old mid new : List ℕ) → mid ≡ old ++ ping_bytes e.waiting.signals.ping → new ≡ mid ++ (content_at x behind_ping).bytes → new ≡ old ++ (asked e used).bytes
-  unfolding asked
-  asked_written old mid new first second =
+  rest_written : (old mid new : List ℕ) → mid ≡ old ++ ping_bytes e.waiting.signals.ping → new ≡ mid ++ (content_at x behind_ping).bytes → new ≡ old ++ (asked_behind_paths e used).bytes
+  unfolding asked_behind_paths
+  rest_written old mid new first second =
       let a : Content = content_at (pinged e) (used + length (ping_bytes e.waiting.signals.ping)) in
       second ∙ ap (λ (b : Content). mid ++ b.bytes) content_same ∙ ap (λ (z : List ℕ). z ++ a.bytes) first ∙ append_assoc old (ping_bytes e.waiting.signals.ping) a.bytes
 
-  pub asked_left : with_content x (content_at x behind_ping) ≡ (asked e used).end
-  unfolding asked
-  asked_left =
+  rest_left : with_content x (content_at x behind_ping) ≡ (asked_behind_paths e used).end
+  unfolding asked_behind_paths
+  rest_left =
       let a : Content = content_at (pinged e) (used + length (ping_bytes e.waiting.signals.ping)) in
       ap (λ (b : Content). with_content x b) content_same ∙ ap (λ (y : End). with_content y a) left
 
+  rest_kept : (carried : Carried) → carried ≡ carried_in (content_at x behind_ping).frames → carried ≡ carried_in (asked_behind_paths e used).frames
+  rest_kept carried is = is ∙ ap (λ (b : Content). carried_in b.frames) content_same ∙ sym (rest_carried e used)
+
+-- frames of path validation went, and they go behind these
+
+module _ (e y x : End) (used behind_path behind_ping : ℕ) (first : y ≡ paths_sent e) (some : behind_path ≡ used + length (path_bytes e)) (left : x ≡ pinged y) (grown : behind_ping ≡ behind_path + length (ping_bytes y.waiting.signals.ping)) where
+  abbrev rest : Draft
+  rest = asked_behind_paths (paths_sent e) (used + length (path_bytes e))
+
+  rest_same : asked_behind_paths y behind_path ≡ rest
+  rest_same = ap (λ (z : End). asked_behind_paths z behind_path) first ∙ ap (λ (k : ℕ). asked_behind_paths (paths_sent e) k) some
+
+  pub asked_written : (old paths mid new : List ℕ) → paths ≡ old ++ path_bytes e → mid ≡ paths ++ ping_bytes y.waiting.signals.ping → new ≡ mid ++ (content_at x behind_ping).bytes → new ≡ old ++ (asked e used).bytes
+  unfolding asked
+  asked_written old paths mid new zeroth second third =
+      rest_written y x behind_path behind_ping left grown paths mid new second third
+      ∙ ap (λ (d : Draft). paths ++ d.bytes) rest_same
+      ∙ ap (λ (z : List ℕ). z ++ rest.bytes) zeroth
+      ∙ append_assoc old (path_bytes e) rest.bytes
+
+  pub asked_left : with_content x (content_at x behind_ping) ≡ (asked e used).end
+  unfolding asked
+  asked_left = rest_left y x behind_path behind_ping left grown ∙ ap (λ (d : Draft). d.end) rest_same
+
   pub asked_kept : (carried : Carried) → carried ≡ carried_in (content_at x behind_ping).frames → carried ≡ carried_in (asked e used).frames
-  asked_kept carried is = is ∙ ap (λ (b : Content). carried_in b.frames) content_same ∙ sym (asked_carried e used)
+  asked_kept carried is = rest_kept y x behind_path behind_ping left grown carried is ∙ ap (λ (d : Draft). carried_in d.frames) rest_same ∙ sym (asked_carried e used)
 
 -- something asks where something is written
 pub asked_asks : (e : End) (used before after : ℕ) (old new : List ℕ) → before ≡ length old → after ≡ length new → new ≡ old ++ (asked e used).bytes → nat_lt before after ≡ asking (asked e used).frames

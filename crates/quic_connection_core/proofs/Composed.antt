@@ -11,8 +11,8 @@ use Rattle.quic_retransmits.specs.Retransmits.{nothing_waits}
 use Rattle.quic_machine.specs.Tracking.{Carried, acked_in, streams_in, and_again, retransmits_in, carried_in}
 use Rattle.quic_machine.specs.End.{End}
 use Rattle.quic_machine.specs.Poll.{Draft, no_frames, ack_of, with_ack, after_ack, ack_fits, ack_if, composed_if, composed, asking}
-use Rattle.quic_connection_core.specs.Frames.{asked, fits_behind, ack_bytes_if, acked_if, end_after_ack_if}
-use Rattle.quic_connection_core.proofs.Content.{acked_more}
+use Rattle.quic_connection_parts.specs.Frames.{asked, fits_behind, ack_bytes_if, acked_if, end_after_ack_if}
+use Rattle.quic_connection_parts.proofs.Content.{acked_more}
 use Rattle.quic_connection_core.proofs.Asking.{behind, asked_behind, asked_names_none}
 
 -- how an ACK frame is written
@@ -28,12 +28,11 @@ first_asked e = asked e 0
 
 -- a due ACK goes first
 due : (e : End) → can_send e.acknowledging ≡ true → composed e ≡ behind (with_ack (no_frames e)) (behind_due e)
-due e is = ap (λ (b : Bool). composed_if b e) is ∙ asked_behind (with_ack (no_frames e))
+due e is = ap (λ (b : Bool). composed_if b e) is ∙ asked_behind (with_ack (no_frames e)) refl
 
 -- another goes last, where it fits
 late : (e : End) → can_send e.acknowledging ≡ false → composed e ≡ ack_if (ack_fits (first_asked e)) (first_asked e)
-unfolding asked
-late e is = ap (λ (b : Bool). composed_if b e) is ∙ ap (λ (d : Draft). ack_if (ack_fits d) d) (asked_behind (no_frames e))
+late e is = ap (λ (b : Bool). composed_if b e) is ∙ ap (λ (d : Draft). ack_if (ack_fits d) d) (asked_behind (no_frames e) refl)
 
 -- what it leaves and writes
 ack_goes : (b : Bool) (d : Draft) → ((ack_if b d).bytes ≡ d.bytes ++ ack_bytes_if b d.end) × ((ack_if b d).end ≡ end_after_ack_if b d.end)

@@ -1,17 +1,20 @@
--- What is read of a payload has the form of its fields: a limit on a stream is below 2 ^ 62.
-use Rattle.std.proofs.Common.{ℕ, zero, suc, ◌<◌, ◌^◌, ◌/◌, ◌%◌, Bool, true, false, cond, ltb, eqb, List, [], ◌∷◌, length, take, drop, Option, Some, None, Result, Ok, Err, arith}
-use Rattle.std.specs.Prelude.{slice_index}
+-- What is read of a payload has the form of its fields: a limit on a stream, the code of a close
+-- and the number of an id are below 2 ^ 62, and an id asks for none above it to be retired.
+use Rattle.std.proofs.Common.{◌≡◌, ℕ, zero, suc, ◌<◌, ◌^◌, ◌/◌, ◌%◌, Bool, true, false, cond, ltb, eqb, List, [], ◌∷◌, length, take, drop, Option, Some, None, Result, Ok, Err, refl, arith}
+use Rattle.std.specs.Prelude.{slice_index, nat_lt, if◌then◌else◌}
+use Rattle.std.proofs.lemmas.Bool.{ltb-false}
 use Rattle.std.specs.Int.{w8, w16, w32, w64, from_be_bytes}
 use Rattle.quic_wire_core.specs.Varint.{varint_at, wide_at}
 use Rattle.quic_wire_core.specs.Taking.{◌>>=◌}
 use Rattle.quic_wire.specs.declared.frame.FrameError.{FrameError}
+use Rattle.quic_wire.specs.declared.frame.FrameError.TheVariants.{Malformed}
 use Rattle.quic_wire.specs.declared.frame.InvalidFrame.{InvalidFrame}
 use Rattle.quic_wire.specs.Value.{FrameValue, ack, reset_stream, stop_sending, crypto, new_token, stream, max_data, max_stream_data, max_streams, data_blocked, stream_data_blocked, streams_blocked, new_connection_id, retire_connection_id, path_challenge, path_response, connection_close, application_close, datagram, ack_frequency}
 use Rattle.quic_wire.specs.FrameTypes.{Kind, is_padding, is_ping, is_ack, is_reset_stream, is_stop_sending, is_crypto, is_new_token, is_stream, is_max_data, is_max_stream_data, is_max_streams, is_data_blocked, is_stream_data_blocked, is_streams_blocked, is_new_connection_id, is_retire_connection_id, is_path_challenge, is_path_response, is_connection_close, is_application_close, is_handshake_done, is_immediate_ack, is_datagram, is_ack_frequency, kind_of}
 use Rattle.quic_wire.specs.AckReading.{ack_at}
-use Rattle.quic_wire.specs.Reading.{field, var_at, block_at, sized_at, reset_stream_at, stop_sending_at, crypto_at, data_at, stream_at, stream_limit_at, new_connection_id_at, connection_close_at, application_close_at, ack_frequency_at, counted, as_frame, of_kind_at, body_at}
+use Rattle.quic_wire.specs.Reading.{field, var_at, block_at, sized_at, reset_stream_at, stop_sending_at, crypto_at, data_at, stream_at, stream_limit_at, connection_id_at, id_and_token_at, issued_at, new_connection_id_at, connection_close_at, application_close_at, ack_frequency_at, counted, as_frame, of_kind_at, body_at}
 use Rattle.quic_wire.specs.Items.{frame_at, behind_type, refused, first_and, items_within, items}
-use Rattle.quic_connection_core.specs.Faults.{HasForm, AllHaveForm}
+use Rattle.quic_connection_parts.specs.Faults.{HasForm, AllHaveForm}
 
 -- ---- numbers
 
@@ -58,17 +61,41 @@ framed : {T : Type 0} (f : T → FrameValue) (r : Result (T × List ℕ) FrameEr
 framed f (Ok x) h = h x.0
 framed f (Err e) h = tt
 
-limit_behind : (id : ℕ) (o : Option (ℕ × List ℕ)) → IsSmallAt o → HasFormAt (as_frame max_stream_data (field o >>= λ limit. Ok (record { id = id; limit = limit.0 }, limit.1)))
-limit_behind id (Some x) h = h
-limit_behind id None h = tt
+-- what stands behind a number has the form of its fields where it has it behind every number below
+-- 2 ^ 62
+behind_number : {T : Type 0} (f : T → FrameValue) (o : Option (ℕ × List ℕ)) (rest : ℕ × List ℕ → Result (T × List ℕ) FrameError) → IsSmallAt o → ((x : ℕ × List ℕ) → x.0 < 2 ^ 62 → HasFormAt (as_frame f (rest x))) → HasFormAt (as_frame f (field o >>= rest))
+behind_number f (Some x) rest small h = h x small
+behind_number f None rest small h = tt
 
-id_and_limit : (o : Option (ℕ × List ℕ)) → HasFormAt (as_frame max_stream_data (field o >>= λ id. (var_at id.1 >>= λ limit. Ok (record { id = id.0; limit = limit.0 }, limit.1))))
-id_and_limit (Some x) = limit_behind x.0 (varint_at x.1) (varint_small x.1)
-id_and_limit None = tt
+-- and behind anything else that is read where it has it behind all of that
+behind_read : {A T : Type 0} (f : T → FrameValue) (r : Result A FrameError) (rest : A → Result (T × List ℕ) FrameError) → ((x : A) → HasFormAt (as_frame f (rest x))) → HasFormAt (as_frame f (r >>= rest))
+behind_read f (Ok x) rest h = h x
+behind_read f (Err e) rest h = tt
 
 stream_limit : (bytes : List ℕ) → HasFormAt (as_frame max_stream_data (stream_limit_at bytes))
 unfolding stream_limit_at
-stream_limit bytes = id_and_limit (varint_at bytes)
+stream_limit bytes = behind_number max_stream_data (varint_at bytes) _ (varint_small bytes) (λ id small. behind_number max_stream_data (varint_at id.1) _ (varint_small id.1) (λ limit h. h))
+
+-- an id whose number is read asks for none above it to be retired
+issued : (sequence retire : ℕ) (bytes : List ℕ) → sequence < 2 ^ 62 → HasFormAt (as_frame new_connection_id (issued_at sequence retire bytes))
+unfolding issued_at id_and_token_at
+issued sequence retire bytes small = go (nat_lt sequence retire) refl
+  where
+    go : (b : Bool) → nat_lt sequence retire ≡ b → HasFormAt (as_frame new_connection_id (if b then Err Malformed else id_and_token_at sequence retire bytes))
+    go true is = tt
+    go false is = behind_read new_connection_id (connection_id_at bytes) _ (λ id. behind_read new_connection_id (block_at 16 id.1) _ (λ token. (small, ltb-false sequence retire is)))
+
+new_id : (bytes : List ℕ) → HasFormAt (as_frame new_connection_id (new_connection_id_at bytes))
+unfolding new_connection_id_at
+new_id bytes = behind_number new_connection_id (varint_at bytes) _ (varint_small bytes) (λ sequence small. behind_number new_connection_id (varint_at sequence.1) _ (varint_small sequence.1) (λ retire h. issued sequence.0 retire.0 retire.1 small))
+
+close : (bytes : List ℕ) → HasFormAt (as_frame connection_close (connection_close_at bytes))
+unfolding connection_close_at
+close bytes = behind_number connection_close (varint_at bytes) _ (varint_small bytes) (λ code small. behind_number connection_close (varint_at code.1) _ (varint_small code.1) (λ type h. behind_read connection_close (sized_at type.1) _ (λ reason. (small, h))))
+
+application : (bytes : List ℕ) → HasFormAt (as_frame application_close (application_close_at bytes))
+unfolding application_close_at
+application bytes = behind_number application_close (varint_at bytes) _ (varint_small bytes) (λ code small. behind_read application_close (sized_at code.1) _ (λ reason. small))
 
 of_kind : (kind : Kind) (bytes : List ℕ) → HasFormAt (of_kind_at kind bytes)
 of_kind is_padding bytes = tt
@@ -85,12 +112,12 @@ of_kind (is_max_streams one_way) bytes = framed (λ k. max_streams (counted one_
 of_kind is_data_blocked bytes = framed data_blocked (var_at bytes) (λ x. tt)
 of_kind is_stream_data_blocked bytes = framed stream_data_blocked (stream_limit_at bytes) (λ x. tt)
 of_kind (is_streams_blocked one_way) bytes = framed (λ k. streams_blocked (counted one_way k)) (var_at bytes) (λ x. tt)
-of_kind is_new_connection_id bytes = framed new_connection_id (new_connection_id_at bytes) (λ x. tt)
+of_kind is_new_connection_id bytes = new_id bytes
 of_kind is_retire_connection_id bytes = framed retire_connection_id (var_at bytes) (λ x. tt)
 of_kind is_path_challenge bytes = framed path_challenge (block_at 8 bytes) (λ x. tt)
 of_kind is_path_response bytes = framed path_response (block_at 8 bytes) (λ x. tt)
-of_kind is_connection_close bytes = framed connection_close (connection_close_at bytes) (λ x. tt)
-of_kind is_application_close bytes = framed application_close (application_close_at bytes) (λ x. tt)
+of_kind is_connection_close bytes = close bytes
+of_kind is_application_close bytes = application bytes
 of_kind is_handshake_done bytes = tt
 of_kind is_immediate_ack bytes = tt
 of_kind (is_datagram len) bytes = framed datagram (data_at len bytes) (λ x. tt)

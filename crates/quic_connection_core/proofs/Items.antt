@@ -7,9 +7,9 @@ use Rattle.quic_packet.specs.Header.{reserved_bits}
 use Rattle.quic_congestion.specs.Congestion.{Told, Steps, after_calls}
 use Rattle.quic_machine.specs.End.{End, ConnectionValue}
 use Rattle.quic_machine.specs.Receive.{Fault, Progress, take_item, take_items, behind, told_item, told_items, told_behind, item_asks, asks_in, told_payload}
-use Rattle.quic_connection_core.specs.declared.connection.receiving.Trouble.{Trouble}
-use Rattle.quic_connection_core.specs.Faults.{fault_view, AllHaveForm, IsOther, TellsAs}
-use Rattle.quic_connection_core.proofs.Told.{told_parts}
+use Rattle.quic_connection_parts.specs.declared.receiving.Trouble.{Trouble}
+use Rattle.quic_connection_parts.specs.Faults.{fault_view, AllHaveForm, IsOther, TellsAs}
+use Rattle.quic_connection_parts.proofs.Told.{told_parts}
 use Rattle.quic_connection_core.proofs.Payloads.{no_items}
 
 abbrev Item : Type 0

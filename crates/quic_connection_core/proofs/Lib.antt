@@ -1,26 +1,20 @@
-pub mod Tracked
 pub mod Payloads
-pub mod Headers
 pub mod Plain
-pub mod Shifted
-pub mod Fitting
-pub mod Content
 pub mod Asking
 pub mod Composed
-pub mod Words
-pub mod Delays
 pub mod Polls
 pub mod Moved
 pub mod Forms
-mod OnStreams
-mod Lost
 mod Ungiven
 pub mod Probing
 mod Losses
-mod Flights
 pub mod Gates
-mod Items
-mod Told
+pub mod Items
 mod Rooms
 pub mod Marks
-mod Counted
+pub mod Counted
+mod Expiries
+pub mod Receiving
+pub mod Taken
+pub mod Drawn
+mod Made

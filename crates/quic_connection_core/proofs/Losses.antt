@@ -17,9 +17,9 @@ use Rattle.quic_machine.specs.FrameCases.{by_searched}
 use Rattle.quic_machine.specs.Closing.{Closing}
 use Rattle.quic_machine.specs.Parts.{Path}
 use Rattle.quic_machine.specs.Acked.{packets_lost, lost_as, verdict, losses_detected, told_detected}
-use Rattle.quic_connection_core.specs.Telling.{telling}
-use Rattle.quic_connection_core.proofs.Told.{KeepsPath, packets_lost_keep, told_parts}
-use Rattle.quic_connection_core.specs.Losses.{Lost, loss_as, none_lost, one_lost, all_lost, asked_if, told_lost}
+use Rattle.quic_connection_parts.specs.Telling.{telling}
+use Rattle.quic_connection_parts.proofs.Told.{KeepsPath, packets_lost_keep, told_parts}
+use Rattle.quic_connection_parts.specs.Losses.{Lost, loss_as, none_lost, one_lost, all_lost, asked_if, told_lost}
 
 abbrev Packets : Type 0
 Packets = Table TrackedPacket
@@ -147,7 +147,8 @@ lost_size probe (p ∷ ps) d = lost_size probe ps (with_one_lost (is_number p.0 
 searched_closing : (d : Discovery) (e : End) → (with_searched d e).closing ≡ e.closing
 searched_closing d e = by_searched d e (λ (x : End). x.closing ≡ e.closing) refl (λ most. refl)
 
--- of packets that are lost, which leave this end, a controller is told of a size that fell, and of congestion
+-- of packets that are lost, which leave this end, a controller is told of a size that fell, and of
+-- congestion
 tells : {H K R C : Type 0} (steps : Steps C) (old : ConnectionValue H K R C) (by_ack : Bool) (l : Lost) (lost : Packets) (left : End) → KeepsPath old.end left → l ≡ all_lost old.end.path.generation (open_probe old.end.path.discovery) (none old.end) lost
     → (let x : End = with_discovery left (with_lost lost old.end.path.discovery) in
     let d : Discovery = asked_if l.others x.closing.clock x.path.discovery in
@@ -193,5 +194,5 @@ detects {H} {K} {R} {C} steps old w judged new by_ack v l loses is counts judges
     told
     ∙ ap (λ (x : ConnectionValue H K R C). telling steps x (told_lost by_ack x.end.closing.clock l) x.end) judges
     ∙ ap (λ (x : ConnectionValue H K R C). (let f : Discovery = asked_if l.others x.end.closing.clock x.end.path.discovery in let y : End = with_searched f x.end in telling steps (telling steps x (told_size x.end.path.discovery f) y) (told_lost by_ack y.closing.clock l) y)) loses
-    ∙ tells steps old by_ack l lost left (record { closing = k.closing; path = k.path }) counts
+    ∙ tells steps old by_ack l lost left (record { closing = k.closing; path = k.path; validation = k.validation }) counts
     ∙ ap (λ (u : Verdict). telling steps old (told_losses by_ack old.end (lost_by u old.end.tracking.packets)) (lost_as u old.end)) is

@@ -1,6 +1,7 @@
 -- Where a probe waits, something waits to go.
 use Rattle.std.proofs.Common.{◌≡◌, ℕ, ◌≤◌, [], ◌∷◌, Bool, true, false, Option, Some, None, refl, subst, arith}
 use Rattle.std.specs.Prelude.{not, ◌||◌, nat_lt, if◌then◌else◌}
+use Rattle.std.specs.Option.{is_some}
 use Rattle.std.proofs.lemmas.Bool.{or_parts, not-false, ltb-false}
 use Rattle.quic_streams_parts.specs.Table.{Table}
 use Rattle.quic_streams_state.specs.declared.state.StreamsState.{StreamsState}
@@ -36,7 +37,9 @@ no_frames e none =
 no_ping : (e : End) → waits e ≡ false → e.waiting.signals.ping ≡ false
 no_ping e none =
     let asking = or_parts (can_send e.acknowledging) (asks_to_go e) none in
-    (or_parts (signals_wait e.waiting.signals) (not (is_empty e.waiting.frames e.streams) || (message_waits e || can_send_stream_data e.streams)) asking.1).0
+    let signals = (or_parts (signals_wait e.waiting.signals) (not (is_empty e.waiting.frames e.streams) || (message_waits e || can_send_stream_data e.streams)) asking.1).0 in
+    let answers = or_parts (is_some e.waiting.signals.challenge) (is_some e.waiting.signals.response || e.waiting.signals.ping) signals in
+    (or_parts (is_some e.waiting.signals.response) e.waiting.signals.ping answers.1).1
 
 -- where nothing waits beside a probe, no probe does
 pub silent_probes : (e : End) → waits (probed e) ≡ false → (probed e).tracking.probes ≡ 0

@@ -1,7 +1,7 @@
 -- What the parts of a packet say of the frames that it carries.
-use Rattle.std.proofs.Common.{◌≡◌, ℕ, ◌+◌, ◌-◌, ◌<◌, ◌^◌, ◌++◌, ◌≤◌, max, ◌&&◌, Bool, true, false, List, length, replicate, take, drop, sym, ap, ◌∙◌, arith}
+use Rattle.std.proofs.Common.{◌≡◌, ℕ, ◌+◌, ◌-◌, ◌<◌, ◌^◌, ◌++◌, ◌≤◌, max, ◌&&◌, Bool, true, false, List, length, replicate, take, drop, refl, sym, ap, ◌∙◌, arith}
 use Rattle.std.specs.Prelude.{nat_lt, if◌then◌else◌}
-use Rattle.std.proofs.lemmas.Bool.{and_parts, ltb-true}
+use Rattle.std.proofs.lemmas.Bool.{and_parts, ltb-true, lt-ltb}
 use Rattle.std.proofs.lemmas.List.{length-append, length-replicate, append_assoc, take-take, take_at}
 use Rattle.quic_packet.specs.Number.{truncated}
 use Rattle.quic_packet.specs.Header.{header_bytes}
@@ -9,18 +9,30 @@ use Rattle.quic_packet.specs.Keys.{Protection, Aead, KeepsLength}
 use Rattle.quic_packet.specs.Datagram.{protected, sent}
 use Rattle.quic_packet.proofs.Opening.{sealed_is_sent}
 use Rattle.quic_machine.specs.Ids.{Ids}
-use Rattle.quic_spaces.specs.Numbers.{Numbers, cut_against, can_number}
+use Rattle.quic_spaces.specs.Numbers.{Numbers, cut_against, can_number, may_give}
 use Rattle.quic_spaces.specs.Filter.{Filter, allocated, is_skipped}
 use Rattle.quic_machine.specs.Policy.{Policy}
-use Rattle.quic_machine.specs.End.{End, number_of}
+use Rattle.quic_machine.specs.End.{End, number_of, words_drawn}
 use Rattle.quic_machine.specs.Tracking.{Carried, carried_in}
 use Rattle.quic_config.specs.Transport.{TransportSettings}
-use Rattle.quic_machine.specs.Parts.{Path, current_mtu}
-use Rattle.quic_machine.specs.Poll.{Draft, Leaving, whole, alone, probe, closing, nothing, draft_left, least_left, most_of, number_width, overhead, least_size, zeros_behind, payload_of, datagram_of, datagram_size, asking, tracked}
+use Rattle.quic_machine.specs.Parts.{Path, Validation, current_mtu}
+use Rattle.quic_machine.specs.Poll.{Draft, Leaving, whole, alone, probe, closing, nothing, draft_left, least_by, least_left, most_of, number_width, overhead, least_size, zeros_behind, payload_of, datagram_of, datagram_size, asking, tracked}
 use Rattle.quic_machine.specs.DraftLaws.{MayGo, left_least}
-use Rattle.quic_connection_core.specs.Leaving.{least_of, beside, zeros_of}
-use Rattle.quic_connection_core.specs.Frames.{tracked_as}
+use Rattle.quic_connection_parts.specs.Leaving.{least_of, pads_left, beside, zeros_of}
+use Rattle.quic_connection_parts.specs.Frames.{tracked_as}
 use Rattle.quic_machine.specs.PollCases.{composes_left}
+
+-- how many bytes the datagram of what leaves an end has at least, where it asks or doesn't
+abbrev pub least_at : Leaving → Bool → End → ℕ
+least_at leaving asks e = least_of leaving (pads_left leaving e) asks e
+
+-- only what goes with all that waits has frames of path validation
+pads_least : (leaving : Leaving) (e : End) → least_by leaving (pads_left leaving e) ≡ least_left leaving e
+pads_least whole e = refl
+pads_least alone e = refl
+pads_least (probe size) e = refl
+pads_least (closing f) e = refl
+pads_least (nothing held) e = refl
 
 module _ (leaving : Leaving) (e : End) (due : MayGo leaving e) where
   -- what goes
@@ -37,6 +49,14 @@ module _ (leaving : Leaving) (e : End) (due : MayGo leaving e) where
   pub same_ids : went.end.ids ≡ e.ids
   same_ids = (composes_left leaving e due).ids
 
+  -- and as many words are drawn
+  pub same_words : words_drawn went.end ≡ words_drawn e
+  same_words =
+      let c = composes_left leaving e due in
+      ap (λ (f : Filter). words_drawn (record went.end { filter = f })) c.filter
+      ∙ ap (λ (i : Ids). words_drawn (record went.end { filter = e.filter; ids = i })) c.ids
+      ∙ ap (λ (v : Validation). words_drawn (record e { validation = v })) c.validation
+
   -- its number is that of the end
   pub same_number : number_of went.end ≡ number_of e
   same_number = ap (λ (f : Filter). allocated f went.end.numbers.next) same_filter ∙ ap (λ (n : Numbers). allocated e.filter n.next) same_numbers
@@ -48,64 +68,66 @@ module _ (leaving : Leaving) (e : End) (due : MayGo leaving e) where
       ∙ ap (λ (n : Numbers). (truncated (number_of e) (cut_against n)).width) same_numbers
 
   -- its datagram has the number and the id of the end
-  pub sent_of : (p : Policy) → sent p.header p.packet (number_of e) (cut_against e.numbers) e.ids.active.id (payload_of went) ≡ datagram_of p went
+  pub sent_of : (p : Policy) → sent p.header p.packet (number_of e) (cut_against e.numbers) e.ids.peer.id (payload_of went) ≡ datagram_of p went
   sent_of p =
       let payload : List ℕ = payload_of went in
-      ap (λ (k : ℕ). sent p.header p.packet k (cut_against e.numbers) e.ids.active.id payload) (sym same_number)
-      ∙ ap (λ (n : Numbers). sent p.header p.packet (number_of went.end) (cut_against n) e.ids.active.id payload) (sym same_numbers)
-      ∙ ap (λ (i : Ids). sent p.header p.packet (number_of went.end) (cut_against went.end.numbers) i.active.id payload) (sym same_ids)
+      ap (λ (k : ℕ). sent p.header p.packet k (cut_against e.numbers) e.ids.peer.id payload) (sym same_number)
+      ∙ ap (λ (n : Numbers). sent p.header p.packet (number_of went.end) (cut_against n) e.ids.peer.id payload) (sym same_numbers)
+      ∙ ap (λ (i : Ids). sent p.header p.packet (number_of went.end) (cut_against went.end.numbers) i.peer.id payload) (sym same_ids)
 
   -- as many bytes stand beside its payload as the end says, and it has as many at least
   pub same_overhead : overhead went ≡ beside e
-  same_overhead = ap (λ (i : Ids). 1 + length i.active.id + number_width went + 16) same_ids ∙ ap (λ (k : ℕ). 1 + length e.ids.active.id + k + 16) same_width
+  same_overhead = ap (λ (i : Ids). 1 + length i.peer.id + number_width went + 16) same_ids ∙ ap (λ (k : ℕ). 1 + length e.ids.peer.id + k + 16) same_width
 
-  pub same_least : least_size went ≡ least_of leaving (asking went.frames) e
+  pub same_least : least_size went ≡ least_at leaving (asking went.frames) e
   same_least =
       ap (λ (t : TransportSettings). if t.pad_to_mtu && asking went.frames then max went.least (current_mtu went.end.path) else went.least) (composes_left leaving e due).transport
       ∙ ap (λ (p : Path). if e.transport.pad_to_mtu && asking went.frames then max went.least (current_mtu p) else went.least) (composes_left leaving e due).path
-      ∙ ap (λ (n : ℕ). if e.transport.pad_to_mtu && asking went.frames then max n (current_mtu e.path) else n) (left_least leaving e)
+      ∙ ap (λ (n : ℕ). if e.transport.pad_to_mtu && asking went.frames then max n (current_mtu e.path) else n) (left_least leaving e ∙ sym (pads_least leaving e))
 
   -- so it has where its frames are taken already
-  pub same_least_of : (asks : Bool) → least_of leaving asks went.end ≡ least_of leaving asks e
-  same_least_of asks =
-      ap (λ (t : TransportSettings). if t.pad_to_mtu && asks then max (least_left leaving) (current_mtu went.end.path) else least_left leaving) (composes_left leaving e due).transport
-      ∙ ap (λ (p : Path). if e.transport.pad_to_mtu && asks then max (least_left leaving) (current_mtu p) else least_left leaving) (composes_left leaving e due).path
+  pub same_least_of : (pads asks : Bool) → least_of leaving pads asks went.end ≡ least_of leaving pads asks e
+  same_least_of pads asks =
+      ap (λ (t : TransportSettings). if t.pad_to_mtu && asks then max (least_by leaving pads) (current_mtu went.end.path) else least_by leaving pads) (composes_left leaving e due).transport
+      ∙ ap (λ (p : Path). if e.transport.pad_to_mtu && asks then max (least_by leaving pads) (current_mtu p) else least_by leaving pads) (composes_left leaving e due).path
 
   -- so it is padded
-  pub zeros_are : zeros_behind went ≡ zeros_of e (length went.bytes) (least_of leaving (asking went.frames) e)
+  pub zeros_are : zeros_behind went ≡ zeros_of e (length went.bytes) (least_at leaving (asking went.frames) e)
   zeros_are =
       ap (λ (k : ℕ). max (4 - (k + length went.bytes)) (least_size went - (overhead went + length went.bytes))) same_width
       ∙ ap (λ (k : ℕ). max (4 - ((truncated (number_of e) (cut_against e.numbers)).width + length went.bytes)) (k - (overhead went + length went.bytes))) same_least
-      ∙ ap (λ (k : ℕ). max (4 - ((truncated (number_of e) (cut_against e.numbers)).width + length went.bytes)) (least_of leaving (asking went.frames) e - (k + length went.bytes))) same_overhead
+      ∙ ap (λ (k : ℕ). max (4 - ((truncated (number_of e) (cut_against e.numbers)).width + length went.bytes)) (least_at leaving (asking went.frames) e - (k + length went.bytes))) same_overhead
 
-  pub payload_is : payload_of went ≡ went.bytes ++ replicate (zeros_of e (length went.bytes) (least_of leaving (asking went.frames) e)) 0
+  pub payload_is : payload_of went ≡ went.bytes ++ replicate (zeros_of e (length went.bytes) (least_at leaving (asking went.frames) e)) 0
   payload_is = ap (λ (k : ℕ). went.bytes ++ replicate k 0) zeros_are
 
   -- how many bytes it has
-  pub size_is : datagram_size went ≡ 1 + length e.ids.active.id + (truncated (number_of e) (cut_against e.numbers)).width + length (payload_of went) + 16
+  pub size_is : datagram_size went ≡ 1 + length e.ids.peer.id + (truncated (number_of e) (cut_against e.numbers)).width + length (payload_of went) + 16
   size_is = let same = same_overhead in omega arith
 
   -- how many bytes its payload has
-  pub payload_long : length (payload_of went) ≡ length went.bytes + zeros_of e (length went.bytes) (least_of leaving (asking went.frames) e)
+  pub payload_long : length (payload_of went) ≡ length went.bytes + zeros_of e (length went.bytes) (least_at leaving (asking went.frames) e)
   payload_long =
-      let pad : ℕ = zeros_of e (length went.bytes) (least_of leaving (asking went.frames) e) in
+      let pad : ℕ = zeros_of e (length went.bytes) (least_at leaving (asking went.frames) e) in
       ap length payload_is ∙ length-append went.bytes (replicate pad 0) ∙ ap (λ (k : ℕ). length went.bytes + k) (length-replicate pad 0)
 
 -- it has no more at least than at most
-pub least_within : (leaving : Leaving) (asks : Bool) (e : End) → least_of leaving asks e ≤ most_of leaving e
-least_within leaving asks e = by (e.transport.pad_to_mtu && asks) leaving
+pub least_within : (leaving : Leaving) (pads asks : Bool) (e : End) → 1200 ≤ current_mtu e.path → least_of leaving pads asks e ≤ most_of leaving e
+least_within leaving pads asks e sized = by (e.transport.pad_to_mtu && asks) pads leaving
   where
-    by : (b : Bool) (l : Leaving) → (if b then max (least_left l) (current_mtu e.path) else least_left l) ≤ most_of l e
-    by true whole = omega arith
-    by true alone = omega arith
-    by true (probe size) = omega arith
-    by true (closing f) = omega arith
-    by true (nothing held) = omega arith
-    by false whole = omega arith
-    by false alone = omega arith
-    by false (probe size) = omega arith
-    by false (closing f) = omega arith
-    by false (nothing held) = omega arith
+    by : (b p : Bool) (l : Leaving) → (if b then max (least_by l p) (current_mtu e.path) else least_by l p) ≤ most_of l e
+    by true true whole = omega arith
+    by true false whole = omega arith
+    by true p alone = omega arith
+    by true p (probe size) = omega arith
+    by true p (closing f) = omega arith
+    by true p (nothing held) = omega arith
+    by false true whole = omega arith
+    by false false whole = omega arith
+    by false p alone = omega arith
+    by false p (probe size) = omega arith
+    by false p (closing f) = omega arith
+    by false p (nothing held) = omega arith
 
 pub mtu_within : (leaving : Leaving) (e : End) → current_mtu e.path ≤ most_of leaving e
 mtu_within whole e = omega arith
@@ -133,6 +155,18 @@ numbers_near f n can = go (is_skipped f n.next)
     go : (b : Bool) → ((if b then n.next + 1 else n.next) < 2 ^ 62) × ((if b then n.next + 1 else n.next) - cut_against n < 2 ^ 31)
     go true = let one = both.0 in let two = both.1 in (omega arith, omega arith)
     go false = let one = both.0 in let two = both.1 in (omega arith, omega arith)
+
+-- so a packet may have it
+pub can_give : (f : Filter) (n : Numbers) → can_number n ≡ true → may_give n (allocated f n.next) ≡ true
+can_give f n can =
+    let near = numbers_near f n can in
+    let small : nat_lt (allocated f n.next) (2 ^ 62) ≡ true = lt-ltb (allocated f n.next) (2 ^ 62) near.0 in
+    let close : nat_lt (allocated f n.next - cut_against n) (2 ^ 31) ≡ true = lt-ltb (allocated f n.next - cut_against n) (2 ^ 31) near.1 in
+    rw (small, close) refl
+
+-- where a packet may have a number, it has a form, and lies near the greatest that was acknowledged
+pub may_near : (n : Numbers) (k : ℕ) → may_give n k ≡ true → (k < 2 ^ 62) × (k - cut_against n < 2 ^ 31)
+may_near n k may = let s = and_parts (nat_lt k (2 ^ 62)) (nat_lt (k - cut_against n) (2 ^ 31)) may in (ltb-true k (2 ^ 62) s.0, ltb-true (k - cut_against n) (2 ^ 31) s.1)
 
 -- ---- a packet
 

@@ -1,33 +1,64 @@
--- What a poll comes to, case by case, and what an end draws from its random source where it gives a datagram.
-use Rattle.std.proofs.Common.{◌≡◌, ◌⊎◌, ℕ, ◌-◌, ◌≤◌, ◌<◌, ◌^◌, ◌&&◌, [], Bool, true, false, Some, None, inl, inr, refl, sym, ap, subst, ◌∙◌, arith}
-use Rattle.std.specs.Prelude.{◌==◌, IsSome}
+-- What a poll comes to, case by case, and what an end draws from its random source where it gives a
+-- datagram.
+use Rattle.std.proofs.Common.{◌≡◌, ◌⊎◌, ℕ, ◌-◌, ◌≤◌, ◌<◌, ◌^◌, ◌&&◌, [], Bool, true, false, Option, Some, None, inl, inr, refl, sym, ap, subst, ◌∙◌, arith}
+use Rattle.std.specs.Prelude.{◌==◌, IsSome, not, if◌then◌else◌}
+use Rattle.std.specs.Option.{is_none}
+use Rattle.quic_wire.specs.Value.{FrameValue}
 use Rattle.std.proofs.lemmas.Bool.{or_parts, and_parts, eqb-true}
 use Rattle.quic_packet.specs.Keys.{Protection, Aead}
 use Rattle.quic_recovery_core.specs.PendingAcks.{can_send}
 use Rattle.quic_machine.specs.declared.answers.State.{State}
 use Rattle.quic_machine.specs.declared.answers.State.TheVariants as states
+use Rattle.quic_machine.specs.declared.answers.LostReason.{LostReason}
 use Rattle.quic_machine.specs.declared.answers.LostReason.TheVariants as reasons
+use Rattle.quic_machine.specs.Reasons.{text_len}
 use Rattle.quic_spaces.specs.Numbers.{can_number}
-use Rattle.quic_spaces.specs.Filter.{Filter}
-use Rattle.quic_machine.specs.Policy.{Policy}
+use Rattle.quic_machine.specs.Policy.{Policy, keys_policy}
 use Rattle.quic_machine.specs.Parts.{current_mtu}
 use Rattle.quic_machine.specs.Tracking.{Tracking}
 use Rattle.quic_machine.specs.Closing.{ticked}
-use Rattle.quic_machine.specs.End.{End, ConnectionValue, with_end, with_closing, most_payload, policy_of, closed_by}
+use Rattle.quic_machine.specs.End.{End, ConnectionValue, with_end, with_closing, most_payload, policy_of, closed_by, words_drawn}
 use Rattle.quic_machine.specs.Control.{is_window_full, pacer_asked, Gated, lets, holds, with_pacing_timer}
-use Rattle.quic_machine.specs.Poll.{Polled, gives_nothing, gives_datagram, datagram_of, after_given, probed, asks_to_go, is_gated, gated, probe, most_of, Ready, leaves, ready, goes, goes_as, draft_left, draft_of, rests, sends, polled_if, polled_in, polled, told_polled_in, told_polled, told_if, told_draft, waits, IsSilent}
+use Rattle.quic_machine.specs.Poll.{Polled, gives_nothing, gives_datagram, datagram_of, after_given, bounds, may_seal, close_to_go, closes_if, closes, probed, asks_to_go, is_gated, gated, probe, most_of, Ready, leaves, leaves_unless, ready, goes, goes_as, draft_left, draft_of, rests, sends, polled_if, polled_in, polled, told_polled_in, told_polled, told_if, told_draft, waits, IsSilent}
 use Rattle.quic_machine.specs.Poll as poll
 use Rattle.quic_machine.specs.DraftLaws.{MayGo, MayLeave}
-use Rattle.quic_connection_core.specs.declared.connection.leaving.Leaving.{Leaving}
-use Rattle.quic_connection_core.specs.declared.connection.leaving.Leaving.TheVariants.{Whole, Alone, Probe}
-use Rattle.quic_connection_core.specs.Leaving.{leaving_of, Leaves, rested_if, rested, IsLooked}
+use Rattle.quic_connection_parts.specs.declared.leaving.Leaving.{Leaving}
+use Rattle.quic_connection_parts.specs.declared.leaving.Leaving.TheVariants.{Whole, Alone, Probe}
+use Rattle.quic_connection_parts.specs.Leaving.{leaving_of, Leaves, rested_if, rested, IsLooked}
 use Rattle.quic_congestion.specs.Search.{Discovery}
 use Rattle.quic_congestion.specs.SearchBounds.{IsSized}
 use Rattle.quic_congestion.proofs.SizedSearch.{named_sized}
-use Rattle.quic_machine.specs.PollCases.{ready_at, draft_at, ready_leaves, may_leave_at, probe_leaves, gate_leaves, by_gate, by_leaves}
+use Rattle.quic_machine.specs.PollCases.{ready_at, draft_at, ready_leaves, may_leave_at, probe_leaves, gate_leaves, by_gate, by_leaves, by_ready}
 use Rattle.quic_machine.specs.Lacking.{GivesOrHasFailed, PollTakes}
-use Rattle.quic_connection_core.proofs.Plain.{same_filter}
+use Rattle.quic_connection_core.proofs.Plain.{same_words}
 use Rattle.quic_connection_core.proofs.Moved.{silent_probes}
+
+-- ---- closes
+
+-- an end gives its close where there is one to go
+pub close_gives : (p : Policy) (e : End) → IsSome (close_to_go p e) → GivesOrHasFailed (closes p e).answer
+close_gives p e = go (close_to_go p e)
+  where
+    go : (o : Option FrameValue) → IsSome o → GivesOrHasFailed (closes_if o p e).answer
+    go None some = let clash : ◌≡◌ {A = Bool} false true = some in absurd cc
+    go (Some f) some = tt
+
+-- and is as open as it was
+pub close_keeps : (p : Policy) (e : End) → (closes p e).end.closing.state ≡ e.closing.state
+close_keeps p e = go (close_to_go p e)
+  where
+    go : (o : Option FrameValue) → (closes_if o p e).end.closing.state ≡ e.closing.state
+    go None = refl
+    go (Some f) = refl
+
+-- nothing else is said where an end closes for want of numbers or seals
+pub bound_text : (p : Policy) (e : End) (reason : LostReason) → bounds p e ≡ Some reason → text_len reason ≡ 0
+bound_text p e reason = go (can_number e.numbers) (may_seal p e)
+  where
+    go : (numbered sealed : Bool) → (if not numbered then Some reasons.NumberLimit else (if not sealed then Some reasons.KeyLimit else None)) ≡ Some reason → text_len reason ≡ 0
+    go true true is = absurd cc
+    go true false is = let same : reasons.KeyLimit ≡ reason = cc in subst (λ (r : LostReason). text_len r ≡ 0) same refl
+    go false sealed is = let same : reasons.NumberLimit ≡ reason = cc in subst (λ (r : LostReason). text_len r ≡ 0) same refl
 
 -- ---- cases of an open end
 
@@ -36,35 +67,41 @@ module _ (p : Policy) (e : End) (now : ℕ) (open_end : e.closing.state ≡ stat
   pub polled_idle : goes (ready_at e now) ≡ false → polled p e now ≡ gives_nothing (rests (ready_at e now))
   polled_idle none = ap (λ (s : State). polled_in s p e now) open_end ∙ ap (λ b. polled_if b p (ready_at e now)) none
 
-  -- the numbers are used up
-  pub polled_closes : goes (ready_at e now) ≡ true → can_number (ready_at e now).end.numbers ≡ false → polled p e now ≡ gives_nothing (closed_by reasons.NumberLimit (ready_at e now).end)
-  polled_closes some used_up = ap (λ (s : State). polled_in s p e now) open_end ∙ ap (λ b. polled_if b p (ready_at e now)) some ∙ ap (λ b. sends b p (ready_at e now)) used_up
+  -- numbers or the key are used up
+  pub polled_closes : (reason : LostReason) → goes (ready_at e now) ≡ true → bounds p (ready_at e now).end ≡ Some reason → polled p e now ≡ closes p (closed_by reason (ready_at e now).end)
+  polled_closes reason some used_up = ap (λ (s : State). polled_in s p e now) open_end ∙ ap (λ b. polled_if b p (ready_at e now)) some ∙ ap (λ o. sends o p (ready_at e now)) used_up
 
   -- what waits goes
-  pub polled_gives : goes (ready_at e now) ≡ true → can_number (ready_at e now).end.numbers ≡ true → polled p e now ≡ gives_datagram (datagram_of p (draft_at e now)) (after_given p (draft_at e now))
-  polled_gives some can = ap (λ (s : State). polled_in s p e now) open_end ∙ ap (λ b. polled_if b p (ready_at e now)) some ∙ ap (λ b. sends b p (ready_at e now)) can
+  pub polled_gives : goes (ready_at e now) ≡ true → bounds p (ready_at e now).end ≡ None → polled p e now ≡ gives_datagram (datagram_of p (draft_at e now)) (after_given p (draft_at e now))
+  polled_gives some can = ap (λ (s : State). polled_in s p e now) open_end ∙ ap (λ b. polled_if b p (ready_at e now)) some ∙ ap (λ o. sends o p (ready_at e now)) can
 
   -- where it doesn't, memory lacks
-  pub gives_takes : goes (ready_at e now) ≡ true → can_number (ready_at e now).end.numbers ≡ true → PollTakes p e now
+  pub gives_takes : goes (ready_at e now) ≡ true → bounds p (ready_at e now).end ≡ None → PollTakes p e now
   gives_takes some can = inl (subst (λ (x : Polled). GivesOrHasFailed x.answer) (sym (polled_gives some can)) tt)
 
--- an end that had failed
-pub failed_takes : (p : Policy) (e : End) (now : ℕ) → e.closing.state ≡ states.Failed → PollTakes p e now
-failed_takes p e now failed = inl (subst (λ (s : State). GivesOrHasFailed (polled_in s p e now).answer) (sym failed) tt)
+  -- so it is of a close
+  pub closes_takes : (reason : LostReason) → goes (ready_at e now) ≡ true → bounds p (ready_at e now).end ≡ Some reason → IsSome (close_to_go p (closed_by reason (ready_at e now).end)) → PollTakes p e now
+  closes_takes reason some used_up goes = inl (subst (λ (x : Polled). GivesOrHasFailed x.answer) (sym (polled_closes reason some used_up)) (close_gives p (closed_by reason (ready_at e now).end) goes))
+
+-- an end that is closing gives its close
+module _ (p : Policy) (e : End) (now : ℕ) (is : e.closing.state ≡ states.Closing) where
+  pub polled_repeats : polled p e now ≡ closes p (with_closing e (ticked e.closing now))
+  polled_repeats = ap (λ (s : State). polled_in s p e now) is
 
 -- ---- words of the random source
 
--- an end that is made ready leaves the numbers that are left out
-pub ready_filter_is : (e : End) (now : ℕ) → (ready_at e now).end.filter ≡ e.filter
-ready_filter_is e now = ap (λ (y : End). y.filter) (ready_leaves e now)
+-- an end that is made ready draws none
+pub ready_words : (e : End) (now : ℕ) → words_drawn (ready_at e now).end ≡ words_drawn e
+ready_words e now = ap (λ (y : End). words_drawn y) (ready_leaves e now)
 
 -- an end that drew as many words has the same policy
-pub same_policy : {H K R C : Type 0} (protection : H → Protection) (aead : K → Aead) (words : R → ℕ → ℕ) (w : ConnectionValue H K R C) (e : End) → e.filter ≡ w.end.filter → policy_of protection aead words (with_end w e) ≡ policy_of protection aead words w
-same_policy protection aead words w e same = ap (λ (f : Filter). policy_of protection aead words (with_end w (record e { filter = f }))) same
+pub same_policy : {H K R C : Type 0} (protection : H → Protection) (aead : K → Aead) (seals openings : K → ℕ) (words : R → ℕ → ℕ) (w : ConnectionValue H K R C) (e : End) → words_drawn e ≡ words_drawn w.end
+    → policy_of protection aead seals openings words (with_end w e) ≡ policy_of protection aead seals openings words w
+same_policy protection aead seals openings words w e same = ap (λ (k : ℕ). keys_policy protection aead seals openings w.keys (λ n. words w.random (n - k))) same
 
 -- the next word is the first that it answers
-pub word_is : {R : Type 0} (words : R → ℕ → ℕ) (r : R) (l : poll.Leaving) (e : End) → MayGo l e → words r ((draft_left l e).end.filter.drawn - e.filter.drawn) ≡ words r 0
-word_is words r l e due = ap (λ (k : ℕ). words r k) (let same = ap (λ (f : Filter). f.drawn) (same_filter l e due) in let none : (draft_left l e).end.filter.drawn - e.filter.drawn ≡ 0 = omega (arith, same) in none)
+pub word_is : {R : Type 0} (words : R → ℕ → ℕ) (r : R) (l : poll.Leaving) (e : End) → MayGo l e → words r (words_drawn (draft_left l e).end - words_drawn e) ≡ words r 0
+word_is words r l e due = ap (λ (k : ℕ). words r k) (let same = same_words l e due in let none : words_drawn (draft_left l e).end - words_drawn e ≡ 0 = omega (arith, same) in none)
 
 -- ---- an open end that is ready to give
 
@@ -76,7 +113,7 @@ goes_on (Probe size) = refl
 
 -- a probe that goes has no less than the size of the path, and no more than a bound of the search
 ready_looked : (least most : ℕ) (e : End) (now size : ℕ) → IsSized least most e.path.discovery → (ready_at e now).leaving ≡ probe size → (current_mtu (ready_at e now).end.path ≤ size) × (size ≤ most)
-ready_looked least most e now size sized = by_leaves (gated (probed x)) (λ (r : Ready). r.leaving ≡ probe size → (current_mtu r.end.path ≤ size) × (size ≤ most)) (record {
+ready_looked least most e now size sized = by_ready (probed x) (λ (r : Ready). r.leaving ≡ probe size → (current_mtu r.end.path ≤ size) × (size ≤ most)) (λ blocked is. cc) (λ unblocked. record {
   acks = λ held due is. cc;
   held = λ held none is. cc;
   all = λ free some is. cc;
@@ -96,13 +133,13 @@ ready_looked least most e now size sized = by_leaves (gated (probed x)) (λ (r :
 
 -- an end that is made ready has the size of its path
 ready_sized : (least most : ℕ) (e : End) (now : ℕ) → IsSized least most e.path.discovery → current_mtu (ready_at e now).end.path ≤ most
-ready_sized least most e now sized = by_leaves (gated (probed x)) (λ (r : Ready). current_mtu r.end.path ≤ most) (record {
+ready_sized least most e now sized = by_ready (probed x) (λ (r : Ready). current_mtu r.end.path ≤ most) (λ blocked. subst (λ (d : Discovery). d.size ≤ most) (sym (ap (λ (y : End). y.path.discovery) (probe_leaves x))) sized.size) (λ unblocked. record {
   acks = λ held due. stays;
   held = λ held none. stays;
   all = λ free some. stays;
   idle = λ free none. stays;
   asked = λ free none. stays;
-  probes = λ n free none may named. stays;
+  probes = λ size free none may named. stays;
 })
   where
     x : End
@@ -164,12 +201,7 @@ module _ {H K R C : Type 0} (w z : ConnectionValue H K R C) (now : ℕ) (left : 
 
 -- an end that gives nothing has nothing to send but what is held back
 pub silent_rests : (e : End) (now : ℕ) → goes (ready_at e now) ≡ false → IsSilent (rests (ready_at e now))
-silent_rests e now = by_gate y (λ (g : Gated). Rests (leaves g)) (record {
-  free = λ is. free_rests y (λ none. silent_probes x none);
-  full = λ gate is. held_rests y gate y refl refl (λ asks. inl is);
-  lets = λ gate room until. free_rests (pacer_asked y) (λ none. no_probe gate);
-  holds = λ moment gate room until. held_rests y gate (with_pacing_timer (pacer_asked y) (Some moment)) refl refl (λ asks. inr refl);
-})
+silent_rests e now = go y.path.blocked refl
   where
     x : End
     x = with_pacing_timer (with_closing e (ticked e.closing now)) None
@@ -187,7 +219,7 @@ silent_rests e now = by_gate y (λ (g : Gated). Rests (leaves g)) (record {
     silent : (z : End) → waits z ≡ false → z.tracking.probes ≡ 0 → IsSilent z
     silent z none probes =
         let parts = or_parts (can_send z.acknowledging) (asks_to_go z) none in
-        record { no_ack = parts.0; no_probe = probes; held = λ asks. absurd (let both : true ≡ false = sym asks ∙ parts.1 in cc) }
+        record { no_ack = λ free. parts.0; no_probe = λ free. probes; held = λ free asks. absurd (let both : true ≡ false = sym asks ∙ parts.1 in cc) }
 
     free_rests : (z : End) → (waits z ≡ false → z.tracking.probes ≡ 0) → Rests (leaves (lets z))
     free_rests z probes = by_leaves (lets z) Rests (record {
@@ -199,52 +231,92 @@ silent_rests e now = by_gate y (λ (g : Gated). Rests (leaves g)) (record {
       probes = λ size free none may named went. cc;
     })
 
-    held_rests : (y : End) → is_gated y ≡ true → (z : End) → z.tracking ≡ y.tracking → z.acknowledging ≡ y.acknowledging → (asks_to_go z ≡ true → (is_window_full z ≡ true) ⊎ IsSome z.timers.pacing) → Rests (leaves (holds z))
-    held_rests y gate z same acks held = by_leaves (holds z) Rests (record {
+    held_rests : (v : End) → is_gated v ≡ true → (z : End) → z.tracking ≡ v.tracking → z.acknowledging ≡ v.acknowledging → (asks_to_go z ≡ true → (is_window_full z ≡ true) ⊎ IsSome z.timers.pacing) → Rests (leaves (holds z))
+    held_rests v gate z same acks held = by_leaves (holds z) Rests (record {
       acks = λ h due none. cc;
-      held = λ h none went. record { no_ack = none; no_probe = ap (λ (t : Tracking). t.probes) same ∙ eqb-true y.tracking.probes 0 (and_parts (asks_to_go y) (y.tracking.probes == 0) gate).1; held = held };
+      held = λ h none went. record { no_ack = λ free. none; no_probe = λ free. ap (λ (t : Tracking). t.probes) same ∙ eqb-true v.tracking.probes 0 (and_parts (asks_to_go v) (v.tracking.probes == 0) gate).1; held = λ free. held };
       all = λ free. cc;
       idle = λ free. cc;
       asked = λ free. cc;
       probes = λ size free. cc;
     })
 
+    gates : Rests (leaves (gated y))
+    gates = by_gate y (λ (g : Gated). Rests (leaves g)) (record {
+      free = λ is. free_rests y (λ none. silent_probes x none);
+      full = λ gate is. held_rests y gate y refl refl (λ asks. inl is);
+      lets = λ gate room until. free_rests (pacer_asked y) (λ none. no_probe gate);
+      holds = λ moment gate room until. held_rests y gate (with_pacing_timer (pacer_asked y) (Some moment)) refl refl (λ asks. inr refl);
+    })
+
+    -- where three times what came went, nothing is said of what waits
+    go : (b : Bool) → y.path.blocked ≡ b → Rests (leaves_unless b y)
+    go true is none = record { no_ack = λ free. absurd (let both : true ≡ false = sym is ∙ free in cc); no_probe = λ free. absurd (let both : true ≡ false = sym is ∙ free in cc); held = λ free. absurd (let both : true ≡ false = sym is ∙ free in cc) }
+    go false is none = gates none
+
 -- ---- its policy
 
-module _ {H K R C : Type 0} (protection : H → Protection) (aead : K → Aead) (words : R → ℕ → ℕ) (w z : ConnectionValue H K R C) (now : ℕ) (is : z ≡ with_end w (ready_at w.end now).end) where
-  pub ready_filter : z.end.filter ≡ w.end.filter
-  ready_filter = ap (λ (x : ConnectionValue H K R C). x.end.filter) is ∙ ready_filter_is w.end now
+module _ {H K R C : Type 0} (protection : H → Protection) (aead : K → Aead) (seals openings : K → ℕ) (words : R → ℕ → ℕ) (w z : ConnectionValue H K R C) (now : ℕ) (is : z ≡ with_end w (ready_at w.end now).end) where
+  -- what the keys do, and which words come
+  abbrev as_policy : ConnectionValue H K R C → Policy
+  as_policy x = policy_of protection aead seals openings words x
 
-  pub ready_policy : policy_of protection aead words z ≡ policy_of protection aead words w
-  ready_policy = ap (λ (x : ConnectionValue H K R C). policy_of protection aead words x) is ∙ same_policy protection aead words w (ready_at w.end now).end (ready_filter_is w.end now)
+  pub drawn_still : words_drawn z.end ≡ words_drawn w.end
+  drawn_still = ap (λ (x : ConnectionValue H K R C). words_drawn x.end) is ∙ ready_words w.end now
 
-  -- no word is drawn yet
-  pub none_drawn : z.end.filter.drawn - w.end.filter.drawn ≡ 0
-  none_drawn = let same = ap (λ (f : Filter). f.drawn) ready_filter in omega (arith, same)
+  pub ready_policy : as_policy z ≡ as_policy w
+  ready_policy = ap (λ (x : ConnectionValue H K R C). as_policy x) is ∙ same_policy protection aead seals openings words w (ready_at w.end now).end (ready_words w.end now)
+
+  -- numbers and key are as they were
+  pub ready_bounds : (o : Option LostReason) → bounds (as_policy z) z.end ≡ o → bounds (as_policy w) (ready_at w.end now).end ≡ o
+  ready_bounds o bound = ap (λ (p : Policy). bounds p (ready_at w.end now).end) (sym ready_policy) ∙ ap (λ (x : ConnectionValue H K R C). bounds (as_policy z) x.end) (sym is) ∙ bound
+
+  -- an end that closes for want of them gives its close
+  module _ (reason : LostReason) (y : ConnectionValue H K R C) (closed : y ≡ with_end z (closed_by reason z.end)) where
+    pub closed_is : y ≡ with_end w (closed_by reason (ready_at w.end now).end)
+    closed_is = closed ∙ ap (λ (x : ConnectionValue H K R C). with_end x (closed_by reason x.end)) is
+
+    pub closed_policy : as_policy y ≡ as_policy w
+    closed_policy = ap (λ (x : ConnectionValue H K R C). as_policy x) closed_is ∙ same_policy protection aead seals openings words w (closed_by reason (ready_at w.end now).end) (ready_words w.end now)
+
+    pub closed_words : words_drawn y.end ≡ words_drawn w.end
+    closed_words = ap (λ (x : ConnectionValue H K R C). words_drawn x.end) closed_is ∙ ready_words w.end now
+
+    pub closed_goes : close_to_go (as_policy y) y.end ≡ close_to_go (as_policy w) (closed_by reason (ready_at w.end now).end)
+    closed_goes = ap (λ (p : Policy). close_to_go p y.end) closed_policy ∙ ap (λ (x : ConnectionValue H K R C). close_to_go (as_policy w) x.end) closed_is
+
+    closes_same : closes (as_policy y) y.end ≡ closes (as_policy w) (closed_by reason (ready_at w.end now).end)
+    closes_same = ap (λ (p : Policy). closes p y.end) closed_policy ∙ ap (λ (x : ConnectionValue H K R C). closes (as_policy w) x.end) closed_is
+
+    module _ (opened : w.end.closing.state ≡ states.Open) (some : goes (ready_at w.end now) ≡ true) (bound : bounds (as_policy z) z.end ≡ Some reason) where
+      pub ready_closes : polled (as_policy w) w.end now ≡ closes (as_policy y) y.end
+      ready_closes = polled_closes (as_policy w) w.end now opened reason some (ready_bounds (Some reason) bound) ∙ sym closes_same
+
+      pub ready_close_takes : IsSome (close_to_go (as_policy y) y.end) → PollTakes (as_policy w) w.end now
+      ready_close_takes goes = closes_takes (as_policy w) w.end now opened reason some (ready_bounds (Some reason) bound) (subst IsSome closed_goes goes)
 
   -- what it comes to where something goes and numbers are left
   abbrev given : Policy → Ready → Polled
   given p g = gives_datagram (datagram_of p (draft_of g)) (after_given p (draft_of g))
 
-  module _ (l : Leaving) (same : ◌≡◌ {A = Ready} (record { leaving = leaving_of l; end = z.end }) (ready_at w.end now)) (opened : w.end.closing.state ≡ states.Open) (some : goes (ready_at w.end now) ≡ true) (can : can_number z.end.numbers ≡ true) where
-    -- numbers are left
-    can_still : can_number (ready_at w.end now).end.numbers ≡ true
-    can_still = ap (λ (g : Ready). can_number g.end.numbers) (sym same) ∙ can
-
-    pub ready_gives : polled (policy_of protection aead words w) w.end now ≡ given (policy_of protection aead words z) (record { leaving = leaving_of l; end = z.end })
+  module _ (l : Leaving) (same : ◌≡◌ {A = Ready} (record { leaving = leaving_of l; end = z.end }) (ready_at w.end now)) (opened : w.end.closing.state ≡ states.Open) (some : goes (ready_at w.end now) ≡ true) (can : bounds (as_policy z) z.end ≡ None) where
+    pub ready_gives : polled (as_policy w) w.end now ≡ given (as_policy z) (record { leaving = leaving_of l; end = z.end })
     ready_gives =
-        polled_gives (policy_of protection aead words w) w.end now opened some can_still
+        polled_gives (as_policy w) w.end now opened some (ready_bounds None can)
         ∙ ap (λ (p : Policy). given p (ready_at w.end now)) (sym ready_policy)
-        ∙ ap (given (policy_of protection aead words z)) (sym same)
+        ∙ ap (given (as_policy z)) (sym same)
+
+    pub ready_takes : PollTakes (as_policy w) w.end now
+    ready_takes = gives_takes (as_policy w) w.end now opened some (ready_bounds None can)
 
     -- and the controller is told of it
-    pub ready_tells : told_polled w.end now ≡ told_draft (draft_of (record { leaving = leaving_of l; end = z.end }))
+    pub ready_tells : told_polled (as_policy w) w.end now ≡ told_draft (draft_of (record { leaving = leaving_of l; end = z.end }))
     ready_tells =
-        ap (λ (s : State). told_polled_in s w.end now) opened
-        ∙ ap (λ (b : Bool). told_if (b && can_number (ready_at w.end now).end.numbers) (ready_at w.end now)) some
-        ∙ ap (λ (b : Bool). told_if b (ready_at w.end now)) can_still
+        ap (λ (s : State). told_polled_in s (as_policy w) w.end now) opened
+        ∙ ap (λ (b : Bool). told_if (b && is_none (bounds (as_policy w) (ready_at w.end now).end)) (ready_at w.end now)) some
+        ∙ ap (λ (o : Option LostReason). told_if (is_none o) (ready_at w.end now)) (ready_bounds None can)
         ∙ ap (λ (g : Ready). told_draft (draft_of g)) (sym same)
 
--- of a poll that gives nothing it is told nothing
-pub none_told : (e : End) (now : ℕ) → e.closing.state ≡ states.Open → goes (ready_at e now) && can_number (ready_at e now).end.numbers ≡ false → told_polled e now ≡ []
-none_told e now opened none = ap (λ (s : State). told_polled_in s e now) opened ∙ ap (λ (b : Bool). told_if b (ready_at e now)) none
+-- of a poll that gives nothing but a close it is told nothing
+pub none_told : (p : Policy) (e : End) (now : ℕ) → e.closing.state ≡ states.Open → goes (ready_at e now) && is_none (bounds p (ready_at e now).end) ≡ false → told_polled p e now ≡ []
+none_told p e now opened none = ap (λ (s : State). told_polled_in s p e now) opened ∙ ap (λ (b : Bool). told_if b (ready_at e now)) none

@@ -9,8 +9,8 @@ use Rattle.quic_paths.specs.InFlight.{Flight}
 use Rattle.quic_streams_parts.specs.Table.{Table, at}
 use Rattle.quic_sent_packets.specs.Packets.{Ascends}
 use Rattle.quic_spaces.proofs.Tails.{other_behind}
-use Rattle.quic_connection_core.specs.Flying.{IsInFlight}
-use Rattle.quic_connection_core.proofs.Flights.{same_place, moved_flies}
+use Rattle.quic_connection_parts.specs.Flying.{IsInFlight}
+use Rattle.quic_connection_parts.proofs.Flights.{same_place, moved_flies}
 use Rattle.quic_retransmits.specs.Retransmits.{Retransmits}
 use Rattle.quic_streams_state.specs.declared.state.StreamsState.{StreamsState}
 use Rattle.quic_streams_state.specs.Waiting.{is_empty}
@@ -30,7 +30,7 @@ marks_of s = record { came = counts_view s.ecn_counters; told = counts_view s.ec
 
 -- the end whose space this is, and beside whose bytes of streams this waits
 abbrev pub with_space : End → Probed → End
-with_space e q = record e { numbers = q.space.numbers; acknowledging = q.space.acknowledging; marks = marks_of q.space; tracking = q.space.tracking; waiting = record { signals = record { ping = q.space.ping_pending }; frames = q.pending } }
+with_space e q = record e { numbers = q.space.numbers; acknowledging = q.space.acknowledging; marks = marks_of q.space; tracking = q.space.tracking; waiting = record { signals = record e.waiting.signals { ping = q.space.ping_pending }; frames = q.pending } }
 
 -- both as they are
 abbrev pub as_is : PacketSpace → Retransmits → Probed
@@ -58,7 +58,7 @@ fills e s p plain = record { end = go (nat_lt 0 s.tracking.probes); plain = none
     marked = record s { immediate_ack_pending = s.immediate_ack_pending || false }
 
     record_case : (o : Option (ℕ × TrackedPacket)) → with_space e (space.record_moved o marked p) ≡ record_moved o (with_space e (as_is s p))
-    record_case None = ap (λ (ping : Bool). record e { numbers = s.numbers; acknowledging = s.acknowledging; marks = marks_of s; tracking = s.tracking; waiting = record { signals = record { ping = ping }; frames = p } }) (waits s.ping_pending s.immediate_ack_pending plain)
+    record_case None = ap (λ (ping : Bool). record e { numbers = s.numbers; acknowledging = s.acknowledging; marks = marks_of s; tracking = s.tracking; waiting = record { signals = record e.waiting.signals { ping = ping }; frames = p } }) (waits s.ping_pending s.immediate_ack_pending plain)
     record_case (Some r) = refl
 
     empty_case : (b : Bool) → with_space e (space.probe_filled b marked p e.streams) ≡ probe_filled b (with_space e (as_is s p))

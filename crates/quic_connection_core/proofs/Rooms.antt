@@ -3,7 +3,7 @@ use Rattle.std.proofs.Common.{◌≡◌, ℕ, ◌≤◌, sym, subst}
 use Rattle.quic_congestion.specs.Congestion.{HasRoom, KeepsRoom}
 use Rattle.quic_congestion.specs.Search.{Discovery}
 use Rattle.quic_congestion.specs.SearchBounds.{IsSized}
-use Rattle.quic_connection_core.specs.Telling.{IsTold, AreSizes}
+use Rattle.quic_connection_parts.specs.Telling.{IsTold, AreSizes}
 
 -- it leaves room for two datagrams
 pub stays_sized : {C : Type 0} (size_of window_of : C → ℕ) (old new : C) (limit : ℕ) (d : Discovery) (window : ℕ) → KeepsRoom size_of window_of old new → AreSizes size_of window_of limit d old window → AreSizes size_of window_of limit d new window

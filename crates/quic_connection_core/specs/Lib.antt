@@ -1,11 +1,1 @@
-pub mod Configured
-pub mod Telling
-pub mod Flying
-pub mod Losses
-pub mod Frames
-pub mod Faults
-pub mod Given
 pub mod Handed
-pub mod Tracked
-pub mod Drawn
-pub mod Leaving

@@ -1,17 +1,14 @@
 //! One end of a connection (RFC 9000).
-ghost use Rattle.std.specs.Prelude.{◌≡◌, ◌≢◌, ◌*◌, ◌<◌, ◌^◌, ◌↔◌, ◌||◌, not, true, false, IfOk, OnOk, OnErr, IfErr, IsTrue, Some, None, option_copied, if◌then◌else◌};
+ghost use Rattle.std.specs.Prelude.{◌≡◌, ◌≢◌, ◌<◌, ◌^◌, ◌↔◌, ◌||◌, not, false, IfOk, OnOk, OnErr, IfErr, IsTrue, Some, None, option_copied, if◌then◌else◌};
 ghost use Rattle.quic_parameters.specs.Parameters.{AreInRange};
 ghost use Rattle.quic_parameters.specs.ParametersRead.{parameters_at};
-ghost use Rattle.quic_config.specs.Transport.{Settings, transport_of, first_mtu};
+ghost use Rattle.quic_config.specs.Transport.{transport_of, first_mtu};
+ghost use Rattle.quic_machine.specs.declared.answers.ConfigError.TheVariants as config_errors;
 ghost use Rattle.quic_machine.specs.declared.answers.State.TheVariants as states;
-ghost use Rattle.quic_machine.specs.End.{MadeFrom, refusal_of, with_end, with_closing, closed_by, with_numbers, with_loss_timer, with_ping, side_of, first_streams, are_sizes_wrong, peer_delay, probe_timeout, HasFailed};
-ghost use Rattle.quic_spaces.specs.Filter.{first_filter};
-ghost use Rattle.quic_spaces.specs.Marks.{is_congested};
-ghost use Rattle.quic_connection_core.specs.Drawn.{words_of, after_words};
-ghost use Rattle.quic_connection_core.specs.Telling.{IsRoomy, path_limited, reading, windows_at};
-ghost use Rattle.quic_paths.specs.Paths.{new_path};
+ghost use Rattle.quic_machine.specs.End.{MadeFrom, refusal_of, limits_of, with_end, with_closing, with_numbers, with_loss_timer, with_ping, with_window, side_of, peer_delay, probe_timeout, HasFailed, words_drawn};
+ghost use Rattle.quic_connection_parts.specs.Drawn.{words_of, after_words};
+ghost use Rattle.quic_connection_parts.specs.Telling.{IsRoomy, windows_at};
 ghost use Rattle.quic_machine.specs.Parts.{current_mtu};
-ghost use Rattle.quic_retransmits.specs.Retransmits.{nothing_waits};
 ghost use Rattle.quic_machine.specs.Closing.{ticked};
 ghost use Rattle.quic_machine.specs.Heard.{nothing_heard};
 ghost use Rattle.quic_machine.specs.Poll.{asks_to_go, message_waits};
@@ -20,13 +17,14 @@ ghost use Rattle.quic_machine.specs.Receive.{after_taken};
 ghost use Rattle.quic_machine.specs.Calls.{is_open, end_after_ping};
 ghost use Rattle.quic_spaces.specs.Numbers.{can_number, number_opened};
 ghost use Rattle.quic_recovery_core.specs.Duplicates.{is_duplicate};
+ghost use Rattle.quic_time.specs.Rtt.{best_rtt};
 ghost use Rattle.quic_time.specs.Timers.{no_timers};
 
 mod acked;
-mod closing;
-mod ids;
-mod leaving;
-mod losses;
+mod closes;
+mod id_frames;
+mod idle;
+mod limits;
 mod messages;
 mod packet;
 mod polling;
@@ -34,113 +32,31 @@ mod receiving;
 mod searching;
 mod sent;
 mod statistics;
-mod stream_frames;
-mod telling;
 mod timeouts;
+mod validation;
 
-use crate::config::Config;
-use crate::connection::closing::Closing;
-use crate::connection::ids::{Ids, OWN_ID_LENGTH};
-use quic_config::MAX_UDP_PAYLOAD;
 use quic_congestion::{Controller, ControllerFactory};
+use quic_connection_parts::Config;
+use quic_connection_parts::closing::Closing;
+use quic_connection_parts::idle::negotiate_max_idle_timeout;
+use quic_connection_parts::ids::{Ids, OWN_ID_LENGTH};
+use quic_connection_parts::making::{
+    are_keys_short, are_sizes_wrong, first_filter, first_path, first_streams, told_ack_delay,
+};
+use quic_connection_parts::receiving::is_congested;
 use quic_machine::{ConfigError, Instant, LostReason, State, TransportConfig};
 use quic_messages::DatagramState;
 use quic_packet::crypto::{HeaderKey, Keys, PacketKey};
 use quic_parameters::TransportParameters;
-use quic_paths::PathData;
-use quic_retransmits::Retransmits;
+use quic_paths::{PathData, PathResponses};
 use quic_spaces::{PacketNumberFilter, PacketSpace, ack_due};
 use quic_stats::ConnectionStats;
 use quic_streams_handles::{EndStreams, RecvStream, SendStream, Streams};
-use quic_streams_state::StreamsState;
 use quic_time::{Duration, Timer, TimerTable};
 use quic_wire_core::{ConnectionId, EcnCodepoint, Side, StreamId};
 use rand_core::Rng;
 use std::alloc::{AllocError, Global};
 use std::marker::Model;
-
-/// No stream is opened: the peer's parameters are the limits on what is sent, the own settings
-/// those on what comes.
-fn first_streams(
-    alloc: Global,
-    side: Side,
-    transport: &TransportConfig,
-    theirs: &TransportParameters,
-) -> EndStreams
-    requires { AreInRange theirs.now }
-    ensures state { (settings : Settings) → transport_of settings ≡ transport.now → result.state ≡ first_streams side settings theirs.now }
-    ensures pending { result.pending ≡ nothing_waits }
-{
-    let mut state = StreamsState::new(
-        alloc,
-        side,
-        transport.get_max_concurrent_uni_streams(),
-        transport.get_max_concurrent_bidi_streams(),
-        transport.get_send_window(),
-        transport.get_receive_window(),
-        transport.get_stream_receive_window(),
-    );
-    state.set_params(theirs);
-    EndStreams {
-        state,
-        pending: Retransmits::new(alloc),
-    }
-}
-
-/// Whether the sizes of datagrams can't be: more than a UDP payload may have, or more on each path
-/// than the peer takes (RFC 9000, section 18.2).
-fn are_sizes_wrong(transport: &TransportConfig, theirs: &TransportParameters) -> bool
-    ensures { (settings : Settings) → transport_of settings ≡ transport.now → result ≡ are_sizes_wrong settings theirs.now }
-{
-    let least = transport.get_min_mtu();
-    transport.get_initial_mtu() > MAX_UDP_PAYLOAD
-        || u64::from(least) > theirs.max_udp_payload_size.into_inner()
-}
-
-/// The path with which a connection begins, made now: its datagrams have no more bytes than a peer
-/// takes that told this (RFC 9000, section 18.2).
-fn first_path<C: Controller, F: ControllerFactory<Controller = C>>(
-    now: Instant,
-    transport: &TransportConfig,
-    factory: &F,
-    theirs: &TransportParameters,
-) -> PathData<C>
-    requires { AreInRange theirs.now }
-    ensures { let controller = F.built factory.now now (first_mtu transport.now) in
-        result ≡ path_limited theirs.now.max_udp_payload_size (new_path true None 0 now transport.now controller (C.initial_of controller)) }
-{
-    let mut path = PathData::new(true, None, 0, now, transport, factory);
-    let limit = theirs.max_udp_payload_size.into_inner() as u16;
-    path.mtud.on_peer_max_udp_payload_size_received(limit);
-    path
-}
-
-/// How long a peer that told this may hold an acknowledgement back (RFC 9000, section 18.2).
-fn told_ack_delay(theirs: &TransportParameters) -> Duration
-    requires { AreInRange theirs.now }
-    ensures { result ≡ theirs.now.max_ack_delay * 1000000 }
-{
-    Duration::from_nanos(theirs.max_ack_delay.into_inner() * 1_000_000)
-}
-
-/// Whether a packet came with the mark CE: a router on the path had too much to carry.
-fn is_congested(ecn: Option<EcnCodepoint>) -> bool
-    ensures { result ≡ is_congested ecn }
-{
-    match ecn {
-        Some(EcnCodepoint::Ce) => true,
-        Some(EcnCodepoint::Ect0 | EcnCodepoint::Ect1) | None => false,
-    }
-}
-
-/// Which packet number is left out first, by a word of the random source.
-#[tactic(auto, unfolding(rand_core::specs::Stream::next_u64))]
-fn first_filter<R: Rng>(random: &mut R) -> PacketNumberFilter
-    ensures value { result ≡ first_filter (words_of R.stream random.old 0) }
-    ensures random { R.stream random.new ≡ after_words 1 (R.stream random.old) }
-{
-    PacketNumberFilter::new(random)
-}
 
 /// One end of a connection: a deterministic state machine of datagrams, moments and application
 /// calls (quinn-proto's `Connection`, without handshake and sockets).
@@ -156,10 +72,21 @@ pub struct Connection<H, K, R, C: Controller> {
     // Which packet numbers are left out.
     filter: PacketNumberFilter,
     timers: TimerTable,
+    // How long the connection may be without a packet, if both ends don't let it be so without end;
+    // and whether the next packet that is given and asks lets that time begin anew.
+    idle_timeout: Option<Duration>,
+    permit_idle_reset: bool,
     // The path to the peer, with its controller, its pacer and what is in flight.
     path: PathData<C>,
+    // The answer to the peer's challenge that waits.
+    path_responses: PathResponses,
+    // How many challenges were made, each by a word of the random source.
+    challenges: u64,
     // What the controller showed at the last poll.
     window: u64,
+    // Whether the last poll found that one more datagram would come to more than three times what
+    // came, to a peer whose address isn't validated.
+    blocked: bool,
     // Whether the last poll gave nothing though neither window nor pacer held anything back.
     app_limited: bool,
     transport: TransportConfig,
@@ -184,8 +111,10 @@ impl<H, K, R, C: Controller> Model for Connection<H, K, R, C> {
     ghost use Rattle.quic_parameters.specs.Parameters.{AreInRange};
     ghost use Rattle.quic_wire.specs.AckView.{counts_view};
     ghost use Rattle.quic_machine.specs.End.{ConnectionValue};
-    ghost use Rattle.quic_connection_core.specs.Telling.{AreSizes};
-    ghost use Rattle.quic_connection_core.specs.Flying.{IsInFlight};
+    ghost use Rattle.quic_machine.specs.Idle.{agreed_timeout};
+    ghost use Rattle.quic_paths.specs.Paths.{challenge_to_send};
+    ghost use Rattle.quic_connection_parts.specs.Telling.{AreSizes};
+    ghost use Rattle.quic_connection_parts.specs.Flying.{IsInFlight};
 
     ghost Value = { ConnectionValue H K R C };
 
@@ -203,10 +132,12 @@ impl<H, K, R, C: Controller> Model for Connection<H, K, R, C> {
         marks = record { came = counts_view c.space.ecn_counters; told = counts_view c.space.ecn_feedback };
         timers = c.timers;
         tracking = c.space.tracking;
+        idle_armed = c.permit_idle_reset;
         path = record {
           validated = c.path.validated;
           generation = c.path.generation;
           discovery = c.path.discovery;
+          blocked = c.blocked;
           rtt = c.path.rtt;
           first_after_rtt = c.path.first_after_rtt;
           window = c.window;
@@ -214,18 +145,24 @@ impl<H, K, R, C: Controller> Model for Connection<H, K, R, C> {
           app_limited = c.app_limited;
           marking = c.path.marks;
         };
+        validation = record { challenge = c.path.challenge; drawn = c.challenges };
         transport = c.transport;
         peer_params = c.peer_params;
         streams = c.streams.state;
         messages = record { queues = c.datagrams; to_tell = c.messages_to_tell };
-        waiting = record { signals = record { ping = c.space.ping_pending }; frames = c.streams.pending };
+        waiting = record {
+          signals = record { challenge = challenge_to_send c.path; response = c.path_responses; ping = c.space.ping_pending };
+          frames = c.streams.pending;
+        };
       };
     } };
 
-    // Nothing asks for IMMEDIATE_ACK yet. The size of datagrams lies between 1200 bytes and what
-    // the peer takes, the controller was told no less, and two datagrams fit the window. In flight
-    // is what is tracked, asks, and went on the path.
+    // Nothing asks for IMMEDIATE_ACK yet. The idle timeout is that of both ends' settings. The size
+    // of datagrams lies between 1200 bytes and what the peer takes, the controller was told no
+    // less, and two datagrams fit the window. In flight is what is tracked, asks, and went on the
+    // path.
     ghost invariant = { λ c. (c.space.immediate_ack_pending ≡ false)
+        × (c.idle_timeout ≡ agreed_timeout c.transport c.peer_params)
         × AreInRange c.peer_params
         × AreSizes C.size_of C.window_of c.peer_params.max_udp_payload_size c.path.discovery c.path.congestion c.window
         × IsInFlight c.path.generation c.space.numbers.next c.space.tracking.packets c.path.in_flight };
@@ -241,15 +178,32 @@ impl<H: HeaderKey + Drop, K: PacketKey + Drop, R: Rng + Drop, C: Controller> Con
     /// peer's `Config::write_parameters` wrote them. Both ids were exchanged before. What
     /// `keys.header.local` and `keys.packet.local` seal, the peer's `remote` ones open, and the
     /// other way round. `validated` says whether the peer's address is validated already (RFC 9000,
-    /// section 8): `is_validated` tells it, and nothing is held back for want of it yet. `random`
-    /// is the end's random source: a word of it says which packet number is left out first, and
-    /// each time that one is left out, another word says which is next (RFC 9000, section 21.4).
+    /// section 8): where it isn't, the end sends no more than three times the bytes that come, and
+    /// a PATH_CHALLENGE waits, until the peer has answered one; [`Timer::PathValidation`] is set to
+    /// three probe timeouts later. `random` is the end's random source: a word of it says which
+    /// packet number is left out first, and each time that one is left out, another word says which
+    /// is next (RFC 9000, section 21.4); each PATH_CHALLENGE is a word of its own.
+    /// Each own id but the first takes three words, for itself and its token.
+    ///
+    /// The end issues ids at once, up to as many as the peer takes, the first one among them, and 5
+    /// at most (sections 5.1.1 and 18.2): the peer is told of them by its first datagrams.
     ///
     /// The factory of the configuration makes the congestion controller, for the size of datagrams
     /// that the path begins with.
     ///
-    /// The errors are tested in the order in which [`ConfigError`] lists them. Memory never lacks:
-    /// none is taken.
+    /// # Errors
+    ///
+    /// - [`ConfigError::Parameters`]: the peer's parameters are malformed, or have a value out of
+    ///   range. No endpoint is made.
+    /// - [`ConfigError::IdLength`]: the own ID hasn't eight bytes, or the peer's has none. No
+    ///   endpoint is made.
+    /// - [`ConfigError::Size`]: a size of datagrams is above 65527 bytes, or the least is above the
+    ///   peer's max_udp_payload_size. No endpoint is made.
+    /// - [`ConfigError::Window`]: the congestion controller's window doesn't hold two datagrams of
+    ///   the size that the path begins with. No endpoint is made.
+    /// - [`ConfigError::KeyLimit`]: the own key may seal fewer than 16 packets, or the peer's may
+    ///   refuse fewer. No endpoint is made.
+    /// - [`ConfigError::Memory`]: an allocation fails, of room for the IDs. No endpoint is made.
     pub fn new<F: ControllerFactory<Controller = C>>(
         alloc: Global,
         side: Side,
@@ -262,14 +216,14 @@ impl<H: HeaderKey + Drop, K: PacketKey + Drop, R: Rng + Drop, C: Controller> Con
         random: R,
         validated: bool,
     ) -> Result<Connection<H, K, R, C>, ConfigError>
-        ensures made { IfOk result (λ c. MadeFrom side config.now.settings (windows_at C.initial_of C.window_of c.control) peer_parameters.now own_id peer_id now validated (words_of R.stream random 0) c.end) }
+        ensures made { IfOk result (λ c. MadeFrom side config.now.settings (windows_at C.initial_of C.window_of c.control) peer_parameters.now own_id peer_id now validated (words_of R.stream random) c.end) }
         ensures control { IfOk result (λ c. c.control ≡ F.built config.now.factory now (first_mtu (transport_of config.now.settings))) }
         ensures roomy { IfOk result (λ c. IsRoomy C.size_of C.window_of c.control (first_mtu c.end.transport)) }
         ensures keys { IfOk result (λ c. c.keys ≡ keys) }
-        ensures random { IfOk result (λ c. R.stream c.random ≡ after_words 1 (R.stream random)) }
+        ensures random { IfOk result (λ c. R.stream c.random ≡ after_words (words_drawn c.end) (R.stream random)) }
         ensures heard { IfOk result (λ c. c.heard ≡ nothing_heard) }
-        ensures refusal { IfErr result (λ e. Some e ≡ refusal_of config.now.settings (C.window_of (F.built config.now.factory now (first_mtu (transport_of config.now.settings)))) (parameters_at peer_parameters.now) own_id peer_id) }
-        ensures lawful { OnOk result (refusal_of config.now.settings (C.window_of (F.built config.now.factory now (first_mtu (transport_of config.now.settings)))) (parameters_at peer_parameters.now) own_id peer_id ≡ None) }
+        ensures refusal { IfErr result (λ e. e ≢ config_errors.Memory → Some e ≡ refusal_of config.now.settings (C.window_of (F.built config.now.factory now (first_mtu (transport_of config.now.settings)))) (limits_of K.seal_limit K.refusal_limit keys) (parameters_at peer_parameters.now) own_id peer_id) }
+        ensures lawful { OnOk result (refusal_of config.now.settings (C.window_of (F.built config.now.factory now (first_mtu (transport_of config.now.settings)))) (limits_of K.seal_limit K.refusal_limit keys) (parameters_at peer_parameters.now) own_id peer_id ≡ None) }
     {
         let Ok(theirs) = TransportParameters::read(side, peer_parameters) else {
             return Err(ConfigError::Parameters);
@@ -290,21 +244,41 @@ impl<H: HeaderKey + Drop, K: PacketKey + Drop, R: Rng + Drop, C: Controller> Con
         if window < 2 * u64::from(mtu) {
             return Err(ConfigError::Window);
         }
+        if are_keys_short(&keys) {
+            return Err(ConfigError::KeyLimit);
+        }
         path.validated = validated;
         let mut random = random;
         let filter = first_filter(&mut random);
-        Ok(Connection {
+        let mut streams = first_streams(alloc, side, &transport, &theirs);
+        let Ok(ids) = Ids::new(
+            alloc,
+            now,
+            own_id,
+            peer_id,
+            theirs.active_connection_id_limit,
+            &mut random,
+            &mut streams.pending,
+        ) else {
+            return Err(ConfigError::Memory);
+        };
+        let connection = Connection {
             closing: Closing::new(now),
-            ids: Ids::new(own_id, peer_id),
+            ids,
             space: PacketSpace::new(alloc, now),
             filter,
             timers: TimerTable::default(),
+            idle_timeout: negotiate_max_idle_timeout(&transport, &theirs),
+            permit_idle_reset: true,
             path,
+            path_responses: PathResponses::new(),
+            challenges: 0,
             window,
+            blocked: false,
             app_limited: false,
             transport,
             peer_params: theirs,
-            streams: first_streams(alloc, side, &transport, &theirs),
+            streams,
             datagrams: DatagramState::new(alloc),
             messages_to_tell: 0,
             authentication_failures: 0,
@@ -312,10 +286,11 @@ impl<H: HeaderKey + Drop, K: PacketKey + Drop, R: Rng + Drop, C: Controller> Con
             keys,
             random,
             alloc,
-        })
+        };
+        Ok(connection.validating())
     }
 
-    /// Whether the end is no longer open: it is closing, drained or failed.
+    /// Whether the end is no longer open: it is closing, drained or failed (RFC 9000, section 10).
     pub fn is_closed(&self) -> bool
         ensures { IsTrue result ↔ (self.now.end.closing.state ≢ states.Open) }
     {
@@ -329,15 +304,16 @@ impl<H: HeaderKey + Drop, K: PacketKey + Drop, R: Rng + Drop, C: Controller> Con
         self.closing.state() == State::Drained
     }
 
-    /// Whether the end met want of memory where a datagram was taken or given, or packets were lost
-    /// at a timeout.
+    /// Whether an allocation failed where a datagram was taken or given, or packets were lost at a
+    /// timeout.
     pub fn is_failed(&self) -> bool
         ensures { IsTrue result ↔ (self.now.end.closing.state ≡ states.Failed) }
     {
         self.closing.state() == State::Failed
     }
 
-    /// Whether the peer's address is validated (RFC 9000, section 8).
+    /// Whether the peer's address is validated (RFC 9000, section 8): it was as the end was made,
+    /// or the peer answered a PATH_CHALLENGE. It stays so.
     pub fn is_validated(&self) -> bool
         ensures { result ≡ self.now.end.path.validated }
     {
@@ -358,8 +334,33 @@ impl<H: HeaderKey + Drop, K: PacketKey + Drop, R: Rng + Drop, C: Controller> Con
         self.path.current_mtu()
     }
 
+    /// How long a round trip takes, as estimated now: the smoothed time, and before the first
+    /// sample the one that is assumed (RFC 9002, section 5.3; quinn-proto's `Connection::rtt`). The
+    /// same as `path.rtt` of [`Connection::stats`].
+    pub fn rtt(&self) -> Duration
+        ensures { result ≡ best_rtt self.now.end.path.rtt }
+    {
+        self.path.rtt.get()
+    }
+
+    /// How many probe timeouts passed since an acknowledgement came (RFC 9002, section 6.2.1;
+    /// quinn-proto's `pto_count`). Each doubles the next one, the first 16 of them.
+    pub fn pto_count(&self) -> u64
+        ensures { result ≡ self.now.end.tracking.timeouts }
+    {
+        self.space.tracking.timeouts()
+    }
+
+    /// The connection ID that the next datagram is sent to: the one of the peer's that is in use
+    /// (RFC 9000, section 5.1). It changes as the peer retires it.
+    pub fn peer_id(&self) -> ConnectionId
+        ensures { result ≡ self.now.end.ids.peer.id }
+    {
+        self.ids.destination()
+    }
+
     /// Why the end isn't open: what closed it, or none where nothing did. A failed end has no
-    /// reason.
+    /// reason, whether it had closed before or not.
     pub fn lost(&self) -> Option<&LostReason>
         ensures { option_copied result ≡ self.now.end.closing.reason }
     {
@@ -391,8 +392,8 @@ impl<H: HeaderKey + Drop, K: PacketKey + Drop, R: Rng + Drop, C: Controller> Con
     }
 
     /// The whole payload of a packet of this number was taken, which asks for an acknowledgement or
-    /// doesn't, and came with this mark: its number is to be acknowledged. An error is want of
-    /// memory, and nothing has changed.
+    /// doesn't, and came with this mark: its number is to be acknowledged, and the times without a
+    /// packet begin anew. An error is want of memory, and nothing has changed.
     fn take_number(
         &mut self,
         number: u64,
@@ -417,6 +418,7 @@ impl<H: HeaderKey + Drop, K: PacketKey + Drop, R: Rng + Drop, C: Controller> Con
         if waits {
             self.timers.set(Timer::MaxAckDelay, ack_due(now));
         }
+        self.on_packet_taken();
         self.set_loss_timer();
         Ok(())
     }
@@ -447,7 +449,7 @@ impl<H: HeaderKey + Drop, K: PacketKey + Drop, R: Rng + Drop, C: Controller> Con
 
     /// A poll reads which window the congestion controller shows.
     fn read_window(&mut self)
-        ensures { self.new ≡ with_end self.old (reading C.window_of self.old) }
+        ensures { self.new ≡ with_end self.old (with_window self.old.end (C.window_of self.old.control)) }
     {
         self.window = self.path.congestion.window();
     }
@@ -460,24 +462,17 @@ impl<H: HeaderKey + Drop, K: PacketKey + Drop, R: Rng + Drop, C: Controller> Con
         self.space.ping_pending = true;
     }
 
-    /// Whether the end is the client or the server.
-    fn side(&self) -> Side
+    /// Whether the end is the client or the server (quinn-proto's `Connection::side`).
+    pub fn side(&self) -> Side
         ensures { result ≡ side_of self.now.end }
     {
         self.streams.state.side()
     }
 
-    /// Closes for a reason: no timer is set any more.
-    fn close_by(&mut self, reason: LostReason)
-        ensures { self.new ≡ with_end self.old (closed_by reason self.old.end) }
-    {
-        self.closing.close(reason);
-        self.stop_timers();
-    }
-
-    /// Fails for good: no timer is set any more.
+    /// Fails for good: no timer is set any more. The controller isn't told.
     fn fail(&mut self)
         ensures failed { HasFailed self.old self.new }
+        ensures control { self.new.control ≡ self.old.control }
         ensures stopped { self.new.end.timers ≡ no_timers }
     {
         self.closing.fail();
@@ -502,10 +497,10 @@ impl<H: HeaderKey + Drop, K: PacketKey + Drop, R: Rng + Drop, C: Controller> Con
     fn asks_to_go(&self) -> bool
         ensures { result ≡ asks_to_go self.now.end }
     {
-        self.space.ping_pending || self.frames_wait()
+        self.path_frames_wait() || self.space.ping_pending || self.frames_wait()
     }
 
-    /// The same beside PING.
+    /// The same beside PATH_CHALLENGE, PATH_RESPONSE and PING.
     fn frames_wait(&self) -> bool
         ensures { result ≡ (not (is_empty self.now.end.waiting.frames self.now.end.streams) || (message_waits self.now.end || can_send_stream_data self.now.end.streams)) }
     {

@@ -5,8 +5,7 @@
 //! section 2).
 #![tactic(auto)]
 
-mod config;
 mod connection;
 
-pub use config::Config;
 pub use connection::Connection;
+pub use quic_connection_parts::Config;

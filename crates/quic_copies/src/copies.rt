@@ -69,7 +69,7 @@ impl Copies {
     ///
     /// # Errors
     ///
-    /// [`AllocError`] where memory lacks.
+    /// - [`AllocError`]: an allocation fails. No copy is made; earlier copies stay.
     pub fn copy(&mut self, bytes: &[u8]) -> Result<Bytes, AllocError>
         ensures { IfOk result (λ copied. copied ≡ bytes.now) }
     {

@@ -1,24 +1,21 @@
-//! Two ends of a connection in one program: a request and an answer on one stream. The program is
-//! the network, the clock and both applications, and shows what each end needs of them.
+//! Two ends of a connection in one program: a request and an answer on one stream, and a close. The
+//! program is the network, the clock and both applications, and shows what each end needs of them.
 #![tactic(auto)]
 
-mod key;
 mod party;
 
-use crate::key::{ClearHeaderKey, ClearKey, keys};
 use crate::party::{MANY, Party};
 use anyhow::{Result, bail};
 use quic_connection::{
-    Config, Connection, ConnectionId, Dir, Instant, NewReno, NewRenoConfig, Side, TransportConfig,
-    TransportParameters, VarInt,
+    Config, Connection, ConnectionId, Dir, Instant, Making, NewReno, NewRenoConfig, Side,
+    TransportConfig, TransportParameters, VarInt,
 };
-use rand_core::SeedableRng;
-use rand_pcg::Pcg64;
+use quic_keys::{PlainHeaderKey, PlainKey, Words, keys_for};
 use std::alloc::{AllocError, Global};
 use std::collections::VecDeque;
 
 /// An end: over its header keys, its packet keys, its random source and its congestion controller.
-pub(crate) type End = Connection<ClearHeaderKey, ClearKey, Pcg64, NewReno>;
+pub(crate) type End = Connection<PlainHeaderKey, PlainKey, Words, NewReno>;
 
 /// What either end is configured with. What isn't set has its default.
 fn config() -> Config<NewRenoConfig> {
@@ -31,7 +28,7 @@ fn config() -> Config<NewRenoConfig> {
     Config::new(transport, NewRenoConfig::default())
 }
 
-/// A letter for each end, which is in its id and marks what it sends.
+/// A letter for each end, which is in its id.
 fn letter(side: Side) -> u8 {
     match side {
         Side::Client => b'c',
@@ -51,9 +48,9 @@ fn first_id(side: Side) -> ConnectionId {
 /// retry_source_connection_id (10), if it sent a Retry; and stateless_reset_token (02), if it is to
 /// be able to reset.
 ///
-/// `Connection::new` skips these, as all that it doesn't know. So before it makes the end, a
-/// handshake checks in the peer's list that just those of the ids are there that have to be, once
-/// and as the handshake saw them, and that a client sent none of a server's.
+/// An end skips these, as all that it doesn't know. So before it makes the end, a handshake checks
+/// in the peer's list that just those of the ids are there that have to be, once and as the
+/// handshake saw them, and that a client sent none of a server's.
 fn parameters(alloc: Global, side: Side) -> Result<Vec<u8>> {
     let mut list = config().write_parameters(alloc, &TransportParameters::ORDER)?;
     let id = first_id(side);
@@ -65,20 +62,17 @@ fn parameters(alloc: Global, side: Side) -> Result<Vec<u8>> {
 /// An end, as a handshake leaves it at moment 0: ids and parameters are exchanged, both ends have
 /// the keys, and the peer's address is validated. Its application has these bytes to write.
 fn make(alloc: Global, side: Side, unwritten: &'static [u8]) -> Result<Box<Party>> {
-    // Its words say which packet numbers are left out: in earnest a peer must not guess them.
-    let random = Pcg64::seed_from_u64(42);
-    let end = Connection::new(
-        alloc,
-        side,
-        &config(),
-        &parameters(alloc, !side)?,
-        first_id(side),
-        first_id(!side),
-        keys(letter(side), letter(!side)),
-        Instant::from_nanos(0),
-        random,
-        true,
-    )?;
+    let told = parameters(alloc, !side)?;
+    let making = Making {
+        config: config(),
+        id: first_id(side),
+        keys: keys_for(side),
+        // Its words say which packet numbers are left out, and are the later ids and their tokens:
+        // in earnest nobody may guess them.
+        random: Words::pcg(42),
+        validated: true,
+    };
+    let end = making.connection(alloc, side, Instant::from_nanos(0), &told, first_id(!side))?;
     let party = Party {
         side,
         end,
@@ -93,7 +87,8 @@ fn boxed(alloc: Global, party: Party) -> Result<Box<Party>, AllocError> {
     Ok(Box::new(alloc, party)?)
 }
 
-/// Lets the client ask and the server answer, until no datagram is under way and no timer is set.
+/// Lets the client ask, the server answer and the client close, until no datagram is under way and
+/// no timer is set.
 fn talk(rt: &(impl Print + AllocGlobal), client: &mut Party, server: &mut Party) -> Result<()> {
     let mut now = Instant::from_nanos(0);
     let Some(id) = client.end.streams().open(Dir::Bi) else {
@@ -117,7 +112,7 @@ fn talk(rt: &(impl Print + AllocGlobal), client: &mut Party, server: &mut Party)
         server.serve(rt, now)?;
     }
     let (client, server) = (client.end.state(), server.end.state());
-    println!(rt; "at rest: the client is {client}, the server is {server}")?;
+    println!(rt; "the client is {client}, the server is {server}")?;
     Ok(())
 }
 

@@ -3,8 +3,8 @@
 use crate::End;
 use anyhow::{Result, bail};
 use quic_connection::{
-    Duration, EcnCodepoint, Event, Instant, ReadError, ReadableError, Side, StreamEvent, StreamId,
-    Transmit, WriteError,
+    Bytes, Duration, EcnCodepoint, Event, Instant, LostReason, ReadError, ReadableError, Side,
+    StreamEvent, StreamId, Transmit, VarInt, WriteError,
 };
 use std::collections::VecDeque;
 
@@ -39,7 +39,7 @@ impl Party {
             };
             println!(rt; "  {} is told: {event}", self.side)?;
             // The application may call the end, so datagrams are asked for again.
-            self.on_event(rt, &event)?;
+            self.on_event(rt, now, &event)?;
         }
         Ok(())
     }
@@ -80,22 +80,25 @@ impl Party {
     }
 
     /// Does what an event asks for.
-    fn on_event(&mut self, rt: &impl Print, event: &Event) -> Result<()> {
+    fn on_event(&mut self, rt: &impl Print, now: Instant, event: &Event) -> Result<()> {
         match event {
             // That bytes came on it isn't told besides.
             Event::Stream(StreamEvent::Opened { dir }) => match self.end.streams().accept(*dir) {
-                Some(id) => self.read(rt, id),
+                Some(id) => self.read(rt, now, id),
                 None => Ok(()),
             },
-            Event::Stream(StreamEvent::Readable { id }) => self.read(rt, *id),
+            Event::Stream(StreamEvent::Readable { id }) => self.read(rt, now, *id),
             Event::Stream(StreamEvent::Writable { id }) => self.write(*id),
+            // One of the two closes once all is said.
+            Event::Lost(LostReason::Application | LostReason::Peer(_)) => Ok(()),
             Event::Lost(reason) => bail!("lost: {reason}"),
             Event::Stream(_) | Event::Message => Ok(()),
         }
     }
 
-    /// Reads what has come on a stream. Once it was read to its end, the server answers.
-    fn read(&mut self, rt: &impl Print, id: StreamId) -> Result<()> {
+    /// Reads what has come on a stream. Once it was read to its end, the server answers, and the
+    /// client closes the connection.
+    fn read(&mut self, rt: &impl Print, now: Instant, id: StreamId) -> Result<()> {
         let mut chunks = match self.end.recv_stream(id).read(true) {
             Ok(chunks) => chunks,
             // `StreamEvent::Readable` may come behind the read that met the end.
@@ -114,7 +117,11 @@ impl Party {
         // As when `chunks` is dropped, the limits that grew by the read wait to be told.
         let _ = chunks.finalize();
         match self.side {
-            Side::Client => Ok(()),
+            Side::Client => {
+                let text = Bytes::from_static(b"done");
+                self.end.close(now, VarInt::from_u32(0), text);
+                Ok(())
+            }
             Side::Server => self.write(id),
         }
     }

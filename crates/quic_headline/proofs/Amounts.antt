@@ -1,4 +1,5 @@
--- How much a write takes: what an end knows of its limits, of what it accepted and of what it keeps is what a run's lists say.
+-- How much a write takes: what an end knows of its limits, of what it accepted and of what it keeps
+-- is what a run's lists say.
 pub mod Pieces
 pub mod Tally
 pub mod Accepts
@@ -8,3 +9,4 @@ pub mod Kept
 pub mod Opens
 pub mod NewIds
 pub mod Clause
+pub mod PeerLimits

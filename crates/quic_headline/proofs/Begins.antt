@@ -3,6 +3,7 @@ pub mod Called
 pub mod Halves
 pub mod OnStreams
 pub mod Walk
+pub mod Apart
 pub mod Flights
 pub mod Gone
 pub mod Acks

@@ -1,4 +1,5 @@
--- What passes between honest ends: each frame that one gave breaks no rule at the other, but that of pieces.
+-- What passes between honest ends: each frame that one gave breaks no rule at the other, but that
+-- of pieces.
 pub mod Passing
 pub mod Counted
 pub mod Openers
@@ -7,6 +8,9 @@ pub mod Stops
 pub mod Names
 pub mod Counts
 pub mod Messages
+pub mod IdLists
+pub mod IdSteps
+pub mod IdsAgree
 pub mod Plain
 pub mod Passes
 pub mod Below

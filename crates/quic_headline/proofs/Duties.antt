@@ -5,6 +5,7 @@ pub mod Carrier
 pub mod Tail
 pub mod UnderWay
 pub mod Listed
+pub mod OfIds
 pub mod Lasting
 pub mod Limits
 pub mod LimitsGo

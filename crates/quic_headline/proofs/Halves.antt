@@ -4,7 +4,10 @@ pub mod Words
 pub mod WordsCalls
 pub mod DataLimit
 pub mod InUse
+pub mod Small
+pub mod KnownIds
 pub mod Pile
+pub mod ToldIds
 pub mod PileSteps
 pub mod PilePolls
 pub mod PileCalls
@@ -24,7 +27,6 @@ pub mod ReadClauses
 pub mod ResetClause
 pub mod Arrived
 pub mod Says
-pub mod Small
 pub mod Arrives
 pub mod Sends
 pub mod Counts

@@ -2,6 +2,9 @@
 pub mod Flight
 pub mod Silent
 pub mod Behind
+pub mod Bytes
 pub mod Unsent
 pub mod Messages
 pub mod Clause
+pub mod Limited
+pub mod Threefold

@@ -1,4 +1,5 @@
 pub mod Duties
+pub mod Destined
 pub mod Halves
 pub mod Packets
 pub mod Places
@@ -13,6 +14,7 @@ pub mod Held
 pub mod Steps
 pub mod Rest
 pub mod AcksDue
+pub mod AckFrames
 pub mod Isolated
 pub mod Sizes
 pub mod Unread
@@ -24,3 +26,6 @@ pub mod Waited
 pub mod Begins
 pub mod Spread
 pub mod AppLimited
+pub mod NextIds
+pub mod Validated
+pub mod Alone

@@ -1,5 +1,7 @@
--- What was given, opened, named and tracked: numbers, bytes, acknowledgements, and what is in flight.
+-- What was given, opened, named and tracked: numbers, bytes, acknowledgements, and what is in
+-- flight.
 pub mod Invariant
+pub mod Quiet
 pub mod Growth
 pub mod Rising
 pub mod Window
@@ -19,16 +21,27 @@ pub mod Given
 pub mod Probes
 pub mod TrackedSteps
 pub mod Ascending
+pub mod Apart
+pub mod Heard
 pub mod Losses
 pub mod Searches
 pub mod Sizes
 pub mod Numbered
 pub mod Waited
 pub mod Flying
+pub mod Closes
+pub mod Bare
 pub mod Closeless
+pub mod Sends
+pub mod Owing
+pub mod CloseForms
 pub mod Watching
 pub mod Entries
 pub mod Naming
+pub mod OfPeer
+pub mod Ids
+pub mod Widths
 pub mod Group
 pub mod Sight
 pub mod Referring
+pub mod References

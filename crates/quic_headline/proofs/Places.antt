@@ -10,7 +10,6 @@ pub mod Coming
 pub mod Openings
 pub mod Flights
 pub mod Newest
-pub mod Destined
 pub mod Together
 pub mod Everything
 pub mod Theorems

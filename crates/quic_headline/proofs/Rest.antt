@@ -1,4 +1,5 @@
--- Ends that rest: nothing of theirs waits, what they wrote has arrived, and they owe no acknowledgement.
+-- Ends that rest: nothing of theirs waits, what they wrote has arrived, and they owe no
+-- acknowledgement.
 pub mod Between
 pub mod Sizes
 pub mod Quiet

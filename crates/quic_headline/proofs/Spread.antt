@@ -3,3 +3,4 @@ pub mod Left
 pub mod Gates
 pub mod Polls
 pub mod Clause
+pub mod PingsGo

@@ -1,6 +1,7 @@
 -- What the controller of an end is told, against what its observer knows: where datagrams are lost
 -- and acknowledged, where packets come, at each call, and over a run.
 pub mod Losses
+pub mod Asked
 pub mod Acks
 pub mod Frames
 pub mod Hearing

@@ -1,4 +1,5 @@
--- The timers of losses and of acknowledgements.
+-- The timers of losses, of acknowledgements, of being idle, of keep-alive, of path validation and
+-- of closes.
 pub mod BothEnds
 pub mod Still
 pub mod Watched
@@ -7,5 +8,13 @@ pub mod AckTimers
 pub mod Starts
 pub mod LossMoments
 pub mod AckMoments
+pub mod FirstDue
 pub mod Quiet
 pub mod Shown
+pub mod Placing
+pub mod Waits
+pub mod IdleMoments
+pub mod AliveMoments
+pub mod Closed
+pub mod CloseMoments
+pub mod PathMoments

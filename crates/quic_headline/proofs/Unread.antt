@@ -1,4 +1,5 @@
--- A write of an end that rests is blocked only for bytes that the reader left unread: what that rests on.
+-- A write of an end that rests is blocked only for bytes that the reader left unread: what that
+-- rests on.
 pub mod Walk
 pub mod Newest
 pub mod Written

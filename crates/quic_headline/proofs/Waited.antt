@@ -1,5 +1,6 @@
 pub mod Marks
 pub mod Flags
+pub mod Alive
 pub mod Pings
 pub mod Drafts
 pub mod Group

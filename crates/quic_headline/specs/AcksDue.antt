@@ -1,7 +1,7 @@
 -- When an ACK frame is due (RFC 9000, sections 13.2.1 and 13.2.2), as an observer of a run's lists
 -- reckons it, and that the next poll gives it. The constants are the observer's own: it reads
 -- nothing of an end but what came to it and what it gave.
-use Rattle.std.specs.Prelude.{ℕ, suc, ◌+◌, ◌-◌, ◌^◌, ◌≡◌, min, max, not, nat_lt, nat_le, ◌&&◌, ◌||◌, Bool, true, false, if◌then◌else◌, List, [], ◌∷◌, length, slice_get, Option, Some}
+use Rattle.std.specs.Prelude.{ℕ, suc, ◌+◌, ◌-◌, ◌^◌, ◌≡◌, min, max, not, nat_lt, nat_le, ◌&&◌, ◌||◌, Bool, true, false, if◌then◌else◌, List, [], ◌∷◌, length, slice_get, Option, Some, ◌⊎◌}
 use Rattle.std.specs.List.{list_any, range_with_len}
 use Rattle.quic_wire_core.specs.declared.shared.EcnCodepoint.{EcnCodepoint}
 use Rattle.quic_wire_core.specs.declared.shared.EcnCodepoint.TheVariants.{Ce}
@@ -18,6 +18,7 @@ use Rattle.quic_machine.specs.Machine.{end_at}
 use Rattle.quic_headline.specs.Runs.{Run, Told, Packet, Intake, is_again, state_in, AreServed, folded, until, given_of}
 use Rattle.quic_headline.specs.Observer.{Watch, watch_from, watch, news, is_timely, Lens, lens_of}
 use Rattle.quic_headline.specs.Headline.{IsAt}
+use Rattle.quic_headline.specs.Polls.{IsLimited}
 use Rattle.quic_headline.specs.Moments.{acknowledges, went, Debt, debt_told, first_debt}
 use Rattle.quic_headline.specs.Rest.{Unanswered, unanswered_told, none_unanswered, IsUnacknowledged}
 
@@ -103,8 +104,8 @@ is_due r side i = (folded (haste_told (lens_of r side)) (until r side i) (no_has
 -- ---- over a run
 
 -- where one is due, and an acknowledgement is owed, a poll that leaves its end open gives a
--- datagram with an ACK frame; it is one before which, and at which, no delivery, no poll and no
--- timeout met want of memory
+-- datagram with an ACK frame, unless nothing more may go to an address that isn't validated; it is
+-- one before which, and at which, no delivery, no poll and no timeout met want of memory
 abbrev pub AcksAreDue : Run → Type 0
 AcksAreDue r = (side : Side) (i now : ℕ) (a : Answer) (v : View) (p : Packet) → AreServed r (suc i) → IsAt r i side (calls.Poll now) a → slice_get r.views i ≡ Some v → state_in v side ≡ states.Open
-    → is_due r side i ≡ true → IsUnacknowledged r side i p → acknowledges (went (watch r side i) (watch r side (suc i))) ≡ true
+    → is_due r side i ≡ true → IsUnacknowledged r side i p → (acknowledges (went (watch r side i) (watch r side (suc i))) ≡ true) ⊎ IsLimited r side (suc i) v

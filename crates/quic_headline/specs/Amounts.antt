@@ -1,5 +1,6 @@
--- How much a write takes: what the peer's limits and the send window leave (RFC 9000, section 4.1). The limits are those of the peer's transport parameters and
--- of the frames that came, and the rest is read off what calls were answered and what was acknowledged.
+-- How much a write takes: what the peer's limits and the send window leave (RFC 9000, section 4.1).
+-- The limits are those of the peer's transport parameters and of the frames that came, and the rest
+-- is read off what calls were answered and what was acknowledged.
 use Rattle.std.specs.Prelude.{ℕ, zero, suc, ◌+◌, ◌-◌, ◌≡◌, ◌⊎◌, min, max, Bool, true, false, nat_le, nat_lt, ◌==◌, ◌&&◌, ◌||◌, if◌then◌else◌, List, [], ◌∷◌, ◌++◌, length, take, None, Result, Ok, Err}
 use Rattle.std.specs.List.{list_any}
 use Rattle.std.specs.Option.{is_some}
@@ -36,7 +37,8 @@ making_at Server w s = s.server_making
 abbrev pub peer_parameters : Side → (w : World) → AreStarted w → ParameterValues
 peer_parameters side w s = parameters_of (making_at (other_side side) w s).settings
 
--- how far a stream may come at first: one of its own two-way streams, one of its own one-way streams, or one that the peer opened (section 18.2)
+-- how far a stream may come at first: one of its own two-way streams, one of its own one-way
+-- streams, or one that the peer opened (section 18.2)
 abbrev pub first_told : ParameterValues → Bool → Dir → ℕ
 first_told p true Bi = p.initial_max_stream_data_bidi_remote
 first_told p true Uni = p.initial_max_stream_data_uni
@@ -94,7 +96,8 @@ all_written (t ∷ ts) = amount_by t.call t.answer + all_written ts
 
 -- ---- what is buffered
 
--- A piece: what one write added to a stream, or one of the buffers of a write of several; it ends below this offset, and has so many bytes.
+-- A piece: what one write added to a stream, or one of the buffers of a write of several; it ends
+-- below this offset, and has so many bytes.
 pub record Piece : Type 0 where
   pub stream : ℕ
   pub end : ℕ
@@ -139,7 +142,8 @@ abbrev pub all_held : List Sent → ℕ → ℕ → Bool
 all_held sents id zero = true
 all_held sents id (suc end) = is_held sents id end && all_held sents id end
 
--- A piece is kept whole until all of its stream up to its end is acknowledged, or the stream is reset.
+-- A piece is kept whole until all of its stream up to its end is acknowledged, or the stream is
+-- reset.
 abbrev pub kept_of : List Sent → List Told → Piece → ℕ
 kept_of acked told p = if is_some (reset p.stream told) || all_held acked p.stream p.end then 0 else p.size
 
@@ -187,14 +191,16 @@ told_so (answers.WriteChunks (Ok w)) result = Ok w.bytes ≡ result
 told_so (answers.WriteChunks (Err e)) result = Err e ≡ result
 told_so a result = ⊥
 
--- An end may write on a stream: it runs its way, and the end neither finished nor reset it, nor did the peer stop it.
+-- An end may write on a stream: it runs its way, and the end neither finished nor reset it, nor did
+-- the peer stop it.
 pub record MayWrite (r : Run) (side : Side) (i id : ℕ) : Type 0 where
   pub sends : (is_own side id || is_two_way (dir_of id)) ≡ true
   pub unended : ended id (until r side i) ≡ false
   pub kept : reset id (until r side i) ≡ None
   pub goes : was_stopped id (took r side i) ≡ false
 
--- a write of an open end takes as many bytes as may be taken, and is blocked where none may; or it finds no memory, and takes none
+-- a write of an open end takes as many bytes as may be taken, and is blocked where none may; or it
+-- finds no memory, and takes none
 abbrev pub WritesTakeWhatLimitsAllow : Run → Type 0
 WritesTakeWhatLimitsAllow r = (s : AreStarted r.start) (side : Side) (i id count : ℕ) (call : Call) (a : Answer)
     → AreServed r i → IsAt r i side call a → WritesOn call id count → state_at r side i ≡ states.Open → MayWrite r side i id

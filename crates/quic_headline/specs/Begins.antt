@@ -1,11 +1,12 @@
--- What makes something wait at an end to go (RFC 9000, sections 2.4, 3.1, 3.5, 4.1, 4.2, 4.6, 13.2.1 and 13.3; RFC 9002, sections 6.1 and 6.2.4; RFC 9221, section 5). What waits, the
--- end says itself; the causes are read off a run's lists.
-use Rattle.std.specs.Prelude.{ℕ, suc, ◌<◌, ◌≤◌, ◌≡◌, ◌⊎◌, ◌==◌, ◌&&◌, ◌||◌, nat_lt, Bool, true, false, List, [], ◌∷◌, ◌++◌, length, drop, Some, Ok, Err}
+-- What makes something wait at an end to go (RFC 9000, sections 2.4, 3.1, 3.5, 4.1, 4.2, 4.6,
+-- 13.2.1 and 13.3; RFC 9002, sections 6.1 and 6.2.4; RFC 9221, section 5). What waits, the end says
+-- itself; the causes are read off a run's lists.
+use Rattle.std.specs.Prelude.{ℕ, suc, ◌<◌, ◌≤◌, ◌≡◌, ◌⊎◌, ◌==◌, ◌&&◌, ◌||◌, nat_lt, Bool, true, false, List, [], ◌∷◌, ◌++◌, length, drop, Option, Some, Ok, Err}
 use Rattle.std.specs.List.{list_any}
 use Rattle.std.specs.Option.{is_some, is_none}
 use Rattle.quic_wire_core.specs.declared.stream_id.Side.{Side}
 use Rattle.quic_wire_core.specs.StreamId.{other_side}
-use Rattle.quic_wire.specs.Value.{FrameValue, ack, stream, reset_stream, stop_sending, max_stream_data, stream_data_blocked}
+use Rattle.quic_wire.specs.Value.{FrameValue, ack, stream, reset_stream, stop_sending, max_stream_data, stream_data_blocked, new_connection_id, retire_connection_id}
 use Rattle.quic_wire.specs.FrameView.{is_one_way}
 use Rattle.quic_send_buffer.specs.Buffered.{is_lost, is_unsent}
 use Rattle.quic_streams_parts.specs.declared.answers.WriteError.TheVariants as write_errors
@@ -17,7 +18,7 @@ use Rattle.quic_machine.specs.declared.run.Call.{Call}
 use Rattle.quic_machine.specs.declared.run.Call.TheVariants as calls
 use Rattle.quic_machine.specs.declared.run.Answer.{Answer}
 use Rattle.quic_machine.specs.declared.run.Answer.TheVariants as answers
-use Rattle.quic_machine.specs.CallCases.{is_poll}
+use Rattle.quic_machine.specs.CallCases.{is_poll, is_timeout}
 use Rattle.quic_machine.specs.End.{End}
 use Rattle.quic_machine.specs.Machine.{World, end_at}
 use Rattle.quic_headline.specs.Runs.{Run, Told, Packet, In, until, state_at, AreServed, LeadsTo, written, ended_by, reset_by}
@@ -29,35 +30,44 @@ use Rattle.quic_headline.specs.Moments.{acknowledges, went, debt}
 use Rattle.quic_headline.specs.AcksDue.{takes_marked, are_some, waits_out}
 use Rattle.quic_headline.specs.Unread.{stopped_by}
 use Rattle.quic_headline.specs.Messages.{sent_by}
-use Rattle.quic_headline.specs.Waited.{one_asks, count_silent, may_come, stands, is_ping, asks_ping, wants}
+use Rattle.quic_headline.specs.Waited.{one_asks, count_silent, may_come, stands, is_ping, is_path_challenge, is_path_response, asks_ping, wakes, probes_in_vain, wants}
 
 -- ---- what may wait
 
--- a frame about streams beside STREAM: the reset of one, that the peer is to stop sending on one, a limit, and that a write found all data, or one stream, used up
+-- a control frame: the reset of a stream, that the peer is to stop sending on one, a limit, that a
+-- write found all data, or one stream, used up, an own id that the peer is told under a number, and
+-- that the peer's id of a number is retired
 pub data Control : Type 0 where
   ResetOf : (id : ℕ) → Control
   StopOf : (id : ℕ) → Control
   LimitOf : (what : Limited) → Control
   Blocked : Control
   BlockedOn : (id : ℕ) → Control
+  NewId : (number : ℕ) → Control
+  Retirement : (number : ℕ) → Control
 
--- an ACK frame that is due; PING; a probe of losses; a message; an offset of a stream, and its end; and a frame about streams
+-- an ACK frame that is due; PING; PATH_CHALLENGE and PATH_RESPONSE; a probe of losses; a message;
+-- an offset of a stream, and its end; and a control frame
 pub data Thing : Type 0 where
   Ack : Thing
   Ping : Thing
+  Challenge : Thing
+  Response : Thing
   Probe : Thing
   Message : (message : List ℕ) → Thing
   Byte : (id : ℕ) (offset : ℕ) → Thing
   Fin : (id : ℕ) → Thing
   Frame : (control : Control) → Thing
 
--- whether a frame about streams is among what waits
+-- whether a control frame is among what waits
 abbrev pub control_waits : Retransmits → Control → Bool
 control_waits p (ResetOf id) = has_reset id p.reset_stream
 control_waits p (StopOf id) = has_stop id p.stop_sending
 control_waits p (LimitOf what) = limit_waits p what
 control_waits p Blocked = p.data_blocked
 control_waits p (BlockedOn id) = has_id id p.stream_data_blocked
+control_waits p (NewId number) = list_any (λ c. c.sequence == number) p.new_cids
+control_waits p (Retirement number) = list_any (λ n. n == number) p.retire_cids
 
 -- whether an offset of a half that wasn't reset is to go: it is lost, or was never sent
 abbrev pub byte_waits : ℕ → SendHalf → Bool
@@ -71,6 +81,8 @@ fin_waits h = is_none h.reset && h.end_waits
 abbrev pub IsPending : End → Thing → Type 0
 IsPending e Ack = e.acknowledging.due ≡ true
 IsPending e Ping = e.waiting.signals.ping ≡ true
+IsPending e Challenge = is_some e.waiting.signals.challenge ≡ true
+IsPending e Response = is_some e.waiting.signals.response ≡ true
 IsPending e Probe = 0 < e.tracking.probes
 IsPending e (Message message) = In message e.messages.queues.outgoing
 IsPending e (Byte id offset) = on_half (byte_waits offset) (at e.streams.sending.halves.live id) ≡ true
@@ -79,7 +91,7 @@ IsPending e (Frame control) = control_waits e.waiting.frames control ≡ true
 
 -- ---- what a frame says
 
--- whether a frame is this frame about streams
+-- whether a frame is this control frame
 abbrev pub says : Control → FrameValue → Bool
 says (ResetOf id) (reset_stream f) = f.id == id
 says (StopOf id) (stop_sending f) = f.id == id
@@ -88,6 +100,8 @@ says (LimitOf (StreamData id)) (max_stream_data f) = f.id == id
 says (LimitOf (StreamCount dir)) f = is_max_streams (is_one_way dir) f
 says Blocked f = is_data_blocked f
 says (BlockedOn id) (stream_data_blocked f) = f.id == id
+says (NewId number) (new_connection_id f) = f.sequence == number
+says (Retirement number) (retire_connection_id n) = n == number
 says control f = false
 
 -- A datagram bears it: a STREAM frame with the offset, or with the end, or the frame.
@@ -97,11 +111,14 @@ Bears s (Fin id) = HoldsEnd (s ∷ []) id
 Bears s (Frame control) = list_any (says control) s.frames ≡ true
 Bears s q = ⊥
 
--- It went with one of these datagrams: an ACK frame, PING, an offset or the end of a stream, or a frame that names no stream, as MAX_DATA, MAX_STREAMS and DATA_BLOCKED. Of the others it isn't
--- said.
+-- It went with one of these datagrams: an ACK frame, PING, PATH_CHALLENGE, PATH_RESPONSE, an offset
+-- or the end of a stream, or a frame that names no stream, as MAX_DATA, MAX_STREAMS and
+-- DATA_BLOCKED. Of the others it isn't said.
 abbrev pub HasGone : List Sent → Thing → Type 0
 HasGone ss Ack = acknowledges ss ≡ true
 HasGone ss Ping = stands is_ping ss ≡ true
+HasGone ss Challenge = stands is_path_challenge ss ≡ true
+HasGone ss Response = stands is_path_response ss ≡ true
 HasGone ss (Byte id offset) = HoldsOffset ss id offset
 HasGone ss (Fin id) = HoldsEnd ss id
 HasGone ss (Frame (LimitOf AllData)) = stands is_max_data ss ≡ true
@@ -111,8 +128,10 @@ HasGone ss q = ⊥
 
 -- ---- what is seen of a call
 
--- What an observer of an end knows of a call: what was told before, the call, what is known before and behind it, the packets that came since the end gave an ACK frame, before it
--- and behind it, when those came before it that ask, and by what losses are judged.
+-- What an observer of an end knows of a call: what was told before, the call, what is known before
+-- and behind it, the packets that came since the end gave an ACK frame, before it and behind it,
+-- when those came before it that ask, when the time without a packet is over, if it is kept, and by
+-- what losses are judged.
 pub record Seen : Type 0 where
   pub told : List Told
   pub now : Told
@@ -121,6 +140,7 @@ pub record Seen : Type 0 where
   pub unanswered : List Packet
   pub unanswered_behind : List Packet
   pub arrivals : List ℕ
+  pub alive : Option ℕ
   pub terms : Terms
 
 -- the packets that came by it
@@ -135,8 +155,8 @@ brings test s = list_any (λ p. list_any test p.frames) (came s)
 abbrev pub acknowledged_by : Seen → List Sent
 acknowledged_by s = drop (length s.before.flight.acked) s.behind.flight.acked
 
--- A datagram that bore it is lost (RFC 9002, section 6.1): it was in flight, and behind the call it neither is, nor was acknowledged by it. What it bore goes again
--- (RFC 9000, section 13.3).
+-- A datagram that bore it is lost (RFC 9002, section 6.1): it was in flight, and behind the call it
+-- neither is, nor was acknowledged by it. What it bore goes again (RFC 9000, section 13.3).
 pub record WasLost (s : Seen) (q : Thing) : Type 0 where
   pub sent : Sent
   pub flew : In sent s.before.flight.flying
@@ -144,7 +164,8 @@ pub record WasLost (s : Seen) (q : Thing) : Type 0 where
   pub unnamed : In sent (acknowledged_by s) → ⊥
   pub bore : Bears sent q
 
--- A probe of losses waited at a poll, which may say again what a datagram in flight bears (RFC 9002, section 6.2.4).
+-- A probe of losses waited at a poll, which may say again what a datagram in flight bears (RFC
+-- 9002, section 6.2.4).
 pub record IsProbed (s : Seen) (q : Thing) : Type 0 where
   pub polls : is_poll s.now.call ≡ true
   pub waited : 0 < s.before.flight.probes
@@ -152,13 +173,20 @@ pub record IsProbed (s : Seen) (q : Thing) : Type 0 where
   pub flies : In sent s.before.flight.flying
   pub bears : Bears sent q
 
--- whether the timer of losses expires at it, and no datagram may be lost by time (RFC 9002, section 6.2.1)
+-- whether the timer of losses expires at it, and no datagram may be lost by time (RFC 9002, section
+-- 6.2.1)
 abbrev pub makes_probes : Seen → Bool
 makes_probes s = is_timely s.now.state s.now.call && (is_none s.before.flight.loss_time && is_past (loss_due s.terms s.before.flight) s.behind.clock)
 
+-- whether it asks for PING, or the time without a packet is over at it (RFC 9000, section 10.1.2),
+-- or it is a poll at which a probe of losses waits in vain (section 8.1)
+abbrev pub makes_ping : Seen → Bool
+makes_ping s = asks_ping s.now.call || (wakes s.now s.behind.clock s.alive || probes_in_vain s.now.call (went s.before s.behind) s.before)
+
 -- ---- calls of the application, and frames that come
 
--- whether a call uses up what came of a stream: it reads it, stops it, or is told of its reset (RFC 9000, sections 2.4 and 4.1)
+-- whether a call uses up what came of a stream: it reads it, stops it, or is told of its reset (RFC
+-- 9000, sections 2.4 and 4.1)
 abbrev pub uses_up : Call → Answer → Bool
 uses_up (calls.Read read) (answers.Read (Ok said)) = true
 uses_up (calls.Stop id code) (answers.Stop (Ok done)) = true
@@ -176,20 +204,40 @@ finds_blocked test (calls.Write id bytes) (answers.Write (Err write_errors.Block
 finds_blocked test (calls.WriteChunks id chunks) (answers.WriteChunks (Err write_errors.Blocked)) = test id
 finds_blocked test call a = false
 
--- whether a frame brings what is used up at once where its stream was stopped, or with its reset (RFC 9000, sections 3.5 and 4.5)
+-- whether a frame brings what is used up at once where its stream was stopped, or with its reset
+-- (RFC 9000, sections 3.5 and 4.5)
 abbrev pub brings_data : FrameValue → Bool
 brings_data (stream f) = true
 brings_data (reset_stream f) = true
 brings_data f = false
 
--- whether a stream may be done by it: what this end sent on it is acknowledged, or what the peer sent on it is over (RFC 9000, section 4.6)
+-- whether a frame retires an own id, for which another may be issued (RFC 9000, section 5.1.1)
+abbrev pub is_retirement : FrameValue → Bool
+is_retirement (retire_connection_id n) = true
+is_retirement f = false
+
+-- whether it brings an id of the peer: one that comes late is retired (section 19.15)
+abbrev pub is_new_id : FrameValue → Bool
+is_new_id (new_connection_id f) = true
+is_new_id f = false
+
+-- whether a call uses the next id of the peer: those before it are retired (section 5.1.2)
+abbrev pub uses_next : Call → Answer → Bool
+uses_next calls.UseNextId (answers.UseNextId (Ok done)) = true
+uses_next call a = false
+
+-- whether a stream may be done by it: what this end sent on it is acknowledged, or what the peer
+-- sent on it is over (RFC 9000, section 4.6)
 abbrev pub may_end : FrameValue → Bool
 may_end (ack a) = true
 may_end f = brings_data f
 
--- Whether a call, or a frame that comes by it, asks for a frame about streams: a reset and a stop are called for (RFC 9000, sections 3.1 and 3.5); MAX_DATA goes where more was used up (section
--- 4.1), MAX_STREAM_DATA where more of the stream was read, and MAX_STREAMS where a stream may be done (section 4.6); and the frames that say that a limit is used up where a write is blocked
--- (sections 19.12 and 19.13).
+-- Whether a call, or a frame that comes by it, asks for a control frame: a reset and a stop are
+-- called for (RFC 9000, sections 3.1 and 3.5); MAX_DATA goes where more was used up (section 4.1),
+-- MAX_STREAM_DATA where more of the stream was read, and MAX_STREAMS where a stream may be done
+-- (section 4.6); and the frames that say that a limit is used up where a write is blocked (sections
+-- 19.12 and 19.13). The peer is told of an own id where it retires one, and an id of the peer is
+-- retired where the next one is used, or one comes late.
 abbrev pub asks_for : Seen → Control → Bool
 asks_for s (ResetOf id) = is_some (reset_by id s.now.call s.now.answer)
 asks_for s (StopOf id) = stopped_by id s.now.call s.now.answer
@@ -198,21 +246,30 @@ asks_for s (LimitOf (StreamData id)) = reads_on id s.now.call s.now.answer
 asks_for s (LimitOf (StreamCount dir)) = uses_up s.now.call s.now.answer || brings may_end s
 asks_for s Blocked = finds_blocked (λ id. true) s.now.call s.now.answer
 asks_for s (BlockedOn id) = finds_blocked (λ j. j == id) s.now.call s.now.answer
+asks_for s (NewId number) = brings is_retirement s
+asks_for s (Retirement number) = uses_next s.now.call s.now.answer || brings is_new_id s
 
 -- ---- the causes
 
--- whether an ACK frame may become due by a call: a packet comes while one waits that asks; it bears the mark of congestion; 25 ms have passed since one came that asks; or a datagram may go, and
+-- whether an ACK frame may become due by a call: a packet comes while one waits that asks; it bears
+-- the mark of congestion; 25 ms have passed since one came that asks; or a datagram may go, and
 -- many came that don't ask (RFC 9000, section 13.2.1)
 abbrev pub may_hasten : Seen → Bool
 may_hasten s =
     (are_some (came s) && one_asks s.unanswered_behind)
     || (takes_marked s.now.call s.now.answer || (waits_out s.now s.arrivals s.behind.clock || (is_poll s.now.call && nat_lt may_come (count_silent s.unanswered))))
 
--- What makes it wait: an ACK frame becomes due; PING is asked for; probes wait where the timer of losses expires; a message is sent; bytes are written, or an end is told; a frame about
--- streams is called for; what a datagram bore is lost; or a probe says it again.
+-- What makes it wait: an ACK frame becomes due; PING is asked for, or the time without a packet is
+-- over, or a probe waits in vain; probes wait where the timer of losses expires; a message is sent;
+-- bytes are written, or an end is told; a control frame is called for; what a datagram bore is
+-- lost; or a probe says it again. PATH_CHALLENGE waits only where a moment comes, at which the
+-- timer of path validation may expire, and PATH_RESPONSE only where PATH_CHALLENGE comes (section
+-- 8.2).
 abbrev pub HasCause : Seen → Thing → Type 0
 HasCause s Ack = may_hasten s ≡ true
-HasCause s Ping = asks_ping s.now.call ≡ true
+HasCause s Ping = makes_ping s ≡ true
+HasCause s Challenge = is_timeout s.now.call ≡ true
+HasCause s Response = brings is_path_challenge s ≡ true
 HasCause s Probe = makes_probes s ≡ true
 HasCause s (Message message) = In message (sent_by s.now.call s.now.answer)
 HasCause s (Byte id offset) = ((length (written id s.told) ≤ offset) × (offset < length (written id (s.told ++ s.now ∷ [])))) ⊎ WasLost s (Byte id offset)
@@ -231,6 +288,7 @@ seen_at r side i call a = record {
   unanswered = (wants r side i).packets;
   unanswered_behind = (wants r side (suc i)).packets;
   arrivals = (debt r side i).arrivals;
+  alive = (wants r side i).alive;
   terms = terms_of (end_at side r.start);
 }
 
@@ -243,7 +301,9 @@ pub data StillOrNew (s : Seen) (before : End) (q : Thing) : Type 0 where
 abbrev pub BeginsAt : Seen → End → End → Type 0
 BeginsAt s before behind = (q : Thing) → IsPending behind q → StillOrNew s before q
 
--- So it is of each call at an end that is open behind it, and at the other end nothing begins to wait. It is one before which, and at which, no delivery, no poll and no timeout met want of memory.
+-- So it is of each call at an end that is open behind it, and at the other end nothing begins to
+-- wait. It is one before which, and at which, no delivery, no poll and no timeout met want of
+-- memory.
 abbrev pub WaitingBegins : Run → Type 0
 WaitingBegins r = (side : Side) (i : ℕ) (call : Call) (a : Answer) (w v : World) → AreServed r (suc i) → IsAt r i side call a → LeadsTo r i w → LeadsTo r (suc i) v
     → ((end_at side v).closing.state ≡ states.Open → BeginsAt (seen_at r side i call a) (end_at side w) (end_at side v))

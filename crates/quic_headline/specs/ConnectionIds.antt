@@ -1,25 +1,152 @@
--- Connection ids in a run (RFC 9000, section 5.1). No end tells the other of an id yet, so each has the one with which it began, and all that comes is sent to that.
-use Rattle.std.specs.Prelude.{ℕ, ◌≡◌, [], ◌∷◌}
+-- Connection ids in a run (RFC 9000, sections 5.1, 19.15 and 19.16): to which one a datagram goes,
+-- when one is unknown, and when the next one can't be used. All is read off the run's lists, but
+-- where it is said: an end may have an id that it drew and told nobody, which no list shows.
+use Rattle.std.specs.Prelude.{ℕ, ◌≡◌, ◌⊎◌, ◌↔◌, ◌<◌, ◌+◌, ◌-◌, nat_lt, min, if◌then◌else◌, List, [], ◌∷◌, ◌++◌, length, slice_get, Option, Some, None, unwrap_or, Ok, Err}
 use Rattle.quic_wire_core.specs.declared.stream_id.Side.{Side}
+use Rattle.quic_wire_core.specs.StreamId.{other_side}
+use Rattle.quic_wire.specs.Value.{FrameValue, NewConnectionIdValue, new_connection_id, retire_connection_id}
+use Rattle.quic_packet.specs.Datagram.{Opening}
+use Rattle.quic_retransmits.specs.Retransmits.{most_retirements}
+use Rattle.quic_machine.specs.declared.answers.State.TheVariants as states
 use Rattle.quic_machine.specs.declared.answers.DropReason.TheVariants as drops
 use Rattle.quic_machine.specs.declared.answers.Received.TheVariants as receives
+use Rattle.quic_machine.specs.declared.answers.NextIdError.TheVariants as next_errors
 use Rattle.quic_machine.specs.declared.run.Delivery.{Delivery}
 use Rattle.quic_machine.specs.declared.run.Call.TheVariants as calls
+use Rattle.quic_machine.specs.declared.run.Answer.{Answer}
 use Rattle.quic_machine.specs.declared.run.Answer.TheVariants as answers
-use Rattle.quic_machine.specs.Ids.{known, own_id}
-use Rattle.quic_machine.specs.Machine.{World, end_at}
-use Rattle.quic_headline.specs.Runs.{Run, In, LeadsTo, AreServed, first_id_of_peer}
-use Rattle.quic_headline.specs.Observer.{Sent, sents_until}
-use Rattle.quic_headline.specs.Headline.{IsAt}
+use Rattle.quic_machine.specs.Policy.{Policy}
+use Rattle.quic_machine.specs.Ids.{known}
+use Rattle.quic_machine.specs.Opens.{opens}
+use Rattle.quic_machine.specs.End.{End}
+use Rattle.quic_machine.specs.Machine.{World, policy_at, end_at}
+use Rattle.quic_headline.specs.Runs.{Run, Told, Packet, Intake, In, nothing_came, and_told, folded, until, state_at, given_of, given_until, LeadsTo, AreServed, destination, expected_behind, first_id_of_peer}
+use Rattle.quic_headline.specs.Observer.{Sent, took, came_in, sents_until}
+use Rattle.quic_headline.specs.Polls.{GaveOne}
+use Rattle.quic_headline.specs.Duties.{WasGiven, WasToldId, WasRetired}
+use Rattle.quic_headline.specs.Headline.{IsAt, NoneAbove, OpensAs}
 
--- each datagram that an end gave was sent to the id with which its peer began
-abbrev pub SentToFirstId : Run → Type 0
-SentToFirstId r = (side : Side) (i : ℕ) (s : Sent) → AreServed r i → In s (sents_until r side i) → s.id ≡ first_id_of_peer r side
+-- ---- to which id a datagram goes
 
--- no delivery is answered that its datagram was sent to no id of the end's, whatever the state of the end
-abbrev pub NoUnknownId : Run → Type 0
-NoUnknownId r = (side : Side) (i : ℕ) (delivery : Delivery) → AreServed r i → IsAt r i side (calls.Deliver delivery) (answers.Deliver (receives.Dropped drops.UnknownId)) → ⊥
+-- An id is one that an end was told under a number: the peer's first id is, under 0, and each that
+-- a NEW_CONNECTION_ID frame gave which it took.
+abbrev pub IsToldId : List ℕ → List Packet → ℕ → List ℕ → Type 0
+IsToldId first packets number id = ((number ≡ 0) × (id ≡ first)) ⊎ WasToldId packets number id
 
--- wherever the run leads, an end has the id with which it began, and no other
-abbrev pub FirstIdStays : Run → Type 0
-FirstIdStays r = (side : Side) (i : ℕ) (w : World) → AreServed r i → LeadsTo r i w → known (end_at side w).ids ≡ own_id (end_at side r.start).ids.living ∷ []
+-- A datagram went to an id that its end was told under a number, which stands in no
+-- RETIRE_CONNECTION_ID that the end gave before it, nor in the datagram itself.
+pub record IsIssued (first : List ℕ) (packets : List Packet) (before : List Sent) (s : Sent) : Type 0 where
+  pub number : ℕ
+  pub told : IsToldId first packets number s.id
+  pub unretired : WasGiven (before ++ s ∷ []) (retire_connection_id number) → ⊥
+
+-- so it is of each datagram that an end gave: it went to an id that the peer issued and the end
+-- hadn't retired. A closing end may use one that came in the packet for which it closes
+abbrev pub IdsAreIssued : Run → Type 0
+IdsAreIssued r = (side : Side) (i : ℕ) (before behind : List Sent) (s : Sent) → AreServed r i → sents_until r side i ≡ before ++ s ∷ behind
+    → IsIssued (first_id_of_peer r side) (came_in r side i) before s
+
+-- ---- which ids an end knows as its own
+
+-- an end told its peer of this id under a number: of its first one, under 0, and of each that
+-- stands in a NEW_CONNECTION_ID frame that it gave
+abbrev pub Tells : Run → Side → ℕ → ℕ → List ℕ → Type 0
+Tells r side i number id = ((number ≡ 0) × (id ≡ first_id_of_peer r (other_side side)))
+    ⊎ ((f : NewConnectionIdValue) × (f.sequence ≡ number) × (f.id ≡ id) × WasGiven (sents_until r side i) (new_connection_id f))
+
+-- where a delivery at an open end is answered that its datagram was sent to no id of the end's, the
+-- end took a RETIRE_CONNECTION_ID of each number under which it had told its peer of that id
+abbrev pub UnknownOnlyWhereRetired : Run → Type 0
+UnknownOnlyWhereRetired r = (side : Side) (i number : ℕ) (delivery : Delivery) (datagram : List ℕ) → AreServed r i → state_at r side i ≡ states.Open
+    → IsAt r i side (calls.Deliver delivery) (answers.Deliver (receives.Dropped drops.UnknownId)) → slice_get (given_of r (other_side side)) delivery.index ≡ Some datagram
+    → Tells r side i number (destination datagram) → WasRetired (took r side i) number
+
+-- wherever the run leads, an open end knows each id of which it told its peer, under a number of
+-- which it took no RETIRE_CONNECTION_ID
+abbrev pub ToldIdsAreKnown : Run → Type 0
+ToldIdsAreKnown r = (side : Side) (i number : ℕ) (id : List ℕ) (w : World) → AreServed r i → LeadsTo r i w → state_at r side i ≡ states.Open
+    → Tells r side i number id → (WasRetired (took r side i) number → ⊥) → In id (known (end_at side w).ids)
+
+-- what a datagram that an end gave opens to at the other end, to which the run leads: with its keys
+-- and its ids, where one above the greatest number that it took is expected (RFC 9000, sections 5.2
+-- and 12.2, and A.3)
+abbrev pub opened_at_end : Run → World → Side → ℕ → List ℕ → Option Opening
+opened_at_end r w side i d = opens (policy_at (other_side side) r.keys) (known (end_at (other_side side) w).ids) (expected_behind (took r (other_side side) i)) d
+
+-- wherever the run leads, each datagram that an end gave opens as it was sent at the other one that
+-- is open, took none with a number above its own, and told of the id under a number of which it
+-- took no RETIRE_CONNECTION_ID
+abbrev pub NewestOpensAtEnd : Run → Type 0
+NewestOpensAtEnd r = (side : Side) (i place number : ℕ) (datagram : List ℕ) (s : Sent) (w : World) → AreServed r i → LeadsTo r i w → state_at r (other_side side) i ≡ states.Open
+    → slice_get (given_until r side i) place ≡ Some datagram → slice_get (sents_until r side i) place ≡ Some s
+    → NoneAbove (took r (other_side side) i) s.number
+    → Tells r (other_side side) i number s.id → (WasRetired (took r (other_side side) i) number → ⊥)
+    → OpensAs s (opened_at_end r w side i datagram)
+
+-- ---- the next id is used, or can't be (RFC 9000, section 5.1.2)
+
+-- the numbers of the ids that frames brought
+abbrev pub brought_by : List FrameValue → List ℕ
+brought_by [] = []
+brought_by (new_connection_id f ∷ fs) = f.sequence ∷ brought_by fs
+brought_by (f ∷ fs) = brought_by fs
+
+-- and packets
+abbrev pub brought : List Packet → List ℕ
+brought [] = []
+brought (p ∷ ps) = brought_by p.frames ++ brought ps
+
+-- a number, or the lesser of it and another
+abbrev pub lesser_of : ℕ → Option ℕ → ℕ
+lesser_of n None = n
+lesser_of n (Some m) = min n m
+
+-- the least of numbers above one, if there is one
+abbrev pub next_of : ℕ → List ℕ → Option ℕ
+next_of n [] = None
+next_of n (m ∷ ms) = if nat_lt n m then Some (lesser_of m (next_of n ms)) else next_of n ms
+
+-- what came to an end, and the number of the peer's id that it uses
+pub record Using : Type 0 where
+  pub intake : Intake
+  pub number : ℕ
+
+-- the id in use changes where the application asked for the next one and wasn't refused. Honest
+-- peers ask for none to be retired
+abbrev pub used_behind : Answer → Using → Using
+used_behind (answers.UseNextId (Ok done)) u = record u { number = unwrap_or (next_of u.number (brought u.intake.took)) u.number }
+used_behind a u = u
+
+-- one call more
+abbrev pub using_told : Policy → List (List ℕ) → Told → Using → Using
+using_told p given t u = used_behind t.answer (record u { intake = and_told p given t u.intake })
+
+-- the number of the peer's id that an end uses behind the first so many answers
+abbrev pub in_use : Run → Side → ℕ → ℕ
+in_use r side i = (folded (using_told (policy_at side r.keys) (given_of r (other_side side))) (until r side i) (record { intake = nothing_came; number = 0 })).number
+
+-- each datagram that an open end gave went to the id of the number in use, as the end was told of
+-- it (section 5.1.2)
+abbrev pub IdsAreInUse : Run → Type 0
+IdsAreInUse r = (side : Side) (i now : ℕ) (gave : GaveOne r side i now) → state_at r side i ≡ states.Open → IsToldId (first_id_of_peer r side) (took r side i) (in_use r side i) gave.sent.id
+
+-- the number of the next id, if the end took one
+abbrev pub next_id : Run → Side → ℕ → Option ℕ
+next_id r side i = next_of (in_use r side i) (brought (took r side i))
+
+-- an open end refuses the next id for want of one exactly where no frame that it took brought an id
+-- with a number above that in use
+abbrev pub NoIdIsExact : Run → Type 0
+NoIdIsExact r = (side : Side) (i : ℕ) (a : Answer) → AreServed r i → state_at r side i ≡ states.Open → IsAt r i side calls.UseNextId a
+    → (a ≡ answers.UseNextId (Err next_errors.NoId)) ↔ (next_id r side i ≡ None)
+
+-- the next id would retire so many that, with those that wait at an end to be told, there are more
+-- than 50
+abbrev pub IsPastLimit : End → ℕ → ℕ → Type 0
+IsPastLimit e used next = most_retirements < length e.waiting.frames.retire_cids + (next - used)
+
+-- and for too many retirements exactly where there is a next id, and with those that wait at the
+-- end to which the run leads there would be more than 50
+abbrev pub TooManyIsExact : Run → Type 0
+TooManyIsExact r = (side : Side) (i : ℕ) (a : Answer) (w : World) → AreServed r i → LeadsTo r i w → state_at r side i ≡ states.Open → IsAt r i side calls.UseNextId a
+    → (a ≡ answers.UseNextId (Err next_errors.TooManyPending)) ↔ ((next : ℕ) × (next_id r side i ≡ Some next) × IsPastLimit (end_at side w) (in_use r side i) next)

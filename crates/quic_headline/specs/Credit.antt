@@ -1,5 +1,6 @@
--- Credit: how far an end lets its peer come. A limit that it says is at most its window past what was consumed, so that nothing is let come twice, or without bound
--- (RFC 9000, sections 4.1, 4.2, 19.9 and 19.10).
+-- Credit: how far an end lets its peer come. A limit that it says is at most its window past what
+-- was consumed, so that nothing is let come twice, or without bound (RFC 9000, sections 4.1, 4.2,
+-- 19.9 and 19.10).
 use Rattle.std.specs.Prelude.{ℕ, ◌+◌, ◌≤◌, max, Bool, false, not, ◌==◌, ◌&&◌, ◌||◌, if◌then◌else◌, List, [], ◌∷◌, length, Option, Some, None}
 use Rattle.std.specs.List.{list_any, sum_by, count_by}
 use Rattle.std.specs.Option.{is_some}
@@ -20,7 +21,8 @@ use Rattle.quic_headline.specs.Undone.{same_dir}
 
 -- ---- what came of a stream
 
--- the offset behind the last byte that a frame brings of a stream, or the final size that it names; 0 of any other frame (sections 19.4 and 19.8)
+-- the offset behind the last byte that a frame brings of a stream, or the final size that it names;
+-- 0 of any other frame (sections 19.4 and 19.8)
 abbrev pub end_in : ℕ → FrameValue → ℕ
 end_in id (stream f) = if f.id == id then f.offset + length f.bytes else 0
 end_in id (reset_stream f) = if f.id == id then f.final_size else 0
@@ -58,8 +60,9 @@ streams_of (p ∷ ps) = streams_in p.frames (streams_of ps)
 
 -- ---- what is consumed
 
--- How many bytes of a stream count as consumed (section 4.1): those that were read. Where nothing more is read, for the end stopped it or its reset came, it is all up
--- to the greatest offset that came, or to the final size.
+-- How many bytes of a stream count as consumed (section 4.1): those that were read. Where nothing
+-- more is read, for the end stopped it or its reset came, it is all up to the greatest offset that
+-- came, or to the final size.
 abbrev pub consumed_on : ℕ → List Packet → List Told → ℕ
 consumed_on id packets told = max (length (bytes_of (reads id told))) (if stopped id told || was_reset id packets then greatest (end_in id) packets else 0)
 
@@ -69,22 +72,24 @@ all_consumed packets told = sum_by (λ id. consumed_on id packets told) (streams
 
 -- ---- the clause
 
--- The limit that a frame says, where it says one, is within such windows of what these calls consumed of what came: MAX_DATA (section 19.9) of all that was consumed,
--- MAX_STREAM_DATA (section 19.10) of the bytes that were read of its stream.
+-- The limit that a frame says, where it says one, is within such windows of what these calls
+-- consumed of what came: MAX_DATA (section 19.9) of all that was consumed, MAX_STREAM_DATA (section
+-- 19.10) of the bytes that were read of its stream.
 abbrev pub StaysWithin : (window stream_window : ℕ) → List Packet → List Told → FrameValue → Type 0
 StaysWithin window stream_window packets told (max_data limit) = limit ≤ window + all_consumed packets told
 StaysWithin window stream_window packets told (max_stream_data f) = f.limit ≤ stream_window + length (bytes_of (reads f.id told))
 StaysWithin window stream_window packets told f = Unit {0}
 
--- So it is of each frame in each datagram that an end gave, at each place, and so at the one behind the poll that gave it. What was consumed only grows, so this is
--- the place where it says most.
+-- So it is of each frame in each datagram that an end gave, at each place, and so at the one behind
+-- the poll that gave it. What was consumed only grows, so this is the place where it says most.
 abbrev pub CreditIsBounded : Run → Type 0
 CreditIsBounded r = (s : AreStarted r.start) (side : Side) (i : ℕ) (sent : Sent) (f : FrameValue) → AreServed r i → In sent (sents_until r side i) → In f sent.frames
     → StaysWithin (receive_window r s side) (stream_window r s side) (took r side i) (until r side i) f
 
 -- ---- streams
 
--- whether nothing more of a stream is read: its end was read, this end stopped it, or its reset came
+-- whether nothing more of a stream is read: its end was read, this end stopped it, or its reset
+-- came
 abbrev pub is_read_up : ℕ → List Packet → List Told → Bool
 is_read_up id packets told = finished id told || (stopped id told || was_reset id packets)
 
@@ -92,7 +97,8 @@ is_read_up id packets told = finished id told || (stopped id told || was_reset i
 abbrev pub is_written_up : ℕ → List Told → Bool
 is_written_up id told = not (is_two_way (dir_of id)) || (ended id told || is_some (reset id told))
 
--- whether a stream is done at an end of this side: one of this direction that its peer opened (section 4.6)
+-- whether a stream is done at an end of this side: one of this direction that its peer opened
+-- (section 4.6)
 abbrev pub is_over : Side → Dir → List Packet → List Told → ℕ → Bool
 is_over side dir packets told id = not (is_own side id) && (same_dir (dir_of id) dir && (is_read_up id packets told && is_written_up id told))
 
@@ -105,7 +111,8 @@ abbrev pub most_at_once : Dir → Settings → ℕ
 most_at_once Bi s = s.max_bidi
 most_at_once Uni s = s.max_uni
 
--- each count that MAX_STREAMS says (section 19.11), in each datagram that an end gave, is at most as many past those that are done
+-- each count that MAX_STREAMS says (section 19.11), in each datagram that an end gave, is at most
+-- as many past those that are done
 abbrev pub CountsAreBounded : Run → Type 0
 CountsAreBounded r = (s : AreStarted r.start) (side : Side) (i : ℕ) (sent : Sent) (f : StreamCountValue) → AreServed r i → In sent (sents_until r side i) → In (max_streams f) sent.frames
     → f.count ≤ most_at_once (dir_named f.one_way) (making_at side r.start s).settings + all_over side (dir_named f.one_way) (took r side i) (until r side i)

@@ -1,11 +1,13 @@
--- The ledger of duties: where what has to reach the peer is until it arrives (RFC 9000, section 13.3). A duty waits, is under way, or has arrived.
+-- The ledger of duties: where what has to reach the peer is until it arrives (RFC 9000, section
+-- 13.3). A duty waits, is under way, or has arrived.
 use Rattle.std.specs.Prelude.{ℕ, ◌<◌, ◌≤◌, ◌≡◌, ◌⊎◌, Bool, true, false, ◌==◌, ◌||◌, List, [], ◌∷◌, length, Option, Some, None, IsSome}
 use Rattle.std.specs.List.{list_any}
 use Rattle.std.specs.Option.{is_none}
 use Rattle.quic_wire_core.specs.declared.stream_id.Side.{Side}
 use Rattle.quic_wire_core.specs.declared.stream_id.Dir.{Dir}
 use Rattle.quic_wire_core.specs.StreamId.{other_side}
-use Rattle.quic_wire.specs.Value.{FrameValue, StopSendingValue, max_data, max_stream_data, max_streams}
+use Rattle.quic_wire_core.specs.declared.shared.IssuedCid.{IssuedCid}
+use Rattle.quic_wire.specs.Value.{FrameValue, StopSendingValue, NewConnectionIdValue, max_data, max_stream_data, max_streams, new_connection_id, retire_connection_id}
 use Rattle.quic_wire.specs.FrameView.{is_one_way}
 use Rattle.quic_send_buffer.specs.declared.stream_meta.StreamMeta.{StreamMeta}
 use Rattle.quic_send_buffer.specs.Buffered.{is_lost, is_unsent}
@@ -15,6 +17,7 @@ use Rattle.quic_streams_parts.specs.SendHalf.{SendHalf}
 use Rattle.quic_streams_parts.specs.RecvHalf.{RecvHalf}
 use Rattle.quic_streams_parts.specs.Dirs.{of}
 use Rattle.quic_retransmits.specs.Retransmits.{Retransmits, has_id}
+use Rattle.quic_ids.specs.CidState.{is_in}
 use Rattle.quic_streams_state.specs.Limits.{can_send_flow_control}
 use Rattle.quic_machine.specs.End.{End}
 use Rattle.quic_machine.specs.Poll.{waits}
@@ -24,19 +27,23 @@ use Rattle.quic_headline.specs.Observer.{Sent, took, sents_until}
 use Rattle.quic_headline.specs.Amounts.{was_stopped}
 use Rattle.quic_headline.specs.Unread.{stopped}
 
--- what an end limits: the bytes of all streams, those of one, or how many streams of a direction are opened (sections 4.1 and 4.6)
+-- what an end limits: the bytes of all streams, those of one, or how many streams of a direction
+-- are opened (sections 4.1 and 4.6)
 pub data Limited : Type 0 where
   AllData : Limited
   StreamData : (id : ℕ) → Limited
   StreamCount : (dir : Dir) → Limited
 
--- an offset of a stream, the end of one, or its reset; that the peer is to stop sending on one; and a
--- limit, with its value
+-- an offset of a stream, the end of one, or its reset; that the peer is to stop sending on one;
+-- that an id of the peer with a number is retired, and an own id of a number; and a limit, with its
+-- value
 pub data Duty : Type 0 where
   Offset : (id : ℕ) (offset : ℕ) → Duty
   Fin : (id : ℕ) → Duty
   Reset : (id : ℕ) → Duty
   Stop : (id : ℕ) → Duty
+  Retire : (number : ℕ) → Duty
+  NewId : (number : ℕ) → Duty
   Limit : (what : Limited) (value : ℕ) → Duty
 
 -- ---- what is owed
@@ -53,32 +60,38 @@ pub record WasGiven (sents : List Sent) (frame : FrameValue) : Type 0 where
   pub among : In sent sents
   pub carried : In frame sent.frames
 
--- whether a limit matters still: that of a stream does while the stream is in use, its end isn't known, and this end didn't stop it
+-- whether a limit matters still: that of a stream does while the stream is in use, its end isn't
+-- known, and this end didn't stop it
 abbrev pub Matters : End → Limited → Type 0
 Matters e AllData = Unit {0}
 Matters e (StreamData id) = can_send_flow_control e.streams id ≡ true
 Matters e (StreamCount dir) = Unit {0}
 
--- The greatest limit that an end said so far, in the datagrams that it gave, while that matters: a greater one takes its place.
+-- The greatest limit that an end said so far, in the datagrams that it gave, while that matters: a
+-- greater one takes its place.
 pub record IsSaid (e : End) (own : List Sent) (what : Limited) (value : ℕ) : Type 0 where
   pub said : WasGiven own (limit_frame what value)
   pub greatest : (other : ℕ) → WasGiven own (limit_frame what other) → other ≤ value
   pub matters : Matters e what
 
--- whether the final size of a stream is unknown to an end that receives on it: it knows that of a half
--- that is done (section 4.5)
+-- whether the final size of a stream is unknown to an end that receives on it: it knows that of a
+-- half that is done (section 4.5)
 abbrev pub lacks_size : Option RecvHalf → Bool
 lacks_size None = false
 lacks_size (Some half) = is_none half.final
 
--- what an end owes that gave these datagrams and was told this: of each stream that it didn't reset,
--- each offset that was written, and the end if it was finished; each reset; STOP_SENDING of each
--- stream that it stopped, while the final size isn't known (section 3.5); and each limit
+-- what an end owes that gave these datagrams and was told this: of each stream that it didn't
+-- reset, each offset that was written, and the end if it was finished; each reset; STOP_SENDING of
+-- each stream that it stopped, while the final size isn't known (section 3.5); the retirement of
+-- each id of the peer below that in use (section 5.1.2); each own id but the first, while it lives
+-- (section 5.1.1); and each limit
 abbrev pub IsOwed : End → List Sent → List Told → Duty → Type 0
 IsOwed e own told (Offset id offset) = (reset id told ≡ None) × (offset < length (written id told))
 IsOwed e own told (Fin id) = (reset id told ≡ None) × (ended id told ≡ true)
 IsOwed e own told (Reset id) = IsSome (reset id told)
 IsOwed e own told (Stop id) = (stopped id told ≡ true) × (lacks_size (at e.streams.receiving.halves.live id) ≡ true)
+IsOwed e own told (Retire number) = number < e.ids.peer.active
+IsOwed e own told (NewId number) = (1 ≤ number) × (is_in number e.ids.own.living ≡ true)
 IsOwed e own told (Limit what value) = IsSaid e own what value
 
 -- ---- it waits
@@ -96,6 +109,14 @@ has_reset id resets = list_any (λ r. r.0 == id) resets
 abbrev pub has_stop : ℕ → List StopSendingValue → Bool
 has_stop id stops = list_any (λ s. s.id == id) stops
 
+-- whether the retirement of a number is
+abbrev pub has_retirement : ℕ → List ℕ → Bool
+has_retirement number numbers = list_any (λ n. n == number) numbers
+
+-- whether the id of a number is
+abbrev pub has_new_id : ℕ → List IssuedCid → Bool
+has_new_id number cids = list_any (λ cid. cid.sequence == number) cids
+
 -- whether a limit waits to be said, as it is then: no less than before
 abbrev pub limit_waits : Retransmits → Limited → Bool
 limit_waits p AllData = p.max_data
@@ -108,6 +129,8 @@ is_due e (Offset id offset) = on_half (λ h. is_lost h.buffer offset || is_unsen
 is_due e (Fin id) = on_half (λ h. h.end_waits) (at e.streams.sending.halves.live id)
 is_due e (Reset id) = has_reset id e.waiting.frames.reset_stream
 is_due e (Stop id) = has_stop id e.waiting.frames.stop_sending
+is_due e (Retire number) = has_retirement number e.waiting.frames.retire_cids
+is_due e (NewId number) = has_new_id number e.waiting.frames.new_cids
 is_due e (Limit what value) = limit_waits e.waiting.frames what
 
 -- It waits to go. What waits is queued: the end has something to send.
@@ -132,6 +155,8 @@ Carries frame duty = ⊥
 abbrev pub StandsIn : Carried → Duty → Type 0
 StandsIn carried (Reset id) = has_reset id carried.retransmits.reset_stream ≡ true
 StandsIn carried (Stop id) = has_stop id carried.retransmits.stop_sending ≡ true
+StandsIn carried (Retire number) = has_retirement number carried.retransmits.retire_cids ≡ true
+StandsIn carried (NewId number) = has_new_id number carried.retransmits.new_cids ≡ true
 StandsIn carried duty = AnyIn (λ frame. Carries frame duty) carried.stream_frames
 
 -- it stands in one of these, which are neither acknowledged nor lost yet
@@ -161,16 +186,34 @@ pub record LimitHasArrived (packets : List Packet) (what : Limited) (value : ℕ
   pub carried : In (limit_frame what limit) packet.frames
   pub enough : value ≤ limit
 
+-- An id was told under a number, in a NEW_CONNECTION_ID frame that was taken (section 19.15).
+pub record WasToldId (packets : List Packet) (number : ℕ) (id : List ℕ) : Type 0 where
+  pub packet : Packet
+  pub was_taken : In packet packets
+  pub frame : NewConnectionIdValue
+  pub carried : In (new_connection_id frame) packet.frames
+  pub of_number : frame.sequence ≡ number
+  pub is : frame.id ≡ id
+
+-- A number stands in a RETIRE_CONNECTION_ID frame that was taken (section 19.16).
+pub record WasRetired (packets : List Packet) (number : ℕ) : Type 0 where
+  pub packet : Packet
+  pub was_taken : In packet packets
+  pub carried : In (retire_connection_id number) packet.frames
+
 -- it stood in a packet that was taken
 abbrev pub HasCome : List Packet → List Told → Duty → Type 0
 HasCome packets told (Offset id offset) = HasArrived packets id offset
 HasCome packets told (Fin id) = EndHasArrived packets id (length (written id told))
 HasCome packets told (Reset id) = ResetHasArrived packets id
 HasCome packets told (Stop id) = was_stopped id packets ≡ true
+HasCome packets told (Retire number) = WasRetired packets number
+HasCome packets told (NewId number) = (id : List ℕ) × WasToldId packets number id
 HasCome packets told (Limit what value) = LimitHasArrived packets what value
 
 -- ---- where it is
 
+-- a duty waits at the end, or is under way in a tracked packet, or has come at the peer
 abbrev pub IsSomewhere : End → List Sent → List Packet → List Told → Duty → Type 0
 IsSomewhere e own packets told duty = Waits e duty ⊎ IsUnderWay own e.tracking.packets duty ⊎ HasCome packets told duty
 

@@ -74,6 +74,7 @@ mail_behind t m after = record {
   told = told_behind t.call t.answer m.unread m.told;
 }
 
+-- one call more, at an end with these keys; `given` are the datagrams that the other end gave
 abbrev pub mail_told : Policy → List (List ℕ) → Told → Mail → Mail
 mail_told p given t m = mail_behind t m (and_told p given t m.intake)
 
@@ -140,7 +141,8 @@ abbrev pub is_reading : Side → ℕ → List Packet → List Packet → List To
 is_reading side id before after told = (is_own side id || brings id before) && not (is_read_up id after told)
 
 -- whether it is told of these packets, where they come behind others, and these are all: they bring
--- something of a stream that it reads behind them, or the first reset of one that it read before them
+-- something of a stream that it reads behind them, or the first reset of one that it read before
+-- them
 abbrev pub comes_to_read : Side → ℕ → List Packet → List Packet → List Packet → List Told → Bool
 comes_to_read side id before new after told = (brings id new && is_reading side id before after told) || (was_reset id new && is_reading side id before before told)
 
@@ -162,6 +164,7 @@ reading_behind side id t r after = record {
   waits = if tells_readable id t.call t.answer then false else r.waits || comes_to_read side id r.intake.took (news r.intake after) after.took (r.told ++ t ∷ []);
 }
 
+-- one call more, at an end with these keys; `given` are the datagrams that the other end gave
 abbrev pub reading_told : Side → Policy → List (List ℕ) → ℕ → Told → Reading → Reading
 reading_told side p given id t r = reading_behind side id t r (and_told p given t r.intake)
 
@@ -170,7 +173,8 @@ abbrev pub reading : Run → Side → ℕ → ℕ → Reading
 reading r side id i = folded (reading_told side (policy_at side r.keys) (given_of r (other_side side)) id) (until r side i) no_reading
 
 -- where nothing is told next, it was told that a stream may be read since the last STREAM frame and
--- the first RESET_STREAM frame came on it, of those that it is told of, whatever the state of the end
+-- the first RESET_STREAM frame came on it, of those that it is told of, whatever the state of the
+-- end
 abbrev pub ReadablesAreTold : Run → Type 0
 ReadablesAreTold r = (side : Side) (i id : ℕ) → AreServed r i → IsAt r i side calls.Event (answers.Event None) → (reading r side id i).waits ≡ false
 
@@ -211,6 +215,7 @@ writing_behind first id t w after = record {
   waits = if tells_writable id t.call t.answer then false else w.waits || (is_used_up first id w.intake.took w.told || is_blocked id t.call t.answer);
 }
 
+-- one call more at the end
 abbrev pub writing_told : Policy → List (List ℕ) → ℕ → ℕ → Told → Writing → Writing
 writing_told p given first id t w = writing_behind first id t w (and_told p given t w.intake)
 

@@ -20,11 +20,13 @@ abbrev pub and_packet : Option Packet → List Packet → List Packet
 and_packet None packets = packets
 and_packet (Some packet) packets = packet ∷ packets
 
--- the packets of which an end took frames: those that it took, and the one at which it closed, if it did
+-- the packets of which an end took frames: those that it took, and the one at which it closed, if
+-- it did
 abbrev pub came_in : Intake → List Packet
 came_in i = and_packet i.part i.took
 
--- A stream is one of the other side's, of this kind, and a frame in these packets opened it, or one of its kind above it.
+-- A stream is one of the other side's, of this kind, and a frame in these packets opened it, or one
+-- of its kind above it.
 pub record WasOpened (packets : List Packet) (side : Side) (dir : Dir) (id : ℕ) : Type 0 where
   pub index : ℕ
   pub is : id ≡ stream_id (other_side side) dir index

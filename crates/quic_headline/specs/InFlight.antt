@@ -1,8 +1,10 @@
--- What an end waits for, against what an observer of the run's lists knows to be in flight (RFC 9002, sections 2, 6.1.1 and A.1).
+-- What an end waits for, against what an observer of the run's lists knows to be in flight (RFC
+-- 9002, sections 2, 6.1.1 and A.1).
 use Rattle.std.specs.Prelude.{ℕ, ◌+◌, ◌≡◌, ◌⊎◌, Bool, true, false, not, if◌then◌else◌, List, [], ◌∷◌, length, map, Option, Some, None}
 use Rattle.std.specs.List.{list_any}
+use Rattle.quic_wire_core.specs.declared.shared.IssuedCid.{IssuedCid}
 use Rattle.quic_wire_core.specs.declared.stream_id.Side.{Side}
-use Rattle.quic_wire.specs.Value.{FrameValue, StreamValue, StopSendingValue, ack, stream, reset_stream, stop_sending, max_data, max_stream_data, max_streams, data_blocked, stream_data_blocked}
+use Rattle.quic_wire.specs.Value.{FrameValue, StreamValue, StopSendingValue, ack, stream, reset_stream, stop_sending, max_data, max_stream_data, max_streams, data_blocked, stream_data_blocked, new_connection_id, retire_connection_id}
 use Rattle.quic_send_buffer.specs.declared.stream_meta.StreamMeta.{StreamMeta}
 use Rattle.quic_machine.specs.declared.answers.State.TheVariants as states
 use Rattle.quic_streams_parts.specs.Table.{Table}
@@ -70,7 +72,20 @@ blocked_in [] = []
 blocked_in (stream_data_blocked f ∷ fs) = f.id ∷ blocked_in fs
 blocked_in (other ∷ fs) = blocked_in fs
 
--- all of it: of each kind, that its frames are among these, or what they say, in their order or as a set of streams
+-- the ids of NEW_CONNECTION_ID frames
+abbrev pub new_ids_in : List FrameValue → List IssuedCid
+new_ids_in [] = []
+new_ids_in (new_connection_id f ∷ fs) = record { sequence = f.sequence; id = f.id; reset_token = f.token } ∷ new_ids_in fs
+new_ids_in (other ∷ fs) = new_ids_in fs
+
+-- the numbers of RETIRE_CONNECTION_ID frames
+abbrev pub retirements_in : List FrameValue → List ℕ
+retirements_in [] = []
+retirements_in (retire_connection_id n ∷ fs) = n ∷ retirements_in fs
+retirements_in (other ∷ fs) = retirements_in fs
+
+-- all of it: of each kind, that its frames are among these, or what they say, in their order or as
+-- a set of streams
 abbrev pub again_in : List FrameValue → Retransmits
 again_in frames = record {
   max_data = list_any is_max_data frames;
@@ -80,8 +95,8 @@ again_in frames = record {
   stop_sending = stops_in frames;
   max_stream_data = with_ids (limits_in frames) [];
   stream_data_blocked = with_ids (blocked_in frames) [];
-  new_cids = [];
-  retire_cids = [];
+  new_cids = new_ids_in frames;
+  retire_cids = retirements_in frames;
   ack_frequency = false;
 }
 
@@ -89,20 +104,23 @@ again_in frames = record {
 abbrev pub carried_by : List FrameValue → Carried
 carried_by frames = record { largest_acked = first_acknowledged frames; stream_frames = all_offsets frames; retransmits = again_in frames }
 
--- what an end knows of a datagram that it waits for, by its number; there is one path, the first. Where it asks, it counts against the congestion window
+-- what an end knows of a datagram that it waits for, by its number; there is one path, the first.
+-- Where it asks, it counts against the congestion window
 abbrev pub waited_for : Sent → ℕ × TrackedPacket
 waited_for s = (s.number, record { generation = 0; time_sent = s.moment; size = if asks_of s then s.size else 0; asks = asks_of s; carried = carried_by s.frames })
 
--- the same, but for what has to be sent again of it: a probe may have taken that (RFC 9002, section 6.2.4)
+-- the same, but for what has to be sent again of it: a probe may have taken that (RFC 9002, section
+-- 6.2.4)
 abbrev pub but_for_record : ℕ × TrackedPacket → ℕ × TrackedPacket
 but_for_record p = (p.0, without_record p.1)
 
--- the datagrams of an end that are in flight behind the first so many answers, as the end is to know them
+-- the datagrams of an end that are in flight behind the first so many answers, as the end is to
+-- know them
 abbrev pub in_flight : Run → Side → ℕ → Table TrackedPacket
 in_flight r side i = map waited_for (watch r side i).flight.flying
 
--- An end waits for exactly these: of each it knows when it went, what acknowledgement and which bytes of streams it carried, and what has to be sent again of it,
--- unless a probe took that.
+-- An end waits for exactly these: of each it knows when it went, what acknowledgement and which
+-- bytes of streams it carried, and what has to be sent again of it, unless a probe took that.
 pub record WaitsFor (packets flying : Table TrackedPacket) : Type 0 where
   pub same : map but_for_record packets ≡ map but_for_record flying
   pub records : (n : ℕ) (p q : TrackedPacket) → In (n, p) packets → In (n, q) flying → (p.carried.retransmits ≡ q.carried.retransmits) ⊎ (p.carried.retransmits ≡ nothing_waits)

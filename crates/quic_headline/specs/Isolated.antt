@@ -1,4 +1,5 @@
--- What doesn't open at an end, and what came before, changes nothing there, so a run less it is a run again (RFC 9000, sections 5.2, 12.2 and 12.3).
+-- What doesn't open at an end, and what came before, changes nothing there while keys last, so a
+-- run less it is a run again (RFC 9000, sections 5.2, 12.2 and 12.3).
 use Rattle.std.specs.Prelude.{ℕ, suc, ◌≡◌, Bool, true, false, not, ◌||◌, if◌then◌else◌, List, [], ◌∷◌, ◌++◌, take, slice_get, Option, Some, None}
 use Rattle.quic_wire_core.specs.declared.stream_id.Side.{Side}
 use Rattle.quic_wire_core.specs.StreamId.{other_side}
@@ -11,14 +12,15 @@ use Rattle.quic_machine.specs.declared.run.Call.TheVariants as calls
 use Rattle.quic_machine.specs.declared.run.Answer.{Answer}
 use Rattle.quic_machine.specs.declared.run.Answer.TheVariants as answers
 use Rattle.quic_packet.specs.Datagram.{Opening}
-use Rattle.quic_machine.specs.Machine.{World, policy_at, Follows}
+use Rattle.quic_machine.specs.Machine.{World, policy_at, Follows, says_last}
 use Rattle.quic_headline.specs.Runs.{Run, given_of, handed, is_again, came_open, AreServed}
 use Rattle.quic_headline.specs.Observer.{watch}
 use Rattle.quic_headline.specs.Headline.{IsAt, IsRun}
 
 -- ---- idle events
 
--- Whether an end that drops a datagram for this reason makes nothing of it: all do but a closing one, for which the number counts as seen.
+-- Whether an end that drops a datagram for this reason makes nothing of it: all do but a closing
+-- one, for which the number counts as seen.
 abbrev pub drops_whole : DropReason → Bool
 drops_whole drops.Closing = false
 drops_whole reason = true
@@ -40,22 +42,37 @@ without gone (x ∷ xs) = if gone 0 then without (λ i. gone (suc i)) xs else x 
 abbrev pub OnlyIdle : Run → (ℕ → Bool) → Type 0
 OnlyIdle r gone = (side : Side) (i : ℕ) (call : Call) (a : Answer) → gone i ≡ true → IsAt r i side call a → is_idle call a ≡ true
 
--- a run less the events at these places, with their answers and the views behind them; the ends gave the same datagrams
+-- a run less the events at these places, with their answers and the views behind them; the ends
+-- gave the same datagrams
 abbrev pub erased : (ℕ → Bool) → Run → Run
 erased gone r = record r { events = without gone r.events; answers = without gone r.answers; views = without gone r.views }
 
--- the same ends, with the same controllers, which gave the same datagrams, whatever they have counted
+-- the same ends, with the same controllers, which gave the same datagrams, whatever they have
+-- counted
 abbrev pub SameButCounts : World → World → Type 0
 SameButCounts end left = left ≡ record end { client_heard = left.client_heard; server_heard = left.server_heard }
 
--- Less the events at these places it is a run again, from the same start to the same ends: each call that stays is answered as it was, each view behind one is the
--- same, and both ends gave the same datagrams. The ends have counted other datagrams then: each counts what comes, also what is dropped.
+-- Less the events at these places it is a run again, from the same start to the same ends: each
+-- call that stays is answered as it was, each view behind one is the same, and both ends gave the
+-- same datagrams. The ends have counted other datagrams then: each counts what comes, also what is
+-- dropped.
 abbrev pub IsRunWithout : (ℕ → Bool) → Run → World → Type 0
 IsRunWithout gone r end = (left : World) × SameButCounts end left × IsRun (erased gone r) left
 
--- so it is less any choice of its idle events
+-- At each end fewer packets fail to open than its peer's key may refuse (RFC 9001, section 6.6):
+-- none closes for that, by its answers. Each that doesn't open counts.
+abbrev pub FailuresStayBelow : Run → Type 0
+FailuresStayBelow r = (i : ℕ) (a : Answer) → slice_get r.answers i ≡ Some a → says_last a ≡ false
+
+-- the peers' addresses are validated at both ends (RFC 9000, section 8): else what comes says how
+-- much may go, also where it is dropped
+abbrev pub AreValidated : World → Type 0
+AreValidated w = (w.client.path.validated ≡ true) × (w.server.path.validated ≡ true)
+
+-- so it is less any choice of its idle events, where keys last and the addresses are validated from
+-- the start
 abbrev pub Isolated : Run → World → Type 0
-Isolated r end = (gone : ℕ → Bool) → OnlyIdle r gone → IsRunWithout gone r end
+Isolated r end = AreValidated r.start → (gone : ℕ → Bool) → OnlyIdle r gone → FailuresStayBelow r → IsRunWithout gone r end
 
 -- ---- the choice by answers
 
@@ -64,7 +81,8 @@ abbrev pub is_injection : Call → Bool
 is_injection (calls.Inject injection) = true
 is_injection call = false
 
--- whether a datagram that is dropped for this reason didn't open, for its header, its key or its key phase, or came before
+-- whether a datagram that is dropped for this reason didn't open, for its header, its key or its
+-- key phase, or came before
 abbrev pub is_shut_out : DropReason → Bool
 is_shut_out drops.TooShort = true
 is_shut_out drops.NotShort = true
@@ -94,9 +112,9 @@ places_of holds r i = of_both (holds i) (slice_get r.events i) (slice_get r.answ
 abbrev pub answered_idle : Run → ℕ → Bool
 answered_idle r = places_of (λ i event a. is_answered_idle event.call a) r
 
--- less these it is a run again
+-- less these it is a run again, where keys last
 abbrev pub IsolatedByAnswers : Run → World → Type 0
-IsolatedByAnswers r end = IsRunWithout (answered_idle r) r end
+IsolatedByAnswers r end = AreValidated r.start → FailuresStayBelow r → IsRunWithout (answered_idle r) r end
 
 -- ---- the choice by the lists
 
@@ -105,9 +123,10 @@ abbrev pub is_new : Option Opening → List ℕ → Bool
 is_new None numbers = false
 is_new (Some o) numbers = not (is_again o.number numbers)
 
--- Whether a datagram that is handed to an end, which answers so, opens there and is no duplicate, by the run's lists: with the end's keys, where one above the
--- greatest number that it took is expected, in key phase 0, under another number than those that opened before, and not answered that it was sent to no id of the
--- end's (sections 5.2, 12.2 and 12.3, and A.3).
+-- Whether a datagram that is handed to an end, which answers so, opens there and is no duplicate,
+-- by the run's lists: with the end's keys, where one above the greatest number that it took is
+-- expected, in key phase 0, under another number than those that opened before, and not answered
+-- that it was sent to no id of the end's (sections 5.2, 12.2 and 12.3, and A.3).
 abbrev pub is_new_at : Run → Side → ℕ → Answer → List ℕ → Bool
 is_new_at r side i a d = let came = (watch r side i).intake in is_new (came_open (policy_at side r.keys) came.took a d) came.opened
 
@@ -128,14 +147,14 @@ listed_idle r = places_of (brings_nothing r) r
 abbrev pub AreFirst : List (List ℕ) → List (List ℕ) → Type 0
 AreFirst ds all = (rest : List (List ℕ)) × (ds ++ rest ≡ all)
 
--- The first so many events of a run, less those at these places: they are answered as they were, with the same views, and lead to ends that gave the first datagrams
--- of those that the ends give.
+-- The first so many events of a run, less those at these places: they are answered as they were,
+-- with the same views, and lead to ends that gave the first datagrams of those that the ends give.
 pub record GoesOnWithout (gone : ℕ → Bool) (r : Run) (i : ℕ) : Type 0 where
   pub world : World
   pub follows : Follows r.keys r.start (without gone (take i r.events)) (without gone (take i r.answers)) (without gone (take i r.views)) world
   pub client : AreFirst world.from_client r.from_client
   pub server : AreFirst world.from_server r.from_server
 
--- less these it is a run again, up to each place before which memory served
+-- less these it is a run again, up to each place before which memory served, where keys last
 abbrev pub IsolatedByLists : Run → Type 0
-IsolatedByLists r = (i : ℕ) → AreServed r i → GoesOnWithout (listed_idle r) r i
+IsolatedByLists r = AreValidated r.start → (i : ℕ) → AreServed r i → FailuresStayBelow r → GoesOnWithout (listed_idle r) r i

@@ -11,6 +11,7 @@ pub mod Messages
 pub mod Polls
 pub mod Rest
 pub mod AcksDue
+pub mod AckFrames
 pub mod Resets
 pub mod Ids
 pub mod ConnectionIds
@@ -27,5 +28,13 @@ pub mod Events
 pub mod AppLimited
 pub mod Telling
 pub mod Waited
+pub mod Pings
 pub mod Begins
 pub mod Spread
+pub mod Threefold
+pub mod PeerLimits
+pub mod Validated
+pub mod Expiring
+pub mod Closes
+pub mod Alone
+pub mod Promises

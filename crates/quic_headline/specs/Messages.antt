@@ -1,4 +1,5 @@
--- Messages (RFC 9221): those that an end sent, those that it received, and what both ends keep of them, over a run's lists alone.
+-- Messages (RFC 9221): those that an end sent, those that it received, and what both ends keep of
+-- them, over a run's lists alone.
 use Rattle.std.specs.Prelude.{ℕ, ◌≤◌, List, [], ◌∷◌, ◌++◌, Some, Ok}
 use Rattle.quic_wire_core.specs.declared.stream_id.Side.{Side}
 use Rattle.quic_wire_core.specs.StreamId.{other_side}
@@ -29,7 +30,8 @@ abbrev pub received_messages : List Told → List (List ℕ)
 received_messages [] = []
 received_messages (t ∷ ts) = received_by t.call t.answer ++ received_messages ts
 
--- each message is received at one end at most as often as the other sent it, whatever is lost, repeated or reordered
+-- each message is received at one end at most as often as the other sent it, whatever is lost,
+-- repeated or reordered
 abbrev pub MessagesAtMostOnce : Run → Type 0
 MessagesAtMostOnce r = (side : Side) (i : ℕ) (message : List ℕ) → AreServed r i
     → times message (received_messages (until r side i)) ≤ times message (sent_messages (until r (other_side side) i))

@@ -1,5 +1,6 @@
--- The moments at which timers are to expire, as an observer of a run's lists reckons them (RFC 9002, section 6.2.1, and RFC 9000, section 13.2.1). Its constants are
--- its own: it reads nothing of an end but what the end gave, and what a view shows.
+-- The moments at which timers are to expire, as an observer of a run's lists reckons them (RFC
+-- 9002, section 6.2.1, and RFC 9000, section 13.2.1). Its constants are its own: it reads nothing
+-- of an end but what the end gave, and what a view shows.
 use Rattle.std.specs.Prelude.{ℕ, suc, ◌+◌, ◌-◌, ◌^◌, ◌≡◌, min, Bool, true, false, if◌then◌else◌, List, [], ◌∷◌, ◌++◌, drop, length, slice_get, Option, Some, None}
 use Rattle.std.specs.List.{list_any}
 use Rattle.quic_wire_core.specs.declared.stream_id.Side.{Side}
@@ -24,18 +25,21 @@ loss_timer v side = slice_get (timers_in v side) 0
 
 -- ---- over a run
 
--- behind each event before which, and at which, no delivery, no poll and no timeout met want of memory, the view shows of an open end that its loss timer is set
--- to the moment that the observer reckons: when the first datagram is lost by time, or else a backed-off probe timeout behind the last that asks; and that it
--- isn't set where none in flight asks
+-- behind each event before which, and at which, no delivery, no poll and no timeout met want of
+-- memory, the view shows of an open end that its loss timer is set to the moment that the observer
+-- reckons: when the first datagram is lost by time, or else a backed-off probe timeout behind the
+-- last that asks; and that it isn't set where none in flight asks
 abbrev pub LossMoments : Run → Type 0
 LossMoments r = (side : Side) (i : ℕ) (v : View) → AreServed r (suc i) → slice_get r.views i ≡ Some v → state_in v side ≡ states.Open → loss_timer v side ≡ Some (loss_due (terms_of (end_at side r.start)) (watch r side (suc i)).flight)
 
--- each datagram that an end gave before a place, and that asks, is named in an ACK frame that the end took before it (RFC 9000, section 19.3)
+-- each datagram that an end gave before a place, and that asks, is named in an ACK frame that the
+-- end took before it (RFC 9000, section 19.3)
 abbrev pub AllNamed : Run → Side → ℕ → Type 0
 AllNamed r side i = (s : Sent) → In s (sents_until r side i) → asks_of s ≡ true → IsNamed (took r side i) s.number
 
--- behind each event before which, and at which, no delivery, no poll and no timeout met want of memory: where all that an open end gave and that asks was
--- acknowledged, the view shows that its loss timer isn't set
+-- behind each event before which, and at which, no delivery, no poll and no timeout met want of
+-- memory: where all that an open end gave and that asks was acknowledged, the view shows that its
+-- loss timer isn't set
 abbrev pub LossTimerQuiet : Run → Type 0
 LossTimerQuiet r = (side : Side) (i : ℕ) (v : View) → AreServed r (suc i) → slice_get r.views i ≡ Some v → state_in v side ≡ states.Open → AllNamed r side (suc i) → loss_timer v side ≡ Some None
 
@@ -63,7 +67,8 @@ abbrev pub arrivals_of : List Packet → ℕ → List ℕ
 arrivals_of [] moment = []
 arrivals_of (p ∷ ps) moment = if list_any asks p.frames then moment ∷ arrivals_of ps moment else arrivals_of ps moment
 
--- what an observer knows of an end, and when the packets came that ask, and were taken since the end gave an ACK frame
+-- what an observer knows of an end, and when the packets came that ask, and were taken since the
+-- end gave an ACK frame
 pub record Debt : Type 0 where
   pub watch : Watch
   pub arrivals : List ℕ
@@ -84,14 +89,22 @@ first_debt w = record { watch = w; arrivals = [] }
 abbrev pub debt : Run → Side → ℕ → Debt
 debt r side i = folded (debt_told (lens_of r side)) (until r side i) (first_debt (watch_from (end_at side r.start) (given_of r side)))
 
--- A moment lies 25 ms, in nanoseconds, behind one of these arrivals: no acknowledgement waits longer.
+-- the first of these arrivals, of which the latest stands first
+abbrev pub first_arrival : List ℕ → Option ℕ
+first_arrival [] = None
+first_arrival (arrival ∷ []) = Some arrival
+first_arrival (later ∷ arrival ∷ arrivals) = first_arrival (arrival ∷ arrivals)
+
+-- A moment lies 25 ms, in nanoseconds, behind the first of these arrivals: no acknowledgement waits
+-- longer.
 pub record IsDueFor (arrivals : List ℕ) (moment : ℕ) : Type 0 where
   pub arrival : ℕ
-  pub among : In arrival arrivals
+  pub first : first_arrival arrivals ≡ Some arrival
   pub due : moment ≡ min (arrival + 25000000) (2 ^ 64 - 1)
 
--- behind each event before which, and at which, no delivery, no poll and no timeout met want of memory: where the view shows the timer of
--- acknowledgements of an open end set, it is set to 25 ms behind the moment at which a packet came that asks, and that was taken since the
--- end gave an ACK frame
+-- behind each event before which, and at which, no delivery, no poll and no timeout met want of
+-- memory: where the view shows the timer of acknowledgements of an open end set, it is set to 25 ms
+-- behind the moment at which the first packet came that asks, and that was taken since the end gave
+-- an ACK frame
 abbrev pub AckMoments : Run → Type 0
 AckMoments r = (side : Side) (i moment : ℕ) (v : View) → AreServed r (suc i) → slice_get r.views i ≡ Some v → state_in v side ≡ states.Open → ack_timer v side ≡ Some (Some moment) → IsDueFor (debt r side (suc i)).arrivals moment

@@ -1,11 +1,15 @@
--- What an observer of a run's lists knows of an end: what came to it, what it gave, and what of that is in flight or acknowledged
--- (RFC 9002, sections 2, 5, 6.1, 6.2 and A.1). It reads what an end gave with the keys of its peer.
+-- What an observer of a run's lists knows of an end: what came to it, what it gave, and what of
+-- that is in flight or acknowledged (RFC 9002, sections 2, 5, 6.1, 6.2 and A.1). It reads what an
+-- end gave with the keys of its peer.
 use Rattle.std.specs.Prelude.{ℕ, ◌+◌, ◌-◌, ◌*◌, ◌/◌, ◌^◌, ◌<◌, ◌≤◌, ◌≡◌, min, max, not, ◌==◌, ◌&&◌, ◌||◌, Bool, true, false, nat_le, nat_lt, if◌then◌else◌, List, [], ◌∷◌, ◌++◌, filter, length, map, take, Option, Some, None, unwrap_or}
 use Rattle.std.specs.List.{list_any}
+use Rattle.std.specs.Option.{option_to_list}
 use Rattle.quic_wire_core.specs.declared.stream_id.Side.{Side}
 use Rattle.quic_wire_core.specs.StreamId.{other_side}
 use Rattle.quic_wire.specs.Value.{FrameValue, StreamValue, AckValue, ack, stream, connection_close, application_close, asks}
 use Rattle.quic_wire.specs.Items.{items}
+use Rattle.quic_packet.specs.Number.{window}
+use Rattle.quic_packet.specs.Keys.{width_in}
 use Rattle.quic_packet.specs.Datagram.{Opening, opened_packet}
 use Rattle.quic_time.specs.Rtt.{Rtt, assumed_rtt, best_rtt, conservative_rtt, with_sample}
 use Rattle.quic_spaces.specs.Numbers.{greatest_of}
@@ -21,8 +25,11 @@ use Rattle.quic_headline.specs.Runs.{Run, Told, Packet, Intake, In, nothing_came
 
 -- ---- what was sent
 
--- A datagram as it was sent: the id to which it went, its number, what that was cut against (RFC 9000, A.2), its frames, when it went, in nanoseconds, and how
--- many bytes it has.
+-- A datagram as it was sent: the id to which it went, its number, what that was cut against (RFC
+-- 9000, A.2), its frames, when it went, in nanoseconds, and how many bytes it has. Of one that
+-- closes its connection no moment is kept, since no acknowledgement of it is waited for; and as it
+-- may go behind a packet of which a part was taken, and the lists don't say which, its number's
+-- reference is the least with which it has so many bytes.
 pub record Sent : Type 0 where
   pub id : List ℕ
   pub number : ℕ
@@ -56,14 +63,17 @@ pub record HoldsEnd (sents : List Sent) (id : ℕ) : Type 0 where
 
 -- ---- what is in flight
 
--- By what losses are judged at an end: how far below the greatest number that was acknowledged a datagram counts as lost (RFC 9002, section 6.1.1), after what
--- part of a round trip (section 6.1.2); and what the peer told: by how many bits the delays in its ACK frames are shifted, and how long it may hold one back, in
--- nanoseconds (RFC 9000, section 18.2).
+-- By what losses are judged at an end: how far below the greatest number that was acknowledged a
+-- datagram counts as lost (RFC 9002, section 6.1.1), after what part of a round trip (section
+-- 6.1.2); and what the peer told: by how many bits the delays in its ACK frames are shifted, and
+-- how long it may hold one back, in nanoseconds (RFC 9000, section 18.2). And after how long
+-- without a packet PING goes, if it is configured to (section 10.1.2).
 pub record Terms : Type 0 where
   pub threshold : ℕ
   pub part : ℕ × ℕ
   pub exponent : ℕ
   pub delay : ℕ
+  pub keep_alive : Option ℕ
 
 -- those of an end, by its settings and by what its peer told as the connection began
 abbrev pub terms_of : End → Terms
@@ -72,11 +82,14 @@ terms_of e = record {
   part = e.transport.time_threshold;
   exponent = e.peer_params.ack_delay_exponent;
   delay = e.peer_params.max_ack_delay * 1000000;
+  keep_alive = e.transport.keep_alive_interval;
 }
 
--- the greatest number that was acknowledged so far, if one was; the datagrams that are neither acknowledged nor lost, nor forgotten; those that were acknowledged
--- in flight; the last that went and asks; how long a round trip takes; when one below the greatest acknowledged is lost by time, if one may be; how often the
--- timer of losses expired for no such one since an acknowledgement came; and how many probes of losses wait since then
+-- the greatest number that was acknowledged so far, if one was; the datagrams that are neither
+-- acknowledged nor lost, nor forgotten; those that were acknowledged in flight; the last that went
+-- and asks; how long a round trip takes; when one below the greatest acknowledged is lost by time,
+-- if one may be; how often the timer of losses expired for no such one since an acknowledgement
+-- came; and how many probes of losses wait since then
 pub record Flight : Type 0 where
   pub named : Option ℕ
   pub flying : List Sent
@@ -97,7 +110,8 @@ latest = 2 ^ 64 - 1
 
 -- ---- losses (RFC 9002, section 6.1)
 
--- how long after it went a datagram is lost, once a later one is acknowledged: that part of the round trip, no less than a millisecond
+-- how long after it went a datagram is lost, once a later one is acknowledged: that part of the
+-- round trip, no less than a millisecond
 abbrev pub late_by : Terms → Rtt → ℕ
 late_by t rtt = min (max (t.part.0 * conservative_rtt rtt / t.part.1) 1000000) latest
 
@@ -143,18 +157,20 @@ abbrev pub of_number : ℕ → List Sent → Option Sent
 of_number n [] = None
 of_number n (s ∷ ss) = if n == s.number then Some s else of_number n ss
 
--- the datagram whose round trip an ACK frame measures, where it measures one: that of the greatest number that it names, where no greater one was acknowledged
--- before, it is among those that are acknowledged now, and one of these asks
+-- the datagram whose round trip an ACK frame measures, where it measures one: that of the greatest
+-- number that it names, where no greater one was acknowledged before, it is among those that are
+-- acknowledged now, and one of these asks
 abbrev pub measures : Option ℕ → AckValue → List Sent → Option Sent
 measures named a acked = if is_greatest named a.largest && list_any asks_of acked then of_number a.largest acked else None
 
--- the round trip with one more measured at a moment, less the delay that the peer tells, which is no longer than it may be (section 5.3)
+-- the round trip with one more measured at a moment, less the delay that the peer tells, which is
+-- no longer than it may be (section 5.3)
 abbrev pub rtt_behind : Terms → ℕ → AckValue → Option Sent → Rtt → Rtt
 rtt_behind t clock a None rtt = rtt
 rtt_behind t clock a (Some s) rtt = with_sample rtt (min (min (a.delay * 2 ^ t.exponent * 1000) latest) t.delay) (clock - s.moment)
 
--- An ACK frame that names datagrams in flight, which are these: they are acknowledged, the others stay but for those that are lost, and no probe waits. One that
--- names none leaves all in flight.
+-- An ACK frame that names datagrams in flight, which are these: they are acknowledged, the others
+-- stay but for those that are lost, and no probe waits. One that names none leaves all in flight.
 abbrev pub settled_by : Terms → ℕ → AckValue → List Sent → List Sent → Flight → Flight
 settled_by t clock a [] others f = record f { named = Some (greatest_of f.named a.largest) }
 settled_by t clock a (s ∷ ss) others f = after_losses t clock (record f {
@@ -188,8 +204,8 @@ abbrev pub is_behind_asked : Option Sent → ℕ → Bool
 is_behind_asked None n = true
 is_behind_asked (Some s) n = nat_lt s.number n
 
--- those that went since one asked: nothing promises that they are ever acknowledged, and of more than 1000 the oldest is forgotten where one more goes that
--- doesn't ask
+-- those that went since one asked: nothing promises that they are ever acknowledged, and of more
+-- than 1000 the oldest is forgotten where one more goes that doesn't ask
 abbrev pub unasked : Flight → List Sent
 unasked f = filter (λ s. is_behind_asked f.asked s.number) f.flying
 
@@ -221,14 +237,16 @@ is_close f = false
 abbrev pub closes_of : Sent → Bool
 closes_of s = list_any is_close s.frames
 
--- one that closes its connection isn't in flight: no acknowledgement of it is waited for (RFC 9000, section 10.2.1)
+-- one that closes its connection isn't in flight: no acknowledgement of it is waited for (RFC 9000,
+-- section 10.2.1)
 abbrev pub and_sent : Sent → Flight → Flight
 and_sent s f = if closes_of s then f else and_flying s f
 
 -- ---- the timer of losses (RFC 9002, section 6.2.1)
 
--- how long an acknowledgement is waited for, once the timer expired so often: the estimate, four times its variation or a millisecond, and the peer's delay;
--- doubled at each expiry, up to 16 times
+-- how long an acknowledgement is waited for, once the timer expired so often: the estimate, four
+-- times its variation or a millisecond, and the peer's delay; doubled at each expiry, up to 16
+-- times
 abbrev pub waited : Terms → Rtt → ℕ → ℕ
 waited t rtt expiries = min (min (min (best_rtt rtt + max (4 * rtt.var) 1000000) latest + t.delay) latest * 2 ^ min expiries 16) latest
 
@@ -242,7 +260,8 @@ abbrev pub due_or : Option ℕ → Option ℕ → Option ℕ
 due_or None other = other
 due_or (Some moment) other = Some moment
 
--- when the timer is to expire: when the first is lost by time, or else that; it waits for nothing where none in flight asks
+-- when the timer is to expire: when the first is lost by time, or else that; it waits for nothing
+-- where none in flight asks
 abbrev pub loss_due : Terms → Flight → Option ℕ
 loss_due t f = due_or f.loss_time (probe_due t f f.asked)
 
@@ -255,7 +274,8 @@ is_past (Some moment) clock = nat_le moment clock
 abbrev pub most_probes : ℕ
 most_probes = 2 ^ 64 - 1
 
--- the timer expires: for one that may be lost by time, or once more for none, and two more probes wait then (section 6.2.4, which lets one or two go)
+-- the timer expires: for one that may be lost by time, or once more for none, and two more probes
+-- wait then (section 6.2.4, which lets one or two go)
 abbrev pub expired_for : Option ℕ → Terms → ℕ → Flight → Flight
 expired_for None t clock f = record f { expiries = f.expiries + 1; probes = min (f.probes + 2) most_probes }
 expired_for (Some moment) t clock f = after_losses t clock f
@@ -266,8 +286,9 @@ after_moment t clock f = if is_past (loss_due t f) clock then expired_for f.loss
 
 -- ---- the observer
 
--- what came to the end; the greatest moment that it took over, in nanoseconds; the datagrams that it gives from here on; those that
--- it gave so far, as they were sent, and what of these is in flight or acknowledged
+-- what came to the end; the greatest moment that it took over, in nanoseconds; the datagrams that
+-- it gives from here on; those that it gave so far, as they were sent, and what of these is in
+-- flight or acknowledged
 pub record Watch : Type 0 where
   pub intake : Intake
   pub clock : ℕ
@@ -275,7 +296,8 @@ pub record Watch : Type 0 where
   pub own : List Sent
   pub flight : Flight
 
--- nothing happened to an end that gives these datagrams in all, was made at this moment, and takes a round trip to last so long
+-- nothing happened to an end that gives these datagrams in all, was made at this moment, and takes
+-- a round trip to last so long
 abbrev pub first_watch : List (List ℕ) → ℕ → ℕ → Watch
 first_watch gives moment initial_rtt = record { intake = nothing_came; clock = moment; left = gives; own = []; flight = no_flight initial_rtt }
 
@@ -287,7 +309,8 @@ news before after = take (length after.took - length before.took) after.took
 abbrev pub has_opened : Intake → Intake → Bool
 has_opened before after = nat_lt (length before.opened) (length after.opened)
 
--- the moment at which a call is made that an open end takes over; that of a delivery counts where its packet opened and is no duplicate
+-- the moment at which a call is made that an open end takes over; that of a delivery counts where
+-- its packet opened and is no duplicate
 abbrev pub moment_of : State → Bool → Call → Option ℕ
 moment_of states.Open opened (calls.Poll now) = Some now
 moment_of states.Open opened (calls.Timeout now) = Some now
@@ -304,24 +327,49 @@ abbrev pub frames_opened : Option Opening → List FrameValue
 frames_opened None = []
 frames_opened (Some o) = frames_of (items o.payload)
 
--- what a datagram that opens so was sent as, cut against this reference, at a moment; one that doesn't open is none
+-- the farthest that a number lies above its reference where it is cut to so many bytes (RFC 9000,
+-- section 17.1)
+abbrev pub farthest : ℕ → ℕ
+farthest width = window width / 2 - 1
+
+-- what a number was cut against, in a datagram that closes its connection or doesn't, where it has
+-- so many bytes
+abbrev pub reference_for : Bool → ℕ → ℕ → ℕ → ℕ
+reference_for closes number width reference = if closes then number - farthest width else reference
+
+-- when it went
+abbrev pub moment_for : Bool → ℕ → ℕ
+moment_for closes moment = if closes then 0 else moment
+
+-- what a datagram that opens so was sent as at a moment, cut against this reference where it
+-- doesn't close; one that doesn't open is none
 abbrev pub sent_as : Option Opening → ℕ → ℕ → List ℕ → List Sent
 sent_as None reference moment d = []
-sent_as (Some o) reference moment d = record { id = destination d; number = o.number; reference = reference; frames = frames_of (items o.payload); moment = moment; size = length d } ∷ []
+sent_as (Some o) reference moment d =
+    let frames = frames_of (items o.payload) in
+    record { id = destination d; number = o.number; reference = reference_for (list_any is_close frames) o.number (width_in o.first) reference; frames = frames; moment = moment_for (list_any is_close frames) moment; size = length d } ∷ []
 
 -- what is in flight once these are sent
 abbrev pub and_all_sent : List Sent → Flight → Flight
 and_all_sent [] f = f
 and_all_sent (s ∷ ss) f = and_all_sent ss (and_sent s f)
 
--- the next datagram goes: the keys of the peer open it where the greatest number is expected that the peer acknowledged
+-- the number that goes next, where these were sent: one above the greatest of theirs, or 0 (RFC
+-- 9000, section 12.3)
+abbrev pub next_number : List Sent → ℕ
+next_number [] = 0
+next_number (s ∷ sents) = max (s.number + 1) (next_number sents)
+
+-- the next datagram goes: the keys of the peer open it where its number is expected, which is cut
+-- against the greatest that the peer acknowledged
 abbrev pub watch_sent : Policy → List (List ℕ) → Watch → Watch
 watch_sent taker [] w = w
 watch_sent taker (d ∷ ds) w =
-    let sent = sent_as (opened_packet taker.header taker.packet (own_id_length + 1) (acknowledged w.intake.took) d) (acknowledged w.intake.took) w.clock d in
+    let sent = sent_as (opened_packet taker.header taker.packet (own_id_length + 1) (next_number w.own) d) (acknowledged w.intake.took) w.clock d in
     record w { left = ds; own = w.own ++ sent; flight = and_all_sent sent w.flight }
 
--- how the lists of a run are read for one end: the keys of its peer, its own, all datagrams of its peer, and by what losses are judged
+-- how the lists of a run are read for one end: the keys of its peer, its own, all datagrams of its
+-- peer, and by what losses are judged
 pub record Lens : Type 0 where
   pub taker : Policy
   pub own : Policy
@@ -371,14 +419,14 @@ watch r side i = folded (watch_told (lens_of r side)) (until r side i) (watch_fr
 abbrev pub took : Run → Side → ℕ → List Packet
 took r side i = (watch r side i).intake.took
 
+-- what came in to an end, the latest first: the packets that it took, and before them one that it
+-- refused, if it did, of which the frames before the one at fault keep their effect
+abbrev pub came_in : Run → Side → ℕ → List Packet
+came_in r side i = option_to_list (watch r side i).intake.part ++ took r side i
+
 -- the datagrams that an end gave, as they were sent
 abbrev pub sents_until : Run → Side → ℕ → List Sent
 sents_until r side i = (watch r side i).own
-
--- the number that goes next, where these were sent: one above the greatest of theirs, or 0 (RFC 9000, section 12.3)
-abbrev pub next_number : List Sent → ℕ
-next_number [] = 0
-next_number (s ∷ sents) = max (s.number + 1) (next_number sents)
 
 -- what the number of each of them was cut against
 abbrev pub references_until : Run → Side → ℕ → List ℕ

@@ -1,10 +1,12 @@
--- What polls give, and what they hold back (RFC 9002, sections 7, 7.5 and 7.7): an open end gives what waits, unless the congestion window or the pacer holds it back;
--- and the controller shows the window that comes of what it was told.
-use Rattle.std.specs.Prelude.{ℕ, zero, suc, ◌+◌, ◌<◌, ◌≤◌, ◌≡◌, ◌⊎◌, true, false, List, [], ◌∷◌, ◌++◌, filter, length, replicate, sum_by, slice_get, take, Option, Some, None, Ok, if◌then◌else◌}
+-- What polls give, and what they hold back (RFC 9002, sections 7, 7.5 and 7.7): an open end gives
+-- what waits, unless the congestion window or the pacer holds it back; and the controller shows the
+-- window that comes of what it was told.
+use Rattle.std.specs.Prelude.{ℕ, zero, suc, ◌+◌, ◌<◌, ◌≤◌, ◌≡◌, ◌⊎◌, true, false, List, [], ◌∷◌, ◌++◌, filter, length, replicate, sum_by, slice_get, take, Option, Some, None, Ok, if◌then◌else◌, ◌*◌}
 use Rattle.quic_wire_core.specs.declared.stream_id.Side.{Side}
 use Rattle.quic_wire_core.specs.declared.stream_id.Side.TheVariants.{Client, Server}
 use Rattle.quic_wire_core.specs.StreamId.{other_side}
 use Rattle.quic_wire.specs.Value.{ping, padding}
+use Rattle.quic_time.specs.Clocks.{saturated}
 use Rattle.quic_congestion.specs.Congestion as congestion
 use Rattle.quic_congestion.specs.Search.{Discovery, search_bound, open_probe, poll_names}
 use Rattle.quic_machine.specs.declared.answers.Transmit.{Transmit}
@@ -21,7 +23,7 @@ use Rattle.quic_machine.specs.End.{End, with_closing, with_window}
 use Rattle.quic_machine.specs.Control.{paced_until, with_pacing_timer}
 use Rattle.quic_machine.specs.Poll.{probed, waits}
 use Rattle.quic_machine.specs.Machine.{World, Policies, IsStep, policy_at, end_at, end_met, control_at, given_by, tells, end_view}
-use Rattle.quic_headline.specs.Runs.{Run, In, same_side, state_in, until, AreServed, LeadsTo, written, ended, reset}
+use Rattle.quic_headline.specs.Runs.{Run, In, same_side, state_in, until, AreServed, LeadsTo, written, ended, reset, bytes_handed, bytes_given}
 use Rattle.quic_headline.specs.Observer.{Sent, HoldsOffset, HoldsEnd, asks_of, watch, sents_until, acked_until}
 use Rattle.quic_headline.specs.Headline.{IsAt}
 use Rattle.quic_headline.specs.Moments.{timers_in}
@@ -69,7 +71,8 @@ pub record GaveNothing (r : Run) (side : Side) (i now : ℕ) (v : View) : Type 0
 
 -- ---- what holds back
 
--- those of an end's datagrams that are in flight behind the first so many answers: they are neither acknowledged nor lost (RFC 9002, section 2)
+-- those of an end's datagrams that are in flight behind the first so many answers: they are neither
+-- acknowledged nor lost (RFC 9002, section 2)
 abbrev pub flying : Run → Side → ℕ → List Sent
 flying r side i = (watch r side i).flight.flying
 
@@ -81,7 +84,8 @@ bytes_flying r side i = sum_by (λ s. s.size) (filter asks_of (flying r side i))
 abbrev pub IsFull : Run → Side → ℕ → View → Type 0
 IsFull r side i v = window_in v side ≤ bytes_flying r side i + mtu_in v side
 
--- A view shows the timer of the pacer set to a moment that is later than each that the end took over.
+-- A view shows the timer of the pacer set to a moment that is later than each that the end took
+-- over.
 pub record IsPaced (r : Run) (side : Side) (i : ℕ) (v : View) : Type 0 where
   pub moment : ℕ
   pub shown : pacing_timer v side ≡ Some (Some moment)
@@ -90,6 +94,13 @@ pub record IsPaced (r : Run) (side : Side) (i : ℕ) (v : View) : Type 0 where
 -- window or pacer hold back what asks for an acknowledgement
 abbrev pub IsHeldBack : Run → Side → ℕ → View → Type 0
 IsHeldBack r side i v = IsFull r side i v ⊎ IsPaced r side i v
+
+-- Nothing more may go to an address that isn't validated (RFC 9000, section 8.1): with one more
+-- datagram of the current size more bytes would have gone than three times those that came, of
+-- which 64 bits hold three times as many.
+pub record IsLimited (r : Run) (side : Side) (i : ℕ) (v : View) : Type 0 where
+  pub unvalidated : (end_in v side).validated ≡ false
+  pub full : saturated (3 * bytes_handed r side i) < bytes_given r side i + mtu_in v side
 
 -- ---- what waits is given
 
@@ -111,13 +122,14 @@ pub record IsEndToGo (r : Run) (side : Side) (i id : ℕ) : Type 0 where
 abbrev pub IsToGo : Run → Side → ℕ → ℕ → Type 0
 IsToGo r side i id = ((offset : ℕ) × IsByteToGo r side i id offset) ⊎ IsEndToGo r side i id
 
--- where a poll of an open end gives nothing though a byte of a stream, or its end, is to go, window or pacer hold it back
+-- where a poll of an open end gives nothing though a byte of a stream, or its end, is to go, window
+-- or pacer hold it back, or nothing more may go to an address that isn't validated
 abbrev pub PollsSendWhatWaits : Run → Type 0
-PollsSendWhatWaits r = (side : Side) (i now id : ℕ) (v : View) → AreServed r (suc i) → GaveNothing r side i now v → IsToGo r side (suc i) id → IsHeldBack r side (suc i) v
+PollsSendWhatWaits r = (side : Side) (i now id : ℕ) (v : View) → AreServed r (suc i) → GaveNothing r side i now v → IsToGo r side (suc i) id → IsHeldBack r side (suc i) v ⊎ IsLimited r side (suc i) v
 
 -- so it is where a message waits (RFC 9221, section 5.4)
 abbrev pub PollsSendMessages : Run → Type 0
-PollsSendMessages r = (side : Side) (i now : ℕ) (message : List ℕ) (v : View) (w : World) → AreServed r (suc i) → GaveNothing r side i now v → LeadsTo r (suc i) w → In message (end_at side w).messages.queues.outgoing → IsHeldBack r side (suc i) v
+PollsSendMessages r = (side : Side) (i now : ℕ) (message : List ℕ) (v : View) (w : World) → AreServed r (suc i) → GaveNothing r side i now v → LeadsTo r (suc i) w → In message (end_at side w).messages.queues.outgoing → IsHeldBack r side (suc i) v ⊎ IsLimited r side (suc i) v
 
 -- ---- step by step
 
@@ -128,8 +140,8 @@ pub record IsMade (r : Run) (i : ℕ) (side : Side) (call : Call) (a : Answer) (
   pub step : IsStep r.keys w (record { side = side; call = call }) a next
   pub served : AreServed r (suc i)
 
--- an end as a poll asks its pacer: at the moment of the poll, with the window that its controller shows; the timer of the pacer is stopped, and something waits
--- for each probe to carry
+-- an end as a poll asks its pacer: at the moment of the poll, with the window that its controller
+-- shows; the timer of the pacer is stopped, and something waits for each probe to carry
 abbrev pub polled_end : Side → World → ℕ → End
 polled_end side w now = let e = with_window (end_at side w) (control_at side w []) in probed (with_pacing_timer (with_closing e (ticked e.closing now)) None)
 
@@ -141,7 +153,8 @@ pacer_names side w now = paced_until (polled_end side w now)
 abbrev pub pacing_at : Side → World → Option ℕ
 pacing_at side w = (end_at side w).timers.pacing
 
--- a poll of an open end leaves the timer of its pacer set to the moment that the pacer named, or not set; any other call leaves it as it was, or not set
+-- a poll of an open end leaves the timer of its pacer set to the moment that the pacer named, or
+-- not set; any other call leaves it as it was, or not set
 abbrev pub PacingBehind : Side → Call → World → World → Type 0
 PacingBehind side (calls.Poll now) w next = (pacing_at side next ≡ None) ⊎ (pacing_at side next ≡ pacer_names side w now)
 PacingBehind side call w next = (pacing_at side next ≡ None) ⊎ (pacing_at side next ≡ pacing_at side w)
@@ -167,8 +180,10 @@ pub record GaveAsking (r : Run) (side : Side) (i now : ℕ) : Type 0 where
 abbrev pub search_at : Side → World → Discovery
 search_at side w = (end_at side w).path.discovery
 
--- A datagram is what the search of its end looks for: it has exactly the size that the search names at the moment of the poll, under the number that is open behind it,
--- where none was. It has no more than the greatest size that is looked at, for which the window had room, and it went where nothing waited.
+-- A datagram is what the search of its end looks for: it has exactly the size that the search names
+-- at the moment of the poll, under the number that is open behind it, where none was. It has no
+-- more than the greatest size that is looked at, for which the window had room, and it went where
+-- nothing waited.
 pub record IsSearched (r : Run) (side : Side) (i : ℕ) (w next : World) (s : Sent) : Type 0 where
   pub named : poll_names (watch r side (suc i)).clock (search_at side w) ≡ Some s.size
   pub none_open : open_probe (search_at side w) ≡ None
@@ -179,8 +194,9 @@ pub record IsSearched (r : Run) (side : Side) (i : ℕ) (w next : World) (s : Se
   pub idle : waits (end_at side w) ≡ false
   pub room : bytes_flying r side i + bound < control_at side w []
 
--- A datagram is a probe of a size (RFC 8899, section 5.3; RFC 9000, section 14.4): PING and zeros, alone, no less than the current size, to a validated address, where
--- the window has room for it beside those in flight; and it is what the search of its end looks for.
+-- A datagram is a probe of a size (RFC 8899, section 5.3; RFC 9000, section 14.4): PING and zeros,
+-- alone, no less than the current size, to a validated address, where the window has room for it
+-- beside those in flight; and it is what the search of its end looks for.
 pub record IsSizeProbe (r : Run) (side : Side) (i : ℕ) (s : Sent) : Type 0 where
   pub zeros : ℕ
   pub alone : s.frames ≡ ping ∷ replicate zeros padding
@@ -189,20 +205,23 @@ pub record IsSizeProbe (r : Run) (side : Side) (i : ℕ) (s : Sent) : Type 0 whe
   pub room : bytes_flying r side i + s.size < (seen_at r side i).window
   pub searched : (w next : World) → LeadsTo r i w → LeadsTo r (suc i) next → IsSearched r side i w next s
 
--- Window and pacer let a poll give what asks: the window has room for one more datagram beside those in flight, both as they are seen before the poll; and the pacer
--- names no later moment.
+-- Window and pacer let a poll give what asks: the window has room for one more datagram beside
+-- those in flight, both as they are seen before the poll; and the pacer names no later moment.
 pub record AreLetting (r : Run) (side : Side) (i now : ℕ) : Type 0 where
   pub room : bytes_flying r side i + (seen_at r side i).current_mtu < (seen_at r side i).window
   pub unpaced : (w : World) → LeadsTo r i w → pacer_names side w now ≡ None
 
--- what asks goes, where no probe of losses waits, only where window and pacer let it, or as a probe of a size
+-- what asks goes, where no probe of losses waits, only where window and pacer let it, or as a probe
+-- of a size
 abbrev pub AskingGoesWhereLet : Run → Type 0
 AskingGoesWhereLet r = (side : Side) (i now : ℕ) (gave : GaveAsking r side i now) → (watch r side i).flight.probes ≡ 0 → AreLetting r side i now ⊎ IsSizeProbe r side i gave.one.sent
 
--- where a probe waits, a poll that leaves its end open gives a datagram that asks, whatever window and pacer say; one probe fewer waits then (section 7.5)
+-- where a probe waits, a poll that leaves its end open gives a datagram that asks, whatever window
+-- and pacer say, and one probe fewer waits then (section 7.5); unless nothing more may go to an
+-- address that isn't validated
 abbrev pub ProbesPass : Run → Type 0
 ProbesPass r = (side : Side) (i now : ℕ) (a : Answer) (v : View) → AreServed r (suc i) → IsAt r i side (calls.Poll now) a → slice_get r.views i ≡ Some v → state_in v side ≡ states.Open → 0 < (watch r side i).flight.probes
-    → GaveAsking r side i now × ((watch r side (suc i)).flight.probes + 1 ≡ (watch r side i).flight.probes)
+    → (GaveAsking r side i now × ((watch r side (suc i)).flight.probes + 1 ≡ (watch r side i).flight.probes)) ⊎ IsLimited r side (suc i) v
 
 -- ---- the window
 
@@ -210,7 +229,8 @@ ProbesPass r = (side : Side) (i now : ℕ) (a : Answer) (v : View) → AreServed
 abbrev pub told_by_step : Side → Policies → World → RunEvent → List congestion.Told
 told_by_step side k w event = if same_side event.side side then tells (policy_at event.side k) (end_met w event) (given_by (other_side event.side) w) event.call else []
 
--- The controller of an end was told this by the first of these events, in turn: by each of them that was answered.
+-- The controller of an end was told this by the first of these events, in turn: by each of them
+-- that was answered.
 abbrev pub WasTold : Side → Policies → World → List RunEvent → List Answer → World → List congestion.Told → Type 0
 WasTold side k w events [] end told = (end ≡ w) × (told ≡ [])
 WasTold side k w [] (a ∷ answers) end told = ⊥
@@ -220,6 +240,7 @@ WasTold side k w (event ∷ events) (a ∷ answers) end told = (next : World) ×
 abbrev pub IsHistory : Run → Side → ℕ → World → List congestion.Told → Type 0
 IsHistory r side i w told = WasTold side r.keys r.start (take i r.events) (take i r.answers) w told
 
--- the window that a view shows is that which the controller, as it was when the run began, shows once it was told what the calls up to there tell
+-- the window that a view shows is that which the controller, as it was when the run began, shows
+-- once it was told what the calls up to there tell
 abbrev pub WindowIsOfHistory : Run → Type 0
 WindowIsOfHistory r = (side : Side) (i : ℕ) (v : View) → AreServed r (suc i) → slice_get r.views i ≡ Some v → (w : World) × (told : List congestion.Told) × IsHistory r side (suc i) w told × (window_in v side ≡ control_at side r.start told)

@@ -1,7 +1,7 @@
 -- The messages that wait to go at an end, by a run's lists alone: those that it sent, less those
 -- that went in a datagram, those that were dropped for later ones, and those that are longer than
 -- fits its datagrams since (RFC 9221, sections 5 and 5.4).
-use Rattle.std.specs.Prelude.{ℕ, suc, ◌≡◌, Bool, true, false, List, [], ◌∷◌, ◌++◌, filter, length, drop, take, Option, Some, None, Ok, if◌then◌else◌}
+use Rattle.std.specs.Prelude.{ℕ, suc, ◌≡◌, ◌⊎◌, Bool, true, false, List, [], ◌∷◌, ◌++◌, filter, length, drop, take, Option, Some, None, Ok, if◌then◌else◌}
 use Rattle.quic_wire_core.specs.declared.stream_id.Side.{Side}
 use Rattle.quic_wire.specs.Value.{FrameValue, datagram}
 use Rattle.quic_messages.specs.Messages.{with_message, is_within}
@@ -18,7 +18,7 @@ use Rattle.quic_machine.specs.Machine.{end_at}
 use Rattle.quic_headline.specs.Runs.{Run, In, same_side, AreServed}
 use Rattle.quic_headline.specs.Observer.{Sent, sents_until}
 use Rattle.quic_headline.specs.Headline.{IsAt}
-use Rattle.quic_headline.specs.Polls.{mtu_in, GaveNothing, IsHeldBack}
+use Rattle.quic_headline.specs.Polls.{mtu_in, GaveNothing, IsHeldBack, IsLimited}
 
 -- ---- what waits
 
@@ -78,7 +78,7 @@ queue_room r side = (end_at side r.start).transport.datagram_send_buffer_size
 -- how long a message of an end may be where its datagrams have at most the size that a view shows,
 -- if its peer takes any: by that size, the longest frame that the peer takes, and the peer's id
 abbrev pub longest_in : Run → Side → View → Option ℕ
-longest_in r side v = let e : End = end_at side r.start in max_size e.peer_params.max_datagram_frame_size (mtu_in v side) (length e.ids.active.id)
+longest_in r side v = let e : End = end_at side r.start in max_size e.peer_params.max_datagram_frame_size (mtu_in v side) (length e.ids.peer.id)
 
 -- the messages that wait at an end behind the first so many answers, the oldest first
 abbrev pub waiting_messages : Run → Side → ℕ → List (List ℕ)
@@ -87,9 +87,9 @@ waiting_messages r side i = (outbox_all (queue_room r side) (longest_in r side) 
 -- ---- the clauses
 
 -- where a poll of an open end gives nothing though by the lists a message waits, window or pacer
--- hold it back
+-- hold it back, or nothing more may go to an address that isn't validated
 abbrev pub MessagesGo : Run → Type 0
-MessagesGo r = (side : Side) (i now : ℕ) (message : List ℕ) (v : View) → AreServed r (suc i) → GaveNothing r side i now v → In message (waiting_messages r side (suc i)) → IsHeldBack r side (suc i) v
+MessagesGo r = (side : Side) (i now : ℕ) (message : List ℕ) (v : View) → AreServed r (suc i) → GaveNothing r side i now v → In message (waiting_messages r side (suc i)) → IsHeldBack r side (suc i) v ⊎ IsLimited r side (suc i) v
 
 -- the messages of a datagram that a poll gives are the first of those that wait, in their order,
 -- and all others wait behind it as before

@@ -18,6 +18,7 @@ pub record ResetsAreToldAt (r : Run) (side : Side) (i : ℕ) : Type 0 where
   pub read : (read : ReadCall) (code : ℕ) (front behind : List Next) → IsAt r i side (calls.Read read) (answers.Read (Ok (front ++ Err (read_errors.Reset code) ∷ behind))) → WasResetWith r side i read.id code
   pub asked : (id code : ℕ) → IsAt r i side (calls.ReceivedReset id) (answers.ReceivedReset (Ok (Some code))) → WasResetWith r side i id code
 
--- a reset is told only of a stream that the other end's application reset, and with the code that it gave
+-- a reset is told only of a stream that the other end's application reset, and with the code that
+-- it gave
 abbrev pub ResetsAreTold : Run → Type 0
 ResetsAreTold r = (side : Side) (i : ℕ) → AreServed r i → ResetsAreToldAt r side i

@@ -1,5 +1,6 @@
--- An end rests where it has nothing left to do: its last call was a poll that gave nothing, and none of the timers that wait for the peer is set. What it wrote has
--- arrived then, and it owes no acknowledgement (RFC 9000, sections 13.2 and 13.3; RFC 9002, section 6.2).
+-- An end rests where it has nothing left to do: its last call was a poll that gave nothing, and
+-- none of the timers that wait for the peer is set. What it wrote has arrived then, and it owes no
+-- acknowledgement (RFC 9000, sections 13.2 and 13.3; RFC 9002, section 6.2).
 use Rattle.std.specs.Prelude.{ℕ, zero, suc, ◌<◌, ◌≡◌, Bool, true, false, filter, if◌then◌else◌, List, [], ◌∷◌, ◌++◌, length, slice_get, Option, Some, None, Ok}
 use Rattle.std.specs.List.{list_any}
 use Rattle.quic_wire_core.specs.declared.stream_id.Side.{Side}
@@ -35,7 +36,8 @@ abbrev pub view_behind : Run → ℕ → Option View
 view_behind r zero = None
 view_behind r (suc i) = slice_get r.views i
 
--- A view shows none of the timers of an end set that wait for the peer: of losses, of acknowledgements and of the pacer. Others may be: for them nothing is owed.
+-- A view shows none of the timers of an end set that wait for the peer: of losses, of
+-- acknowledgements and of the pacer. Others may be: for them nothing is owed.
 pub record ShowsStill (v : View) (side : Side) : Type 0 where
   pub no_loss_timer : loss_timer v side ≡ Some None
   pub no_ack_timer : ack_timer v side ≡ Some None
@@ -47,8 +49,9 @@ pub record ShowsStill (v : View) (side : Side) : Type 0 where
 abbrev pub poll_of_nothing : ℕ → Told
 poll_of_nothing now = record { call = calls.Poll now; answer = answers.Poll (Ok None); state = states.Open }
 
--- An end rests behind the first so many answers: the last call at it was a poll that gave nothing, and the view there shows it open, its path validated, and these
--- timers not set. The other end may have been called since.
+-- An end rests behind the first so many answers: the last call at it was a poll that gave nothing,
+-- and the view there shows it open, its path validated, and these timers not set. The other end may
+-- have been called since.
 pub record Rests (r : Run) (side : Side) (i : ℕ) : Type 0 where
   pub front : List Told
   pub now : ℕ
@@ -59,15 +62,15 @@ pub record Rests (r : Run) (side : Side) (i : ℕ) : Type 0 where
   pub validated : validated_in view side ≡ true
   pub still : ShowsStill view side
 
--- Both controllers keep their law, and show windows that hold two datagrams of the size with which the paths begin: with a lesser window no end is made (RFC 9002,
--- section 7.2).
+-- Both controllers keep their law, and show windows that hold two datagrams of the size with which
+-- the paths begin: with a lesser window no end is made (RFC 9002, section 7.2).
 pub record HaveRoom (w : World) : Type 0 where
   pub controlled : AreControlled w
   pub client : HasRoom (first_mtu w.client.transport) w.client.path.window
   pub server : HasRoom (first_mtu w.server.transport) w.server.path.window
 
--- An open end has nothing left to do: nothing waits to be sent, no datagram that asks for an acknowledgement is waited for, and the timer of acknowledgements
--- isn't set.
+-- An open end has nothing left to do: nothing waits to be sent, no datagram that asks for an
+-- acknowledgement is waited for, and the timer of acknowledgements isn't set.
 pub record HasNothingLeft (e : End) : Type 0 where
   pub is_open : e.closing.state ≡ states.Open
   pub nothing_waits : waits e ≡ false
@@ -80,8 +83,9 @@ RestIsQuiet r = (side : Side) (i : ℕ) (w : World) → AreServed r i → HaveRo
 
 -- ---- what was written has arrived
 
--- where an end rests, each byte that was written on a stream that it didn't reset has arrived, and so has the end of each such stream that was finished; a stream
--- that the peer stopped goes on sending until it is reset
+-- where an end rests, each byte that was written on a stream that it didn't reset has arrived, and
+-- so has the end of each such stream that was finished; a stream that the peer stopped goes on
+-- sending until it is reset
 abbrev pub DeliveredAtRest : Run → Type 0
 DeliveredAtRest r = (side : Side) (i id : ℕ) → AreServed r i → HaveRoom r.start → Rests r side i → reset id (until r side i) ≡ None
     → ((offset : ℕ) → offset < length (written id (until r side i)) → HasArrived (took r (other_side side) i) id offset)
@@ -89,7 +93,8 @@ DeliveredAtRest r = (side : Side) (i id : ℕ) → AreServed r i → HaveRoom r.
 
 -- ---- no acknowledgement is owed
 
--- what an observer knows of an end, and the packets that ask for an acknowledgement and were taken since the end gave an ACK frame, the latest first
+-- what an observer knows of an end, and the packets that ask for an acknowledgement and were taken
+-- since the end gave an ACK frame, the latest first
 pub record Unanswered : Type 0 where
   pub watch : Watch
   pub packets : List Packet
@@ -110,12 +115,14 @@ unanswered_told l t u = let after = watch_told l t u.watch in record { watch = a
 abbrev pub none_unanswered : Watch → Unanswered
 none_unanswered w = record { watch = w; packets = [] }
 
--- the packets that an end took, ask, and came since it gave an ACK frame, behind the first so many answers
+-- the packets that an end took, ask, and came since it gave an ACK frame, behind the first so many
+-- answers
 abbrev pub unanswered : Run → Side → ℕ → List Packet
 unanswered r side i = (folded (unanswered_told (lens_of r side)) (until r side i) (none_unanswered (watch_from (end_at side r.start) (given_of r side)))).packets
 
--- An acknowledgement of a packet is owed: the packet is one of these, and lies above the greatest number in each ACK frame of a datagram that the peer acknowledged.
--- What such a frame named, and all below its greatest number, the end may forget (RFC 9000, section 13.2.4).
+-- An acknowledgement of a packet is owed: the packet is one of these, and lies above the greatest
+-- number in each ACK frame of a datagram that the peer acknowledged. What such a frame named, and
+-- all below its greatest number, the end may forget (RFC 9000, section 13.2.4).
 pub record IsUnacknowledged (r : Run) (side : Side) (i : ℕ) (p : Packet) : Type 0 where
   pub since : In p (unanswered r side i)
   pub above : (s : Sent) (greatest : ℕ) → In s (sents_until r side i) → first_acknowledged s.frames ≡ Some greatest → IsNamed (took r side i) s.number → greatest < p.number

@@ -1,5 +1,6 @@
--- What a run says of its ends over its lists alone: its events, their answers, the views behind them, and the datagrams that each end gave.
-use Rattle.std.specs.Prelude.{ℕ, zero, suc, ◌+◌, ◌<◌, ◌≤◌, ◌≡◌, ◌⊎◌, max, Bool, true, false, nat_le, ◌==◌, ◌&&◌, ◌||◌, not, if◌then◌else◌, List, [], ◌∷◌, ◌++◌, length, take, slice_get, Option, Some, None, Result, Ok, Err}
+-- What a run says of its ends over its lists alone: its events, their answers, the views behind
+-- them, and the datagrams that each end gave.
+use Rattle.std.specs.Prelude.{ℕ, zero, suc, ◌+◌, ◌<◌, ◌≤◌, ◌≡◌, ◌⊎◌, max, Bool, true, false, nat_le, ◌==◌, ◌&&◌, ◌||◌, not, if◌then◌else◌, List, [], ◌∷◌, ◌++◌, length, take, slice_get, Option, Some, None, Result, Ok, Err, sum_by}
 use Rattle.std.specs.List.{list_any}
 use Rattle.quic_wire_core.specs.declared.stream_id.Side.{Side}
 use Rattle.quic_wire_core.specs.declared.stream_id.Side.TheVariants.{Client, Server}
@@ -29,7 +30,8 @@ use Rattle.quic_machine.specs.Machine.{World, Policies, end_at, fails, gave, Fol
 
 -- ---- a run
 
--- the keys of both ends, the ends that it began with, its events, their answers, the view behind each, and the datagrams that each end gave
+-- the keys of both ends, the ends that it began with, its events, their answers, the view behind
+-- each, and the datagrams that each end gave
 pub record Run : Type 0 where
   pub keys : Policies
   pub start : World
@@ -92,7 +94,8 @@ state_at r side i = state_behind side (end_at side r.start).closing.state i r.vi
 abbrev pub LeadsTo : Run → ℕ → World → Type 0
 LeadsTo r i w = Follows r.keys r.start (take i r.events) (take i r.answers) (take i r.views) w
 
--- among the first so many answers no delivery, no poll and no timeout met want of memory; then no end has failed, and each timeout was served
+-- among the first so many answers no delivery, no poll and no timeout met want of memory; then no
+-- end has failed, and each timeout was served
 abbrev pub AreServed : Run → ℕ → Type 0
 AreServed r i = list_any fails (take i r.answers) ≡ false
 
@@ -233,8 +236,9 @@ pub record Packet : Type 0 where
   pub number : ℕ
   pub frames : List FrameValue
 
--- What came to an end, the latest first: the numbers of the packets that opened; the packets that were taken; and, where one was
--- refused, what could be read of it: the frames before the one at fault are the first of these.
+-- What came to an end, the latest first: the numbers of the packets that opened; the packets that
+-- were taken; and, where one was refused, what could be read of it: the frames before the one at
+-- fault are the first of these.
 pub record Intake : Type 0 where
   pub opened : List ℕ
   pub took : List Packet
@@ -249,7 +253,8 @@ abbrev pub expected_behind : List Packet → ℕ
 expected_behind [] = 0
 expected_behind (p ∷ ps) = max (p.number + 1) (expected_behind ps)
 
--- whether a number is a duplicate behind others: one of them, or 129 or more below one (RFC 9000, section 12.3, which names no number: 129 is our choice)
+-- whether a number is a duplicate behind others: one of them, or 129 or more below one (RFC 9000,
+-- section 12.3, which names no number: 129 is our choice)
 abbrev pub is_again : ℕ → List ℕ → Bool
 is_again n numbers = list_any (λ m. (m == n) || nat_le (n + 129) m) numbers
 
@@ -265,13 +270,14 @@ handed given (calls.Deliver delivery) answers.NoDatagram = None
 handed given (calls.Deliver delivery) a = slice_get given delivery.index
 handed given call a = None
 
--- the id that a datagram was sent to, where each has the length of own ones: it stands behind the first byte (RFC 9000, section 17.3.1)
+-- the id that a datagram was sent to, where each has the length of own ones: it stands behind the
+-- first byte (RFC 9000, section 17.3.1)
 abbrev pub destination : List ℕ → List ℕ
 destination [] = []
 destination (first ∷ rest) = take own_id_length rest
 
--- What a datagram opens to by its key alone, whichever id it was sent to: what it does at an end that has that id, where this number
--- is expected (section 12.2).
+-- What a datagram opens to by its key alone, whichever id it was sent to: what it does at an end
+-- that has that id, where this number is expected (section 12.2).
 abbrev pub opens_by_key : Policy → ℕ → List ℕ → Option Opening
 opens_by_key p expected d = opens p (destination d ∷ []) expected d
 
@@ -280,8 +286,9 @@ abbrev pub is_elsewhere : Answer → Bool
 is_elsewhere (answers.Deliver (receives.Dropped drops.UnknownId)) = true
 is_elsewhere a = false
 
--- What a datagram opens to that is handed to an end, which took these packets before: to what it does by its key, and to nothing where
--- it was sent to no id of the end's. The lists show no ids, so the answer says where that is.
+-- What a datagram opens to that is handed to an end, which took these packets before: to what it
+-- does by its key, and to nothing where it was sent to no id of the end's. The lists show no ids,
+-- so the answer says where that is.
 abbrev pub came_open : Policy → List Packet → Answer → List ℕ → Option Opening
 came_open p packets a d = if is_elsewhere a then None else opens_by_key p (expected_behind packets) d
 
@@ -313,7 +320,8 @@ and_handed states.Closing d p a i = i
 and_handed states.Drained d p a i = i
 and_handed states.Failed d p a i = i
 
--- what came by one call more to an end with these keys; `given` are the datagrams that the other end gave
+-- what came by one call more to an end with these keys; `given` are the datagrams that the other
+-- end gave
 abbrev pub and_told : Policy → List (List ℕ) → Told → Intake → Intake
 and_told p given t i = and_handed t.state (handed given t.call t.answer) p t.answer i
 
@@ -333,7 +341,8 @@ pub record WasTaken (packets : List Packet) (frame : StreamValue) : Type 0 where
   pub was_taken : In packet packets
   pub carried : In (stream frame) packet.frames
 
--- A frame opens a stream of the peer's, and those of its kind below it (RFC 9000, sections 2.1 and 3.2): STREAM, RESET_STREAM, STOP_SENDING and MAX_STREAM_DATA do.
+-- A frame opens a stream of the peer's, and those of its kind below it (RFC 9000, sections 2.1 and
+-- 3.2): STREAM, RESET_STREAM, STOP_SENDING and MAX_STREAM_DATA do.
 abbrev pub OpensStream : FrameValue → ℕ → Type 0
 OpensStream (stream f) id = f.id ≡ id
 OpensStream (reset_stream f) id = f.id ≡ id
@@ -379,7 +388,8 @@ pub record IsTaken (packets : List Packet) (number : ℕ) : Type 0 where
   pub was_taken : In packet packets
   pub is : packet.number ≡ number
 
--- whether an ACK frame names a number: the number lies in one of its ranges (RFC 9000, section 19.3.1)
+-- whether an ACK frame names a number: the number lies in one of its ranges (RFC 9000, section
+-- 19.3.1)
 abbrev pub names : AckValue → ℕ → Bool
 names a n = list_any (λ r. nat_le r.0 n && nat_le n r.1) a.ranges
 
@@ -413,6 +423,25 @@ count_given (t ∷ ts) = (if gave t.answer then 1 else 0) + count_given ts
 -- the datagrams that an end gave by the first so many answers
 abbrev pub given_until : Run → Side → ℕ → List (List ℕ)
 given_until r side i = take (count_given (until r side i)) (given_of r side)
+
+-- the bytes of a datagram, if there is one
+abbrev pub size_of : Option (List ℕ) → ℕ
+size_of None = 0
+size_of (Some datagram) = length datagram
+
+-- how many bytes a call hands to its end, whatever is made of them: none where there is no such
+-- datagram, nor where an injection would open, which isn't made
+abbrev pub bytes_in_call : List (List ℕ) → Call → Answer → ℕ
+bytes_in_call given (calls.Inject injection) (answers.Inject a) = length injection.bytes
+bytes_in_call given call a = size_of (handed given call a)
+
+-- how many bytes were handed to an end by the first so many answers
+abbrev pub bytes_handed : Run → Side → ℕ → ℕ
+bytes_handed r side i = sum_by (λ t. bytes_in_call (given_of r (other_side side)) t.call t.answer) (until r side i)
+
+-- how many bytes the datagrams have that it gave by them
+abbrev pub bytes_given : Run → Side → ℕ → ℕ
+bytes_given r side i = sum_by length (given_until r side i)
 
 -- the greatest number that frames acknowledge, or 0
 abbrev pub acknowledged_in : List FrameValue → ℕ

@@ -1,7 +1,7 @@
 -- How an end spreads what it sends over the round trip, as an observer of a run's lists reckons it
 -- (RFC 9002, section 7.7): in which polls its pacer is asked, and with what; which tokens are taken
 -- of it; and which moment it names.
-use Rattle.std.specs.Prelude.{ℕ, zero, suc, ◌+◌, ◌≡◌, ◌⊎◌, max, not, ◌==◌, ◌&&◌, ◌||◌, Bool, true, false, nat_lt, List, [], ◌∷◌, ◌++◌, filter, map, length, slice_get, Option, Some, None}
+use Rattle.std.specs.Prelude.{ℕ, zero, suc, ◌+◌, ◌≤◌, ◌≡◌, ◌⊎◌, max, not, ◌==◌, ◌&&◌, ◌||◌, Bool, true, false, nat_lt, IfSome, List, [], ◌∷◌, ◌++◌, filter, map, length, slice_get, Option, Some, None}
 use Rattle.std.specs.List.{list_any}
 use Rattle.quic_wire_core.specs.declared.stream_id.Side.{Side}
 use Rattle.quic_time.specs.Rtt.{best_rtt}
@@ -19,7 +19,7 @@ use Rattle.quic_headline.specs.Runs.{Run, same_side, state_in, AreServed}
 use Rattle.quic_headline.specs.Observer.{Sent, asks_of, watch}
 use Rattle.quic_headline.specs.Headline.{IsAt}
 use Rattle.quic_headline.specs.Moments.{went}
-use Rattle.quic_headline.specs.Polls.{seen_at, pacing_timer, bytes_flying, GaveNothing, GaveAsking, IsFull, IsToGo, IsSizeProbe}
+use Rattle.quic_headline.specs.Polls.{seen_at, pacing_timer, bytes_flying, GaveNothing, GaveAsking, IsFull, IsLimited, IsToGo, IsSizeProbe}
 use Rattle.quic_headline.specs.Queue.{waiting_messages}
 use Rattle.quic_headline.specs.Waited.{is_ping, wants}
 
@@ -30,8 +30,9 @@ gone_at r side i = went (watch r side i) (watch r side (suc i))
 -- ---- what a pacer is asked, and names
 
 -- The pacer of an end is asked in a poll whether one more datagram of the current size may go: by
--- the size and the window that are seen before the poll, and over a round trip of 1 ns at least. The
--- moment is that of the poll, or the greatest that the end took over before, where that is later.
+-- the size and the window that are seen before the poll, and over a round trip of 1 ns at least.
+-- The moment is that of the poll, or the greatest that the end took over before, where that is
+-- later.
 abbrev pub ask_at : Run → Side → ℕ → ℕ → Ask
 ask_at r side i now =
     let w = watch r side i in
@@ -56,11 +57,15 @@ names_for p ask = if_later ask.moment (answer_of p ask)
 abbrev pub leaves_message : Run → Side → ℕ → Bool
 leaves_message r side i = nat_lt 0 (length (waiting_messages r side i)) && nat_lt (bytes_flying r side i + (seen_at r side i).current_mtu) (seen_at r side i).window
 
+-- Whether a datagram that has PING is a probe of a size: PING wasn't asked for; and where a probe
+-- of losses may have left it waiting, the datagram is longer than the current size, as no other is.
+abbrev pub probes_size : Run → Side → ℕ → Sent → Bool
+probes_size r side i s = list_any is_ping s.frames && (not (wants r side i).pinged && (not (wants r side i).probed || nat_lt (seen_at r side i).current_mtu s.size))
+
 -- Whether the pacer was asked before a datagram that asks went, or one that doesn't, where no probe
--- of losses waits: the one is no probe of a size, which has PING that wasn't asked for; the other
--- leaves a message.
+-- of losses waits: the one is no probe of a size; the other leaves a message.
 abbrev pub is_paced : Bool → Run → Side → ℕ → Sent → Bool
-is_paced true r side i s = not (list_any is_ping s.frames && not (wants r side i).pinged)
+is_paced true r side i s = not (probes_size r side i s)
 is_paced false r side i s = leaves_message r side i
 
 -- whether it was before one of these
@@ -113,20 +118,26 @@ named_at r side i now = names_for (pacer_at r side i) (ask_at r side i now)
 -- ---- the clause
 
 -- A poll holds to the pacer. Its timer isn't set behind the poll, or is set to the moment that the
--- pacer names. What asks goes, where no probe of losses waits, only where the pacer names none, or as
--- a probe of a size. And where nothing goes though a byte of a stream, or its end, is to go, the
--- window is full, or the pacer names a moment, to which its timer is set.
+-- pacer names. What asks goes, where no probe of losses waits, only where the pacer names none, or
+-- as a probe of a size. And where nothing goes though a byte of a stream, or its end, is to go, the
+-- window is full, or the pacer names a moment, to which its timer is set, or nothing more may go to
+-- an address that isn't validated.
 pub record HoldsToPacer (r : Run) (side : Side) (i now : ℕ) (v : View) : Type 0 where
   pub sets : (pacing_timer v side ≡ Some None) ⊎ (pacing_timer v side ≡ Some (named_at r side i now))
   pub lets : (gave : GaveAsking r side i now) → (watch r side i).flight.probes ≡ 0 → (named_at r side i now ≡ None) ⊎ IsSizeProbe r side i gave.one.sent
   pub waits : (id : ℕ) → GaveNothing r side i now v → IsToGo r side (suc i) id
-      → IsFull r side (suc i) v ⊎ ((moment : ℕ) × (named_at r side i now ≡ Some moment) × (pacing_timer v side ≡ Some (Some moment)))
+      → IsFull r side (suc i) v ⊎ (((moment : ℕ) × (named_at r side i now ≡ Some moment) × (pacing_timer v side ≡ Some (Some moment))) ⊎ IsLimited r side (suc i) v)
 
 -- any other call leaves the timer as it is seen before, or not set
 abbrev pub HoldsBy : Call → Run → Side → ℕ → View → Type 0
 HoldsBy (calls.Poll now) r side i v = HoldsToPacer r side i now v
 HoldsBy call r side i v = (pacing_timer v side ≡ Some None) ⊎ (pacing_timer v side ≡ slice_get (seen_at r side i).timers 6)
 
+-- An end searches in steps of three bytes at least, if it searches for a size at all: then no probe
+-- of a size has exactly the current size, which any other datagram may have.
+abbrev pub SearchesApart : Run → Side → Type 0
+SearchesApart r side = IfSome (end_at side r.start).transport.mtu_discovery_config (λ search. 3 ≤ search.least_change)
+
 -- so it is of each call behind which the view shows its end open
 abbrev pub PacerIsOfHistory : Run → Type 0
-PacerIsOfHistory r = (side : Side) (i : ℕ) (call : Call) (a : Answer) (v : View) → AreServed r (suc i) → IsAt r i side call a → slice_get r.views i ≡ Some v → state_in v side ≡ states.Open → HoldsBy call r side i v
+PacerIsOfHistory r = (side : Side) (i : ℕ) (call : Call) (a : Answer) (v : View) → AreServed r (suc i) → IsAt r i side call a → slice_get r.views i ≡ Some v → state_in v side ≡ states.Open → SearchesApart r side → HoldsBy call r side i v

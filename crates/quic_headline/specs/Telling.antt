@@ -4,6 +4,9 @@
 -- lists don't say here. It is left open:
 --  * in what is told of acknowledgements, whether the end had nothing more to send (`app_limited`),
 --    where its last poll doesn't tell (`MayCount`): either, but the same in one packet;
+--  * whether the peer has a challenge to answer as they come (`challenged`; RFC 9000, section 8.2), so that
+--    the controller isn't told of them: it may have one where the end began with an address of its
+--    peer that wasn't validated;
 --  * whether counts of CE that came are believed and grew (`marks`): a controller may be told so,
 --    where they may have;
 --  * which of the datagrams that may be probes of a size is one (`probe`), whether such a one gives
@@ -36,12 +39,14 @@ abbrev pub told_if : Bool → congestion.Told → Tellings
 told_if true told = told ∷ []
 told_if false told = []
 
--- By what acknowledgements and losses are judged at an end (sections 6.1, 7.6 and 7.8): its terms and
--- settings, the number that goes next, the one that did as a round trip was first measured, if one
--- was, and whether the end counts as having nothing more to send.
+-- By what acknowledgements and losses are judged at an end (sections 6.1, 7.6 and 7.8): its terms
+-- and settings, whether it began with a validated address, the number that goes next, the one that
+-- did as a round trip was first measured, if one was, and whether the end counts as having nothing
+-- more to send.
 pub record Judging : Type 0 where
   pub terms : Terms
   pub settings : TransportSettings
+  pub validated : Bool
   pub next : ℕ
   pub first : Option ℕ
   pub limited : Bool
@@ -116,12 +121,12 @@ pub record TellsLosses (j : Judging) (clock : ℕ) (by_ack : Bool) (f : Flight) 
 
 -- ---- datagrams that are acknowledged (RFC 9002, section 7.3)
 
--- each that asks counts: when it went, its bytes, and how long a round trip took before; one that
--- may be a probe may give its size to later ones
-abbrev pub TellsAcked : ℕ → ℕ → Bool → Rtt → List Sent → Tellings → Type 0
-TellsAcked least clock app_limited rtt [] told = told ≡ []
-TellsAcked least clock app_limited rtt (s ∷ ss) told = (grows : Bool) × (grows ≡ true → MayProbe least s) × (later : Tellings) × TellsAcked least clock app_limited rtt ss later
-    × (told ≡ told_if (asks_of s) (congestion.Acked clock s.moment s.size app_limited rtt) ++ told_if grows (congestion.Resized s.size) ++ later)
+-- each that asks counts, unless a challenge is open: when it went, its bytes, and how long a round
+-- trip took before; one that may be a probe may give its size to later ones
+abbrev pub TellsAcked : ℕ → ℕ → Bool → Bool → Rtt → List Sent → Tellings → Type 0
+TellsAcked least clock challenged app_limited rtt [] told = told ≡ []
+TellsAcked least clock challenged app_limited rtt (s ∷ ss) told = (grows : Bool) × (grows ≡ true → MayProbe least s) × (later : Tellings) × TellsAcked least clock challenged app_limited rtt ss later
+    × (told ≡ told_if (asks_of s && not challenged) (congestion.Acked clock s.moment s.size app_limited rtt) ++ told_if grows (congestion.Resized s.size) ++ later)
 
 -- what is in flight where an ACK frame acknowledges these and leaves the others, before any is lost
 abbrev pub acked_flight : Terms → ℕ → AckValue → List Sent → List Sent → Flight → Flight
@@ -147,8 +152,10 @@ pub record MayMark (named : Option ℕ) (a : AckValue) : Type 0 where
 -- named; what is lost then; and, where counts of CE grew, that the path is congested, when the last
 -- of these went, and of no bytes.
 pub record TellsSettled (j : Judging) (clock : ℕ) (a : AckValue) (acked others : List Sent) (f : Flight) (told : Tellings) : Type 0 where
+  pub challenged : Bool
+  pub unvalidated : challenged ≡ true → j.validated ≡ false
   pub each : Tellings
-  pub acks : TellsAcked j.settings.min_mtu clock j.limited f.rtt acked each
+  pub acks : TellsAcked j.settings.min_mtu clock challenged j.limited f.rtt acked each
   pub lost : Tellings
   pub losses : TellsLosses j clock true (acked_flight j.terms clock a acked others f) lost
   pub marks : Bool
@@ -195,44 +202,44 @@ TellsMoment false j clock f told = told ≡ []
 -- ---- a call
 
 -- by what they are judged where the observer knows this
-abbrev pub judging : Lens → TransportSettings → Option ℕ → Bool → Watch → Judging
-judging l c first limited w = record { terms = l.terms; settings = c; next = next_number w.own; first = first; limited = limited }
+abbrev pub judging : Lens → TransportSettings → Bool → Option ℕ → Bool → Watch → Judging
+judging l c validated first limited w = record { terms = l.terms; settings = c; validated = validated; next = next_number w.own; first = first; limited = limited }
 
 -- the number that went next as a round trip was first measured, by what the observer knows behind a
 -- call
 abbrev pub first_behind : Option ℕ → Watch → Option ℕ
 first_behind first w = measured_first first (next_number w.own) w.flight.rtt.smoothed
 
--- The controller of an end is told this by a call at the end, which counts as having nothing more to
--- send or doesn't, and of which the observer knows this before: of the packets that it took, or of
--- one that it refused; of what is lost by time; and of what went.
-pub record TellsCall (l : Lens) (c : TransportSettings) (first : Option ℕ) (limited : Bool) (w : Watch) (t : Told) (told : Tellings) : Type 0 where
+-- The controller of an end is told this by a call at the end, which counts as having nothing more
+-- to send or doesn't, and of which the observer knows this before: of the packets that it took, or
+-- of one that it refused; of what is lost by time; and of what went.
+pub record TellsCall (l : Lens) (c : TransportSettings) (validated : Bool) (first : Option ℕ) (limited : Bool) (w : Watch) (t : Told) (told : Tellings) : Type 0 where
   pub after : Intake
   pub came : after ≡ and_told l.own l.peer_gave t w.intake
   pub clock : ℕ
   pub moment : clock ≡ clock_behind w.clock (moment_of t.state (has_opened w.intake after) t.call)
   pub taken : Tellings
-  pub takes : TellsPackets (judging l c first limited w) clock (news w.intake after) w.flight taken
+  pub takes : TellsPackets (judging l c validated first limited w) clock (news w.intake after) w.flight taken
   pub refused : Tellings
-  pub refuses : TellsPart (judging l c first limited w) clock (has_opened w.intake after && is_refused t.answer) after.part w.flight refused
+  pub refuses : TellsPart (judging l c validated first limited w) clock (has_opened w.intake after && is_refused t.answer) after.part w.flight refused
   pub late : Tellings
-  pub expires : let f = (watch_came l.terms after clock w).flight in TellsMoment (is_timely t.state t.call && is_past (loss_due l.terms f) clock) (judging l c first limited w) clock f late
+  pub expires : let f = (watch_came l.terms after clock w).flight in TellsMoment (is_timely t.state t.call && is_past (loss_due l.terms f) clock) (judging l c validated first limited w) clock f late
   pub went : List Sent
   pub gave : (watch_told l t w).own ≡ w.own ++ went
   pub is : told ≡ taken ++ refused ++ late ++ told_gone went
 
--- calls at the end, one behind another, of which the first stands behind so many others: at each that
--- finds the end open, the end may count so
-abbrev pub TellsCalls : Lens → TransportSettings → (ℕ → Bool → Type 0) → ℕ → Option ℕ → Watch → List Told → Tellings → Type 0
-TellsCalls l c may n first w [] told = told ≡ []
-TellsCalls l c may n first w (t ∷ ts) told =
-    (limited : Bool) × (now later : Tellings) × (t.state ≡ states.Open → may n limited) × TellsCall l c first limited w t now × TellsCalls l c may (suc n) (first_behind first (watch_told l t w)) (watch_told l t w) ts later × (told ≡ now ++ later)
+-- calls at the end, one behind another, of which the first stands behind so many others: at each
+-- that finds the end open, the end may count so
+abbrev pub TellsCalls : Lens → TransportSettings → Bool → (ℕ → Bool → Type 0) → ℕ → Option ℕ → Watch → List Told → Tellings → Type 0
+TellsCalls l c validated may n first w [] told = told ≡ []
+TellsCalls l c validated may n first w (t ∷ ts) told =
+    (limited : Bool) × (now later : Tellings) × (t.state ≡ states.Open → may n limited) × TellsCall l c validated first limited w t now × TellsCalls l c validated may (suc n) (first_behind first (watch_told l t w)) (watch_told l t w) ts later × (told ≡ now ++ later)
 
 -- ---- over a run
 
 -- the controller of an end may have been told this by the first so many answers
 abbrev pub MayTell : Run → Side → ℕ → Tellings → Type 0
-MayTell r side i told = TellsCalls (lens_of r side) (end_at side r.start).transport (CountsAt r side) 0 None (watch_from (end_at side r.start) (given_of r side)) (until r side i) told
+MayTell r side i told = TellsCalls (lens_of r side) (end_at side r.start).transport (end_at side r.start).path.validated (CountsAt r side) 0 None (watch_from (end_at side r.start) (given_of r side)) (until r side i) told
 
 -- the window that a view shows is that which the controller, as it was when the run began, shows
 -- once it was told of what went, was acknowledged and was lost up to there; and the size of

@@ -96,6 +96,8 @@ abbrev pub configured_for : Settings → Dir → ℕ
 configured_for s Bi = min s.max_bidi (2 ^ 60)
 configured_for s Uni = min s.max_uni (2 ^ 60)
 
+-- how many streams of a direction an endpoint of a run lets its peer have open at once, by its
+-- settings
 abbrev pub streams_let : (r : Run) → AreStarted r.start → Side → Dir → ℕ
 streams_let r s side dir = configured_for (making_at side r.start s).settings dir
 

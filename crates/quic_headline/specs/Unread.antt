@@ -1,4 +1,5 @@
--- A write is blocked at rest only for bytes that the reader left unread, and no stream is opened only for streams that aren't done (RFC 9000, sections 4.1 and 4.6).
+-- A write is blocked at rest only for bytes that the reader left unread, and no stream is opened
+-- only for streams that aren't done (RFC 9000, sections 4.1 and 4.6).
 use Rattle.std.specs.Prelude.{ℕ, ◌+◌, ◌-◌, ◌/◌, ◌^◌, ◌<◌, ◌≤◌, ◌≡◌, ◌⊎◌, max, Bool, false, eqb, ◌==◌, ◌&&◌, ◌||◌, List, [], ◌∷◌, length, Ok, Err}
 use Rattle.std.specs.List.{IsDistinct}
 use Rattle.quic_wire_core.specs.declared.stream_id.Side.{Side}
@@ -28,7 +29,8 @@ abbrev pub stopped : ℕ → List Told → Bool
 stopped id [] = false
 stopped id (t ∷ ts) = stopped_by id t.call t.answer || stopped id ts
 
--- An offset arrived in these packets and wasn't read by these calls, of a stream that they didn't stop and whose reset didn't come.
+-- An offset arrived in these packets and wasn't read by these calls, of a stream that they didn't
+-- stop and whose reset didn't come.
 pub record IsLeft (packets : List Packet) (told : List Told) (stream offset : ℕ) : Type 0 where
   pub unread : IsUnread packets told stream offset
   pub unstopped : stopped stream told ≡ false
@@ -52,7 +54,8 @@ pub record HasUnreadOn (packets : List Packet) (told : List Told) (stream count 
   pub left : (offset : ℕ) → In offset offsets → IsLeft packets told stream offset
   pub many : count ≤ length offsets
 
--- of a window so much is left at least where the peer isn't told of more: a limit is told anew once it grew by an eighth of the window, or by one, if that is more
+-- of a window so much is left at least where the peer isn't told of more: a limit is told anew once
+-- it grew by an eighth of the window, or by one, if that is more
 abbrev pub least_left : ℕ → ℕ
 least_left window = (window - max (window / 8) 1) + 1
 
@@ -62,6 +65,7 @@ least_left window = (window - max (window / 8) 1) + 1
 abbrev pub receive_window : (r : Run) → AreStarted r.start → Side → ℕ
 receive_window r s side = (making_at side r.start s).settings.receive_window
 
+-- how many bytes an end lets come on one stream past those that were consumed of it
 abbrev pub stream_window : (r : Run) → AreStarted r.start → Side → ℕ
 stream_window r s side = (making_at side r.start s).settings.stream_receive_window
 
@@ -76,8 +80,9 @@ pub record IsModestAt (r : Run) (s : AreStarted r.start) (side : Side) (i : ℕ)
 abbrev pub IsModest : (r : Run) → AreStarted r.start → ℕ → Type 0
 IsModest r s i = (side : Side) → IsModestAt r s side i
 
--- where both ends rest and the next write is answered `Blocked`, whatever caused that, so many bytes are left unread at the other end: of all streams by its window for
--- all, or of this stream by its window for one
+-- where both ends rest and the next write is answered `Blocked`, whatever caused that, so many
+-- bytes are left unread at the other end: of all streams by its window for all, or of this stream
+-- by its window for one
 abbrev pub BlockedOnlyForUnread : Run → Type 0
 BlockedOnlyForUnread r = (s : AreStarted r.start) (side : Side) (i id count : ℕ) (call : Call) (a : Answer) → AreServed r i → HaveRoom r.start → IsModest r s i → Rests r side i → Rests r (other_side side) i
     → IsAt r i side call a → WritesOn call id count → told_so a (Err write_errors.Blocked)

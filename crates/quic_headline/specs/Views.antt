@@ -1,4 +1,4 @@
--- What calls answer of timers, and what views show of them.
+-- What calls answer of timers, of the state and of the peer's address, and what views show of them.
 use Rattle.std.specs.Prelude.{ℕ, ◌≡◌, ◌≤◌, List, slice_get, Option, Some, None}
 use Rattle.quic_wire_core.specs.declared.stream_id.Side.{Side}
 use Rattle.quic_time.specs.declared.timer.Timer.{Timer}
@@ -7,10 +7,11 @@ use Rattle.quic_machine.specs.declared.run.Call.{Call}
 use Rattle.quic_machine.specs.declared.run.Call.TheVariants as calls
 use Rattle.quic_machine.specs.declared.run.Answer.{Answer}
 use Rattle.quic_machine.specs.declared.run.Answer.TheVariants as answers
+use Rattle.quic_machine.specs.declared.run.EndView.{EndView}
 use Rattle.quic_machine.specs.declared.run.View.{View}
 use Rattle.quic_headline.specs.Runs.{Run, In}
 use Rattle.quic_headline.specs.Headline.{IsAt}
-use Rattle.quic_headline.specs.Moments.{timers_in}
+use Rattle.quic_headline.specs.Polls.{end_in}
 
 -- the place of a timer in a view
 abbrev pub place : Timer → ℕ
@@ -29,12 +30,15 @@ abbrev pub IsEarliest : List (Option ℕ) → Option ℕ → Type 0
 IsEarliest timers None = (moment : ℕ) → In (Some moment) timers → ⊥
 IsEarliest timers (Some earliest) = In (Some earliest) timers × ((moment : ℕ) → In (Some moment) timers → earliest ≤ moment)
 
--- a call that asks when a timer expires is answered what these show of it, and one that asks for the next one the earliest of them
-abbrev pub IsShown : Call → Answer → List (Option ℕ) → Type 0
-IsShown (calls.Timer timer) (answers.Timer moment) timers = slice_get timers (place timer) ≡ Some moment
-IsShown calls.NextTimeout (answers.NextTimeout moment) timers = IsEarliest timers moment
-IsShown call a timers = Unit {0}
+-- A call that asks when a timer expires is answered what is seen of it at the end, one that asks
+-- for the next one the earliest of them, and one that asks for the state and whether the peer's
+-- address is validated both.
+abbrev pub IsShown : Call → Answer → EndView → Type 0
+IsShown (calls.Timer timer) (answers.Timer moment) seen = slice_get seen.timers (place timer) ≡ Some moment
+IsShown calls.NextTimeout (answers.NextTimeout moment) seen = IsEarliest seen.timers moment
+IsShown calls.State (answers.State state validated) seen = (state ≡ seen.state) × (validated ≡ seen.validated)
+IsShown call a seen = Unit {0}
 
 -- such a call is answered what the view behind it shows
 abbrev pub ViewsTell : Run → Type 0
-ViewsTell r = (side : Side) (i : ℕ) (call : Call) (a : Answer) (view : View) → IsAt r i side call a → slice_get r.views i ≡ Some view → IsShown call a (timers_in view side)
+ViewsTell r = (side : Side) (i : ℕ) (call : Call) (a : Answer) (view : View) → IsAt r i side call a → slice_get r.views i ≡ Some view → IsShown call a (end_in view side)

@@ -1,4 +1,5 @@
--- What an ACK frame makes of an end, and loss detection (RFC 9000, section 13.1; RFC 9002, sections 5 and 6.1).
+-- What an ACK frame makes of an end, and loss detection (RFC 9000, section 13.1; RFC 9002, sections
+-- 5 and 6.1).
 use Rattle.std.specs.Prelude.{ℕ, ◌-◌, ◌*◌, ◌^◌, min, Bool, true, false, ◌&&◌, if◌then◌else◌, List, [], ◌∷◌, ◌++◌, length, Option, Some, None, Result, Ok, Err}
 use Rattle.quic_send_buffer.specs.declared.stream_meta.StreamMeta.{StreamMeta}
 use Rattle.quic_wire.specs.Value.{AckValue}
@@ -34,7 +35,8 @@ abbrev pub resets_acked : List (ℕ × ℕ) → End → End
 resets_acked [] e = e
 resets_acked (r ∷ rs) e = resets_acked rs (reset_acked r.0 e)
 
--- a STREAM frame is acknowledged: where its stream is wholly acknowledged then, its end too, the application is told so
+-- a STREAM frame is acknowledged: where its stream is wholly acknowledged then, its end too, the
+-- application is told so
 abbrev pub stream_acked : StreamMeta → End → End
 stream_acked m e = with_streams e (after_stream_acked e.streams e.waiting.frames m)
 
@@ -80,7 +82,8 @@ abbrev pub packets_lost : Table TrackedPacket → End → End
 packets_lost [] e = e
 packets_lost (p ∷ ps) e = packets_lost ps (carried_lost p.1.carried e)
 
--- the packets that a verdict finds lost are: what they carried waits again, and when the next may be lost by time is known anew
+-- the packets that a verdict finds lost are: what they carried waits again, and when the next may
+-- be lost by time is known anew
 abbrev pub lost_as : Verdict → End → End
 lost_as v e =
     let lost = lost_by v e.tracking.packets in
@@ -96,13 +99,15 @@ losses_detected e = lost_as (verdict e) e
 
 -- ---- a round trip is measured (RFC 9002, section 5)
 
--- how long the peer says that it held an acknowledgement back, in nanoseconds: so many microseconds, shifted by the exponent that it told, but no longer than
--- it may (section 5.3; RFC 9000, section 19.3)
+-- how long the peer says that it held an acknowledgement back, in nanoseconds: so many
+-- microseconds, shifted by the exponent that it told, but no longer than it may (section 5.3; RFC
+-- 9000, section 19.3)
 abbrev pub told_delay : End → AckValue → ℕ
 told_delay e a = min (saturated (a.delay * 2 ^ e.peer_params.ack_delay_exponent * 1000)) (peer_delay e)
 
--- the packet that an ACK frame measures, if it measures one: that of the greatest number that it names, where no greater one was acknowledged before, it is
--- among these, which are newly acknowledged, and one of these asks
+-- the packet that an ACK frame measures, if it measures one: that of the greatest number that it
+-- names, where no greater one was acknowledged before, it is among these, which are newly
+-- acknowledged, and one of these asks
 abbrev pub measured : Bool → AckValue → Table TrackedPacket → Option TrackedPacket
 measured rises a acked = if rises && asks_any acked then at acked a.largest else None
 
@@ -127,8 +132,9 @@ counts_judged (Err error) counts e = with_marking e false
 abbrev pub counts_answer : End → ℕ → Counts → Result Bool EcnError
 counts_answer e newly counts = marks_judged (marks_refused newly e.marks.told counts) e.marks.told counts
 
--- counts are judged where a number is named above all that were before, since those of an older ACK may be smaller; where none come, the peer or the path doesn't
--- keep marks, and nothing is marked any more
+-- counts are judged where a number is named above all that were before, since those of an older ACK
+-- may be smaller; where none come, the peer or the path doesn't keep marks, and nothing is marked
+-- any more
 abbrev pub counts_taken : Bool → ℕ → Option Counts → End → End
 counts_taken rises newly None e = with_marking e false
 counts_taken true newly (Some counts) e = counts_judged (counts_answer e newly counts) counts e
@@ -143,7 +149,8 @@ counts_seen false rises newly counts e = e
 abbrev pub marks_seen : Bool → ℕ → AckValue → End → End
 marks_seen rises newly a e = counts_seen e.path.marking rises newly a.ecn e
 
--- the controller is told where the count of CE grew (RFC 9002, section 7.1): the last packet newly acknowledged went at this moment
+-- the controller is told where the count of CE grew (RFC 9002, section 7.1): the last packet newly
+-- acknowledged went at this moment
 abbrev pub told_grown : Result Bool EcnError → ℕ → ℕ → List Told
 told_grown (Ok true) now sent = Congested now sent false 0 ∷ []
 told_grown r now sent = []
@@ -172,11 +179,13 @@ answered e = with_tracking e (after_answered e.tracking)
 abbrev pub without_acked : Table TrackedPacket → AckValue → End → End
 without_acked acked a e = with_tracking (packets_acked acked e) (record e.tracking { packets = not_acked_by a e.tracking.packets })
 
--- of the packets that it names, these are acknowledged, the round trip is measured where it can be, and others are lost
+-- of the packets that it names, these are acknowledged, the round trip is measured where it can be,
+-- and others are lost
 abbrev pub losses_taken : Table TrackedPacket → Bool → AckValue → End → End
 losses_taken acked rises a e = answered (losses_detected (sampled (measured rises a acked) a (without_acked acked a e)))
 
--- an ACK frame that names tracked packets, which are these, or names none: so it is of them, and the counts of marks are judged. `rises` says whether a number is named above all that were before
+-- an ACK frame that names tracked packets, which are these, or names none: so it is of them, and
+-- the counts of marks are judged. `rises` says whether a number is named above all that were before
 abbrev pub after_named : Table TrackedPacket → Bool → AckValue → End → End
 after_named [] rises a e = e
 after_named (p ∷ ps) rises a e = marks_seen rises (length (p ∷ ps)) a (losses_taken (p ∷ ps) rises a e)
@@ -197,7 +206,8 @@ told_of_losses acked rises a e =
     let left = without_acked acked a e in
     told_packets e acked ++ told_acks_ended left ++ told_detected true (sampled (measured rises a acked) a left)
 
--- of an ACK frame that names tracked packets, which are these, or names none: so it is of them, and marks may show congestion
+-- of an ACK frame that names tracked packets, which are these, or names none: so it is of them, and
+-- marks may show congestion
 abbrev pub told_named : Table TrackedPacket → Bool → AckValue → End → List Told
 told_named [] rises a e = []
 told_named (p ∷ ps) rises a e = told_of_losses (p ∷ ps) rises a e ++ told_marks rises (p ∷ ps) a (losses_taken (p ∷ ps) rises a e)

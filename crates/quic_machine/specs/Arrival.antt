@@ -1,22 +1,24 @@
 -- When a datagram came, and how.
-use Rattle.std.specs.Prelude.{ℕ, Option}
+use Rattle.std.specs.Prelude.{ℕ, Bool, Option}
 use Rattle.quic_wire_core.specs.declared.shared.EcnCodepoint.{EcnCodepoint}
 use Rattle.quic_machine.specs.declared.run.Delivery.{Delivery}
 use Rattle.quic_machine.specs.declared.run.Injection.{Injection}
 
--- a datagram comes at a moment, with a mark or with none (RFC 9000, section 13.4.1)
+-- a datagram comes at a moment, with a mark or with none (RFC 9000, section 13.4.1); and whether,
+-- where its packet doesn't open, it is the last that may not (RFC 9001, section 6.6)
 pub record Arrival : Type 0 where
   pub now : ℕ
   pub mark : Option EcnCodepoint
+  pub last : Bool
 
 -- one that comes at this moment, with this mark
-abbrev pub arriving : ℕ → Option EcnCodepoint → Arrival
-arriving moment codepoint = record { now = moment; mark = codepoint }
+abbrev pub arriving : ℕ → Option EcnCodepoint → Bool → Arrival
+arriving moment codepoint is_last = record { now = moment; mark = codepoint; last = is_last }
 
 -- how a delivery comes
-abbrev pub delivered_by : Delivery → Arrival
-delivered_by delivery = arriving delivery.now delivery.ecn
+abbrev pub delivered_by : Bool → Delivery → Arrival
+delivered_by is_last delivery = arriving delivery.now delivery.ecn is_last
 
 -- how an injection comes
-abbrev pub injected_by : Injection → Arrival
-injected_by injection = arriving injection.now injection.ecn
+abbrev pub injected_by : Bool → Injection → Arrival
+injected_by is_last injection = arriving injection.now injection.ecn is_last

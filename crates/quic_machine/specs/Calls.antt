@@ -1,4 +1,5 @@
--- The calls of the application at one end (RFC 9000, section 2.4): what each answers, and what it leaves.
+-- The calls of the application at one end (RFC 9000, section 2.4): what each answers, and what it
+-- leaves.
 use Rattle.std.specs.Prelude.{ℕ, ◌-◌, ◌≡◌, ◌⊎◌, Bool, true, false, nat_lt, if◌then◌else◌, List, [], ◌∷◌, Option, Some, None, Result, Err, option_map}
 use Rattle.quic_assembler.specs.declared.assembler.Chunk.{Chunk}
 use Rattle.quic_machine.specs.declared.answers.Event.{Event}
@@ -13,8 +14,10 @@ use Rattle.quic_streams_state.specs.State.{Streams}
 use Rattle.quic_streams_state.specs.Telling.{Telling}
 use Rattle.quic_streams_state.specs.Telling as telling
 use Rattle.quic_streams_state.specs.Reading.{Told, told_bytes, next_answer, told_by, after_next, after_read_begun, after_finalize}
-use Rattle.quic_machine.specs.Closing.{Closing, loss_to_tell, after_told}
-use Rattle.quic_machine.specs.End.{End, with_messages, with_ping}
+use Rattle.quic_wire.specs.Value.{application_close}
+use Rattle.quic_machine.specs.declared.answers.LostReason.TheVariants as reasons
+use Rattle.quic_machine.specs.Closing.{Closing, ticked, loss_to_tell, after_told}
+use Rattle.quic_machine.specs.End.{End, with_closing, closing_by, with_messages, with_ping}
 
 -- whether an end sends and receives
 abbrev pub is_open : State → Bool
@@ -29,9 +32,21 @@ is_open states.Failed = false
 abbrev pub end_after_ping : End → End
 end_after_ping e = with_ping e true
 
+-- ---- close (section 10.2)
+
+-- an open end closes, and tells its peer this code and this text; another stays as it is
+abbrev pub closed_in : State → ℕ → ℕ → List ℕ → End → End
+closed_in states.Open now code text e = closing_by reasons.Application (application_close (record { code = code; reason = text })) (with_closing e (ticked e.closing now))
+closed_in state now code text e = e
+
+-- the end after its application closed at a moment
+abbrev pub end_after_close : ℕ → ℕ → List ℕ → End → End
+end_after_close now code text e = closed_in e.closing.state now code text e
+
 -- ---- events (sections 2.4 and 10)
 
--- what the application is told of streams and of the end: what happened to streams, and then that the end is lost, once, and why
+-- what the application is told of streams and of the end: what happened to streams, and then that
+-- the end is lost, once, and why
 abbrev pub tells_of : Option StreamEvent → Closing → Option Event
 tells_of None c = option_map events.Lost (loss_to_tell c)
 tells_of (Some event) c = Some (events.Stream event)
@@ -67,7 +82,8 @@ end_after_event e = if tells_message e then message_told e else others_told e
 
 -- ---- read (section 2.2)
 
--- these may be the answers of so many `next`s of a read, which told this so far: each lacks memory, or is what the streams answer then
+-- these may be the answers of so many `next`s of a read, which told this so far: each lacks memory,
+-- or is what the streams answer then
 abbrev pub AreNexts : Told → StreamsState → ℕ → List ℕ → List (Result (Option Chunk) ReadError) → Type 0
 AreNexts told s id [] [] = Unit {0}
 AreNexts told s id (most ∷ mosts) (answer ∷ answers) = ((answer ≡ next_answer told s id most) ⊎ (answer ≡ Err read_errors.Memory)) × AreNexts (told_by answer told) (after_next told answer s id most) id mosts answers
@@ -79,6 +95,7 @@ abbrev pub after_nexts : Told → StreamsState → ℕ → List ℕ → List (Re
 after_nexts told s id (most ∷ mosts) (answer ∷ answers) = after_nexts (told_by answer told) (after_next told answer s id most) id mosts answers
 after_nexts told s id mosts answers = s
 
--- what a read leaves that was begun, in order or not, and whose `next`s were answered so: limits that grew wait to be told
+-- what a read leaves that was begun, in order or not, and whose `next`s were answered so: limits
+-- that grew wait to be told
 abbrev pub after_reads : Streams → ℕ → Bool → List ℕ → List (Result (Option Chunk) ReadError) → Streams
 after_reads t id ordered mosts answers = after_finalize (after_nexts told_bytes (after_read_begun t.state id ordered) id mosts answers) t.pending id

@@ -1,6 +1,8 @@
--- Congestion control at an end (RFC 9002, section 7): what is in flight, what window and pacer hold back, and what the controller is told.
+-- Congestion control at an end (RFC 9002, section 7): what is in flight, what window and pacer hold
+-- back, and what the controller is told.
 use Rattle.std.specs.Prelude.{ℕ, ◌+◌, ◌*◌, max, Bool, true, false, not, ◌&&◌, ◌==◌, nat_le, nat_lt, if◌then◌else◌, List, [], ◌∷◌, ◌++◌, sum_by, Option, Some, None}
 use Rattle.std.specs.List.{filter}
+use Rattle.std.specs.Option.{is_none}
 use Rattle.quic_time.specs.Clocks.{saturated}
 use Rattle.quic_time.specs.Rtt.{best_rtt}
 use Rattle.quic_congestion.specs.Congestion.{Told, Sent, Acked, AcksEnded}
@@ -12,7 +14,8 @@ use Rattle.quic_machine.specs.End.{End, probe_timeout}
 
 -- ---- what is in flight (section 2)
 
--- whether a tracked packet is in flight on the path of a generation: it asks for an acknowledgement, and went there
+-- whether a tracked packet is in flight on the path of a generation: it asks for an
+-- acknowledgement, and went there
 abbrev pub flies : ℕ → ℕ × TrackedPacket → Bool
 flies generation p = p.1.asks && (p.1.generation == generation)
 
@@ -34,7 +37,8 @@ is_window_full e = nat_le e.path.window (bytes_in_flight e + current_mtu e.path)
 abbrev pub paced_rtt : End → ℕ
 paced_rtt e = max (best_rtt e.path.rtt) 1
 
--- the pacer, asked at the moment of the end whether one more datagram may go: the moment until which it has to wait, if it has to (section 7.7)
+-- the pacer, asked at the moment of the end whether one more datagram may go: the moment until
+-- which it has to wait, if it has to (section 7.7)
 abbrev pub pacer_answer : End → Option ℕ
 pacer_answer e = delay_of e.path.pacing (paced_rtt e) (current_mtu e.path) (current_mtu e.path) e.path.window e.closing.clock
 
@@ -97,7 +101,8 @@ gated_if false e = lets e
 
 -- ---- a controller, and what it is told
 
--- a controller as an end sees it: which window it shows once it was told these, the first of them first
+-- a controller as an end sees it: which window it shows once it was told these, the first of them
+-- first
 abbrev pub Control : Type 0
 Control = List Told → ℕ
 
@@ -110,15 +115,16 @@ abbrev pub told_sent : Bool → End → ℕ → ℕ → List Told
 told_sent true e size number = Sent e.closing.clock size number ∷ []
 told_sent false e size number = []
 
--- a packet is acknowledged, which counts where it asks
+-- a packet is acknowledged, which counts where it asks, unless the peer has a challenge to answer
 abbrev pub told_packet : End → ℕ × TrackedPacket → List Told
-told_packet e p = if p.1.asks then Acked e.closing.clock p.1.time_sent p.1.size e.path.app_limited e.path.rtt ∷ [] else []
+told_packet e p = if p.1.asks && is_none e.validation.challenge then Acked e.closing.clock p.1.time_sent p.1.size e.path.app_limited e.path.rtt ∷ [] else []
 
 -- those that an ACK frame names are acknowledged
 abbrev pub told_acks_ended : End → List Told
 told_acks_ended e = AcksEnded e.closing.clock (saturated (bytes_in_flight e)) e.path.app_limited e.numbers.largest_acked ∷ []
 
--- how far apart packets have to be that show persistent congestion when they are lost (section 7.6.1)
+-- how far apart packets have to be that show persistent congestion when they are lost (section
+-- 7.6.1)
 abbrev pub persistent_period : End → ℕ
 persistent_period e = saturated (e.transport.persistent_congestion_threshold * probe_timeout e)
 

@@ -1,10 +1,11 @@
 -- What holds of a draft, whichever frames go; and that a datagram has a frame.
-use Rattle.std.proofs.Common.{◌≡◌, ℕ, ◌+◌, ◌-◌, ◌<◌, ◌≤◌, ◌^◌, List, [], ◌∷◌, ◌++◌, Bool, true, false, ◌&&◌, ◌||◌, length, Some, refl, sym, ap, ◌∙◌, subst, arith, nat_lt, inl, inr}
+use Rattle.std.proofs.Common.{◌≡◌, ℕ, ◌+◌, ◌-◌, ◌<◌, ◌≤◌, ◌^◌, List, [], ◌∷◌, ◌++◌, Bool, true, false, ◌&&◌, ◌||◌, length, Option, Some, None, max, refl, sym, ap, ◌∙◌, subst, arith, nat_lt, inl, inr}
 use Rattle.std.specs.Prelude.{if◌then◌else◌, map, ◌*◌}
 use Rattle.std.specs.List.{fold}
+use Rattle.std.specs.Option.{is_some}
 use Rattle.std.proofs.lemmas.Bool.{and_parts}
 use Rattle.std.proofs.lemmas.List.{length-append, append_assoc, append-nil}
-use Rattle.quic_wire.specs.Value.{FrameValue, StreamValue, ping, stream, datagram, ack, connection_close, application_close, asks}
+use Rattle.quic_wire.specs.Value.{FrameValue, StreamValue, ping, stream, datagram, ack, path_challenge, path_response, connection_close, application_close, asks}
 use Rattle.quic_wire.specs.Writing.{spelling, spelled_all, stream_spelling}
 use Rattle.quic_packet.specs.Number.{width_for}
 use Rattle.quic_send_buffer.specs.Buffered.{writes_length}
@@ -20,9 +21,12 @@ use Rattle.quic_streams_laws.specs.KindLaws.{GoesFirst}
 use Rattle.quic_streams_laws.specs.ControlWalk.{GoesOn, by_control, by_stream_frames}
 use Rattle.quic_recovery_core.specs.PendingAcks.{lazy_threshold, can_send, is_filled}
 use Rattle.quic_spaces.specs.Numbers.{cut_against}
+use Rattle.quic_machine.specs.Ids.{destination}
 use Rattle.quic_machine.specs.End.{End, number_of}
+use Rattle.quic_paths.specs.Responses.{Response}
 use Rattle.quic_machine.specs.Parts.{current_mtu, Signals, signals_wait}
-use Rattle.quic_machine.specs.Poll.{Draft, frame_room, fits, left, with_signal, ping_if, behind_control, with_control_frames, with_message, with_messages_of, with_message_frames, behind_stream, no_stream_frames, with_stream_frames, Kind, order, put, with_asking, no_frames, ack_of, with_ack, ack_fits, ack_if, composed_if, composed, lazied, lazied_as, Leaving, whole, alone, probe, closing, nothing, with_frame, least_left, with_signal_frames, draft_left, draft_as}
+use Rattle.quic_machine.specs.Validation.{path_waits, path_frames_size, challenge_frame, response_frame}
+use Rattle.quic_machine.specs.Poll.{Draft, frame_room, fits, left, with_signal, challenge_if, response_if, ping_if, with_challenge_frame, with_response_frame, with_ping_frame, behind_control, with_control_frames, with_message, with_messages_of, with_message_frames, behind_stream, no_stream_frames, with_stream_frames, Kind, order, put, with_asking, no_frames, ack_of, with_ack, ack_fits, ack_if, composed_if, composed, lazied, lazied_as, Leaving, whole, alone, probe, closing, nothing, with_frame, least_by, least_left, with_signal_frames, draft_left, draft_as}
 use Rattle.quic_machine.specs.Poll as poll
 use Rattle.quic_machine.specs.Puts.{Put, after, May, MayClose, stream_room, without_entry, with_entry, with_half_frame}
 use Rattle.quic_machine.specs.Puts as puts
@@ -37,9 +41,10 @@ width_few n = go (nat_lt (2 * n) 256) (nat_lt (2 * n) 65536) (nat_lt (2 * n) 167
     go false false true = omega arith
     go false false false = omega arith
 
--- a datagram has room for frames: the id to which it goes has 20 bytes at most, and the path takes 1200 (RFC 9000, sections 17.2 and 14)
+-- a datagram has room for frames: the id to which it goes has 20 bytes at most, and the path takes
+-- 1200 (RFC 9000, sections 17.2 and 14)
 abbrev pub HasRoom : End → Type 0
-HasRoom e = (length e.ids.active.id ≤ 20) × (1200 ≤ current_mtu e.path) × (current_mtu e.path < 2 ^ 16)
+HasRoom e = (length (destination e.ids) ≤ 20) × (1200 ≤ current_mtu e.path) × (current_mtu e.path < 2 ^ 16)
 
 -- how many bytes it has for them at least
 pub room_most : (e : End) → HasRoom e → 1159 ≤ frame_room e
@@ -59,7 +64,8 @@ Drops P = (d : Draft) (kind : ControlKind) → P d → P (without_entry d kind)
 abbrev pub SendsEntry : (Draft → Type 0) → Type 0
 SendsEntry P = (d : Draft) (kind : ControlKind) (f : FrameValue) → GoesFirst kind d.end.waiting.frames d.end.streams f → P d → P (with_entry d kind f)
 
--- the frame of the stream goes that stands first in the queue, which brings something, where enough bytes are left
+-- the frame of the stream goes that stands first in the queue, which brings something, where enough
+-- bytes are left
 abbrev pub SendsHalf : (Draft → Type 0) → Type 0
 SendsHalf P = (d : Draft) (id : ℕ) (h : SendHalf) (room : ℕ) → at d.end.streams.sending.halves.live id ≡ Some h → first_queued d.end.streams.sending.queue ≡ Some id → 25 ≤ left d → room ≡ stream_room d id → frame_counts h room ≡ true → P d
     → P (with_half_frame d id h room)
@@ -89,29 +95,71 @@ module _ (P : Draft → Type 0) (w : Writing P) where
 
 -- whether a frame is a signal: it asks, and no packet's record has it
 abbrev pub IsSignal : FrameValue → Type 0
+IsSignal (path_challenge token) = Unit {0}
+IsSignal (path_response token) = Unit {0}
 IsSignal ping = Unit {0}
 IsSignal f = ⊥
 
 -- it asks
 pub signal_asks : (f : FrameValue) → IsSignal f → asks f ≡ true
+signal_asks (path_challenge token) is = refl
+signal_asks (path_response token) is = refl
 signal_asks ping is = refl
 signal_asks f is = absurd is
 
--- what holds of a draft, and stays where one goes, holds where those go that wait
-pub by_signals : (P : Draft → Type 0) → ((d : Draft) (f : FrameValue) (left : Signals) → IsSignal f → P d → P (with_signal d f left)) → (d : Draft) → P d → P (with_signal_frames d)
-by_signals P goes d p = go d.end.waiting.signals.ping
-  where
-    go : (b : Bool) → P (ping_if b d)
-    go true = goes d ping (record d.end.waiting.signals { ping = false }) tt p
-    go false = p
+module _ (P : Draft → Type 0) (goes : (d : Draft) (f : FrameValue) (left : Signals) → IsSignal f → P d → P (with_signal d f left)) where
+  -- each of them, where it waits
+  challenge_goes : (o : Option ℕ) (d : Draft) → P d → P (challenge_if o d)
+  challenge_goes None d p = p
+  challenge_goes (Some word) d p = goes d (challenge_frame word) (record d.end.waiting.signals { challenge = None }) tt p
+
+  response_goes : (o : Option Response) (d : Draft) → P d → P (response_if o d)
+  response_goes None d p = p
+  response_goes (Some r) d p = goes d (response_frame r) (record d.end.waiting.signals { response = None }) tt p
+
+  ping_goes : (b : Bool) (d : Draft) → P d → P (ping_if b d)
+  ping_goes true d p = goes d ping (record d.end.waiting.signals { ping = false }) tt p
+  ping_goes false d p = p
+
+  answers_go : (d : Draft) → P d → P (with_ping_frame (with_response_frame d))
+  answers_go d p = let x : Draft = with_response_frame d in ping_goes x.end.waiting.signals.ping x (response_goes d.end.waiting.signals.response d p)
+
+  -- what holds of a draft, and stays where one goes, holds where those go that wait
+  pub by_signals : (d : Draft) → P d → P (with_signal_frames d)
+  by_signals d p = answers_go (with_challenge_frame d) (challenge_goes d.end.waiting.signals.challenge d p)
 
 -- where one waits, one goes last
 pub by_some_signal : (P : Draft → Type 0) → ((d : Draft) (f : FrameValue) (left : Signals) → IsSignal f → P (with_signal d f left)) → (d : Draft) → signals_wait d.end.waiting.signals ≡ true → P (with_signal_frames d)
-by_some_signal P goes d some = subst (λ (b : Bool). P (ping_if b d)) (sym some) (goes d ping (record d.end.waiting.signals { ping = false }) tt)
+by_some_signal P goes d some = challenge d.end.waiting.signals.challenge some
+  where
+    stays : (d : Draft) (f : FrameValue) (left : Signals) → IsSignal f → P d → P (with_signal d f left)
+    stays d f left is p = goes d f left is
+
+    pinged : (b : Bool) → b ≡ true → P (ping_if b d)
+    pinged true some = goes d ping (record d.end.waiting.signals { ping = false }) tt
+    pinged false some = cc
+
+    response : (o : Option Response) → is_some o || d.end.waiting.signals.ping ≡ true → P (with_ping_frame (response_if o d))
+    response None some = pinged d.end.waiting.signals.ping some
+    response (Some r) some =
+        let x : Draft = response_if (Some r) d in
+        ping_goes P stays x.end.waiting.signals.ping x (goes d (response_frame r) (record d.end.waiting.signals { response = None }) tt)
+
+    challenge : (o : Option ℕ) → is_some o || (is_some d.end.waiting.signals.response || d.end.waiting.signals.ping) ≡ true → P (with_ping_frame (with_response_frame (challenge_if o d)))
+    challenge None some = response d.end.waiting.signals.response some
+    challenge (Some word) some = answers_go P stays (challenge_if (Some word) d) (goes d (challenge_frame word) (record d.end.waiting.signals { challenge = None }) tt)
 
 -- where none waits, none goes
 pub no_signal : (d : Draft) → signals_wait d.end.waiting.signals ≡ false → with_signal_frames d ≡ d
-no_signal d none = ap (λ (b : Bool). ping_if b d) none
+no_signal d none = challenge d.end.waiting.signals.challenge none
+  where
+    response : (o : Option Response) → is_some o || d.end.waiting.signals.ping ≡ false → with_ping_frame (response_if o d) ≡ d
+    response None none = ap (λ (b : Bool). ping_if b d) none
+    response (Some r) none = cc
+
+    challenge : (o : Option ℕ) → is_some o || (is_some d.end.waiting.signals.response || d.end.waiting.signals.ping) ≡ false → with_ping_frame (with_response_frame (challenge_if o d)) ≡ d
+    challenge None none = response d.end.waiting.signals.response none
+    challenge (Some word) none = cc
 
 -- ---- all of them
 
@@ -183,13 +231,28 @@ module _ (P : Draft → Type 0) (goes : SendsMessage P) where
   by_messages d p = messages_keep d.end.messages.queues.outgoing d refl p
 
 module _ (P : Draft → Type 0) (w : Writing P) where
+  -- signals, each where it waits
+  challenge_keeps : (o : Option ℕ) (d : Draft) → d.end.waiting.signals.challenge ≡ o → P d → P (challenge_if o d)
+  challenge_keeps None d is p = p
+  challenge_keeps (Some word) d is p = w (puts.challenge word) d is p
+
+  response_keeps : (o : Option Response) (d : Draft) → d.end.waiting.signals.response ≡ o → P d → P (response_if o d)
+  response_keeps None d is p = p
+  response_keeps (Some r) d is p = w (puts.response r) d is p
+
+  ping_keeps : (b : Bool) (d : Draft) → P d → P (ping_if b d)
+  ping_keeps true d p = w puts.ping d tt p
+  ping_keeps false d p = p
+
+  signals_keep : (d : Draft) → P d → P (with_signal_frames d)
+  signals_keep d p =
+      let asked : Draft = with_challenge_frame d in
+      let answered : Draft = with_response_frame asked in
+      ping_keeps answered.end.waiting.signals.ping answered (response_keeps asked.end.waiting.signals.response asked refl (challenge_keeps d.end.waiting.signals.challenge d refl p))
+
   -- one kind
   kind_keeps : (kind : Kind) (d : Draft) → P d → P (put d kind)
-  kind_keeps poll.signals d p = go d.end.waiting.signals.ping
-    where
-      go : (b : Bool) → P (ping_if b d)
-      go true = w puts.ping d tt p
-      go false = p
+  kind_keeps poll.signals d p = signals_keep d p
   kind_keeps poll.controls d p = by_entries P (drops_of P w) (entry_of P w) d p
   kind_keeps poll.messages d p = by_messages P (message_of P w) d p
   kind_keeps poll.streams d p = by_streams P (half_of P w) d p
@@ -262,28 +325,60 @@ by_leave P w leaving e may p = by_left P w leaving (lazied_as leaving e) may p
 
 -- ---- its least size
 
--- what asks leaves it
-asking_least : (d : Draft) → (with_asking d).least ≡ d.least
-asking_least d = by_streams Keeps (λ x id h room found first some is counts same. same) (with_message_frames (with_control_frames (with_signal_frames d)))
-    (by_messages Keeps (λ x m ms is fit same. same) (with_control_frames (with_signal_frames d))
-    (by_entries Keeps (λ x kind same. same) (λ x kind f is same. same) (with_signal_frames d) (by_signals Keeps (λ x f left is same. same) d refl)))
+-- frames of path validation set it
+signals_least : (d : Draft) → d.least ≡ 0 → (with_signal_frames d).least ≡ least_by whole (path_waits d.end)
+signals_least d none = pinged answered.end.waiting.signals.ping answered ∙ go d.end.waiting.signals.challenge
   where
-    Keeps : Draft → Type 0
-    Keeps x = x.least ≡ d.least
+    answered : Draft
+    answered = with_response_frame (with_challenge_frame d)
 
-composed_least : (e : End) → (composed e).least ≡ 0
+    pinged : (b : Bool) (x : Draft) → (ping_if b x).least ≡ x.least
+    pinged true x = refl
+    pinged false x = refl
+
+    respond : (o : Option Response) (x : Draft) → (response_if o x).least ≡ (if is_some o then max x.least path_frames_size else x.least)
+    respond None x = refl
+    respond (Some r) x = refl
+
+    both : (b : Bool) → (if b then max (max 0 path_frames_size) path_frames_size else max 0 path_frames_size) ≡ path_frames_size
+    both true = refl
+    both false = refl
+
+    answers : Bool
+    answers = is_some d.end.waiting.signals.response
+
+    go : (o : Option ℕ) → (with_response_frame (challenge_if o d)).least ≡ least_by whole (is_some o || answers)
+    go None = respond d.end.waiting.signals.response d ∙ ap (λ (n : ℕ). if answers then max n path_frames_size else n) none
+    go (Some word) =
+        respond d.end.waiting.signals.response (challenge_if (Some word) d)
+        ∙ ap (λ (n : ℕ). if answers then max (max n path_frames_size) path_frames_size else max n path_frames_size) none
+        ∙ both answers
+
+-- what else asks leaves it
+asking_least : (d : Draft) → (with_asking d).least ≡ (with_signal_frames d).least
+asking_least d = by_streams Keeps (λ x id h room found first some is counts same. same) (with_message_frames (with_control_frames begun))
+    (by_messages Keeps (λ x m ms is fit same. same) (with_control_frames begun)
+    (by_entries Keeps (λ x kind same. same) (λ x kind f is same. same) begun refl))
+  where
+    begun : Draft
+    begun = with_signal_frames d
+
+    Keeps : Draft → Type 0
+    Keeps x = x.least ≡ begun.least
+
+composed_least : (e : End) → (composed e).least ≡ least_by whole (path_waits e)
 composed_least e = go (can_send e.acknowledging)
   where
-    late : (b : Bool) (d : Draft) → d.least ≡ 0 → (ack_if b d).least ≡ 0
-    late true d is = is
-    late false d is = is
+    late : (b : Bool) (d : Draft) (n : ℕ) → d.least ≡ n → (ack_if b d).least ≡ n
+    late true d n is = is
+    late false d n is = is
 
-    go : (b : Bool) → (composed_if b e).least ≡ 0
-    go true = asking_least (with_ack (no_frames e))
-    go false = late (ack_fits (with_asking (no_frames e))) (with_asking (no_frames e)) (asking_least (no_frames e))
+    go : (b : Bool) → (composed_if b e).least ≡ least_by whole (path_waits e)
+    go true = asking_least (with_ack (no_frames e)) ∙ signals_least (with_ack (no_frames e)) refl
+    go false = late (ack_fits (with_asking (no_frames e))) (with_asking (no_frames e)) (least_by whole (path_waits e)) (asking_least (no_frames e) ∙ signals_least (no_frames e) refl)
 
--- only a probe of a size has one by itself
-pub left_least : (leaving : Leaving) (e : End) → (draft_left leaving e).least ≡ least_left leaving
+-- a probe of a size has one by itself, and what has frames of path validation
+pub left_least : (leaving : Leaving) (e : End) → (draft_left leaving e).least ≡ least_left leaving e
 left_least whole e = composed_least e
 left_least alone e = refl
 left_least (probe size) e = refl

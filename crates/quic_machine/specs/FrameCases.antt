@@ -1,7 +1,10 @@
--- What a datagram that comes leaves, as cases: of the packets that an ACK frame names or that are lost, of frames, and of the packet that has them.
+-- What a datagram that comes leaves, as cases: of the packets that an ACK frame names or that are
+-- lost, of frames, and of the packet that has them.
 use Rattle.std.proofs.Common.{◌≡◌, ℕ, Bool, true, false, not, ◌||◌, ◌==◌, List, [], ◌∷◌, map, length, Option, Some, None, Result, Ok, Err, refl, sym, ◌∙◌}
-use Rattle.std.specs.Prelude.{if◌then◌else◌}
-use Rattle.quic_wire.specs.Value.{FrameValue, AckValue, ack, stream, reset_stream, stop_sending, max_data, max_stream_data, max_streams, datagram}
+use Rattle.std.specs.Prelude.{◌++◌, nat_le, nat_lt, if◌then◌else◌}
+use Rattle.std.specs.List.{list_any}
+use Rattle.std.specs.declared.ops.Range.{Range}
+use Rattle.quic_wire.specs.Value.{FrameValue, AckValue, ack, stream, reset_stream, stop_sending, max_data, max_stream_data, max_streams, datagram, new_connection_id, retire_connection_id, path_challenge, path_response}
 use Rattle.quic_wire_core.specs.declared.shared.EcnCodepoint.{EcnCodepoint}
 use Rattle.quic_wire.specs.Items.{items}
 use Rattle.quic_wire.specs.declared.frame.InvalidFrame.{InvalidFrame}
@@ -18,11 +21,19 @@ use Rattle.quic_machine.specs.declared.answers.State.{State}
 use Rattle.quic_machine.specs.declared.answers.State.TheVariants as states
 use Rattle.quic_machine.specs.declared.answers.DropReason.TheVariants as drops
 use Rattle.quic_machine.specs.declared.answers.LostReason.{LostReason}
+use Rattle.quic_wire.specs.Close.{CloseValue}
 use Rattle.quic_machine.specs.Policy.{Policy}
-use Rattle.quic_machine.specs.Closing.{ticked}
-use Rattle.quic_machine.specs.Ids.{Ids, known}
+use Rattle.quic_machine.specs.Closing.{ticked, close_asked}
 use Rattle.quic_recovery_core.specs.PendingAcks.{Pending}
 use Rattle.quic_wire_core.specs.declared.shared.IssuedCid.{IssuedCid}
+use Rattle.quic_wire_core.specs.TransportError.{ErrorValue}
+use Rattle.quic_ids.specs.CidState.{retirement_answer}
+use Rattle.quic_ids.specs.CidQueue.{insert_answer}
+use Rattle.quic_ids.specs.declared.cid_queue.InsertError.{InsertError}
+use Rattle.quic_ids.specs.declared.cid_queue.InsertError.TheVariants as inserts
+use Rattle.quic_retransmits.specs.Retransmits.{most_retirements, can_retire, after_retire}
+use Rattle.quic_machine.specs.Ids.{Ids, known, destination, frame_of, taken_up, retires_for, retired, may_issue}
+use Rattle.quic_machine.specs.IdFrames.{issued, issued_if, drawn}
 use Rattle.quic_spaces.specs.Numbers.{number_opened, number_named}
 use Rattle.quic_spaces.specs.Marks.{Counts}
 use Rattle.quic_spaces.specs.declared.space.EcnError.{EcnError}
@@ -30,7 +41,7 @@ use Rattle.quic_messages.specs.declared.errors.ReceivedError.{ReceivedError}
 use Rattle.quic_messages.specs.Messages.{received_answer}
 use Rattle.quic_machine.specs.Parts.{Messaging}
 use Rattle.quic_machine.specs.Tracking.{TrackedPacket, Carried, acked_by, Verdict, lost_by, after_detection}
-use Rattle.quic_machine.specs.End.{End, with_closing, closed_by, with_numbers, with_streams, with_messages, with_tracking, with_told, with_marking, with_discovery, with_queued}
+use Rattle.quic_machine.specs.End.{End, with_closing, closed_by, with_numbers, with_ids, with_frames, with_streams, with_messages, with_tracking, with_told, with_marking, with_discovery, with_queued}
 use Rattle.quic_machine.specs.Opens.{own_id_length}
 use Rattle.quic_messages.specs.Messages.{without_longer}
 use Rattle.quic_congestion.specs.Search.{Discovery}
@@ -39,7 +50,10 @@ use Rattle.quic_machine.specs.Sizes.{is_resized, with_acked, search_acked, after
 use Rattle.quic_machine.specs.Steps.{Step, after}
 use Rattle.quic_machine.specs.Steps as steps
 use Rattle.quic_machine.specs.Acked.{without_known, reset_acked, resets_acked, stream_acked, streams_acked, packet_acked, packets_acked, stream_lost, streams_lost, again, carried_lost, packets_lost, lost_as, verdict, losses_detected, measured, sampled, without_acked, counts_judged, counts_answer, counts_seen, marks_seen, losses_taken, after_named, after_acked}
-use Rattle.quic_machine.specs.Receive.{Fault, violation, reason_of, Progress, goes_on, is_above, names_ungiven, message_taken, message_judged, take_message, take_frame, take_item, unless_fault, take_items, is_empty, take_payload, asks_in, after_taken, dropped, ends_as, by_state, opened_to, opened_as, opening, headed, received_in, received}
+use Rattle.quic_paths.specs.Paths.{is_asked}
+use Rattle.quic_paths.specs.Responses.{Response}
+use Rattle.quic_machine.specs.Validation.{Asked, asked_of, path_asked, path_validated, word_of, validated_if}
+use Rattle.quic_machine.specs.Receive.{Fault, broke, too_many_pieces, closed_by_peer, drained_at, exhausted, unopened_in, violation, reason_of, Progress, goes_on, is_above, names_ungiven, message_taken, message_judged, take_message, retired_for, id_judged, retirement_judged, take_frame, take_item, unless_fault, take_items, is_empty, take_payload, asks_in, after_taken, dropped, ends_as, by_state, opened_to, opened_as, opening, headed, received_in, is_read, drawn_if, received}
 
 -- ---- packets that are acknowledged, and those that are lost
 
@@ -67,7 +81,8 @@ module _ (P : End → Type 0) (lost : (m : StreamMeta) (e : End) → P e → P (
   packets_lost_keep waits (p ∷ ps) e i =
       packets_lost_keep waits ps (carried_lost p.1.carried e) (waits p.1.carried (streams_lost p.1.carried.stream_frames e) (streams_lost_keep p.1.carried.stream_frames e i))
 
--- what holds of an end whatever marks the peer counted, and whether or not datagrams are marked, holds where counts came
+-- what holds of an end whatever marks the peer counted, and whether or not datagrams are marked,
+-- holds where counts came
 pub by_marks : (rises : Bool) (newly : ℕ) (a : AckValue) (e : End) (P : End → Type 0) → ((counts : Counts) (marking : Bool) → P (with_marking (with_told e counts) marking)) → P (marks_seen rises newly a e)
 by_marks rises newly a e P all = go e.path.marking rises a.ecn
   where
@@ -183,27 +198,49 @@ IsApart (max_streams f) = ⊥
 IsApart (datagram m) = ⊥
 IsApart f = Unit {0}
 
--- what such a frame may change: ids, and which wait to be told of and to be retired; whether the peer's address is validated; and what is to be acknowledged, but for
--- the numbers
+-- what such a frame may change: ids, and which wait to be told of and to be retired; whether the
+-- peer's address is validated, what is asked of the peer until when, and the answer to it that
+-- waits; and what is to be acknowledged, but for the numbers
 pub record Apart : Type 0 where
   pub ids : Ids
   pub new_cids : List IssuedCid
   pub retire_cids : List ℕ
   pub validated : Bool
+  pub asked : Asked
+  pub moment : Option ℕ
+  pub response : Option Response
   pub acknowledging : Pending
 
 -- the end with that
 abbrev pub with_apart : End → Apart → End
 with_apart e c = record e {
   ids = c.ids;
-  waiting = record e.waiting { frames = record e.waiting.frames { new_cids = c.new_cids; retire_cids = c.retire_cids } };
+  waiting = record {
+    signals = record e.waiting.signals { challenge = c.asked.waits; response = c.response };
+    frames = record e.waiting.frames { new_cids = c.new_cids; retire_cids = c.retire_cids };
+  };
   path = record e.path { validated = c.validated };
+  validation = c.asked.validation;
+  timers = record e.timers { path_validation = c.moment };
   acknowledging = record c.acknowledging { runs = e.acknowledging.runs };
 }
 
 -- that of an end as it is
 abbrev pub apart_of : End → Apart
-apart_of e = record { ids = e.ids; new_cids = e.waiting.frames.new_cids; retire_cids = e.waiting.frames.retire_cids; validated = e.path.validated; acknowledging = e.acknowledging }
+apart_of e = record {
+  ids = e.ids;
+  new_cids = e.waiting.frames.new_cids;
+  retire_cids = e.waiting.frames.retire_cids;
+  validated = e.path.validated;
+  asked = asked_of e;
+  moment = e.timers.path_validation;
+  response = e.waiting.signals.response;
+  acknowledging = e.acknowledging;
+}
+
+-- an end where other ids are known, and other ones wait to be told of and to be retired
+abbrev pub ids_changed : End → Ids → List IssuedCid → List ℕ → Apart
+ids_changed e ids new_cids retire_cids = record (apart_of e) { ids = ids; new_cids = new_cids; retire_cids = retire_cids }
 
 -- the frames that change an end, by kind
 pub record TakesFrame (P : End → Type 0) : Type 0 where
@@ -249,29 +286,73 @@ frame_leaves P (max_stream_data f) e on all = all _
 frame_leaves P (max_streams f) e on all = all _
 frame_leaves P f e on all = absurd on
 
--- a frame apart from streams leaves what such a one may change, and another end in nothing else
-pub apart_leaves : (P : End → Type 0) (f : FrameValue) (e : End) → IsApart f → ((c : Apart) → P (with_apart e c)) → P (take_frame f e).end
-apart_leaves P (ack a) e apart all = absurd apart
-apart_leaves P (stream f) e apart all = absurd apart
-apart_leaves P (reset_stream f) e apart all = absurd apart
-apart_leaves P (stop_sending f) e apart all = absurd apart
-apart_leaves P (max_data limit) e apart all = absurd apart
-apart_leaves P (max_stream_data f) e apart all = absurd apart
-apart_leaves P (max_streams f) e apart all = absurd apart
-apart_leaves P (datagram m) e apart all = absurd apart
-apart_leaves P f e apart all = all (apart_of e)
+-- a frame apart from streams leaves what such a one may change, and fewer messages where they are
+-- too long for another id in use; nothing else changes
+pub apart_leaves : (P : End → Type 0) (f : FrameValue) (e : End) → IsApart f → ((c : Apart) → P (with_apart e c))
+    → ((c : Apart) (most : ℕ) → P (with_queued (with_apart e c) (without_longer most e.messages.queues))) → P (take_frame f e).end
+apart_leaves P (ack a) e apart all shorter = absurd apart
+apart_leaves P (stream f) e apart all shorter = absurd apart
+apart_leaves P (reset_stream f) e apart all shorter = absurd apart
+apart_leaves P (stop_sending f) e apart all shorter = absurd apart
+apart_leaves P (max_data limit) e apart all shorter = absurd apart
+apart_leaves P (max_stream_data f) e apart all shorter = absurd apart
+apart_leaves P (max_streams f) e apart all shorter = absurd apart
+apart_leaves P (datagram m) e apart all shorter = absurd apart
+apart_leaves P (new_connection_id f) e apart all shorter = judged (retires_for (insert_answer e.ids.peer (frame_of f)))
+  where
+    waiting : List IssuedCid
+    waiting = e.waiting.frames.new_cids
 
--- none of them changes an end so far
-pub apart_same : (f : FrameValue) (e : End) → IsApart f → (take_frame f e).end ≡ e
-apart_same (ack a) e apart = absurd apart
-apart_same (stream f) e apart = absurd apart
-apart_same (reset_stream f) e apart = absurd apart
-apart_same (stop_sending f) e apart = absurd apart
-apart_same (max_data limit) e apart = absurd apart
-apart_same (max_stream_data f) e apart = absurd apart
-apart_same (max_streams f) e apart = absurd apart
-apart_same (datagram m) e apart = absurd apart
-apart_same f e apart = refl
+    retiring : List ℕ
+    retiring = e.waiting.frames.retire_cids
+
+    lasts : (c : Apart) (o : Option ℕ) → P (without_longer_if o (with_apart e c))
+    lasts c None = all c
+    lasts c (Some most) = shorter c most
+
+    fits : (c : Apart) (b : Bool) → P (shortened b (with_apart e c))
+    fits c true = lasts c (most_message (with_apart e c))
+    fits c false = all c
+
+    grown : Ids → Bool
+    grown ids = nat_lt (length (destination e.ids)) (length (destination ids))
+
+    retires : (b : Bool) (r : Range ℕ) → P (retired_for b r f e).end
+    retires true r = let ids = taken_up (frame_of f) e.ids in fits (ids_changed e ids waiting (after_retire e.waiting.frames r.start r.end).retire_cids) (grown ids)
+    retires false r = all (ids_changed e (taken_up (frame_of f) e.ids) waiting retiring)
+
+    late : (b : Bool) → P (with_frames e (if b then e.waiting.frames else record e.waiting.frames { retire_cids = retiring ++ f.sequence ∷ [] }))
+    late true = all (apart_of e)
+    late false = all (ids_changed e e.ids waiting (retiring ++ f.sequence ∷ []))
+
+    judged : (r : Result (Option (Range ℕ)) InsertError) → P (id_judged r f e).end
+    judged (Ok None) = let ids = taken_up (frame_of f) e.ids in fits (ids_changed e ids waiting retiring) (grown ids)
+    judged (Ok (Some r)) = retires (can_retire e.waiting.frames r.start r.end) r
+    judged (Err inserts.Retired) = late (nat_le most_retirements (length retiring) || list_any (λ m. m == f.sequence) retiring)
+    judged (Err inserts.ExceedsLimit) = all (apart_of e)
+apart_leaves P (retire_connection_id n) e apart all shorter = judged (retirement_answer e.ids.own n e.ids.limit)
+  where
+    left : End
+    left = with_ids e (retired n e.ids)
+
+    issues : (b : Bool) → P (issued_if b left)
+    issues true = all (ids_changed e (issued left).ids (issued left).waiting.frames.new_cids e.waiting.frames.retire_cids)
+    issues false = all (ids_changed e (retired n e.ids) e.waiting.frames.new_cids e.waiting.frames.retire_cids)
+
+    judged : (r : Result Bool ErrorValue) → P (retirement_judged r n e).end
+    judged (Ok more) = issues (may_issue e.ids n)
+    judged (Err error) = all (apart_of e)
+apart_leaves P (path_challenge token) e apart all shorter = all (record (apart_of e) { response = (path_asked token e).waiting.signals.response })
+apart_leaves P (path_response token) e apart all shorter = go (is_asked e.validation.challenge (word_of token))
+  where
+    go : (b : Bool) → P (validated_if b e)
+    go true = all (record (apart_of e) { validated = true; asked = asked_of (path_validated e); moment = None })
+    go false = all (apart_of e)
+apart_leaves P f e apart all shorter = all (apart_of e)
+
+-- ids that are drawn leave other ones, and other ones that wait to be told of; nothing else changes
+pub drawn_leaves : (P : End → Type 0) (words : ℕ → ℕ) (e : End) → ((c : Apart) → P (with_apart e c)) → P (drawn words e)
+drawn_leaves P words e all = all (ids_changed e (drawn words e).ids (drawn words e).waiting.frames.new_cids e.waiting.frames.retire_cids)
 
 module _ (P : End → Type 0) (step : (f : FrameValue) (e : End) → P e → P (take_frame f e).end) where
   -- an item of a payload
@@ -294,7 +375,8 @@ module _ (P : End → Type 0) (step : (f : FrameValue) (e : End) → P e → P (
   frames_keep fs e i = items_keep (map Ok fs) e i
 
 module _ (P : List FrameValue → End → Type 0) where
-  -- what each frame keeps, of the end and of the frames behind it, holds with those that are left where one is at fault
+  -- what each frame keeps, of the end and of the frames behind it, holds with those that are left
+  -- where one is at fault
   pub frames_leave : ((f : FrameValue) (left : List FrameValue) (e : End) → P (f ∷ left) e → P left (take_frame f e).end) → (fs : List FrameValue) (e : End) → P fs e → (left : List FrameValue) × P left (passed fs e).end
   frames_leave step [] e i = ([], i)
   frames_leave step (f ∷ fs) e i = go (take_frame f e).fault (step f fs e i) (frames_leave step fs (take_frame f e).end (step f fs e i))
@@ -328,6 +410,14 @@ pub record Receives (P : End → Type 0) : Type 0 where
   -- all was taken, or a frame was at fault
   pub takes : (n : ℕ) (asks : Bool) (mark : Option EcnCodepoint) (e : End) → P e → P (after_taken n asks mark e)
   pub closes : (reason : LostReason) (e : End) → P e → P (closed_by reason e)
+  -- the peer closed so, in the packet of this number
+  pub drains : (close : ℕ × CloseValue) (e : End) → P e → P (drained_at close.0 close.1 e)
+  -- an end that is closing owes its close once more
+  pub asks_close : (e : End) → P e → P (with_closing e (close_asked e.closing))
+  -- the last packet came that may not open
+  pub exhausts : (now : ℕ) (e : End) → P e → P (exhausted now e)
+  -- ids that were issued are drawn
+  pub draws : (words : ℕ → ℕ) (e : End) → P e → P (drawn words e)
 
 module _ (P : End → Type 0) (c : Receives P) where
   -- a payload
@@ -341,14 +431,16 @@ module _ (P : End → Type 0) (c : Receives P) where
   -- all frames were taken, or one was at fault
   ends_keep : (fault : Option Fault) (asks : Bool) (n : ℕ) (mark : Option EcnCodepoint) (e : End) → P e → P (ends_as fault asks n mark e).end
   ends_keep None asks n mark e i = c.takes n asks mark e i
-  ends_keep (Some fault) asks n mark e i = c.closes (reason_of fault) e i
+  ends_keep (Some (closed_by_peer close)) asks n mark e i = c.drains (n, close) e i
+  ends_keep (Some (broke error)) asks n mark e i = c.closes (reason_of (broke error)) e i
+  ends_keep (Some too_many_pieces) asks n mark e i = c.closes (reason_of too_many_pieces) e i
 
   -- a packet whose number is new
   state_keeps : (state : State) (o : Opening) (arrival : Arrival) (e : End) → P e → P (by_state state o arrival (with_numbers e (number_opened e.numbers o.number))).end
   state_keeps states.Open o arrival e i =
       let taken = take_payload o.first (items o.payload) (begun e arrival.now o.number) in
       ends_keep taken.fault (asks_in (items o.payload)) o.number arrival.mark taken.end (payload_keeps o.first (items o.payload) (begun e arrival.now o.number) (c.begins arrival.now o.number e i))
-  state_keeps states.Closing o arrival e i = c.notes o.number e i
+  state_keeps states.Closing o arrival e i = c.asks_close (with_numbers e (number_opened e.numbers o.number)) (c.notes o.number e i)
   state_keeps states.Drained o arrival e i = c.notes o.number e i
   state_keeps states.Failed o arrival e i = c.notes o.number e i
 
@@ -361,13 +453,25 @@ module _ (P : End → Type 0) (c : Receives P) where
       go false true = i
       go false false = state_keeps e.closing.state o arrival e i
 
-  packet_keeps : (o : Option Opening) (arrival : Arrival) (e : End) → P e → P (opened_as o arrival e).end
-  packet_keeps None arrival e i = i
-  packet_keeps (Some o) arrival e i = opened_keeps o arrival e i
+  -- ids are drawn behind a packet whose frames were taken
+  drawn_keeps : (b : Bool) (p : Policy) (e : End) → P e → P (drawn_if b p e)
+  drawn_keeps true p e i = c.draws p.words e i
+  drawn_keeps false p e i = i
+
+  packet_keeps : (o : Option Opening) (p : Policy) (arrival : Arrival) (e : End) → P e → P (opened_as o p arrival e).end
+  packet_keeps None p arrival e i = go e.closing.state arrival.last
+    where
+      go : (state : State) (b : Bool) → P (unopened_in state b arrival e).end
+      go states.Open true = c.exhausts arrival.now e i
+      go states.Open false = i
+      go states.Closing b = i
+      go states.Drained b = i
+      go states.Failed b = i
+  packet_keeps (Some o) p arrival e i = drawn_keeps (is_read (opened_to o arrival e).answer) p (opened_to o arrival e).end (opened_keeps o arrival e i)
 
   headed_keeps : (r : Result (List ℕ) HeaderError) (p : Policy) (e : End) (arrival : Arrival) (d : List ℕ) → P e → P (headed r p e arrival d).end
   headed_keeps (Err error) p e arrival d i = i
-  headed_keeps (Ok id) p e arrival d i = packet_keeps (opening p e d) arrival e i
+  headed_keeps (Ok id) p e arrival d i = packet_keeps (opening p e d) p arrival e i
 
   received_keeps : (state : State) (p : Policy) (e : End) (arrival : Arrival) (d : List ℕ) → P e → P (received_in state p e arrival d).end
   received_keeps states.Failed p e arrival d i = i

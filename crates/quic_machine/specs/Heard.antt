@@ -1,9 +1,11 @@
--- What an end counts beside all else that it is. While the peer's address isn't validated, the bytes that came say how many may go (RFC 9000, section 8.1); and keys
--- are of no more use once too many packets didn't open under them (RFC 9001, section 6.6).
-use Rattle.std.specs.Prelude.{ℕ, ◌+◌, List, length, Option, Some, None}
+-- What an end counts beside all else that it is. While the peer's address isn't validated, the
+-- bytes that came say how many may go (RFC 9000, section 8.1); and keys are of no more use once too
+-- many packets didn't open under them (RFC 9001, section 6.6).
+use Rattle.std.specs.Prelude.{ℕ, ◌+◌, ◌==◌, Bool, nat_le, if◌then◌else◌, List, length, Option, Some, None}
 use Rattle.quic_time.specs.Clocks.{saturated}
 use Rattle.quic_machine.specs.declared.answers.Received.{Received}
-use Rattle.quic_machine.specs.declared.answers.Received.TheVariants.{Dropped}
+use Rattle.quic_wire_core.specs.TransportError.{ErrorValue}
+use Rattle.quic_machine.specs.declared.answers.Received.TheVariants.{Dropped, Closed}
 use Rattle.quic_machine.specs.declared.answers.DropReason.TheVariants as drops
 use Rattle.quic_machine.specs.declared.answers.Transmit.{Transmit}
 
@@ -27,6 +29,7 @@ counted n more = saturated (n + more)
 abbrev pub heard_received : ℕ → Heard → Heard
 heard_received size h = record h { received = counted h.received size }
 
+-- a datagram of so many bytes went
 abbrev pub heard_sent : ℕ → Heard → Heard
 heard_sent size h = record h { sent = counted h.sent size }
 
@@ -34,9 +37,19 @@ heard_sent size h = record h { sent = counted h.sent size }
 abbrev pub heard_failure : Heard → Heard
 heard_failure h = record h { failures = counted h.failures 1 }
 
+-- whether an error is AEAD_LIMIT_REACHED (RFC 9000, section 20.1): no packet that opened comes to
+-- it
+abbrev pub is_key_limit : ErrorValue → Bool
+is_key_limit error = error.code == 15
+
+-- whether the next packet that doesn't open is the last of so many that may not
+abbrev pub is_last : ℕ → Heard → Bool
+is_last limit h = nat_le limit (counted h.failures 1)
+
 -- by what a datagram came to: where its packet didn't open, that counts
 abbrev pub heard_answer : Received → Heard → Heard
 heard_answer (Dropped drops.NotOpened) h = heard_failure h
+heard_answer (Closed error) h = if is_key_limit error then heard_failure h else h
 heard_answer a h = h
 
 -- a datagram came, and came to this

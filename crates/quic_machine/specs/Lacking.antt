@@ -37,6 +37,7 @@ use Rattle.quic_machine.specs.End.{End, with_closing}
 use Rattle.quic_machine.specs.Acked.{verdict}
 use Rattle.quic_machine.specs.Calls.{is_open}
 use Rattle.quic_machine.specs.MessageCalls.{MessageCallLacks}
+use Rattle.quic_machine.specs.IdFrames.{NextIdLacks}
 use Rattle.quic_machine.specs.Receive.{received}
 use Rattle.quic_machine.specs.Poll.{polled}
 
@@ -62,7 +63,8 @@ abbrev pub NextsLack : Told → StreamsState → ℕ → List ℕ → List (Resu
 NextsLack told s id (most ∷ mosts) (answer ∷ answers) = (answer ≡ Err read_errors.Memory → NextLacks told s id most) × NextsLack (told_by answer told) (after_next told answer s id most) id mosts answers
 NextsLack told s id mosts answers = Unit {0}
 
--- a read that is allowed is begun: what its end may queue is put there before, unless it waits already; and a half comes into use at the first unordered read
+-- a read that is allowed is begun: what its end may queue is put there before, unless it waits
+-- already; and a half comes into use at the first unordered read
 abbrev pub ReadLacks : StreamsState → Retransmits → ℕ → Bool → Type 0
 ReadLacks s p id ordered = (read_answer s id ordered ≡ Ok tt) × ((has_id id p.max_stream_data ≡ false) ⊎ ((ordered ≡ false) × (at s.receiving.halves.live id ≡ None)))
 
@@ -70,7 +72,8 @@ ReadLacks s p id ordered = (read_answer s id ordered ≡ Ok tt) × ((has_id id p
 abbrev pub WriteLacks : Bool → StreamsState → ℕ → ℕ → Type 0
 WriteLacks is_open s id len = (is_open ≡ true) × WriteMayLack (write_answer true s id len) (sending_half s id) (room s.sending)
 
--- a call on streams that says that memory lacks is one that takes some: it is a write or a read such as above, or it isn't refused
+-- a call on streams that says that memory lacks is one that takes some: it is a write or a read
+-- such as above, or it isn't refused
 abbrev pub StreamCallLacks : Bool → StreamsState → Retransmits → Call → Answer → Type 0
 StreamCallLacks is_open s p (calls.Write id bytes) (answers.Write answer) = answer ≡ Err write_errors.Memory → WriteLacks is_open s id (length bytes)
 StreamCallLacks is_open s p (calls.WriteChunks id chunks) (answers.WriteChunks answer) = answer ≡ Err write_errors.Memory → WriteLacks is_open s id (bytes_of chunks.items)
@@ -85,35 +88,42 @@ StreamCallLacks is_open s p call a = Unit {0}
 -- there is such a datagram, and its frames are taken
 abbrev pub DeliveryTakes : Policy → End → Delivery → Option (List ℕ) → Type 0
 DeliveryTakes p e delivery None = ⊥
-DeliveryTakes p e delivery (Some d) = TakesFrames (received p e (delivered_by delivery) d).answer
+DeliveryTakes p e delivery (Some d) = TakesFrames (received p e (delivered_by false delivery) d).answer
 
 -- a probe takes what has to be sent again of a packet
 abbrev pub MovesRecord : End → Type 0
 MovesRecord e = (nat_lt 0 e.tracking.probes ≡ true) × (is_empty e.waiting.frames e.streams ≡ true) × IsSome (first_record e.streams e.tracking.packets)
 
--- a datagram is composed, or a probe of an open end takes what it carries; or the end had failed before
+-- a datagram is composed, or a probe of an open end takes what it carries; or the end had failed
+-- before
 abbrev pub PollTakes : Policy → End → ℕ → Type 0
 PollTakes p e now = GivesOrHasFailed (polled p e now).answer ⊎ ((e.closing.state ≡ states.Open) × MovesRecord e)
 
--- the loss timer of an open end expires at a moment, and a packet is lost by time; or the end had failed before
+-- the loss timer of an open end expires at a moment, and a packet is lost by time; or the end had
+-- failed before
 abbrev pub LosesOrHasFailed : End → ℕ → Type 0
 LosesOrHasFailed e now =
     ((e.closing.state ≡ states.Open) × (has_come e.timers.loss_detection (ticked e.closing now).clock ≡ true) × IsSome e.tracking.loss_time × (lost_by (verdict (with_closing e (ticked e.closing now))) e.tracking.packets ≢ []))
     ⊎ (e.closing.state ≡ states.Failed)
 
--- a call that says that memory lacks is one that takes some: a call on streams such as above, or one that queues a message; a datagram is composed, packets are lost, or frames are taken
+-- a call that says that memory lacks is one that takes some: a call on streams such as above, or
+-- one that queues a message or retirements; a datagram is composed, packets are lost, or frames are
+-- taken
 abbrev pub LacksWhere : Policy → End → List (List ℕ) → Call → Answer → Type 0
 LacksWhere p e theirs (calls.Send message makes_room) a = MessageCallLacks e (calls.Send message makes_room) a
+LacksWhere p e theirs calls.UseNextId a = NextIdLacks e a
 LacksWhere p e theirs (calls.Poll now) (answers.Poll (Err x)) = PollTakes p e now
 LacksWhere p e theirs (calls.Timeout now) (answers.Timeout (Err x)) = LosesOrHasFailed e now
 LacksWhere p e theirs (calls.Deliver delivery) (answers.Deliver receives.Failed) = DeliveryTakes p e delivery (slice_get theirs delivery.index)
 LacksWhere p e theirs call a = StreamCallLacks (is_open e.closing.state) e.streams e.waiting.frames call a
 
--- a call for which a run takes memory of its own, before it makes it: a datagram that is given is kept, a message that is sent and what comes are copied, and
--- so are the answers of a read
+-- a call for which a run takes memory of its own, before it makes it: a datagram that is given is
+-- kept, a message that is sent, a text of a close and what comes are copied, and so are the answers
+-- of a read
 abbrev pub TakesOfItsOwn : List (List ℕ) → Call → Type 0
 TakesOfItsOwn theirs (calls.Read read) = Unit {0}
 TakesOfItsOwn theirs (calls.Send message makes_room) = Unit {0}
+TakesOfItsOwn theirs (calls.Close close) = Unit {0}
 TakesOfItsOwn theirs (calls.Poll now) = Unit {0}
 TakesOfItsOwn theirs (calls.Deliver delivery) = IsSome (slice_get theirs delivery.index)
 TakesOfItsOwn theirs (calls.Inject injection) = Unit {0}

@@ -1,4 +1,6 @@
 pub mod Policy
+pub mod Texts
+pub mod Reasons
 pub mod Closing
 pub mod Control
 pub mod Ids
@@ -7,6 +9,8 @@ pub mod PathLaws
 pub mod Tracking
 pub mod Heard
 pub mod End
+pub mod Idle
+pub mod Validation
 pub mod Opens
 pub mod Acked
 pub mod Steps
@@ -18,6 +22,7 @@ pub mod Calls
 pub mod Sizes
 pub mod StreamCalls
 pub mod MessageCalls
+pub mod IdFrames
 pub mod Lacking
 pub mod Machine
 pub mod Start

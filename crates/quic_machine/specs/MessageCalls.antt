@@ -1,4 +1,5 @@
--- The calls of the application on messages (RFC 9221): what each may be answered, and what it leaves.
+-- The calls of the application on messages (RFC 9221): what each may be answered, and what it
+-- leaves.
 use Rattle.std.specs.Prelude.{ℕ, Option, ◌≡◌, ◌⊎◌, Bool, true, false, length, Ok, Err}
 use Rattle.quic_messages.specs.declared.errors.SendDatagramError.TheVariants as send_errors
 use Rattle.quic_messages.specs.declared.limits.DatagramLimits.{DatagramLimits}
@@ -8,13 +9,14 @@ use Rattle.quic_machine.specs.declared.run.Call.{Call}
 use Rattle.quic_machine.specs.declared.run.Call.TheVariants as calls
 use Rattle.quic_machine.specs.declared.run.Answer.{Answer}
 use Rattle.quic_machine.specs.declared.run.Answer.TheVariants as answers
+use Rattle.quic_machine.specs.Ids.{destination}
 use Rattle.quic_machine.specs.Parts.{current_mtu, Messaging, with_queues}
 use Rattle.quic_machine.specs.End.{End, with_messages}
 use Rattle.quic_machine.specs.Calls.{is_open}
 
 -- how long a message may be, where the peer takes messages
 abbrev pub most_message : End → Option ℕ
-most_message e = max_size e.peer_params.max_datagram_frame_size (current_mtu e.path) (length e.ids.active.id)
+most_message e = max_size e.peer_params.max_datagram_frame_size (current_mtu e.path) (length (destination e.ids))
 
 -- what bounds the messages of an end: its settings, what the peer takes, and what a datagram takes
 abbrev pub limits_of : End → DatagramLimits

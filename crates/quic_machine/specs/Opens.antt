@@ -6,13 +6,10 @@ use Rattle.quic_packet.specs.Datagram.{Opening, opened_packet}
 use Rattle.quic_packet.specs.Destination.{decoded, fixed_length_id}
 use Rattle.quic_packet.specs.declared.packet.HeaderError.{HeaderError}
 use Rattle.quic_machine.specs.Ids.{known}
+pub use Rattle.quic_machine.specs.Ids.{own_id_length}
 use Rattle.quic_spaces.specs.Numbers.{expected}
 use Rattle.quic_machine.specs.Policy.{Policy}
 use Rattle.quic_machine.specs.End.{End}
-
--- how many bytes an own id has
-abbrev pub own_id_length : ℕ
-own_id_length = 8
 
 -- a packet whose key phase is 0
 abbrev pub in_phase : Option Opening → Option Opening
@@ -24,8 +21,9 @@ abbrev pub opens_behind : Result (List ℕ) HeaderError → Policy → ℕ → L
 opens_behind (Err e) p expected d = None
 opens_behind (Ok id) p expected d = in_phase (opened_packet p.header p.packet (own_id_length + 1) expected d)
 
--- What a datagram opens to at an end with these ids, where this number is expected: it has a short header with one of the ids, and its
--- packet opens under the number to which its number's bytes expand (RFC 9000, section 12.2).
+-- What a datagram opens to at an end with these ids, where this number is expected: it has a short
+-- header with one of the ids, and its packet opens under the number to which its number's bytes
+-- expand (RFC 9000, section 12.2).
 abbrev pub opens : Policy → List (List ℕ) → ℕ → List ℕ → Option Opening
 opens p ids expected d = opens_behind (decoded (fixed_length_id own_id_length) ids d) p expected d
 

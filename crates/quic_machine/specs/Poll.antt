@@ -1,11 +1,11 @@
 -- What an end gives when it is polled (RFC 9000, sections 12.2, 13.3 and 14.1).
-use Rattle.std.specs.Prelude.{ℕ, ◌+◌, ◌-◌, ◌≡◌, Bool, true, false, ◌&&◌, ◌||◌, ◌==◌, not, nat_le, nat_lt, if◌then◌else◌, List, [], ◌∷◌, ◌++◌, map, length, replicate, max, ◌⊎◌, Option, Some, None, IsSome, Result, Ok, Err}
+use Rattle.std.specs.Prelude.{ℕ, ◌+◌, ◌-◌, ◌≡◌, Bool, true, false, ◌&&◌, ◌||◌, ◌==◌, not, nat_le, nat_lt, if◌then◌else◌, List, [], ◌∷◌, ◌++◌, map, length, replicate, max, take, zero, suc, option_map, ◌⊎◌, Option, Some, None, IsSome, Result, Ok, Err}
 use Rattle.std.specs.List.{list_any, fold}
-use Rattle.std.specs.Option.{is_some}
+use Rattle.std.specs.Option.{is_some, is_none}
 use Rattle.quic_wire_core.specs.declared.shared.EcnCodepoint.{EcnCodepoint}
 use Rattle.quic_wire_core.specs.declared.shared.EcnCodepoint.TheVariants.{Ect0}
 use Rattle.quic_packet.specs.Number.{truncated}
-use Rattle.quic_wire.specs.Value.{FrameValue, AckValue, ack, ping, stream, datagram, asks}
+use Rattle.quic_wire.specs.Value.{FrameValue, AckValue, ack, ping, stream, datagram, path_challenge, path_response, application_close, asks}
 use Rattle.quic_wire.specs.Writing.{spelling, spelled_all, frame_size}
 use Rattle.quic_wire.specs.Grammar.{Payload}
 use Rattle.quic_packet.specs.Datagram.{sent}
@@ -20,24 +20,30 @@ use Rattle.quic_machine.specs.declared.answers.State.{State}
 use Rattle.quic_machine.specs.declared.answers.Failed.{Failed}
 use Rattle.quic_machine.specs.declared.answers.Transmit.{Transmit}
 use Rattle.quic_machine.specs.declared.answers.State.TheVariants as states
+use Rattle.quic_machine.specs.declared.answers.LostReason.{LostReason}
 use Rattle.quic_machine.specs.declared.answers.LostReason.TheVariants as reasons
 use Rattle.quic_congestion.specs.Congestion.{Told}
 use Rattle.quic_recovery_core.specs.PendingAcks.{Pending, can_send, is_filled, after_acks_sent, after_lazy}
 use Rattle.quic_spaces.specs.Acknowledging.{ack_at}
 use Rattle.quic_spaces.specs.Marks.{told_counts}
 use Rattle.quic_machine.specs.Tracking.{TrackedPacket, carried_in, after_sent, without_record}
-use Rattle.quic_machine.specs.Closing.{ticked, close_owed}
-use Rattle.quic_spaces.specs.Numbers.{can_number, cut_against}
+use Rattle.quic_machine.specs.Closing.{ticked, close_owed, close_given}
+use Rattle.quic_spaces.specs.Numbers.{can_number, may_give, cut_against}
+use Rattle.quic_machine.specs.Idle.{packet_given}
 use Rattle.quic_spaces.specs.Records.{first_record}
 use Rattle.quic_machine.specs.Policy.{Policy}
+use Rattle.quic_machine.specs.Ids.{destination}
 use Rattle.quic_machine.specs.Parts.{current_mtu, Signals, signals_wait}
-use Rattle.quic_machine.specs.End.{End, with_closing, closed_by, number_of, with_number_given, with_acknowledging, with_ack_timer_at, with_tracking, with_loss_timer, with_streams, with_queued, with_waiting, with_signals, with_ping}
+use Rattle.quic_machine.specs.End.{End, words_drawn, with_closing, closed_by, number_of, with_number_given, with_acknowledging, with_ack_timer_at, with_tracking, with_loss_timer, with_streams, with_queued, with_waiting, with_signals, with_ping}
+use Rattle.quic_paths.specs.Responses.{Response}
+use Rattle.quic_machine.specs.Validation.{path_waits, path_frames_size, challenge_frame, response_frame}
 use Rattle.quic_machine.specs.Control.{is_window_full, Gated, gated_if, paid, with_pacing_timer, with_app_limited, told_sent}
 use Rattle.quic_machine.specs.Sizes.{may_search, search_names, search_asked}
 
 -- ---- what is given
 
--- The datagram of a packet number, a destination id and frames: its payload is a spelling of them (RFC 9000, sections 12.4 and 17.3.1).
+-- The datagram of a packet number, a destination id and frames: its payload is a spelling of them
+-- (RFC 9000, sections 12.4 and 17.3.1).
 pub record IsDatagram (p : Policy) (acknowledged number : ℕ) (id : List ℕ) (frames : List FrameValue) (datagram : List ℕ) : Type 0 where
   pub payload : List ℕ
   pub spells : Payload frames payload
@@ -45,6 +51,8 @@ pub record IsDatagram (p : Policy) (acknowledged number : ℕ) (id : List ℕ) (
 
 -- ---- the answer, the datagram and the end that are left
 
+-- what comes of a poll: what is answered, the datagram that is given, if one is, and the end that
+-- is left
 pub record Polled : Type 0 where
   pub answer : Result (Option Transmit) Failed
   pub datagram : Option (List ℕ)
@@ -65,7 +73,7 @@ gives_datagram d e = record { answer = Ok (Some (record { size = length d; ecn =
 
 -- how many bytes are left for frames: the datagram's less header, number and tag
 abbrev pub frame_room : End → ℕ
-frame_room e = current_mtu e.path - (1 + length e.ids.active.id + (truncated (number_of e) (cut_against e.numbers)).width + 16)
+frame_room e = current_mtu e.path - (1 + length (destination e.ids) + (truncated (number_of e) (cut_against e.numbers)).width + 16)
 
 -- whether a datagram with these frames asks for an acknowledgement (RFC 9000, section 13.2)
 abbrev pub asking : List FrameValue → Bool
@@ -73,7 +81,8 @@ asking frames = list_any asks frames
 
 -- ---- what goes into a datagram, one frame behind another
 
--- the frames so far, how they are written, how many bytes the datagram has at least, and the end once they went
+-- the frames so far, how they are written, how many bytes the datagram has at least, and the end
+-- once they went
 pub record Draft : Type 0 where
   pub frames : List FrameValue
   pub bytes : List ℕ
@@ -96,18 +105,47 @@ with_frame d f bytes e = record d { frames = d.frames ++ f ∷ []; bytes = d.byt
 abbrev pub fits : Draft → FrameValue → Bool
 fits d f = nat_le (length d.bytes + frame_size f) (frame_room d.end)
 
+-- how many bytes the datagram of a signal has at least, where those before it let it have this:
+-- 1200 with a frame of path validation (section 8.2)
+abbrev pub least_behind : FrameValue → ℕ → ℕ
+least_behind (path_challenge token) least = max least path_frames_size
+least_behind (path_response token) least = max least path_frames_size
+least_behind f least = least
+
 -- a signal goes, which leaves these
 abbrev pub with_signal : Draft → FrameValue → Signals → Draft
-with_signal d f left = with_frame d f (spelling f) (with_signals d.end left)
+with_signal d f left = with_least (with_frame d f (spelling f) (with_signals d.end left)) (least_behind f d.least)
+
+-- PATH_CHALLENGE goes if it waits
+abbrev pub challenge_if : Option ℕ → Draft → Draft
+challenge_if None d = d
+challenge_if (Some word) d = with_signal d (challenge_frame word) (record d.end.waiting.signals { challenge = None })
+
+-- PATH_RESPONSE goes if it waits
+abbrev pub response_if : Option Response → Draft → Draft
+response_if None d = d
+response_if (Some r) d = with_signal d (response_frame r) (record d.end.waiting.signals { response = None })
 
 -- PING goes if it waits
 abbrev pub ping_if : Bool → Draft → Draft
 ping_if true d = with_signal d ping (record d.end.waiting.signals { ping = false })
 ping_if false d = d
 
--- the signals that wait go
+-- each where it waits
+abbrev pub with_challenge_frame : Draft → Draft
+with_challenge_frame d = challenge_if d.end.waiting.signals.challenge d
+
+-- PATH_RESPONSE goes, where it waits
+abbrev pub with_response_frame : Draft → Draft
+with_response_frame d = response_if d.end.waiting.signals.response d
+
+-- PING goes, where it waits
+abbrev pub with_ping_frame : Draft → Draft
+with_ping_frame d = ping_if d.end.waiting.signals.ping d
+
+-- the signals that wait go: those of path validation, and PING
 abbrev pub with_signal_frames : Draft → Draft
-with_signal_frames d = ping_if d.end.waiting.signals.ping d
+with_signal_frames d = with_ping_frame (with_response_frame (with_challenge_frame d))
 
 -- frames of control behind those of a draft, which leave these streams, and this to be sent besides
 abbrev pub behind_control : Draft → control.Draft → Draft
@@ -121,7 +159,8 @@ with_control_frames d = behind_control d (control.control_frames (frame_room d.e
 abbrev pub with_message : Draft → List ℕ → List (List ℕ) → Draft
 with_message d m ms = with_frame d (datagram m) (spelling (datagram m)) (with_queued d.end (record d.end.messages.queues { outgoing = ms }))
 
--- of the messages that wait, the oldest go, one behind another, up to the first that doesn't fit (RFC 9221, section 5)
+-- of the messages that wait, the oldest go, one behind another, up to the first that doesn't fit
+-- (RFC 9221, section 5)
 abbrev pub with_messages_of : List (List ℕ) → Draft → Draft
 with_messages_of [] d = d
 with_messages_of (m ∷ ms) d = if fits d (datagram m) then with_messages_of ms (with_message d m ms) else d
@@ -167,7 +206,8 @@ abbrev pub ack_if : Bool → Draft → Draft
 ack_if true d = with_ack d
 ack_if false d = d
 
--- what asks for an acknowledgement: signals, what has to be told of streams, messages, and the bytes of streams
+-- what asks for an acknowledgement: signals, what has to be told of streams, messages, and the
+-- bytes of streams
 pub data Kind : Type 0 where
   signals : Kind
   controls : Kind
@@ -212,14 +252,15 @@ number_width d = (truncated (number_of d.end) (cut_against d.end.numbers)).width
 
 -- how many bytes stand beside the payload: header, number and tag
 abbrev pub overhead : Draft → ℕ
-overhead d = 1 + length d.end.ids.active.id + number_width d + 16
+overhead d = 1 + length (destination d.end.ids) + number_width d + 16
 
--- how many bytes the datagram has at least: those that ask have the size of their path, where that is set
+-- how many bytes the datagram has at least: those that ask have the size of their path, where that
+-- is set
 abbrev pub least_size : Draft → ℕ
 least_size d = if d.end.transport.pad_to_mtu && asking d.frames then max d.least (current_mtu d.end.path) else d.least
 
--- how many bytes 0 stand behind the frames: number and payload have four bytes at least, so that the sample stands in the datagram (RFC 9001, section 5.4.2), and the
--- datagram has its size
+-- how many bytes 0 stand behind the frames: number and payload have four bytes at least, so that
+-- the sample stands in the datagram (RFC 9001, section 5.4.2), and the datagram has its size
 abbrev pub zeros_behind : Draft → ℕ
 zeros_behind d = max (4 - (number_width d + length d.bytes)) (least_size d - (overhead d + length d.bytes))
 
@@ -229,13 +270,14 @@ payload_of d = d.bytes ++ replicate (zeros_behind d) 0
 
 -- the datagram with these frames
 abbrev pub datagram_of : Policy → Draft → List ℕ
-datagram_of p d = sent p.header p.packet (number_of d.end) (cut_against d.end.numbers) d.end.ids.active.id (payload_of d)
+datagram_of p d = sent p.header p.packet (number_of d.end) (cut_against d.end.numbers) (destination d.end.ids) (payload_of d)
 
 -- how many bytes the datagram has: header, number, payload and tag
 abbrev pub datagram_size : Draft → ℕ
 datagram_size d = overhead d + length (payload_of d)
 
--- the packet as it is tracked: it is in flight where it asks for an acknowledgement (RFC 9002, section 2)
+-- the packet as it is tracked: it is in flight where it asks for an acknowledgement (RFC 9002,
+-- section 2)
 abbrev pub packet_of : Draft → TrackedPacket
 packet_of d = record {
   generation = d.end.path.generation;
@@ -254,14 +296,14 @@ abbrev pub paid_if : Bool → End → ℕ → End
 paid_if true e size = paid e size
 paid_if false e size = e
 
--- the end after it went
+-- the end after it went: the times without a packet may begin anew (RFC 9000, section 10.1)
 abbrev pub after_given : Policy → Draft → End
-after_given p d = with_loss_timer (with_app_limited (paid_if (asking d.frames) (with_number_given (p.words d.end.filter.drawn) (tracked d)) (datagram_size d)) false)
+after_given p d = with_loss_timer (with_app_limited (packet_given (asking d.frames) (paid_if (asking d.frames) (with_number_given (p.words (words_drawn d.end)) (tracked d)) (datagram_size d))) false)
 
 -- ---- what waits
 
--- a probe goes (RFC 9002, section 6.2.4): what has to be sent again of a packet, if there is such a packet, waits once more, and the packet stays tracked; else
--- PING waits
+-- a probe goes (RFC 9002, section 6.2.4): what has to be sent again of a packet, if there is such a
+-- packet, waits once more, and the packet stays tracked; else PING waits
 abbrev pub record_moved : Option (ℕ × TrackedPacket) → End → End
 record_moved None e = with_ping e true
 record_moved (Some p) e = with_waiting (with_tracking e (record e.tracking { packets = table.put e.tracking.packets p.0 (without_record p.1) }))
@@ -281,15 +323,17 @@ probe_if false e = e
 abbrev pub probed : End → End
 probed e = probe_if (nat_lt 0 e.tracking.probes) e
 
--- how many bytes are left for frames at least, whichever number a datagram has: one takes four bytes at most
+-- how many bytes are left for frames at least, whichever number a datagram has: one takes four
+-- bytes at most
 abbrev pub least_room : End → ℕ
-least_room e = current_mtu e.path - (length e.ids.active.id + 21)
+least_room e = current_mtu e.path - (length (destination e.ids) + 21)
 
 -- whether a message waits that a datagram takes
 abbrev pub message_waits : End → Bool
 message_waits e = is_some (fitting (least_room e) e.messages.queues.outgoing)
 
--- whether something waits beside acknowledgements: a signal, what has to be told of streams, a message, or the bytes of streams
+-- whether something waits beside acknowledgements: a signal, what has to be told of streams, a
+-- message, or the bytes of streams
 abbrev pub asks_to_go : End → Bool
 asks_to_go e = signals_wait e.waiting.signals || (not (is_empty e.waiting.frames e.streams) || (message_waits e || can_send_stream_data e.streams))
 
@@ -299,7 +343,8 @@ waits e = can_send e.acknowledging || asks_to_go e
 
 -- ---- what window and pacer hold back (RFC 9002, sections 7 and 7.7)
 
--- whether they may hold something back: something waits that asks, and no probe, which passes both (section 7.5)
+-- whether they may hold something back: something waits that asks, and no probe, which passes both
+-- (section 7.5)
 abbrev pub is_gated : End → Bool
 is_gated e = asks_to_go e && (e.tracking.probes == 0)
 
@@ -309,7 +354,8 @@ gated e = gated_if (is_gated e) e
 
 -- ---- what goes, if anything
 
--- all that waits; where what asks is held back, a due ACK alone; PING as a probe of a size; a close; or nothing: it is held back, or nothing waits
+-- all that waits; where what asks is held back, a due ACK alone; PING as a probe of a size; a
+-- close; or nothing: it is held back, or nothing waits
 pub data Leaving : Type 0 where
   whole : Leaving
   alone : Leaving
@@ -351,9 +397,21 @@ leaves_if false e = free_if (waits e) e
 abbrev pub leaves : Gated → Ready
 leaves g = leaves_if g.held g.end
 
--- an end is ready to give: the timer of its pacer is stopped, what a probe carries waits, window and pacer were asked, and where nothing waits the search for a size
+-- nothing goes, whatever waits, where three times what came went to an address that isn't validated
+-- (RFC 9000, section 8.1): that isn't held back by window or pacer
+abbrev pub leaves_unless : Bool → End → Ready
+leaves_unless true e = record { leaving = nothing false; end = e }
+leaves_unless false e = leaves (gated e)
+
+-- so it is where the end has read that
+abbrev pub leaves_at : End → Ready
+leaves_at e = leaves_unless e.path.blocked e
+
+-- an end is ready to give: the timer of its pacer is stopped, what a probe carries waits, the limit
+-- on an address that isn't validated, window and pacer were asked, and where nothing waits the
+-- search for a size
 abbrev pub ready : End → Ready
-ready e = leaves (gated (probed (with_pacing_timer e None)))
+ready e = leaves_at (probed (with_pacing_timer e None))
 
 -- whether a datagram goes
 abbrev pub goes_as : Leaving → Bool
@@ -375,13 +433,15 @@ is_held (probe size) = false
 is_held (closing f) = false
 is_held (nothing held) = held
 
--- An end has nothing to send but what window or pacer hold back, the pacer until its timer expires; and no probe waits.
+-- An end has nothing to send but what window or pacer hold back, the pacer until its timer expires,
+-- and no probe waits; or three times what came went to an address that isn't validated.
 pub record IsSilent (e : End) : Type 0 where
-  pub no_ack : can_send e.acknowledging ≡ false
-  pub no_probe : e.tracking.probes ≡ 0
-  pub held : asks_to_go e ≡ true → (is_window_full e ≡ true) ⊎ IsSome e.timers.pacing
+  pub no_ack : e.path.blocked ≡ false → can_send e.acknowledging ≡ false
+  pub no_probe : e.path.blocked ≡ false → e.tracking.probes ≡ 0
+  pub held : e.path.blocked ≡ false → asks_to_go e ≡ true → (is_window_full e ≡ true) ⊎ IsSome e.timers.pacing
 
--- before a packet is composed, an acknowledgement is due where many packets came that don't ask for one (RFC 9000, section 13.2.1)
+-- before a packet is composed, an acknowledgement is due where many packets came that don't ask for
+-- one (RFC 9000, section 13.2.1)
 abbrev pub lazied : End → End
 lazied e = with_acknowledging e (after_lazy e.acknowledging)
 
@@ -413,13 +473,18 @@ draft_as leaving e = draft_left leaving (lazied_as leaving e)
 abbrev pub draft_of : Ready → Draft
 draft_of g = draft_as g.leaving g.end
 
--- how many bytes its datagram has at least by itself
-abbrev pub least_left : Leaving → ℕ
-least_left whole = 0
-least_left alone = 0
-least_left (probe size) = size
-least_left (closing f) = 0
-least_left (nothing held) = 0
+-- how many bytes its datagram has at least by itself, where it has a frame of path validation or
+-- none
+abbrev pub least_by : Leaving → Bool → ℕ
+least_by whole pads = if pads then path_frames_size else 0
+least_by alone pads = 0
+least_by (probe size) pads = size
+least_by (closing f) pads = 0
+least_by (nothing held) pads = 0
+
+-- so it is of an end: what waits of them goes with the rest
+abbrev pub least_left : Leaving → End → ℕ
+least_left leaving e = least_by leaving (path_waits e)
 
 -- how many bytes the datagram of what goes has at most: the size of the path, or that of a probe
 abbrev pub most_of : Leaving → End → ℕ
@@ -429,23 +494,69 @@ most_of (probe size) e = max size (current_mtu e.path)
 most_of (closing f) e = current_mtu e.path
 most_of (nothing held) e = current_mtu e.path
 
--- the end after a close went: its number is given, it isn't tracked, and it takes no tokens of the pacer
-abbrev pub after_close : Policy → Draft → End
-after_close p d = with_number_given (p.words d.end.filter.drawn) d.end
+-- ---- how long numbers and keys last (RFC 9000, section 12.3; RFC 9001, section 6.6)
 
--- a close goes, if one is owed
+-- how many packets that may be sealed are kept for closes
+abbrev pub kept_seals : ℕ
+kept_seals = 8
+
+-- whether the key may seal one more ordinary packet
+abbrev pub may_seal : Policy → End → Bool
+may_seal p e = nat_lt (e.numbers.sealed + kept_seals) p.seals
+
+-- why no ordinary datagram may be given any more, if none may: the numbers are used up, or the key
+-- is
+abbrev pub bounds : Policy → End → Option LostReason
+bounds p e = if not (can_number e.numbers) then Some reasons.NumberLimit else (if not (may_seal p e) then Some reasons.KeyLimit else None)
+
+-- whether there is a number and a seal for one more close
+abbrev pub can_close : Policy → End → Bool
+can_close p e = may_give e.numbers (number_of e) && nat_lt e.numbers.sealed p.seals
+
+-- whether it may go besides: no more than three times what came goes to an address that isn't
+-- validated (section 8.1)
+abbrev pub may_close : Policy → End → Bool
+may_close p e = not e.path.blocked && can_close p e
+
+-- ---- closes (RFC 9000, sections 10.2.1 and 19.19)
+
+-- the application's close with so much of its text
+abbrev pub close_with : ℕ → List ℕ → ℕ → FrameValue
+close_with code text n = application_close (record { code = code; reason = take n text })
+
+-- of the beginnings of a text that have so many bytes at most, the length of the longest with which
+-- the application's close has room in so many bytes
+abbrev pub longest_fitting : ℕ → ℕ → List ℕ → ℕ → ℕ
+longest_fitting room code text zero = 0
+longest_fitting room code text (suc n) = if nat_le (frame_size (close_with code text (suc n))) room then suc n else longest_fitting room code text n
+
+-- a close as it goes in so many bytes: of the application's text as much as fits
+abbrev pub fitted : ℕ → FrameValue → FrameValue
+fitted room (application_close c) = close_with c.code c.reason (longest_fitting room c.code c.reason (length c.reason))
+fitted room f = f
+
+-- the end after a close went: its number is given, it isn't tracked, takes no tokens of the pacer,
+-- and isn't owed any more
+abbrev pub after_close : Policy → Draft → End
+after_close p d = with_closing (with_number_given (p.words (words_drawn d.end)) d.end) (close_given d.end.closing)
+
+-- a close goes, if there is one to go
 abbrev pub closes_if : Option FrameValue → Policy → End → Polled
 closes_if None p e = gives_nothing e
 closes_if (Some f) p e = gives_datagram (datagram_of p (draft_as (closing f) e)) (after_close p (draft_as (closing f) e))
 
--- what an end gives that closes or is closing (RFC 9000, section 10.2.1)
-abbrev pub closes : Policy → End → Polled
-closes p e = closes_if (close_owed e.closing) p e
+-- the close that goes: the one that is owed, where it may go
+abbrev pub close_to_go : Policy → End → Option FrameValue
+close_to_go p e = if may_close p e then option_map (fitted (frame_room e)) (close_owed e.closing) else None
 
--- something goes: where the numbers are used up, the end closes
-abbrev pub sends : Bool → Policy → Ready → Polled
-sends true p g = gives_datagram (datagram_of p (draft_of g)) (after_given p (draft_of g))
-sends false p g = closes p (closed_by reasons.NumberLimit g.end)
+-- what an end gives that closes or is closing
+abbrev pub closes : Policy → End → Polled
+closes p e = closes_if (close_to_go p e) p e
+
+-- something goes: where numbers or key are used up, the end closes instead
+abbrev pub sends : Option LostReason → Policy → Ready → Polled
+sends None p g = gives_datagram (datagram_of p (draft_of g)) (after_given p (draft_of g))
+sends (Some reason) p g = closes p (closed_by reason g.end)
 
 -- nothing goes: for want of anything to send, or since it is held back
 abbrev pub rests : Ready → End
@@ -453,7 +564,7 @@ rests g = with_app_limited g.end (not (is_held g.leaving))
 
 -- what goes does, if anything
 abbrev pub polled_if : Bool → Policy → Ready → Polled
-polled_if true p g = sends (can_number g.end.numbers) p g
+polled_if true p g = sends (bounds p g.end) p g
 polled_if false p g = gives_nothing (rests g)
 
 -- what an open end gives
@@ -463,7 +574,7 @@ polled_open p e = polled_if (goes (ready e)) p (ready e)
 -- what an end gives by its state
 abbrev pub polled_in : State → Policy → End → ℕ → Polled
 polled_in states.Open p e now = polled_open p (with_closing e (ticked e.closing now))
-polled_in states.Closing p e now = closes p e
+polled_in states.Closing p e now = closes p (with_closing e (ticked e.closing now))
 polled_in states.Drained p e now = gives_nothing e
 polled_in states.Failed p e now = record { answer = Err (record {}); datagram = None; end = e }
 
@@ -483,12 +594,12 @@ told_if true g = told_draft (draft_of g)
 told_if false g = []
 
 -- of a poll of an end in a state
-abbrev pub told_polled_in : State → End → ℕ → List Told
-told_polled_in states.Open e now =
+abbrev pub told_polled_in : State → Policy → End → ℕ → List Told
+told_polled_in states.Open p e now =
     let g = ready (with_closing e (ticked e.closing now)) in
-    told_if (goes g && can_number g.end.numbers) g
-told_polled_in state e now = []
+    told_if (goes g && is_none (bounds p g.end)) g
+told_polled_in state p e now = []
 
 -- of a poll at a moment
-abbrev pub told_polled : End → ℕ → List Told
-told_polled e now = told_polled_in e.closing.state e now
+abbrev pub told_polled : Policy → End → ℕ → List Told
+told_polled p e now = told_polled_in e.closing.state p e now

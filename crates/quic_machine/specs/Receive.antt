@@ -5,7 +5,8 @@ use Rattle.quic_wire_core.specs.TransportError.{ErrorValue}
 use Rattle.quic_wire_core.specs.declared.shared.EcnCodepoint.{EcnCodepoint}
 use Rattle.quic_wire_core.specs.declared.stream_id.Side.{Side}
 use Rattle.quic_wire_core.specs.declared.stream_id.Side.TheVariants.{Client, Server}
-use Rattle.quic_wire.specs.Value.{FrameValue, AckValue, ack, stream, reset_stream, stop_sending, max_data, max_stream_data, max_streams, new_token, handshake_done, datagram, asks}
+use Rattle.quic_wire.specs.Value.{FrameValue, AckValue, ack, stream, reset_stream, stop_sending, max_data, max_stream_data, max_streams, new_token, handshake_done, connection_close, application_close, datagram, new_connection_id, retire_connection_id, NewConnectionIdValue, asks, path_challenge, path_response}
+use Rattle.quic_wire.specs.Close.{CloseValue, by_transport, by_application, transport_close}
 use Rattle.quic_wire.specs.Items.{items}
 use Rattle.quic_packet.specs.Header.{key_phase, reserved_bits}
 use Rattle.quic_packet.specs.Destination.{decoded, fixed_length_id}
@@ -13,6 +14,7 @@ use Rattle.quic_packet.specs.Datagram.{Opening, opened_packet}
 use Rattle.quic_wire.specs.declared.frame.InvalidFrame.{InvalidFrame}
 use Rattle.quic_packet.specs.declared.packet.HeaderError.{HeaderError}
 use Rattle.quic_packet.specs.declared.packet.HeaderError.TheVariants as headers
+use Rattle.quic_machine.specs.Validation.{path_asked, path_answered}
 use Rattle.quic_machine.specs.Arrival.{Arrival}
 use Rattle.quic_machine.specs.declared.answers.State.{State}
 use Rattle.quic_machine.specs.declared.answers.State.TheVariants as states
@@ -24,8 +26,16 @@ use Rattle.quic_machine.specs.declared.answers.DropReason.{DropReason}
 use Rattle.quic_machine.specs.declared.answers.DropReason.TheVariants as drops
 use Rattle.quic_machine.specs.declared.answers.Received.{Received}
 use Rattle.quic_machine.specs.declared.answers.Received.TheVariants.{Taken, Dropped, Closed}
-use Rattle.quic_machine.specs.Closing.{ticked}
-use Rattle.quic_machine.specs.Ids.{known}
+use Rattle.quic_machine.specs.declared.answers.Received.TheVariants as receives
+use Rattle.quic_machine.specs.Closing.{ticked, close_asked}
+use Rattle.std.specs.declared.ops.Range.{Range}
+use Rattle.quic_ids.specs.CidState.{retirement_answer}
+use Rattle.quic_ids.specs.CidQueue.{insert_answer}
+use Rattle.quic_ids.specs.declared.cid_queue.InsertError.{InsertError}
+use Rattle.quic_ids.specs.declared.cid_queue.InsertError.TheVariants as inserts
+use Rattle.quic_retransmits.specs.Retransmits.{can_retire, after_late}
+use Rattle.quic_machine.specs.Ids.{known, frame_of, retires_for}
+use Rattle.quic_machine.specs.IdFrames.{fitted, retiring, with_taken_up, after_retired, drawn}
 use Rattle.quic_spaces.specs.Numbers.{expected, number_opened, number_taken, number_named}
 use Rattle.quic_spaces.specs.Filter.{names_skipped}
 use Rattle.quic_congestion.specs.Congestion.{Told}
@@ -43,23 +53,27 @@ use Rattle.quic_messages.specs.declared.errors.ReceivedError.{ReceivedError}
 use Rattle.quic_messages.specs.Messages.{received_answer, after_received}
 use Rattle.quic_time.specs.Clocks.{saturated}
 use Rattle.quic_machine.specs.Policy.{Policy}
-use Rattle.quic_machine.specs.End.{End, side_of, with_closing, closed_by, with_numbers, with_streams, with_messages, with_ack_timer, with_loss_timer}
+use Rattle.quic_machine.specs.Idle.{packet_heard}
+use Rattle.quic_machine.specs.End.{End, side_of, with_closing, closed_by, drained_by, with_numbers, with_frames, with_streams, with_messages, with_ack_timer, with_loss_timer}
 use Rattle.quic_machine.specs.Opens.{own_id_length}
 use Rattle.quic_machine.specs.Tracking.{dir_named}
 use Rattle.quic_machine.specs.Acked.{after_acked, told_acked}
 
 -- ---- what is wrong with a packet that opened
 
--- a broken rule with its error, or too many runs of a stream that wait
+-- a broken rule with its error, or too many runs of a stream that wait; or nothing, but that the
+-- peer closed, which ends the reading too
 pub data Fault : Type 0 where
   broke : ErrorValue → Fault
   too_many_pieces : Fault
+  closed_by_peer : CloseValue → Fault
 
 -- an error that names no frame (RFC 9000, section 20.1)
 abbrev pub plain_error : ℕ → ErrorValue
 plain_error code = record { code = code; frame = None }
 
--- FLOW_CONTROL_ERROR, STREAM_LIMIT_ERROR, STREAM_STATE_ERROR, FINAL_SIZE_ERROR, FRAME_ENCODING_ERROR (RFC 9000, section 20.1)
+-- FLOW_CONTROL_ERROR, STREAM_LIMIT_ERROR, STREAM_STATE_ERROR, FINAL_SIZE_ERROR,
+-- FRAME_ENCODING_ERROR (RFC 9000, section 20.1)
 abbrev pub fault_of_breach : Breach → Fault
 fault_of_breach FlowControl = broke (plain_error 3)
 fault_of_breach StreamLimit = broke (plain_error 4)
@@ -81,15 +95,17 @@ fault_of_frame x = broke (record { code = 7; frame = x.ty })
 abbrev pub violation : Fault
 violation = broke (plain_error 10)
 
--- INTERNAL_ERROR where too many runs of a stream wait
+-- INTERNAL_ERROR where too many runs of a stream wait, and none where the peer closed
 abbrev pub error_of : Fault → ErrorValue
 error_of (broke error) = error
 error_of too_many_pieces = plain_error 1
+error_of (closed_by_peer close) = plain_error 0
 
 -- why an end closes for a fault
 abbrev pub reason_of : Fault → LostReason
 reason_of (broke error) = reasons.Transport error
 reason_of too_many_pieces = reasons.Pieces
+reason_of (closed_by_peer close) = reasons.Peer close
 
 -- ---- frames, one after another
 
@@ -102,7 +118,8 @@ pub record Progress : Type 0 where
 abbrev pub goes_on : End → Progress
 goes_on e = record { end = e; fault = None }
 
--- a frame that only servers send: a server that gets one has a peer that breaks the rules (RFC 9000, sections 19.7 and 19.20)
+-- a frame that only servers send: a server that gets one has a peer that breaks the rules (RFC
+-- 9000, sections 19.7 and 19.20)
 abbrev pub fault_at : Side → Option Fault
 fault_at Client = None
 fault_at Server = Some violation
@@ -112,8 +129,9 @@ abbrev pub is_above : Option ℕ → ℕ → Bool
 is_above None n = true
 is_above (Some m) n = nat_lt m n
 
--- An ACK frame: the greatest number that it names counts, whatever else it names; then the tracked packets that it names are acknowledged, and others
--- lost. A number that was never given is a broken rule (RFC 9000, section 13.1), and so is the one that was left out last.
+-- An ACK frame: the greatest number that it names counts, whatever else it names; then the tracked
+-- packets that it names are acknowledged, and others lost. A number that was never given is a
+-- broken rule (RFC 9000, section 13.1), and so is the one that was left out last.
 abbrev pub names_ungiven : AckValue → End → Bool
 names_ungiven a e = nat_le e.numbers.next a.largest || list_any (λ r. names_skipped e.filter.last r.0 r.1) a.ranges
 
@@ -126,7 +144,8 @@ take_ack a e = if names_ungiven a e then record { end = e; fault = Some violatio
 abbrev pub told_ack : AckValue → End → List Told
 told_ack a e = if names_ungiven a e then [] else told_acked (is_above e.numbers.largest_acked a.largest) a (with_numbers e (number_named e.numbers a.largest))
 
--- what a frame on streams makes of them: a rule that it broke, if it broke one, and the streams that it leaves
+-- what a frame on streams makes of them: a rule that it broke, if it broke one, and the streams
+-- that it leaves
 abbrev pub on_streams : Option Breach → Streams → End → Progress
 on_streams breach t e = record { end = with_streams e t; fault = fault_of breach }
 
@@ -134,16 +153,19 @@ on_streams breach t e = record { end = with_streams e t; fault = fault_of breach
 abbrev pub on_state : Option Breach → StreamsState → End → Progress
 on_state breach s e = on_streams breach (streams_of s e.waiting.frames) e
 
--- the application is to be told once more that a message came, where none was unread; it is told so 2^64 - 1 times at most before it asks
+-- the application is to be told once more that a message came, where none was unread; it is told so
+-- 2^64 - 1 times at most before it asks
 abbrev pub told_of_message : Bool → ℕ → ℕ
 told_of_message true n = saturated (n + 1)
 told_of_message false n = n
 
--- what a message leaves that is taken: it waits to be read, where the oldest may have gone for it (RFC 9221, section 5)
+-- what a message leaves that is taken: it waits to be read, where the oldest may have gone for it
+-- (RFC 9221, section 5)
 abbrev pub message_taken : Bool → List ℕ → End → Messaging
 message_taken first m e = record { queues = after_received e.transport.datagram_receive_buffer_size m e.messages.queues; to_tell = told_of_message first e.messages.to_tell }
 
--- a message that comes is taken, or it is one that the end told that it takes none such (RFC 9221, section 3)
+-- a message that comes is taken, or it is one that the end told that it takes none such (RFC 9221,
+-- section 3)
 abbrev pub message_judged : Result Bool ReceivedError → List ℕ → End → Progress
 message_judged (Ok first) m e = goes_on (with_messages e (message_taken first m e))
 message_judged (Err error) m e = record { end = e; fault = Some violation }
@@ -151,6 +173,45 @@ message_judged (Err error) m e = record { end = e; fault = Some violation }
 -- what a DATAGRAM frame makes of the end
 abbrev pub take_message : List ℕ → End → Progress
 take_message m e = message_judged (received_answer e.transport.datagram_receive_buffer_size m e.messages.queues) m e
+
+-- the frame that was at fault, by its type; none is known where that is 0 (RFC 9000, section 19.19)
+abbrev pub frame_named : ℕ → Option ℕ
+frame_named ty = if ty == 0 then None else Some ty
+
+-- the peer closed: what stands behind isn't read
+abbrev pub take_close : CloseValue → End → Progress
+take_close close e = record { end = e; fault = Some (closed_by_peer close) }
+
+-- CONNECTION_ID_LIMIT_ERROR (RFC 9000, section 20.1)
+abbrev pub too_many_ids : Fault
+too_many_ids = broke (plain_error 9)
+
+-- an id of the peer is taken up that asks for these numbers to be retired, which may wait to be
+-- told or are too many (RFC 9000, section 5.1.2)
+abbrev pub retired_for : Bool → Range ℕ → NewConnectionIdValue → End → Progress
+retired_for true r f e = goes_on (fitted e (retiring r (with_taken_up f e)))
+retired_for false r f e = record { end = with_taken_up f e; fault = Some too_many_ids }
+
+-- an id of the peer is taken up; one that comes late is retired once more, and none closes for
+-- that; or the peer gives more than it may (RFC 9000, sections 5.1.1 and 19.15)
+abbrev pub id_judged : Result (Option (Range ℕ)) InsertError → NewConnectionIdValue → End → Progress
+id_judged (Ok None) f e = goes_on (fitted e (with_taken_up f e))
+id_judged (Ok (Some r)) f e = retired_for (can_retire e.waiting.frames r.start r.end) r f e
+id_judged (Err inserts.Retired) f e = goes_on (with_frames e (after_late e.waiting.frames f.sequence))
+id_judged (Err inserts.ExceedsLimit) f e = record { end = e; fault = Some too_many_ids }
+
+-- what a NEW_CONNECTION_ID frame makes of the end
+abbrev pub take_new_id : NewConnectionIdValue → End → Progress
+take_new_id f e = id_judged (retires_for (insert_answer e.ids.peer (frame_of f))) f e
+
+-- the peer retires an own id, or one that was never issued (RFC 9000, section 19.16)
+abbrev pub retirement_judged : Result Bool ErrorValue → ℕ → End → Progress
+retirement_judged (Ok more) n e = goes_on (after_retired n e)
+retirement_judged (Err error) n e = record { end = e; fault = Some (broke error) }
+
+-- what a RETIRE_CONNECTION_ID frame makes of the end
+abbrev pub take_retirement : ℕ → End → Progress
+take_retirement n e = retirement_judged (retirement_answer e.ids.own n e.ids.limit) n e
 
 -- what a frame makes of the end; those of other kinds are read, held to their rule of ids and
 -- counts, and do nothing yet
@@ -163,8 +224,14 @@ take_frame (max_data limit) e = on_state None (after_max_data e.streams limit) e
 take_frame (max_stream_data f) e = on_state (sending_refusal e.streams f.id) (after_max_stream_data e.streams f.id f.limit) e
 take_frame (max_streams f) e = on_state (max_streams_breach f.count) (after_max_streams (dir_named f.one_way) f.count e.streams) e
 take_frame (datagram m) e = take_message m e
+take_frame (connection_close c) e = take_close (by_transport (transport_close c.code (frame_named c.frame_type) c.reason)) e
+take_frame (application_close c) e = take_close (by_application c) e
+take_frame (path_challenge token) e = goes_on (path_asked token e)
+take_frame (path_response token) e = goes_on (path_answered token e)
 take_frame (new_token t) e = record { end = e; fault = fault_at (side_of e) }
 take_frame handshake_done e = record { end = e; fault = fault_at (side_of e) }
+take_frame (new_connection_id f) e = take_new_id f e
+take_frame (retire_connection_id n) e = take_retirement n e
 take_frame f e = record { end = e; fault = fault_of (broken e.streams (id_rule f)) }
 
 -- what the next item of a payload comes to
@@ -210,7 +277,8 @@ abbrev pub is_empty : List (Result FrameValue InvalidFrame) → Bool
 is_empty [] = true
 is_empty (i ∷ is) = false
 
--- the reserved bits have to be 0, and a packet has to have a frame (RFC 9000, sections 17.3.1 and 12.4)
+-- the reserved bits have to be 0, and a packet has to have a frame (RFC 9000, sections 17.3.1 and
+-- 12.4)
 abbrev pub take_payload : ℕ → List (Result FrameValue InvalidFrame) → End → Progress
 take_payload first is e =
     if not (reserved_bits first == 0) || is_empty is then record { end = e; fault = Some violation } else take_items is e
@@ -221,6 +289,7 @@ told_payload first is e = if not (reserved_bits first == 0) || is_empty is then 
 
 -- ---- the answer, and the end that is left
 
+-- what comes of a datagram: what is answered, and the end that is left
 pub record Outcome : Type 0 where
   pub answer : Received
   pub end : End
@@ -233,8 +302,9 @@ dropped reason e = record { answer = Dropped reason; end = e }
 abbrev pub timers_after : Timers → Pending → ℕ → ℕ → Bool → Seen → Timers
 timers_after t p now n asking seen = if packet_starts_wait p n asking seen then with_ack_timer t (Some (ack_due now)) else t
 
--- the whole payload of a packet of this number was taken, which asks for an acknowledgement or doesn't, and came with this mark or with none: the number is to
--- be acknowledged, at once where it is marked CE (section 13.2.1), and the mark counts (section 13.4.1)
+-- the whole payload of a packet of this number was taken, which asks for an acknowledgement or
+-- doesn't, and came with this mark or with none: the number is to be acknowledged, at once where it
+-- is marked CE (section 13.2.1), and the mark counts (section 13.4.1)
 abbrev pub number_noted : ℕ → Bool → Option EcnCodepoint → End → End
 number_noted n asking mark e =
     let now = e.closing.clock in
@@ -246,13 +316,19 @@ number_noted n asking mark e =
       marks = record e.marks { came = after_mark mark e.marks.came };
     }
 
--- and the loss timer is set to what the frames left
+-- the times without a packet begin anew, and the loss timer is set to what the frames left
 abbrev pub after_taken : ℕ → Bool → Option EcnCodepoint → End → End
-after_taken n asking mark e = with_loss_timer (number_noted n asking mark e)
+after_taken n asking mark e = with_loss_timer (packet_heard (number_noted n asking mark e))
 
--- all frames were taken, or one was at fault: those before it keep their effect
+-- the peer closed: the number of its packet counts as taken, and the end is drained (section
+-- 10.2.2)
+abbrev pub drained_at : ℕ → CloseValue → End → End
+drained_at n close e = drained_by (reasons.Peer close) (with_numbers e (number_taken e.numbers n))
+
+-- all frames were taken; or the peer closed; or one was at fault: those before it keep their effect
 abbrev pub ends_as : Option Fault → Bool → ℕ → Option EcnCodepoint → End → Outcome
 ends_as None asking n mark e = record { answer = Taken; end = after_taken n asking mark e }
+ends_as (Some (closed_by_peer close)) asking n mark e = record { answer = Taken; end = drained_at n close e }
 ends_as (Some fault) asking n mark e = record { answer = Closed (error_of fault); end = closed_by (reason_of fault) e }
 
 -- what a payload comes to that asks for an acknowledgement or doesn't, where it was taken so far
@@ -272,10 +348,10 @@ asks_in is = list_any item_asks is
 abbrev pub processed : Opening → Arrival → End → Outcome
 processed o arrival e = judged (take_payload o.first (items o.payload) (with_closing e (ticked e.closing arrival.now))) (asks_in (items o.payload)) o.number arrival.mark
 
--- a closing end reads nothing of the packet
+-- a closing end reads nothing of the packet, and its close is to go once more (section 10.2.1)
 abbrev pub by_state : State → Opening → Arrival → End → Outcome
 by_state states.Open o arrival e = processed o arrival e
-by_state states.Closing o arrival e = dropped drops.Closing e
+by_state states.Closing o arrival e = dropped drops.Closing (with_closing e (close_asked e.closing))
 by_state states.Drained o arrival e = dropped drops.Drained e
 by_state states.Failed o arrival e = dropped drops.Failed e
 
@@ -286,10 +362,39 @@ opened_to o arrival e =
     else (if is_duplicate e.numbers.opened o.number then dropped drops.Duplicate e
     else by_state e.closing.state o arrival (with_numbers e (number_opened e.numbers o.number)))
 
+-- an end whose peer's key refused as many packets as it may closes (RFC 9001, section 6.6)
+abbrev pub exhausted : ℕ → End → End
+exhausted now e = closed_by reasons.KeyLimit (with_closing e (ticked e.closing now))
+
+-- AEAD_LIMIT_REACHED (RFC 9000, section 20.1)
+abbrev pub key_limit : ErrorValue
+key_limit = plain_error 15
+
+-- a packet that doesn't open is dropped, unless it is the last that may not, and the end is open
+abbrev pub unopened_in : State → Bool → Arrival → End → Outcome
+unopened_in states.Open true arrival e = record { answer = Closed key_limit; end = exhausted arrival.now e }
+unopened_in state is_last arrival e = dropped drops.NotOpened e
+
+-- whether the frames of a packet were taken, all of them or those before the first at fault
+abbrev pub is_read : Received → Bool
+is_read Taken = true
+is_read (Closed error) = true
+is_read (Dropped reason) = false
+is_read receives.Failed = false
+
+-- the ids are drawn that were issued for it, where they were
+abbrev pub drawn_if : Bool → Policy → End → End
+drawn_if true p e = drawn p.words e
+drawn_if false p e = e
+
+-- what a packet comes to, once they are
+abbrev pub with_ids_drawn : Policy → Outcome → Outcome
+with_ids_drawn p o = record { answer = o.answer; end = drawn_if (is_read o.answer) p o.end }
+
 -- what a packet comes to, where it opened
-abbrev pub opened_as : Option Opening → Arrival → End → Outcome
-opened_as None arrival e = dropped drops.NotOpened e
-opened_as (Some o) arrival e = opened_to o arrival e
+abbrev pub opened_as : Option Opening → Policy → Arrival → End → Outcome
+opened_as None p arrival e = unopened_in e.closing.state arrival.last arrival e
+opened_as (Some o) p arrival e = with_ids_drawn p (opened_to o arrival e)
 
 -- what a datagram opens to at an end, behind an own id
 abbrev pub opening : Policy → End → List ℕ → Option Opening
@@ -305,7 +410,7 @@ drop_of headers.UnknownId = drops.UnknownId
 -- what a datagram comes to, by what its header says
 abbrev pub headed : Result (List ℕ) HeaderError → Policy → End → Arrival → List ℕ → Outcome
 headed (Err error) p e arrival d = dropped (drop_of error) e
-headed (Ok id) p e arrival d = opened_as (opening p e d) arrival e
+headed (Ok id) p e arrival d = opened_as (opening p e d) p arrival e
 
 -- an end that is drained or has failed drops all
 abbrev pub received_in : State → Policy → End → Arrival → List ℕ → Outcome

@@ -1,4 +1,5 @@
--- Where memory served, the answers of a run tell all that it leaves; and how many answers and views there are.
+-- Where memory served, the answers of a run tell all that it leaves; and how many answers and views
+-- there are.
 use Rattle.std.proofs.Common.{◌≡◌, ℕ, ◌≤◌, suc, List, [], ◌∷◌, length, Bool, true, false, refl, sym, ap, ◌∙◌, subst, arith}
 use Rattle.std.specs.Prelude.{◌||◌}
 use Rattle.std.specs.List.{list_any}
@@ -13,15 +14,15 @@ use Rattle.quic_machine.specs.Machine.{IsLeft, IsStep, Follows, World, Policies,
 
 -- the end that a call leaves
 left : (k : Policies) (w : World) (event : RunEvent) (a : Answer) (x : World) → fails a ≡ false → IsStep k w event a x
-    → end_at event.side x ≡ end_left (policy_at event.side k) (control_at event.side w) (end_at event.side w) (given_by (other_side event.side) w) event.call a
+    → end_at event.side x ≡ end_left (policy_at event.side k) (control_at event.side w) (heard_at event.side w) (end_at event.side w) (given_by (other_side event.side) w) event.call a
 left k w event a x served s =
-    subst (λ (b : Bool). IsLeft b (policy_at event.side k) (control_at event.side w) (end_at event.side w) (given_by (other_side event.side) w) event.call a (end_at event.side x)) served s.end
+    subst (λ (b : Bool). IsLeft b (policy_at event.side k) (control_at event.side w) (heard_at event.side w) (end_at event.side w) (given_by (other_side event.side) w) event.call a (end_at event.side x)) served s.end
 
 -- the controller that it leaves
 left_control : (k : Policies) (w : World) (event : RunEvent) (a : Answer) (x : World) → fails a ≡ false → IsStep k w event a x
     → control_at event.side x ≡ after_told (control_at event.side w) (tells (policy_at event.side k) (end_met w event) (given_by (other_side event.side) w) event.call)
 left_control k w event a x served s =
-    subst (λ (b : Bool). IsTold b (policy_at event.side k) (control_at event.side w) (end_at event.side w) (given_by (other_side event.side) w) event.call (control_at event.side x)) served s.control
+    subst (λ (b : Bool). IsTold b (policy_at event.side k) (control_at event.side w) (heard_at event.side w) (end_at event.side w) (given_by (other_side event.side) w) event.call (control_at event.side x)) served s.control
 
 -- what it leaves counted
 left_heard : (k : Policies) (w : World) (event : RunEvent) (a : Answer) (x : World) → fails a ≡ false → IsStep k w event a x → heard_at event.side x ≡ heard_by (given_by (other_side event.side) w) event.call a (heard_at event.side w)

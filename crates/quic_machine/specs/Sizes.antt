@@ -1,5 +1,6 @@
--- The search for the size of datagrams at an end (RFC 8899; RFC 9000, sections 14.3 and 14.4): when one may be probed, and what the search learns of packets that are
--- acknowledged and lost, of which the controller is told.
+-- The search for the size of datagrams at an end (RFC 8899; RFC 9000, sections 14.3 and 14.4): when
+-- one may be probed, and what the search learns of packets that are acknowledged and lost, of which
+-- the controller is told.
 use Rattle.std.specs.Prelude.{ℕ, ◌+◌, Bool, true, false, not, ◌&&◌, ◌==◌, nat_lt, if◌then◌else◌, List, [], ◌∷◌, ◌++◌, map, sum_by, Option, Some, None}
 use Rattle.std.specs.List.{filter, list_any}
 use Rattle.quic_time.specs.Clocks.{saturated}
@@ -21,7 +22,8 @@ abbrev pub has_window : Option ℕ → End → Bool
 has_window None e = false
 has_window (Some bound) e = nat_lt (bytes_in_flight e + bound) e.path.window
 
--- whether one may be looked for: the search isn't disabled, the peer's address is validated, and the window has room
+-- whether one may be looked for: the search isn't disabled, the peer's address is validated, and
+-- the window has room
 abbrev pub may_search : End → Bool
 may_search e = e.path.validated && has_window (search_bound e.path.discovery) e
 
@@ -73,7 +75,8 @@ told_packets e (p ∷ ps) = told_packet e p ++ told_probe p e.path.discovery ++ 
 abbrev pub is_probe : Discovery → ℕ × TrackedPacket → Bool
 is_probe d p = is_number p.0 (open_probe d)
 
--- the others: the loss of a probe says that its size is too great, and nothing of congestion (RFC 9000, section 14.4). A probe is one no more where its search ended
+-- the others: the loss of a probe says that its size is too great, and nothing of congestion (RFC
+-- 9000, section 14.4). A probe is one no more where its search ended
 abbrev pub others_of : Discovery → Table TrackedPacket → Table TrackedPacket
 others_of d lost = filter (λ p. not (is_probe d p)) lost
 
@@ -118,7 +121,8 @@ with_searched d e = shortened (is_resized e.path.discovery d) (with_discovery e 
 abbrev pub search_lost : Table TrackedPacket → End → End
 search_lost lost e = with_searched (after_lost e.closing.clock lost e.path.discovery) e
 
--- a packet as one that is lost: the open probe doesn't begin or end the period, as its loss shows no congestion
+-- a packet as one that is lost: the open probe doesn't begin or end the period, as its loss shows
+-- no congestion
 abbrev pub loss_of : Discovery → ℕ × TrackedPacket → Loss
 loss_of d p = record { number = p.0; time_sent = p.1.time_sent; asks = p.1.asks && not (is_probe d p) }
 
@@ -126,8 +130,9 @@ loss_of d p = record { number = p.0; time_sent = p.1.time_sent; asks = p.1.asks 
 abbrev pub is_persistent : End → Table TrackedPacket → Bool
 is_persistent e lost = is_persistent_after (persistent_period e) e.path.first_after_rtt (map (loss_of e.path.discovery) lost)
 
--- packets are lost, by an ACK or by time: where one of them other than the open probe was in flight on the path, it is congested (RFC 9002, sections 7.3.2 and 7.6);
--- only an ACK shows that congestion persists
+-- packets are lost, by an ACK or by time: where one of them other than the open probe was in flight
+-- on the path, it is congested (RFC 9002, sections 7.3.2 and 7.6); only an ACK shows that
+-- congestion persists
 abbrev pub told_congested : Bool → End → Table TrackedPacket → List Told
 told_congested by_ack e lost =
     let others = others_of e.path.discovery lost in

@@ -10,10 +10,12 @@ use Rattle.quic_machine.specs.End.{End, with_tracking, with_rtt, with_told, with
 use Rattle.quic_machine.specs.Acked.{without_known, reset_acked, stream_acked, stream_lost}
 use Rattle.quic_machine.specs.Acked as acks
 
+-- one change of an end that an ACK frame or a loss makes
 pub data Step : Type 0 where
   -- numbers that the peer knows of need no more acknowledgement
   known : ℕ → Step
-  -- RESET_STREAM of a stream is acknowledged; a STREAM frame is acknowledged, or lost; and what else a packet carried is
+  -- RESET_STREAM of a stream is acknowledged; a STREAM frame is acknowledged, or lost; and what
+  -- else a packet carried is
   reset : ℕ → Step
   acked : StreamMeta → Step
   lost : StreamMeta → Step

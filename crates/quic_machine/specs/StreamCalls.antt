@@ -1,5 +1,5 @@
--- The calls of the application on streams (RFC 9000, sections 2 and 3): what each may be answered, and what it leaves. Each is a call of the streams, with the
--- end open or not.
+-- The calls of the application on streams (RFC 9000, sections 2 and 3): what each may be answered,
+-- and what it leaves. Each is a call of the streams, with the end open or not.
 use Rattle.std.specs.Prelude.{ℕ, ◌≡◌, ◌⊎◌, Bool, true, false, List, length, Result, Ok, Err}
 use Rattle.quic_streams_parts.specs.declared.answers.WriteError.TheVariants as write_errors
 use Rattle.quic_streams_parts.specs.declared.answers.FinishError.TheVariants as finish_errors
@@ -30,7 +30,8 @@ is_on_streams (calls.Stop id code) = true
 is_on_streams (calls.ReceivedReset id) = true
 is_on_streams call = false
 
--- what a read is answered: the stream can't be read, or each `next` answers in turn; to begin it may lack memory
+-- what a read is answered: the stream can't be read, or each `next` answers in turn; to begin it
+-- may lack memory
 abbrev pub IsRead : StreamsState → ℕ → Bool → List ℕ → Answer → Type 0
 IsRead s id ordered mosts (answers.Read (Ok nexts)) = (read_answer s id ordered ≡ Ok tt) × AreNexts told_bytes (after_read_begun s id ordered) id mosts nexts
 IsRead s id ordered mosts (answers.Read (Err error)) = (read_answer s id ordered ≡ Err error) ⊎ (error ≡ readable_errors.Memory)

@@ -1,4 +1,5 @@
--- What a datagram carries that matters once it is acknowledged or lost (RFC 9000, section 13.3; RFC 9002, section 2).
+-- What a datagram carries that matters once it is acknowledged or lost (RFC 9000, section 13.3; RFC
+-- 9002, section 2).
 use Rattle.std.specs.Prelude.{ℕ, List, [], ◌∷◌, Option, Some, None}
 use Rattle.std.specs.List.{fold}
 use Rattle.quic_send_buffer.specs.declared.stream_meta.StreamMeta.{StreamMeta}

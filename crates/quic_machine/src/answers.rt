@@ -1,6 +1,8 @@
 //! What the calls of an end answer.
-ghost use Rattle.std.specs.Prelude.{◌≡◌};
+ghost use Rattle.std.specs.Prelude.{◌≡◌, ◌≤◌, vec_len, vec_capacity};
+ghost use Rattle.quic_machine.specs.Reasons.{text_len};
 
+use crate::peer_close::PeerClose;
 use quic_streams_parts::StreamEvent;
 use quic_wire_core::{EcnCodepoint, TransportError};
 use std::fmt;
@@ -11,7 +13,7 @@ use thiserror::Error;
 pub enum State {
     /// It sends and receives.
     Open,
-    /// It only repeats its close. No call gives it yet: an end that closes is drained at once.
+    /// It only repeats its close, for three probe timeouts.
     Closing,
     /// It sends nothing more, and drops what comes.
     Drained,
@@ -34,27 +36,49 @@ impl fmt::Display for State {
 /// Why an end is no longer open (quinn-proto's `ConnectionError`).
 #[derive(Debug, Drop)]
 pub enum LostReason {
-    /// The application closed it. No call gives it yet.
+    /// The application closed it.
     Application,
+    /// The peer closed it, and said this (RFC 9000, section 19.19).
+    Peer(PeerClose),
     /// More than 2048 runs of a stream waited to be read.
     Pieces,
-    /// Nothing was heard for the idle timeout. No call gives it yet.
+    /// Nothing came for the idle timeout (RFC 9000, section 10.1).
     Idle,
-    /// A limit of the key was reached. No call gives it yet.
+    /// The key sealed as many packets as it may, or refused as many (RFC 9001, section 6.6).
     KeyLimit,
-    /// The packet numbers were used up.
+    /// The packet numbers were used up (RFC 9000, section 12.3).
     NumberLimit,
     /// The peer broke a rule.
     Transport(TransportError),
 }
 
 impl LostReason {
-    /// The same reason again, which takes no memory.
-    pub fn copied(&self) -> LostReason
+    /// How many bytes the text has that the peer's close brought; 0 where the reason is another
+    /// one.
+    pub fn text_len(&self) -> usize
+        ensures { result ≡ text_len self.now }
+    {
+        match self {
+            LostReason::Peer(close) => close.text_len(),
+            LostReason::Application
+            | LostReason::Pieces
+            | LostReason::Idle
+            | LostReason::KeyLimit
+            | LostReason::NumberLimit
+            | LostReason::Transport(_) => 0,
+        }
+    }
+
+    /// The same reason again, whose text goes into `room`: it is empty, and has room for it. So
+    /// this takes no memory.
+    pub fn copied_into(&self, room: Vec<u8>) -> LostReason
+        requires empty { vec_len room ≡ 0 }
+        requires room { text_len self.now ≤ vec_capacity room }
         ensures { result ≡ self.now }
     {
         match self {
             LostReason::Application => LostReason::Application,
+            LostReason::Peer(close) => LostReason::Peer(close.copied_into(room)),
             LostReason::Pieces => LostReason::Pieces,
             LostReason::Idle => LostReason::Idle,
             LostReason::KeyLimit => LostReason::KeyLimit,
@@ -68,9 +92,10 @@ impl fmt::Display for LostReason {
     fn fmt<W: fmt::Write>(&self, f: &mut fmt::Formatter<W>) -> fmt::Result {
         match self {
             LostReason::Application => f.write_str("closed by the application"),
+            LostReason::Peer(close) => write!(f, "closed by the peer: {close}"),
             LostReason::Pieces => f.write_str("more than 2048 pieces of a stream waited"),
             LostReason::Idle => f.write_str("timed out"),
-            LostReason::KeyLimit => f.write_str("the limit of the key was reached"),
+            LostReason::KeyLimit => f.write_str("a limit of the key was reached"),
             LostReason::NumberLimit => f.write_str("the packet numbers were used up"),
             LostReason::Transport(error) => write!(f, "the peer broke a rule: {error}"),
         }
@@ -116,7 +141,7 @@ pub enum DropReason {
     KeyPhase,
     /// Its number came before, or is too old to tell (RFC 9000, section 12.3).
     Duplicate,
-    /// The end is closing. No call gives it yet.
+    /// The end is closing, and sends its close once more.
     Closing,
     /// The end is drained.
     Drained,
@@ -148,9 +173,9 @@ pub enum Received {
     Taken,
     /// It was dropped.
     Dropped(DropReason),
-    /// It broke a rule, which closed the end.
+    /// It broke a rule, or was one packet too many that didn't open, which closed the end.
     Closed(TransportError),
-    /// Memory lacked: the end has failed for good.
+    /// Out of memory: an allocation failed, and the endpoint has failed for good.
     Failed,
 }
 
@@ -165,7 +190,7 @@ impl fmt::Display for Received {
     }
 }
 
-/// The end has failed: memory lacked now or before.
+/// The endpoint has failed: an allocation failed now or before.
 #[derive(Clone, Copy, Debug, PartialEq, Eq, Error)]
 #[error("the end has failed")]
 pub struct Failed;
@@ -177,6 +202,20 @@ pub struct Transmit {
     pub size: usize,
     /// How it is to be marked.
     pub ecn: Option<EcnCodepoint>,
+}
+
+/// Why an end doesn't change to another id of its peer; tested in this order.
+#[derive(Clone, Copy, Debug, PartialEq, Eq, Error)]
+pub enum NextIdError {
+    /// No later id of the peer is known.
+    #[error("no other id of the peer is known")]
+    NoId,
+    /// More than 50 retirements would wait to be told.
+    #[error("too many retired ids wait")]
+    TooManyPending,
+    /// Out of memory: an allocation failed.
+    #[error("out of memory")]
+    Memory,
 }
 
 /// Why no end was made; tested in this order.
@@ -194,7 +233,10 @@ pub enum ConfigError {
     /// The controller's window doesn't hold two datagrams of the size that the path begins with.
     #[error("a window below two datagrams")]
     Window,
-    /// Memory lacked.
+    /// The own key may seal fewer than 16 packets, or the peer's may refuse fewer.
+    #[error("a key with a limit below 16 packets")]
+    KeyLimit,
+    /// Out of memory: an allocation failed.
     #[error("out of memory")]
     Memory,
 }

@@ -4,11 +4,16 @@
 
 mod answers;
 pub mod laws;
+mod peer_close;
 mod run;
 
-pub use answers::{ConfigError, DropReason, Event, Failed, LostReason, Received, State, Transmit};
+pub use answers::{
+    ConfigError, DropReason, Event, Failed, LostReason, NextIdError, Received, State, Transmit,
+};
+pub use peer_close::PeerClose;
 pub use quic_config::{IdleTimeout, TransportConfig};
 pub use quic_time::{Instant, Timer};
 pub use run::{
-    Answer, Call, Datagram, Delivery, EndView, Injection, Nexts, ReadCall, RunEvent, View,
+    Answer, Call, CloseCall, Datagram, Delivery, EndView, Injection, Nexts, ReadCall, RunEvent,
+    View,
 };

@@ -1,7 +1,7 @@
 //! What comes to two ends, and what is answered and seen then.
 ghost use Rattle.std.specs.Prelude.{◌≡◌};
 
-use crate::answers::{Event, Failed, LostReason, Received, State, Transmit};
+use crate::answers::{Event, Failed, LostReason, NextIdError, Received, State, Transmit};
 use bytes::Bytes;
 use quic_assembler::Chunk;
 use quic_messages::SendDatagramError;
@@ -51,6 +51,10 @@ pub enum Call {
     Recv,
     /// Asks for a PING (`Connection::ping`).
     Ping,
+    /// Closes the connection (`Connection::close`).
+    Close(CloseCall),
+    /// Changes to the next id that the peer gave (`Connection::use_next_id`).
+    UseNextId,
     /// Asks for a datagram at this moment (`Connection::poll_transmit`).
     Poll(Instant),
     /// Lets timers expire that are set up to this moment (`Connection::handle_timeout`).
@@ -66,6 +70,9 @@ pub enum Call {
     Timer(Timer),
     /// Asks when the next timer expires (`Connection::poll_timeout`).
     NextTimeout,
+    /// Asks whether the end is open (`Connection::state`), and whether the peer's address is
+    /// validated (`Connection::is_validated`).
+    State,
 }
 
 /// A read of a stream.
@@ -79,6 +86,17 @@ pub struct ReadCall {
     pub nexts: Vec<usize>,
     /// Whether the read ends by `finalize`, and not by a drop.
     pub finalize: bool,
+}
+
+/// A close of the application.
+#[derive(Debug, Drop)]
+pub struct CloseCall {
+    /// When it is made.
+    pub now: Instant,
+    /// Why, in the application's words.
+    pub error_code: VarInt,
+    /// More of why, for people to read.
+    pub reason: Bytes,
 }
 
 /// The arrival of a datagram that the other end gave out.
@@ -165,6 +183,10 @@ pub enum Answer {
     Recv(Option<Bytes>),
     /// PING waits to go.
     Ping,
+    /// The end is closing, unless it wasn't open.
+    Close,
+    /// The next id is in use, or why it isn't.
+    UseNextId(Result<(), NextIdError>),
     /// The datagram that was given, or `None` where nothing waits to go; or that the end failed.
     Poll(Result<Option<Transmit>, Failed>),
     /// The timers were handled; or the end failed.
@@ -183,6 +205,9 @@ pub enum Answer {
     Timer(Option<Instant>),
     /// When the next timer expires, or `None` where none is set.
     NextTimeout(Option<Instant>),
+    /// Whether the end is open, and else in which way it isn't; and whether the peer's address is
+    /// validated.
+    State(State, bool),
 }
 
 /// What is seen of one end after an event.

@@ -5,8 +5,9 @@ use Rattle.quic_messages.specs.declared.errors.SendDatagramError.TheVariants.{Un
 use Rattle.quic_messages.specs.declared.limits.DatagramLimits.{DatagramLimits}
 use Rattle.quic_messages.specs.Messages.{Messages, bytes_of, with_message}
 
--- the longest message, by the longest frame that the peer takes, the size of a datagram and the length of an id: 9 bytes may stand
--- beside it in its frame, and these, 21 others and the id in a packet
+-- the longest message, by the longest frame that the peer takes, the size of a datagram and the
+-- length of an id: 9 bytes may stand beside it in its frame, and these, 21 others and the id in a
+-- packet
 abbrev pub max_size : ℕ → ℕ → ℕ → Option ℕ
 max_size frame size id = if frame == 0 then None else Some (min (frame - 9) (size - id - 30))
 
@@ -26,7 +27,8 @@ send_answer limits makes_room m s =
     else (if is_none limits.receive_buffer_size then Err Disabled
     else sized_answer limits.max_size (makes_room || has_room limits.send_buffer_size m s) m)
 
--- where nothing refuses the message, it waits behind the others, of which the oldest go until it fits
+-- where nothing refuses the message, it waits behind the others, of which the oldest go until it
+-- fits
 abbrev pub after_send : DatagramLimits → Bool → List ℕ → Messages → Messages
 after_send limits makes_room m s =
     if is_ok (send_answer limits makes_room m s) then record s { outgoing = with_message limits.send_buffer_size m s.outgoing } else s

@@ -34,10 +34,14 @@ impl<'a> Datagrams<'a> {
     ///
     /// # Errors
     ///
-    /// They are tested in this order, and change nothing: [`SendDatagramError::Blocked`] where the
-    /// end isn't open; `Disabled` where this end takes no messages; `UnsupportedByPeer` where the
-    /// peer takes none; `TooLarge` where it is longer than [`max_size`](Self::max_size); `Blocked`
-    /// where the send buffer has no room for it and `drop` isn't set; `Memory` where memory lacks.
+    /// - [`SendDatagramError::Blocked`]: the endpoint isn't open. Nothing changes.
+    /// - [`SendDatagramError::Disabled`]: this endpoint takes no messages itself. Nothing changes.
+    /// - [`SendDatagramError::UnsupportedByPeer`]: the peer takes none. Nothing changes.
+    /// - [`SendDatagramError::TooLarge`]: the message is longer than [`max_size`](Self::max_size).
+    ///   Nothing changes.
+    /// - [`SendDatagramError::Blocked`]: the send buffer has no room for it, and `drop` isn't set.
+    ///   Nothing changes.
+    /// - [`SendDatagramError::Memory`]: an allocation fails. Nothing changes.
     pub fn send(&mut self, message: Bytes, drop: bool) -> Result<(), SendDatagramError>
         ensures same_reference { self.new.datagrams.ghost_name ≡ self.old.datagrams.ghost_name }
         ensures same_limits { self.new.limits ≡ self.old.limits }

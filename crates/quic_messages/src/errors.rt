@@ -17,7 +17,7 @@ pub enum SendDatagramError {
     /// The send buffer has no room for it, or the end isn't open.
     #[error("datagram send blocked")]
     Blocked,
-    /// Memory lacked; nothing has changed.
+    /// Out of memory: an allocation failed. Nothing has changed.
     #[error("out of memory")]
     Memory,
 }
@@ -29,7 +29,7 @@ pub enum ReceivedError {
     /// broke the protocol (RFC 9221, section 3), and the connection closes by PROTOCOL_VIOLATION.
     #[error("a message that this end doesn't take")]
     Breach,
-    /// Memory lacked; nothing has changed.
+    /// Out of memory: an allocation failed. Nothing has changed.
     #[error("out of memory")]
     Memory,
 }

@@ -82,7 +82,7 @@ impl MessageQueue {
     ///
     /// # Errors
     ///
-    /// [`AllocError`] where memory lacks; nothing changes.
+    /// - [`AllocError`]: an allocation fails. Nothing changes.
     pub(crate) fn push(&mut self, message: Bytes, room: usize) -> Result<(), AllocError>
         ensures ok { OnOk result (self.new ≡ with_message room message self.old) }
         ensures err { OnErr result (self.new ≡ self.old) }

@@ -62,8 +62,9 @@ impl DatagramState {
     ///
     /// # Errors
     ///
-    /// [`ReceivedError::Breach`] where this end takes no messages, or the message is longer than
-    /// the window, and [`ReceivedError::Memory`] where memory lacks to keep it; nothing changes.
+    /// - [`ReceivedError::Breach`]: this endpoint takes no messages, or the message is longer than
+    ///   the window. Nothing changes.
+    /// - [`ReceivedError::Memory`]: an allocation fails. Nothing changes.
     pub fn received(&mut self, message: &[u8], window: Option<usize>) -> Result<bool, ReceivedError>
         ensures answer { result ≢ Err received_errors.Memory → result ≡ received_answer window message.now self.old }
         ensures state { result ≢ Err received_errors.Memory → self.new ≡ after_received window message.now self.old }
@@ -130,10 +131,14 @@ impl DatagramState {
     ///
     /// # Errors
     ///
-    /// They are tested in this order, and change nothing: `Blocked` where the end isn't open;
-    /// `Disabled` where this end takes no messages; `UnsupportedByPeer` where the peer takes none;
-    /// `TooLarge` where it is longer than the longest that may be sent; `Blocked` where the send
-    /// buffer has no room for it and `drop` isn't set; `Memory` where memory lacks.
+    /// - [`SendDatagramError::Blocked`]: the endpoint isn't open. Nothing changes.
+    /// - [`SendDatagramError::Disabled`]: this endpoint takes no messages itself. Nothing changes.
+    /// - [`SendDatagramError::UnsupportedByPeer`]: the peer takes none. Nothing changes.
+    /// - [`SendDatagramError::TooLarge`]: the message is longer than the longest that may be sent.
+    ///   Nothing changes.
+    /// - [`SendDatagramError::Blocked`]: the send buffer has no room for it, and `drop` isn't set.
+    ///   Nothing changes.
+    /// - [`SendDatagramError::Memory`]: an allocation fails. Nothing changes.
     pub fn send(
         &mut self,
         message: Bytes,

@@ -36,5 +36,7 @@ fn datagrams_are_counted(rt: HostRuntime) -> Result<(), Fail> {
         text.as_str(),
         "UdpStats { datagrams: 2, bytes: 1500, ios: 2 }"
     );
+    let lines = format!(in rt.alloc(); "{}", stats.udp_tx)?;
+    assert_eq!(rt; lines.as_str(), "datagrams 2\nbytes 1500\nios 2\n");
     Ok(())
 }

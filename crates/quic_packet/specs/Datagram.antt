@@ -1,10 +1,12 @@
--- Datagrams of one packet: how they are made of a number, a destination id and a payload, and what they open to.
+-- Datagrams of one packet: how they are made of a number, a destination id and a payload, and what
+-- they open to.
 use Rattle.std.specs.Prelude.{◌≡◌, ℕ, ◌+◌, ◌-◌, ◌^◌, ◌<◌, List, ◌∷◌, ◌++◌, length, take, drop, slice_index, Option, Some, None, ◌==◌, nat_lt, if◌then◌else◌}
 use Rattle.quic_packet.specs.Number.{Truncated, truncated, number_bytes, residue_of, expanded}
 use Rattle.quic_packet.specs.Keys.{Protection, Aead, KeepsLength, AddsTag, width_in, shielded, unshielded, AreMates}
 use Rattle.quic_packet.specs.Header.{first_byte, header_bytes}
 
--- the packet of a plain one whose number starts there: the payload sealed under the header, then the header protected (RFC 9001, 5.3 and 5.4)
+-- the packet of a plain one whose number starts there: the payload sealed under the header, then
+-- the header protected (RFC 9001, 5.3 and 5.4)
 abbrev pub protected : Protection → Aead → ℕ → ℕ → List ℕ → List ℕ
 protected protection aead at number plain =
     let header = at + width_in (slice_index plain 0) in
@@ -40,7 +42,8 @@ truncated_in at packet =
     let width = width_in (slice_index packet 0) in
     record { width = width; residue = residue_of (take width (drop at packet)) }
 
--- what a packet whose header is shown opens to under a number: no number is 2 ^ 62 or more (RFC 9000, 12.3)
+-- what a packet whose header is shown opens to under a number: no number is 2 ^ 62 or more (RFC
+-- 9000, 12.3)
 abbrev pub opened_under : Aead → ℕ → ℕ → List ℕ → Option Opening
 opened_under aead at number packet =
     let header = at + width_in (slice_index packet 0) in
@@ -50,11 +53,13 @@ opened_under aead at number packet =
 abbrev pub opened_plain : Aead → ℕ → ℕ → List ℕ → Option Opening
 opened_plain aead at expected packet = opened_under aead at (expanded (truncated_in at packet) expected) packet
 
--- what a packet opens to whose number starts there, where this number is expected (RFC 9001, 5.3 and 5.4)
+-- what a packet opens to whose number starts there, where this number is expected (RFC 9001, 5.3
+-- and 5.4)
 abbrev pub opened_packet : Protection → Aead → ℕ → ℕ → List ℕ → Option Opening
 opened_packet protection aead at expected packet = opened_plain aead at expected (unshielded protection at packet)
 
--- the datagram opens to this number and payload where the number's bytes expand to it, and to nothing else
+-- the datagram opens to this number and payload where the number's bytes expand to it, and to
+-- nothing else
 abbrev pub OpensAs : Protection → Aead → ℕ → ℕ → ℕ → List ℕ → List ℕ → List ℕ → Type 0
 OpensAs protection aead number acked expected id payload datagram =
     let t = truncated number acked in

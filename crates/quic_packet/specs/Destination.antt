@@ -36,7 +36,8 @@ is_known id known = list_any (pointwise nat_eq id) known
 abbrev pub KnownIsMember : Type 0
 KnownIsMember = (id : List ℕ) (known : List (List ℕ)) → IsTrue (is_known id known) ↔ Contains known id
 
--- the id, where 4 bytes of number and payload and 16 of tag stand behind it, the top bit is 0, the second bit is 1 and it is known; tested in this order
+-- the id, where 4 bytes of number and payload and 16 of tag stand behind it, the top bit is 0, the
+-- second bit is 1 and it is known; tested in this order
 abbrev pub accepted : List (List ℕ) → ℕ → List ℕ → Option (List ℕ) → Result (List ℕ) HeaderError
 accepted known first rest None = Err TooShort
 accepted known first rest (Some id) =
@@ -50,7 +51,8 @@ abbrev pub decoded : (List ℕ → Option (List ℕ)) → List (List ℕ) → Li
 decoded parsed known [] = Err TooShort
 decoded parsed known (first ∷ rest) = accepted known first rest (parsed rest)
 
--- a datagram that was sent to an id is decoded to it by a parser that finds the id in front, or refused as unknown: no other refusal comes
+-- a datagram that was sent to an id is decoded to it by a parser that finds the id in front, or
+-- refused as unknown: no other refusal comes
 abbrev pub SentIsDecoded : Type 0
 SentIsDecoded = (protection : Protection) (aead : Aead) → KeepsForm protection.mask → KeepsLength protection.hide → AddsTag aead.seal → (parsed : List ℕ → Option (List ℕ)) (known : List (List ℕ)) (number acked : ℕ) (id payload : List ℕ) → ((rest : List ℕ) → parsed (id ++ rest) ≡ Some id) → number - acked < 2 ^ 31 → 4 ≤ (truncated number acked).width + length payload → decoded parsed known (sent protection aead number acked id payload) ≡ (if is_known id known then Ok id else Err UnknownId)
 

@@ -2,7 +2,8 @@
 use Rattle.std.specs.Prelude.{ℕ, ◌+◌, ◌-◌, ◌/◌, ◌%◌, List, ◌∷◌, ◌++◌, Bool, ◌==◌}
 use Rattle.quic_packet.specs.Number.{Truncated, number_bytes}
 
--- the first byte of a packet whose number takes so many bytes: the fixed bit, and spin, reserved and key phase bits 0
+-- the first byte of a packet whose number takes so many bytes: the fixed bit, and spin, reserved
+-- and key phase bits 0
 abbrev pub first_byte : ℕ → ℕ
 first_byte width = 64 + (width - 1)
 

@@ -17,7 +17,8 @@ Seal = ℕ → List ℕ → List ℕ → List ℕ
 abbrev pub Open : Type 0
 Open = ℕ → List ℕ → List ℕ → Option (List ℕ)
 
--- what a header key does by a sample, to the first byte and to the number's bytes: as it protects, and as it shows again (RFC 9001, 5.4)
+-- what a header key does by a sample, to the first byte and to the number's bytes: as it protects,
+-- and as it shows again (RFC 9001, 5.4)
 pub record Protection : Type 0 where
   pub mask : OfFirst
   pub hide : OfNumber
@@ -36,6 +37,10 @@ KeepsForm change = (s : List ℕ) (first : ℕ) → change s first / 32 ≡ firs
 -- the number keeps how many bytes it has
 abbrev pub KeepsLength : OfNumber → Type 0
 KeepsLength change = (s bytes : List ℕ) → length (change s bytes) ≡ length bytes
+
+-- opening gives no more bytes than there were (RFC 9001, 5.3)
+abbrev pub OpensNoMore : Open → Type 0
+OpensNoMore unseal = (number : ℕ) (header bytes payload : List ℕ) → unseal number header bytes ≡ Some payload → length payload ≤ length bytes
 
 -- sealing adds the tag's 16 bytes (RFC 9001, 5.3)
 abbrev pub AddsTag : Seal → Type 0
@@ -59,7 +64,8 @@ shielded protection at packet =
     let s = sample at packet in
     with_header at packet (protection.mask s (slice_index packet 0)) (protection.hide s (take (width_in (slice_index packet 0)) (drop at packet)))
 
--- the packet with its header shown again: the first byte, shown, tells how long the number is (RFC 9001, 5.4.1)
+-- the packet with its header shown again: the first byte, shown, tells how long the number is (RFC
+-- 9001, 5.4.1)
 abbrev pub unshielded : Protection → ℕ → List ℕ → List ℕ
 unshielded protection at packet =
     let s = sample at packet in
@@ -72,7 +78,8 @@ pub record IsHeaderMate (giver taker : Protection) : Type 0 where
   pub number : (s y : List ℕ) → length y ≤ 4 → taker.reveal s (giver.hide s y) ≡ y
   pub length : KeepsLength giver.hide
 
--- opening under a number gives what was sealed under it, and nothing of what was sealed under another
+-- opening under a number gives what was sealed under it, and nothing of what was sealed under
+-- another
 pub record IsMate (giver taker : Aead) : Type 0 where
   pub opens_its : (n : ℕ) (h p : List ℕ) → n < 2 ^ 62 → taker.unseal n h (giver.seal n h p) ≡ Some p
   pub no_other : (m n : ℕ) (h p : List ℕ) → m < 2 ^ 62 → n < 2 ^ 62 → m ≢ n → taker.unseal m h (giver.seal n h p) ≡ None

@@ -1,7 +1,7 @@
 //! Keys that protect headers and seal payloads (RFC 9001, sections 5.3 and 5.4). Every call works
 //! in place and takes no memory.
 ghost use Rattle.std.specs.Prelude.{◌≡◌, ℕ, ◌+◌, ◌-◌, ◌/◌, ◌<◌, ◌≤◌, ◌^◌, List, ◌++◌, Some, None, length, take, drop, MatchResult};
-ghost use Rattle.quic_packet.specs.Keys.{Protection, Aead, KeepsForm, KeepsLength, AddsTag, shielded, unshielded};
+ghost use Rattle.quic_packet.specs.Keys.{Protection, Aead, KeepsForm, KeepsLength, AddsTag, OpensNoMore, shielded, unshielded};
 
 use thiserror::Error;
 
@@ -90,7 +90,10 @@ pub trait PacketKey {
     /// Opens the bytes of `payload`: how many bytes the opened payload has, which then
     /// stands at the front.
     ///
-    /// `NotOpened`: the bytes do not open under this number and header.
+    /// # Errors
+    ///
+    /// - [`NotOpened`]: the bytes do not open under this number and header. What then stands in
+    ///   `payload` is left open.
     fn decrypt(&self, number: u64, header: &[u8], payload: &mut [u8]) -> Result<usize, NotOpened>
         requires { number < 2 ^ 62 }
         ensures { MatchResult result
@@ -114,4 +117,7 @@ pub trait PacketKey {
 
     // Sealing adds the tag.
     ghost adds_tag: { (k : Self) → AddsTag ((aead k).seal) };
+
+    // Opening gives no more bytes than there were.
+    ghost opens_no_more: { (k : Self) → OpensNoMore ((aead k).unseal) };
 }

@@ -97,8 +97,12 @@ impl PacketNumber {
         usize::from(self.width)
     }
 
-    /// Writes its bytes, big-endian. An error comes only where the room for them wasn't spare, and
-    /// leaves `buf` as it was.
+    /// Writes its bytes, big-endian.
+    ///
+    /// # Errors
+    ///
+    /// - [`AllocError`]: an allocation fails, or the buffer can't grow, where it has no spare room
+    ///   for the bytes. Nothing is written.
     pub fn encode<B: BufMut>(self, buf: &mut B) -> Result<(), AllocError>
         ensures ok { OnOk result (B.written buf.new ≡ B.written buf.old ++ number_bytes self) }
         ensures err { OnErr result (B.written buf.new ≡ B.written buf.old) }
@@ -165,7 +169,9 @@ pub trait ConnectionIdParser {
 
     /// The id that `bytes`, which stand behind the first byte, begin with.
     ///
-    /// `TooShort`: they are too few.
+    /// # Errors
+    ///
+    /// - [`TooShort`]: the bytes end within the ID.
     fn parse(&self, bytes: &[u8]) -> Result<ConnectionId, TooShort>
         ensures { MatchResult result (λ id. parsed self.now bytes.now ≡ Some id) (λ _. parsed self.now bytes.now ≡ None) };
 
@@ -268,8 +274,12 @@ impl ShortHeader {
         FIXED_BIT | (self.number.len() - 1) as u8
     }
 
-    /// Appends the header. An error comes only where `out` has no room for it and there is no
-    /// memory for more, and leaves `out` as it was.
+    /// Appends the header.
+    ///
+    /// # Errors
+    ///
+    /// - [`AllocError`]: `out` has no room for the header, and an allocation fails. Nothing is
+    ///   written.
     pub fn encode(&self, out: &mut Vec<u8>) -> Result<(), AllocError>
         ensures ok { OnOk result (out.new.items ≡ out.old.items ++ header_bytes self.now.destination self.now.number) }
         ensures err { OnErr result (out.new.items ≡ out.old.items) }
@@ -294,7 +304,13 @@ impl ShortHeader {
 
     /// The destination id of a datagram, which is one of the `known` ids.
     ///
-    /// The errors are tested in the order in which [`HeaderError`] lists them.
+    /// # Errors
+    ///
+    /// - [`HeaderError::TooShort`]: the bytes end within the first byte or the ID, or fewer than 20
+    ///   bytes stand behind the ID.
+    /// - [`HeaderError::NotShort`]: the header is a long one.
+    /// - [`HeaderError::FixedBit`]: the header is a short one, and its fixed bit is 0.
+    /// - [`HeaderError::UnknownId`]: the ID isn't one of `known`.
     pub fn decode<P: ConnectionIdParser>(
         datagram: &[u8],
         parser: &P,

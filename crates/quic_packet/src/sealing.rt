@@ -62,8 +62,10 @@ fn protect_behind<H: HeaderKey, K: PacketKey>(
 /// starts `number_at` bytes behind `start`, and the number and the payload have four bytes or
 /// more.
 ///
-/// `AllocError`: `out` has no room for the tag's 16 bytes and there is no memory for them, and
-/// `out` stays as it was.
+/// # Errors
+///
+/// - [`AllocError`]: `out` has no room for the tag's 16 bytes, and an allocation fails. Nothing
+///   changes.
 pub fn seal_packet<H: HeaderKey, K: PacketKey>(
     out: &mut Vec<u8>,
     start: usize,
@@ -173,8 +175,10 @@ fn open_plain<K: PacketKey>(
 /// Opens the packet that is the whole datagram, in place. Its number starts at `number_at` and
 /// is expanded around `expected`.
 ///
-/// `NotOpened`: the number would be 2^62 or more, or the payload does not open under it. What
-/// then stands in the datagram is left open.
+/// # Errors
+///
+/// - [`NotOpened`]: the packet number would be 2^62 or more, or the payload doesn't open under it.
+///   What then stands in the datagram is left open.
 pub fn open_packet<H: HeaderKey, K: PacketKey>(
     datagram: &mut [u8],
     number_at: usize,

@@ -1,10 +1,12 @@
--- Transport parameters, and the bytes that spell them (RFC 9000, sections 7.4 and 18; RFC 9221, section 3; QUIC Acknowledgement Frequency).
+-- Transport parameters, and the bytes that spell them (RFC 9000, sections 7.4 and 18; RFC 9221,
+-- section 3; QUIC Acknowledgement Frequency).
 use Rattle.std.specs.Prelude.{◌≡◌, ℕ, ◌-◌, ◌*◌, ◌^◌, ◌≤◌, List, [], ◌∷◌, ◌++◌, length, ◌==◌, ◌⊎◌, if◌then◌else◌, min, Option, Some, None, unwrap_or}
 use Rattle.quic_wire_core.specs.Varint.{Spells}
 use Rattle.quic_parameters.specs.declared.transport_parameters.id.TransportParameterId.{TransportParameterId}
 use Rattle.quic_parameters.specs.declared.transport_parameters.id.TransportParameterId.TheVariants.{MaxIdleTimeout, MaxUdpPayloadSize, InitialMaxData, InitialMaxStreamDataBidiLocal, InitialMaxStreamDataBidiRemote, InitialMaxStreamDataUni, InitialMaxStreamsBidi, InitialMaxStreamsUni, AckDelayExponent, MaxAckDelay, ActiveConnectionIdLimit, MaxDatagramFrameSize, MinAckDelay}
 
--- The values of the parameters (RFC 9000, section 18.2). The least delay of an ACK has no default: it is none where the list has none.
+-- The values of the parameters (RFC 9000, section 18.2). The least delay of an ACK has no default:
+-- it is none where the list has none.
 pub record ParameterValues : Type 0 where
   pub max_idle_timeout : ℕ
   pub max_udp_payload_size : ℕ
@@ -70,7 +72,8 @@ default_of ActiveConnectionIdLimit = Some 2
 default_of MaxDatagramFrameSize = Some 0
 default_of MinAckDelay = None
 
--- The least value of a parameter: UDP payloads of 1200 bytes have to be taken, and two connection ids kept (RFC 9000, section 18.2).
+-- The least value of a parameter: UDP payloads of 1200 bytes have to be taken, and two connection
+-- ids kept (RFC 9000, section 18.2).
 abbrev pub least_of : TransportParameterId → ℕ
 least_of MaxIdleTimeout = 0
 least_of MaxUdpPayloadSize = 1200
@@ -86,8 +89,9 @@ least_of ActiveConnectionIdLimit = 2
 least_of MaxDatagramFrameSize = 0
 least_of MinAckDelay = 0
 
--- The greatest value of a parameter: 65527 bytes are the most in a UDP payload, a count of streams is at most 2 ^ 60, an exponent 20, a delay
--- below 2 ^ 14 ms (RFC 9000, sections 4.6 and 18.2), and another what an integer spells.
+-- The greatest value of a parameter: 65527 bytes are the most in a UDP payload, a count of streams
+-- is at most 2 ^ 60, an exponent 20, a delay below 2 ^ 14 ms (RFC 9000, sections 4.6 and 18.2), and
+-- another what an integer spells.
 abbrev pub most_of : TransportParameterId → ℕ
 most_of MaxIdleTimeout = 2 ^ 62 - 1
 most_of MaxUdpPayloadSize = 65527
@@ -103,7 +107,8 @@ most_of ActiveConnectionIdLimit = 2 ^ 62 - 1
 most_of MaxDatagramFrameSize = 2 ^ 62 - 1
 most_of MinAckDelay = 2 ^ 62 - 1
 
--- The value that a number in the list stands for: no UDP payload is longer than 65527 bytes (RFC 9000, section 18.2).
+-- The value that a number in the list stands for: no UDP payload is longer than 65527 bytes (RFC
+-- 9000, section 18.2).
 abbrev pub counted : TransportParameterId → ℕ → ℕ
 counted MaxIdleTimeout n = n
 counted MaxUdpPayloadSize n = min n 65527
@@ -164,7 +169,8 @@ abbrev pub IsInRange : TransportParameterId → Option ℕ → Type 0
 IsInRange k None = Unit {0}
 IsInRange k (Some v) = (least_of k ≤ v) × (v ≤ most_of k)
 
--- The least delay of an ACK, in microseconds, is no longer than the greatest, in milliseconds (QUIC Acknowledgement Frequency, section 3).
+-- The least delay of an ACK, in microseconds, is no longer than the greatest, in milliseconds (QUIC
+-- Acknowledgement Frequency, section 3).
 abbrev pub IsNoLonger : Option ℕ → ℕ → Type 0
 IsNoLonger None ms = Unit {0}
 IsNoLonger (Some us) ms = us ≤ 1000 * ms
@@ -174,7 +180,8 @@ pub record AreInRange (p : ParameterValues) : Type 0 where
   pub each : (k : TransportParameterId) → IsInRange k (value_of p k)
   pub delays : IsNoLonger p.min_ack_delay p.max_ack_delay
 
--- The bytes are one entry: an id and the length of its value, each in any of its forms, and the value's bytes (RFC 9000, section 18, figure 21).
+-- The bytes are one entry: an id and the length of its value, each in any of its forms, and the
+-- value's bytes (RFC 9000, section 18, figure 21).
 abbrev pub EntrySpells : ℕ × List ℕ → List ℕ → Type 0
 EntrySpells e bytes = (x : List ℕ) × (y : List ℕ) × Spells e.0 x × Spells (length e.1) y × (bytes ≡ x ++ (y ++ e.1))
 
@@ -192,11 +199,13 @@ standing id (e ∷ es) = if e.0 == id then e.1 ∷ standing id es else standing 
 abbrev pub SpellsValue : TransportParameterId → Option ℕ → List ℕ → Type 0
 SpellsValue k v bytes = (n : ℕ) × Spells n bytes × (v ≡ Some (counted k n))
 
--- The list gives a parameter this value: its id stands nowhere and it is the default, or stands once, and its bytes are a form of a number that stands for it.
+-- The list gives a parameter this value: its id stands nowhere and it is the default, or stands
+-- once, and its bytes are a form of a number that stands for it.
 abbrev pub Says : List (ℕ × List ℕ) → TransportParameterId → Option ℕ → Type 0
 Says es k v = ((standing (id_of k) es ≡ []) × (v ≡ default_of k)) ⊎ ((x : List ℕ) × (standing (id_of k) es ≡ x ∷ []) × SpellsValue k v x)
 
--- The bytes spell these values: a list of entries that gives each parameter its value. What stands at another id is free (RFC 9000, section 7.4.2).
+-- The bytes spell these values: a list of entries that gives each parameter its value. What stands
+-- at another id is free (RFC 9000, section 7.4.2).
 pub record ParametersSpell (p : ParameterValues) (bytes : List ℕ) : Type 0 where
   pub entries : List (ℕ × List ℕ)
   pub spelled : EntriesSpell entries bytes

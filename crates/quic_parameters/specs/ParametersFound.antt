@@ -136,7 +136,8 @@ added met more k x h e =
       is = sym (fine_is (set met (place_of k) (Some v)) more c.1);
     }
 
--- What a parameter has met, what stands at its id in the rest of the list, and what it has met at the end.
+-- What a parameter has met, what stands at its id in the rest of the list, and what it has met at
+-- the end.
 abbrev Gives : TransportParameterId → Option ℕ → List (List ℕ) → Option ℕ → Type 0
 Gives k (Some w) xs o = (xs ≡ []) × (o ≡ Some w)
 Gives k None xs o = ((xs ≡ []) × (o ≡ None)) ⊎ ((x : List ℕ) × (v : ℕ) × (xs ≡ x ∷ []) × SpellsValue k (Some v) x × IsInRange k (Some v) × (o ≡ Some v))

@@ -1,4 +1,5 @@
--- What a list of transport parameters is read as: the values, or the first refusal (RFC 9000, sections 7.4 and 18).
+-- What a list of transport parameters is read as: the values, or the first refusal (RFC 9000,
+-- sections 7.4 and 18).
 use Rattle.std.specs.Prelude.{ℕ, zero, suc, ◌*◌, Bool, false, ◌||◌, List, [], ◌∷◌, length, take, drop, replicate, Option, Some, None, is_some, Result, Ok, Err, nat_lt, ◌==◌, slice_index_or, slice_set, if◌then◌else◌}
 use Rattle.quic_wire_core.specs.Varint.{varint_at}
 use Rattle.quic_parameters.specs.declared.transport_parameters.id.TransportParameterId.{TransportParameterId}
@@ -17,7 +18,8 @@ or_malformed (Some x) = Ok x
 abbrev pub number_at : List ℕ → Result (ℕ × List ℕ) TransportParametersError
 number_at bytes = or_malformed (varint_at bytes)
 
--- The entry at the front, an id and a value, and what follows it. A list that ends within it is malformed (RFC 9000, section 18).
+-- The entry at the front, an id and a value, and what follows it. A list that ends within it is
+-- malformed (RFC 9000, section 18).
 unfoldable pub entry_at : List ℕ → Result ((ℕ × List ℕ) × List ℕ) TransportParametersError
 entry_at bytes = do
   id ← number_at bytes
@@ -56,14 +58,16 @@ met_at met k = slice_index_or met (place_of k) None
 abbrev pub is_out : TransportParameterId → ℕ → Bool
 is_out k v = nat_lt v (least_of k) || nat_lt (most_of k) v
 
--- An entry of a parameter, judged after the entries before it: it repeats none, its value is an integer, and what this stands for in range.
+-- An entry of a parameter, judged after the entries before it: it repeats none, its value is an
+-- integer, and what this stands for in range.
 unfoldable pub met_after : List (Option ℕ) → TransportParameterId → List ℕ → Result (List (Option ℕ)) TransportParametersError
 met_after met k value =
     if is_some (met_at met k) then Err Malformed else do
       n ← whole_at value
       if is_out k (counted k n) then Err IllegalValue else Ok (slice_set met (place_of k) (Some (counted k n)))
 
--- An entry, judged after the entries before it: that of another id is skipped (RFC 9000, section 7.4.2).
+-- An entry, judged after the entries before it: that of another id is skipped (RFC 9000, section
+-- 7.4.2).
 abbrev pub met_with : List (Option ℕ) → Option TransportParameterId → List ℕ → Result (List (Option ℕ)) TransportParametersError
 met_with met None value = Ok met
 met_with met (Some k) value = met_after met k value
@@ -103,7 +107,8 @@ is_longer (Some us) ms = nat_lt (1000 * ms) us
 unfoldable pub judged : ParameterValues → Result ParameterValues TransportParametersError
 judged p = if is_longer p.min_ack_delay p.max_ack_delay then Err IllegalValue else Ok p
 
--- The values of a list of parameters, or the first refusal in its order. Two delays are judged by one another once all of the list is read.
+-- The values of a list of parameters, or the first refusal in its order. Two delays are judged by
+-- one another once all of the list is read.
 unfoldable pub parameters_at : List ℕ → Result ParameterValues TransportParametersError
 parameters_at bytes = do
   met ← met_in none_met bytes

@@ -6,7 +6,8 @@ use Rattle.quic_parameters.specs.declared.transport_parameters.id.TransportParam
 use Rattle.quic_parameters.specs.declared.transport_parameters.id.TransportParameterId.TheVariants.{MaxIdleTimeout, MaxUdpPayloadSize, InitialMaxData, InitialMaxStreamDataBidiLocal, InitialMaxStreamDataBidiRemote, InitialMaxStreamDataUni, InitialMaxStreamsBidi, InitialMaxStreamsUni, AckDelayExponent, MaxAckDelay, ActiveConnectionIdLimit, MaxDatagramFrameSize, MinAckDelay}
 use Rattle.quic_parameters.specs.Parameters.{ParameterValues, id_of, default_of, value_of}
 
--- The places of a write order: those of 01, 03, 04, 05, 06, 07, 08, 09, 0a, 0b, 0e, 20 and ff04de1b.
+-- The places of a write order: those of 01, 03, 04, 05, 06, 07, 08, 09, 0a, 0b, 0e, 20 and
+-- ff04de1b.
 abbrev pub places : List ℕ
 places = 0 ∷ 1 ∷ 2 ∷ 3 ∷ 4 ∷ 5 ∷ 6 ∷ 7 ∷ 8 ∷ 9 ∷ 10 ∷ 11 ∷ 12 ∷ []
 
@@ -41,7 +42,8 @@ abbrev pub is_default : ℕ → Option ℕ → Bool
 is_default v None = false
 is_default v (Some d) = v == d
 
--- What a parameter of this value adds to the list: its entry where there is a value, which isn't the default.
+-- What a parameter of this value adds to the list: its entry where there is a value, which isn't
+-- the default.
 abbrev pub written_value : TransportParameterId → Option ℕ → List ℕ
 written_value k None = []
 written_value k (Some v) = if is_default v (default_of k) then [] else shortest_entry (id_of k) (shortest v)

@@ -207,12 +207,15 @@ impl TransportParameters {
     /// A parameter that doesn't stand in the list has its default. Parameters of other ids are
     /// skipped by their lengths, also where they stand more than once. A `max_udp_payload_size`
     /// above 65527 counts as 65527. The list is judged entry by entry, and the first refusal is the
-    /// answer. In one entry: [`Malformed`](TransportParametersError::Malformed) where the id, the
-    /// length or the value can't be read, then where the parameter stood before, then where the
-    /// value isn't an integer that fills its length; last
-    /// [`IllegalValue`](TransportParametersError::IllegalValue) where the value is out of its
-    /// range. Behind the whole list [`IllegalValue`](TransportParametersError::IllegalValue) where
-    /// `min_ack_delay` is above 1000 `max_ack_delay`.
+    /// answer.
+    ///
+    /// # Errors
+    ///
+    /// - [`TransportParametersError::Malformed`]: in an entry the id, the length or the value can't
+    ///   be read, the parameter stood before, or the value isn't an integer that fills its length.
+    /// - [`TransportParametersError::IllegalValue`]: in an entry that isn't malformed the value is
+    ///   out of its range; or, behind the whole list, `min_ack_delay` is above 1000
+    ///   `max_ack_delay`.
     #[tactic(auto, unfolding(crate::specs::ParametersRead::parameters_at))]
     pub fn read(_side: Side, bytes: &[u8]) -> Result<Self, TransportParametersError>
         ensures value { result ≡ parameters_at bytes.now }
@@ -227,7 +230,11 @@ impl TransportParameters {
     ///
     /// A parameter is written where its value isn't the default. `order` has each of the places 0
     /// to 12 once: those of the ids 01, 03, 04, 05, 06, 07, 08, 09, 0a, 0b, 0e, 20 and ff04de1b.
-    /// Each integer has its shortest form. An error is want of memory.
+    /// Each integer has its shortest form.
+    ///
+    /// # Errors
+    ///
+    /// - [`AllocError`]: an allocation fails.
     pub fn write(&self, alloc: Global, order: &[u8; 13]) -> Result<Vec<u8>, AllocError>
         requires { IsWriteOrder order.now }
         ensures bytes { IfOk result (λ v. v.items ≡ written_parameters self.now order.now) }

@@ -1,5 +1,5 @@
 -- A path to the peer. Times are in nanoseconds, sizes and windows in bytes.
-use Rattle.std.specs.Prelude.{◌≡◌, ℕ, ◌+◌, ◌*◌, Bool, true, false, not, ◌&&◌, ◌==◌, nat_lt, if◌then◌else◌, List, [], ◌∷◌, Option, None}
+use Rattle.std.specs.Prelude.{◌≡◌, ℕ, ◌+◌, ◌*◌, Bool, true, false, not, ◌&&◌, ◌==◌, nat_lt, if◌then◌else◌, List, [], ◌∷◌, Option, Some, None}
 use Rattle.quic_time.specs.Clocks.{saturated}
 use Rattle.quic_time.specs.Rtt.{Rtt, assumed_rtt, best_rtt}
 use Rattle.quic_config.specs.Transport.{TransportSettings, first_mtu}
@@ -17,21 +17,25 @@ pub record PathValue (C : Type 0) : Type 0 where
   pub in_flight : Flight
   -- whether packets are marked (RFC 9000, section 13.4)
   pub marks : Bool
-  -- whether the peer's address is validated (section 8), and the bytes of the datagrams that came and
-  -- went
+  -- the word of the latest PATH_CHALLENGE, until it is answered, and whether that waits to be sent
+  -- (section 8.2)
+  pub challenge : Option ℕ
+  pub challenge_waits : Bool
+  -- whether the peer's address is validated (section 8), and the bytes of the datagrams that came
+  -- and went
   pub validated : Bool
   pub received : ℕ
   pub sent : ℕ
   -- the bytes of the greatest datagram, and how more are looked for (section 14)
   pub discovery : Discovery
-  -- the number of the first packet that went after the round trip was sampled, if one did (RFC 9002,
-  -- section 7.6.2)
+  -- the number of the first packet that went after the round trip was sampled, if one did (RFC
+  -- 9002, section 7.6.2)
   pub first_after_rtt : Option ℕ
   -- which path of the connection it is
   pub generation : ℕ
 
--- made at a moment, with a controller that begins with this window; a greater size of datagrams is looked for or isn't, within the peer's limit if it is
--- known
+-- made at a moment, with a controller that begins with this window; a greater size of datagrams is
+-- looked for or isn't, within the peer's limit if it is known
 abbrev pub new_path : {C : Type 0} → Bool → Option ℕ → ℕ → ℕ → TransportSettings → C → ℕ → PathValue C
 new_path searches limit generation now settings controller initial = record {
   rtt = assumed_rtt settings.initial_rtt;
@@ -39,6 +43,8 @@ new_path searches limit generation now settings controller initial = record {
   pacing = new_pacing settings.initial_rtt initial (first_mtu settings) now;
   in_flight = no_flight;
   marks = true;
+  challenge = None;
+  challenge_waits = false;
   validated = false;
   received = 0;
   sent = 0;
@@ -56,6 +62,8 @@ next_path prev generation now window = record {
   pacing = new_pacing (best_rtt prev.rtt) window prev.discovery.size now;
   in_flight = no_flight;
   marks = true;
+  challenge = None;
+  challenge_waits = false;
   validated = false;
   received = 0;
   sent = 0;
@@ -83,6 +91,36 @@ abbrev pub path_without : {C : Type 0} → PathValue C → ℕ → ℕ → Bool 
 path_without path generation size asks =
     if generation == path.generation
     then record path { in_flight = flight_without path.in_flight size asks }
+    else path
+
+-- the peer is asked to answer this word, which waits to be sent; an earlier one counts no more (RFC
+-- 9000, section 8.2.1)
+abbrev pub path_challenged : {C : Type 0} → PathValue C → ℕ → PathValue C
+path_challenged path token = record path { challenge = Some token; challenge_waits = true }
+
+-- the word that waits to be sent, if one waits
+abbrev pub challenge_to_send : {C : Type 0} → PathValue C → Option ℕ
+challenge_to_send path = if path.challenge_waits then path.challenge else None
+
+-- that word went, if one waited
+abbrev pub path_after_challenge : {C : Type 0} → Option ℕ → PathValue C → PathValue C
+path_after_challenge None path = path
+path_after_challenge (Some token) path = record path { challenge_waits = false }
+
+-- whether a word is that of a challenge, if there is one
+abbrev pub is_asked : Option ℕ → ℕ → Bool
+is_asked None token = false
+is_asked (Some asked) token = asked == token
+
+-- whether a word that came answers the latest challenge (section 8.2.3)
+abbrev pub answers : {C : Type 0} → PathValue C → ℕ → Bool
+answers path token = is_asked path.challenge token
+
+-- a word came in answer: that of the latest challenge validates the peer's address, any other
+-- changes nothing
+abbrev pub path_answered : {C : Type 0} → PathValue C → ℕ → PathValue C
+path_answered path token = if answers path token
+    then record path { challenge = None; challenge_waits = false; validated = true }
     else path
 
 -- a datagram of so many bytes came; 64 bits hold the sum

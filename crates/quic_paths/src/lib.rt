@@ -5,6 +5,8 @@
 mod in_flight;
 pub mod laws;
 mod paths;
+mod responses;
 
 pub use in_flight::InFlight;
 pub use paths::PathData;
+pub use responses::PathResponses;

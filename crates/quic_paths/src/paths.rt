@@ -3,7 +3,7 @@ ghost use Rattle.std.specs.Prelude.{◌≡◌, ◌==◌, IfOk};
 ghost use Rattle.quic_config.specs.Transport.{first_mtu};
 ghost use Rattle.quic_congestion.specs.Search.{first_discovery};
 ghost use Rattle.quic_paths.specs.InFlight.{CanJoin, CanLeave};
-ghost use Rattle.quic_paths.specs.Paths.{new_path, next_path, path_after_reset, path_with, path_without, path_after_received, path_after_sent, is_blocked};
+ghost use Rattle.quic_paths.specs.Paths.{new_path, next_path, path_after_reset, path_with, path_without, path_after_received, path_after_sent, is_blocked, path_challenged, challenge_to_send, path_after_challenge, answers, path_answered};
 
 use crate::in_flight::InFlight;
 use quic_config::TransportConfig;
@@ -14,7 +14,7 @@ use std::marker::Model;
 
 /// A path to the peer, with its controller (quinn-proto's `PathData`).
 ///
-/// It has no address and no challenges yet.
+/// It has no address yet.
 #[derive(Drop)]
 pub struct PathData<C> {
     /// How long a round trip takes (RFC 9002, section 5).
@@ -27,6 +27,10 @@ pub struct PathData<C> {
     pub pacing: Pacer,
     /// The greatest size of datagrams, and the search for a greater one (RFC 9000, section 14.3).
     pub mtud: MtuDiscovery,
+    /// The word of the latest PATH_CHALLENGE, until the peer answers it (RFC 9000, section 8.2).
+    pub challenge: Option<u64>,
+    /// Whether that PATH_CHALLENGE waits to be sent.
+    pub challenge_pending: bool,
     /// What is in flight of the packets that went on this path, in bytes and packets.
     pub in_flight: InFlight,
     /// Whether the peer is known to receive at its address (RFC 9000, section 8).
@@ -50,6 +54,8 @@ impl<C> Model for PathData<C> {
       pacing = p.pacing;
       in_flight = p.in_flight;
       marks = p.sending_ecn;
+      challenge = p.challenge;
+      challenge_waits = p.challenge_pending;
       validated = p.validated;
       received = p.total_recvd;
       sent = p.total_sent;
@@ -85,6 +91,8 @@ impl<C: Controller> PathData<C> {
             pacing: Pacer::new(initial_rtt, congestion.initial_window(), mtu, now),
             congestion,
             mtud: first_mtud(allow_mtud, peer_max_udp_payload_size, config),
+            challenge: None,
+            challenge_pending: false,
             in_flight: InFlight::new(),
             validated: false,
             first_packet_after_rtt_sample: None,
@@ -99,7 +107,9 @@ impl<C: Controller> PathData<C> {
     /// other's, and the pacer is made for them. Nothing is in flight on it, and its peer isn't
     /// validated.
     ///
-    /// An `Err` is want of memory for the controller.
+    /// # Errors
+    ///
+    /// - [`AllocError`]: an allocation fails, of room for the controller. The other path stays.
     pub fn from_previous(prev: &Self, generation: u64, now: Instant) -> Result<Self, AllocError>
         ensures { let window = C.window_of prev.now.congestion in
             IfOk result (λ path. path ≡ next_path prev.now generation now window) }
@@ -112,6 +122,8 @@ impl<C: Controller> PathData<C> {
             pacing: Pacer::new(prev.rtt.get(), congestion.window(), mtu, now),
             congestion,
             mtud: prev.mtud,
+            challenge: None,
+            challenge_pending: false,
             in_flight: InFlight::new(),
             validated: false,
             first_packet_after_rtt_sample: prev.first_packet_after_rtt_sample,
@@ -179,6 +191,52 @@ impl<C> PathData<C> {
             return false;
         }
         self.in_flight.remove(size, ack_eliciting);
+        true
+    }
+
+    /// The peer is asked to show that it receives at its address, by a PATH_CHALLENGE with this
+    /// word (RFC 9000, section 8.2.1). It waits to be sent, and an earlier one counts no more.
+    pub fn challenge_with(&mut self, token: u64)
+        ensures { self.new ≡ path_challenged self.old token }
+    {
+        self.challenge = Some(token);
+        self.challenge_pending = true;
+    }
+
+    /// The word of the PATH_CHALLENGE that waits to be sent; none where none waits.
+    pub fn waiting_challenge(&self) -> Option<u64>
+        ensures { result ≡ challenge_to_send self.now }
+    {
+        if self.challenge_pending {
+            self.challenge
+        } else {
+            None
+        }
+    }
+
+    /// The same, which goes now.
+    pub fn pop_challenge(&mut self) -> Option<u64>
+        ensures word { result ≡ challenge_to_send self.old }
+        ensures next { self.new ≡ path_after_challenge (challenge_to_send self.old) self.old }
+    {
+        let token = self.waiting_challenge()?;
+        self.challenge_pending = false;
+        Some(token)
+    }
+
+    /// A PATH_RESPONSE with this word came: whether it answers the latest PATH_CHALLENGE. The
+    /// peer's address is validated then, and nothing is asked of it any more (RFC 9000, section
+    /// 8.2.3); else nothing changes.
+    pub fn on_response(&mut self, token: u64) -> bool
+        ensures answer { result ≡ answers self.old token }
+        ensures next { self.new ≡ path_answered self.old token }
+    {
+        if self.challenge != Some(token) {
+            return false;
+        }
+        self.challenge = None;
+        self.challenge_pending = false;
+        self.validated = true;
         true
     }
 

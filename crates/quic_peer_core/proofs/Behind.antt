@@ -1,4 +1,5 @@
--- Lines that are run behind a text that was printed first, by the bytes that their reader gives and by those that are left to read at first.
+-- Lines that are run behind a text that was printed first, by the bytes that their reader gives and
+-- by those that are left to read at first.
 use Rattle.std.proofs.Common.{ℕ, List, [], ◌++◌, Option, Some, None, Result, Ok, Err, OnOk, IfErr, refl, subst, append-nil}
 use Rattle.std.specs.Io.KnownBytes.{Appends, Keeps}
 use Rattle.quic_run_core.specs.declared.error.ScriptError.{ScriptError}
@@ -6,7 +7,7 @@ use Rattle.quic_run_core.specs.declared.error.ScriptError.TheVariants.{BadComman
 use Rattle.quic_run_core.specs.Outcomes.{Begins}
 use Rattle.quic_peer_core.specs.Peer.{Stage, first_stage}
 use Rattle.quic_peer_core.specs.Outcomes.{HasRun, RanAll, RanSome, Stopped}
-use Rattle.quic_peer_core.proofs.Running.{appends-more}
+use Rattle.quic_run_core.proofs.Running.{appends-more}
 
 -- what was run stands behind a first text
 has_run : (before : List ℕ) (done : List (List ℕ)) (stage : Stage) (old mid new : Option (List ℕ)) → Appends old mid before → HasRun [] done stage mid new → HasRun before done stage old new

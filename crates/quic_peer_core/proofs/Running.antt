@@ -1,17 +1,17 @@
 -- How the lines of one end are run, one by one.
 use Rattle.std.proofs.Common.{◌≡◌, ◌⊎◌, ℕ, ◌+◌, ◌<◌, List, [], ◌∷◌, ◌++◌, length, Option, Some, None, refl, sym, subst, ◌∙◌, inl, inr, arith, append_assoc, append-nil, length-append}
-use Rattle.std.specs.Prelude.{IfSome}
 use Rattle.std.specs.Io.KnownBytes.{Appends}
 use Rattle.std.proofs.lemmas.Bool.{lt-ltb}
 use Rattle.quic_run_core.specs.declared.error.ScriptError.{ScriptError}
 use Rattle.quic_run_core.specs.declared.script.LineError.{LineError}
 use Rattle.quic_run_core.specs.declared.script.LineError.TheVariants.{BadCommand, OutOfMemory}
+use Rattle.quic_run_core.specs.Refusals.{script_error}
 use Rattle.quic_peer_core.specs.Language.{said}
 use Rattle.quic_run_core.specs.Scripts.{lines_of}
 use Rattle.quic_peer_core.specs.Peer.{Stage, first_stage, Does, IsRefused, IsRun}
 use Rattle.quic_run_core.specs.Reading.{IsNextLine, IsOver, BeginsTooLong, IsUnread}
 use Rattle.quic_run_core.specs.Outcomes.{Begins}
-use Rattle.quic_run_core.proofs.Running.{IsBehind}
+use Rattle.quic_run_core.proofs.Running.{IsBehind, appends-nil, appends-more, behind-none, behind-more, begins_done, all_done}
 use Rattle.quic_peer_core.specs.Outcomes.{HasRun, RanAll, RanSome, StopsAt, Stopped}
 
 -- ---- lines
@@ -28,33 +28,15 @@ run-push s [] text t line more u run does =
 run-push s (l ∷ ls) text t line more u run does =
     (run.0, run.1, run.2 ++ more, run.3, run-push run.1 ls run.2 t line more u run.4 does, rw run.5 (append_assoc run.0 run.2 more))
 
--- ---- what a writer holds
-
--- nothing is appended
-appends-nil : (known : Option (List ℕ)) → Appends known known []
-appends-nil None = tt
-appends-nil (Some xs) = sym (append-nil xs)
-
--- a text behind another
-pub appends-more : (old mid new : Option (List ℕ)) (text more : List ℕ) → Appends old mid text → Appends mid new more → Appends old new (text ++ more)
-appends-more None mid new text more a b = tt
-appends-more (Some xs) None new text more a b = absurd a
-appends-more (Some xs) (Some ys) None text more a b = absurd b
-appends-more (Some xs) (Some ys) (Some zs) text more a b = rw (b, a) (append_assoc xs text more)
-
 -- ---- a script
 
--- Some lines of a script were run; `number` is that of the next one, and `left` are the bytes behind them.
+-- Some lines of a script were run; `number` is that of the next one, and `left` are the bytes
+-- behind them.
 pub record Running (script old : Option (List ℕ)) (number : ℕ) (stage : Stage) (left new : Option (List ℕ)) : Type 0 where
   pub done : List (List ℕ)
   pub ran : HasRun [] done stage old new
   pub count : number ≡ length done + 1
   pub behind : IsBehind script done left
-
--- all is left
-behind-none : (script : Option (List ℕ)) → IsBehind script [] script
-behind-none None = tt
-behind-none (Some bytes) = refl
 
 -- no line was run
 pub running-none : (script old : Option (List ℕ)) (stage : Stage) → stage ≡ first_stage → Running script old 1 stage script old
@@ -64,17 +46,6 @@ running-none script old stage is = record {
   count = refl;
   behind = behind-none script;
 }
-
--- the next line was taken, which isn't too long
-behind-more : (script : Option (List ℕ)) (done : List (List ℕ)) (left next : Option (List ℕ)) (line : List ℕ) → IsBehind script done left → IsNextLine left line next → (1048576 < length line → ⊥) → IsBehind script (done ++ line ∷ []) next
-behind-more None done left next line b n short = tt
-behind-more (Some bytes) done None next line b n short = absurd b
-behind-more (Some bytes) done (Some rest) None line b n short = absurd n
-behind-more (Some bytes) done (Some rest) (Some more) line b n short =
-    elim n [
-      | inl e ↦ b ∙ rw e (sym (append_assoc done (line ∷ []) (lines_of more)))
-      | inr long ↦ absurd (short long.0)
-    ]
 
 -- a line that does something isn't too long
 does_short : (line : List ℕ) (s : Stage) (text : List ℕ) (t : Stage) → Does (said line) s text t → 1048576 < length line → ⊥
@@ -93,21 +64,9 @@ running-more script old number stage left new line text next rest written r take
   behind = behind-more script r.done left rest line r.behind taken (does_short line stage text next does);
 }
 
--- the lines that were run are the first ones
-begins_done : (script : Option (List ℕ)) (done : List (List ℕ)) (left : Option (List ℕ)) → IsBehind script done left → Begins script done
-begins_done None done left b = tt
-begins_done (Some bytes) done None b = absurd b
-begins_done (Some bytes) done (Some rest) b = (lines_of rest, b)
-
 -- the script stops somewhere
 pub running-some : (script old : Option (List ℕ)) (number : ℕ) (stage : Stage) (left new : Option (List ℕ)) → Running script old number stage left new → RanSome [] script old new
 running-some script old number stage left new r = (r.done, stage, r.ran, begins_done script r.done left r.behind)
-
--- no line is left
-all_done : (script : Option (List ℕ)) (done : List (List ℕ)) (left : Option (List ℕ)) → IsBehind script done left → IsOver left → IfSome script (λ bytes. lines_of bytes ≡ done)
-all_done None done left b over = tt
-all_done (Some bytes) done None b over = absurd b
-all_done (Some bytes) done (Some rest) b over = b ∙ rw over (append-nil done)
 
 -- the script is over
 pub running-all : (script old : Option (List ℕ)) (number : ℕ) (stage : Stage) (left new : Option (List ℕ)) → Running script old number stage left new → IsOver left → RanAll [] script old new
@@ -148,9 +107,9 @@ stopped_fault e script old new fault some =
       | inr is ↦ rw is some
     ]
 
--- a bad command is refused
-pub refused : (e : LineError) (P : Type 0) → e ≡ BadCommand → (e ≡ OutOfMemory) ⊎ ((e ≡ BadCommand) × P) → P
-refused e P is or = elim or [
-  | inl memory ↦ absurd (cc)
-  | inr bad ↦ bad.1
+-- a line stops the script that can't be run, or at which memory lacked
+pub running-refused : (script old : Option (List ℕ)) (number : ℕ) (stage : Stage) (left new : Option (List ℕ)) (line : List ℕ) (rest : Option (List ℕ)) (e : LineError) → Running script old number stage left new → IsNextLine left line rest → (e ≡ OutOfMemory) ⊎ ((e ≡ BadCommand) × IsRefused (said line) stage) → Stopped (script_error number e) [] script old new
+running-refused script old number stage left new line rest e r taken or = elim or [
+  | inl memory ↦ rw memory (running-some script old number stage left new r)
+  | inr bad ↦ rw bad.0 (running-bad script old number stage left new line rest r taken bad.1)
 ]

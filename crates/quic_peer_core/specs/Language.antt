@@ -22,6 +22,10 @@ pub data Command : Type 0 where
   makes : NewEnd → Command
   -- bytes came at a moment with a mark
   receives : ℕ → Option EcnCodepoint → List ℕ → Command
+  -- it is told how many bytes may be in flight
+  tells_window : Command
+  -- it is told what was counted of the end
+  tells_stats : Command
   -- a call of the end
   asks : Asked → Command
 
@@ -56,23 +60,27 @@ five make f g h i j (v ∷ w ∷ x ∷ y ∷ z ∷ a ∷ more) = None
 
 -- ---- lines
 
--- what the words behind this name ask for: the calls of scripts are asked of the end, but for those that reach for what the other one gave
+-- what the words behind this name ask for: the calls of scripts are asked of the end, but for those
+-- that reach for what the other one gave
 abbrev pub command_said : List ℕ → List (List ℕ) → Option Command
 command_said name args =
     if is_word name (codes "set") then option_map sets (settings_said args)
     else (if is_word name (codes "params") then ends args (Some tells)
     else (if is_word name (codes "new") then option_map makes (five new_end side_named id_named id_named number_named bytes_named args)
     else (if is_word name (codes "receive") then three receives number_named mark_named bytes_named args
+    else (if is_word name (codes "window") then ends args (Some tells_window)
+    else (if is_word name (codes "stats") then ends args (Some tells_stats)
     else (if is_word name (codes "deliver") then None
     else (if is_word name (codes "inject") then None
-    else option_map asks (call_said name args))))))
+    else option_map asks (call_said name args))))))))
 
 -- what a line's words ask for
 abbrev pub words_said : List (List ℕ) → Option Command
 words_said [] = None
 words_said (name ∷ args) = command_said name args
 
--- What a line asks for, if it is in the language: it has 2^20 bytes at most, and is empty, a comment, or text whose words ask for something.
+-- What a line asks for, if it is in the language: it has 2^20 bytes at most, and is empty, a
+-- comment, or text whose words ask for something.
 abbrev pub said : List ℕ → Option Command
 said line =
     if nat_lt 1048576 (length line) then None
@@ -88,4 +96,6 @@ command_of (lines.Set setting) = sets setting
 command_of lines.Params = tells
 command_of (lines.New new) = makes new
 command_of (lines.Receive datagram) = receives datagram.now datagram.ecn datagram.bytes
+command_of lines.Window = tells_window
+command_of lines.Stats = tells_stats
 command_of (lines.Call call) = asks (asked_of call)

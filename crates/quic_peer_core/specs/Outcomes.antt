@@ -1,4 +1,5 @@
--- How lines end: which of them were run, and what was printed of them, behind a text that came first. The bytes of the lines, and those that a writer holds, are there where they are known.
+-- How lines end: which of them were run, and what was printed of them, behind a text that came
+-- first. The bytes of the lines, and those that a writer holds, are there where they are known.
 use Rattle.std.specs.Prelude.{◌≡◌, ◌+◌, ℕ, List, [], ◌∷◌, ◌++◌, length, Option, IfSome}
 use Rattle.std.specs.Io.KnownBytes.{Appends}
 use Rattle.quic_run_core.specs.declared.error.ScriptError.{ScriptError}
@@ -8,7 +9,8 @@ use Rattle.quic_run_core.specs.Scripts.{lines_of}
 use Rattle.quic_peer_core.specs.Language.{said}
 use Rattle.quic_peer_core.specs.Peer.{Stage, first_stage, IsRun, IsRefused}
 
--- Lines were run in turn from the first stage on, and what they print was appended behind a first text, and nothing else.
+-- Lines were run in turn from the first stage on, and what they print was appended behind a first
+-- text, and nothing else.
 pub record HasRun (before : List ℕ) (done : List (List ℕ)) (stage : Stage) (old new : Option (List ℕ)) : Type 0 where
   pub text : List ℕ
   pub run : IsRun first_stage done text stage

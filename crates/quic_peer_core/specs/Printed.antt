@@ -1,6 +1,9 @@
 -- What is printed of what one end answers.
 use Rattle.std.specs.Prelude.{ℕ, List, ◌∷◌, ◌++◌, codes, Option, Some, None, Ok}
+use Rattle.std.specs.Fmt.{decimal}
 use Rattle.quic_wire_core.specs.declared.shared.EcnCodepoint.{EcnCodepoint}
+use Rattle.quic_stats.specs.declared.connection.ConnectionStats.{ConnectionStats}
+use Rattle.quic_stats.specs.declared.path.PathStats.{PathStats}
 use Rattle.quic_parameters.specs.ParametersWritten.{written_parameters}
 use Rattle.quic_config.specs.Transport.{parameters_of}
 use Rattle.quic_machine.specs.declared.answers.ConfigError.{ConfigError}
@@ -22,6 +25,7 @@ refusal_text config_errors.Parameters = Some (codes "parameters")
 refusal_text config_errors.IdLength = Some (codes "idlength")
 refusal_text config_errors.Size = Some (codes "size")
 refusal_text config_errors.Window = Some (codes "window")
+refusal_text config_errors.KeyLimit = Some (codes "keylimit")
 refusal_text config_errors.Memory = None
 
 -- the transport parameters of an end with these options, in the order of their ids
@@ -32,7 +36,38 @@ parameters_text options = bytes_text (written_parameters (parameters_of (setting
 abbrev pub datagram_text : Option EcnCodepoint → List ℕ → List ℕ
 datagram_text mark bytes = mark_text mark ++ (codes " " ++ bytes_text bytes)
 
--- An answer of an end that gave these datagrams at the call: of a poll the first of them, if it gave one.
+-- An answer of an end that gave these datagrams at the call: of a poll the first of them, if it
+-- gave one.
 abbrev pub told_text : List (List ℕ) → Answer → List ℕ
 told_text (bytes ∷ more) (answers.Poll (Ok (Some transmit))) = datagram_text transmit.ecn bytes
 told_text given answer = answer_text 0 answer
+
+-- ---- figures
+
+-- how many bytes may be in flight
+abbrev pub window_line : ℕ → List ℕ
+window_line bytes = line_text (codes "window") (decimal bytes)
+
+-- a figure: a blank, its name, a blank and its value
+abbrev pub figure : List ℕ → ℕ → List ℕ
+figure name value = codes " " ++ (name ++ (codes " " ++ decimal value))
+
+-- the datagrams that were sent and came, and their bytes
+abbrev pub udp_text : ConnectionStats → List ℕ
+udp_text s = figure (codes "udp_tx_datagrams") s.udp_tx.datagrams ++ (figure (codes "udp_tx_bytes") s.udp_tx.bytes ++ (figure (codes "udp_rx_datagrams") s.udp_rx.datagrams ++ figure (codes "udp_rx_bytes") s.udp_rx.bytes))
+
+-- what is estimated of the path, and what it carries
+abbrev pub rtt_text : PathStats → List ℕ
+rtt_text p = figure (codes "rtt") p.rtt ++ (figure (codes "min_rtt") p.min_rtt ++ (figure (codes "cwnd") p.cwnd ++ figure (codes "current_mtu") p.current_mtu))
+
+-- how many packets were sent and lost, the bytes of these, and how often there was congestion
+abbrev pub losses_text : PathStats → List ℕ
+losses_text p = figure (codes "sent_packets") p.sent_packets ++ (figure (codes "lost_packets") p.lost_packets ++ (figure (codes "lost_bytes") p.lost_bytes ++ figure (codes "congestion_events") p.congestion_events))
+
+-- how many MTU probes were sent and lost, and how many black holes were found
+abbrev pub probes_text : PathStats → List ℕ
+probes_text p = figure (codes "sent_plpmtud_probes") p.sent_plpmtud_probes ++ (figure (codes "lost_plpmtud_probes") p.lost_plpmtud_probes ++ figure (codes "black_holes_detected") p.black_holes_detected)
+
+-- what was counted of an end: its datagrams and its path, not its frames
+abbrev pub stats_line : ConnectionStats → List ℕ
+stats_line s = codes "stats" ++ (udp_text s ++ (rtt_text s.path ++ (losses_text s.path ++ (probes_text s.path ++ line_feed))))

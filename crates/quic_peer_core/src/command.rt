@@ -1,5 +1,5 @@
-//! The language of one end: a line sets an option of it, makes it, hands a datagram in, or is a
-//! call.
+//! The language of one end: a line sets an option of it, makes it, hands a datagram in, asks for
+//! figures of it, or is a call.
 ghost use Rattle.std.specs.Prelude.{◌≡◌, ◌⊎◌, Some, None, MatchResult, drop, ok_or};
 ghost use Rattle.quic_run_core.specs.Named.{side_named, bytes_named};
 ghost use Rattle.quic_run_core.specs.Language.{number_named, first, words_left, Reads, words as words_of};
@@ -25,6 +25,10 @@ pub enum Line {
     New(NewEnd),
     /// A datagram came.
     Receive(Injection),
+    /// It is told how many bytes may be in flight.
+    Window,
+    /// It is told what was counted of the end.
+    Stats,
     /// A call of the end.
     Call(Call),
 }
@@ -89,6 +93,8 @@ fn command(alloc: Global, name: &str, words: &mut LineWords) -> Result<Line, Lin
         "params" => Ok(Line::Params),
         "new" => Ok(Line::New(new_end(alloc, words)?)),
         "receive" => Ok(Line::Receive(words.injection(alloc)?)),
+        "window" => Ok(Line::Window),
+        "stats" => Ok(Line::Stats),
         "deliver" | "inject" => Err(LineError::BadCommand),
         _ => Ok(Line::Call(call_of(alloc, name, words)?)),
     }
@@ -118,7 +124,10 @@ fn parse_text(alloc: Global, text: &str) -> Result<Line, LineError>
 
 /// Reads one line, which has no line break.
 ///
-/// `BadCommand`: it isn't in the language. `OutOfMemory`: memory lacked.
+/// # Errors
+///
+/// - [`LineError::BadCommand`]: the line isn't in the language, or is too long.
+/// - [`LineError::OutOfMemory`]: an allocation fails.
 pub fn parse_line(alloc: Global, line: &[u8]) -> Result<Line, LineError>
     ensures { MatchResult result
         (λ command. said line.now ≡ Some (command_of command))

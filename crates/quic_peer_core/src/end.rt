@@ -1,6 +1,5 @@
 //! An end, and what is printed of what it answers.
-ghost use Rattle.std.specs.Prelude.{◌≡◌, ◌++◌, IfOk, IfErr, OnOk, MatchResult, Some, None, codes, string_bytes};
-ghost use Rattle.quic_machine.specs.Arrival.{injected_by};
+ghost use Rattle.std.specs.Prelude.{◌≡◌, ◌≢◌, ◌++◌, IfOk, IfErr, OnOk, MatchResult, Some, None, codes, string_bytes};
 ghost use Rattle.quic_run_core.specs.Language.{asked_of};
 ghost use Rattle.quic_peer_core.specs.Printed.{refusal_text, datagram_text, told_text, parameters_text, line_text};
 ghost use Rattle.quic_peer_core.specs.Peer.{refusal, IsNew, IsCall, Receives};
@@ -9,9 +8,8 @@ use crate::command::NewEnd;
 use quic_connection::{
     Answer, Call, ConfigError, Connection, Datagram, EcnCodepoint, Injection, NewReno, call_at,
 };
+use quic_keys::{PlainHeaderKey, PlainKey, Words};
 use quic_parameters::TransportParameters;
-use quic_run_core::Words;
-use quic_run_core::key::{PlainHeaderKey, PlainKey, keys_for};
 use quic_run_core::language::{
     LineError, Options, call_name, mark_name, put_answer, put_bytes, put_received,
 };
@@ -20,11 +18,11 @@ use std::alloc::{AllocError, Global};
 /// An end with stand-in keys.
 pub(crate) type End = Connection<PlainHeaderKey, PlainKey, Words, NewReno>;
 
-/// An end with these options. Its peer's address counts as validated.
+/// An end with these options. An error is a refusal, or want of memory.
 pub(crate) fn make_end(alloc: Global, options: &Options, new: &NewEnd) -> Result<End, ConfigError>
     ensures made { IfOk result (λ made. IsNew options.now new.entry.now made) }
     ensures lawful { OnOk result (refusal options.now new.entry.now ≡ None) }
-    ensures refusal { IfErr result (λ e. refusal options.now new.entry.now ≡ Some e) }
+    ensures refusal { IfErr result (λ e. e ≢ ConfigError.Memory → refusal options.now new.entry.now ≡ Some e) }
 {
     Connection::new(
         alloc,
@@ -33,10 +31,10 @@ pub(crate) fn make_end(alloc: Global, options: &Options, new: &NewEnd) -> Result
         &new.parameters,
         new.id,
         new.peer_id,
-        keys_for(new.side),
+        options.keys(new.side),
         new.now,
         Words::of(options.source),
-        true,
+        options.validated,
     )
 }
 
@@ -51,6 +49,7 @@ pub(crate) fn refusal_name(error: ConfigError) -> Result<&'static str, LineError
         ConfigError::IdLength => Ok("idlength"),
         ConfigError::Size => Ok("size"),
         ConfigError::Window => Ok("window"),
+        ConfigError::KeyLimit => Ok("keylimit"),
         ConfigError::Memory => Err(LineError::OutOfMemory),
     }
 }
@@ -70,7 +69,7 @@ pub(crate) fn tell_params(alloc: Global, options: &Options) -> Result<String, Al
 
 /// Hands a datagram in, and gives the line that tells what comes of it. An error is want of memory.
 pub(crate) fn take(alloc: Global, end: &mut End, datagram: &Injection) -> Result<String, AllocError>
-    ensures { IfOk result (λ text. Receives (injected_by datagram.entry.now) datagram.entry.now.bytes end.old
+    ensures { IfOk result (λ text. Receives datagram.entry.now.now datagram.entry.now.ecn datagram.entry.now.bytes end.old
         (string_bytes text)
         end.new) }
 {

@@ -3,6 +3,7 @@
 
 mod command;
 mod end;
+mod figures;
 mod runner;
 
 pub use quic_run_core::ScriptError;

@@ -1,7 +1,7 @@
 //! Runs the lines of one end: reads them, and prints what each answers.
 ghost use Rattle.std.specs.Prelude.{◌≡◌, ◌⊎◌, [], Some, MatchResult, IfErr, OnOk, string_bytes};
 ghost use Rattle.quic_run_core.specs.Reading.{left_of, KnowsEnd};
-ghost use Rattle.quic_peer_core.specs.Language.{sets, makes, receives, asks, said};
+ghost use Rattle.quic_peer_core.specs.Language.{sets, makes, receives, tells_window, tells_stats, asks, said};
 ghost use Rattle.quic_run_core.specs.Language.{asked_of};
 ghost use Rattle.quic_peer_core.specs.Peer.{first_stage, IsDone, Does, IsRefused};
 ghost use Rattle.quic_peer_core.specs.Stages.{stage_of};
@@ -9,6 +9,7 @@ ghost use Rattle.quic_peer_core.specs.Outcomes.{RanAll, Stopped};
 
 use crate::command::{Line, NewEnd, parse_line};
 use crate::end::{End, ask, make_end, refusal_name, take, tell_params};
+use crate::figures::{tell_stats, tell_window};
 use quic_connection::{Call, Injection};
 use quic_run_core::ScriptError;
 use quic_run_core::language::{LineError, Lines, MOST_TURNS, Options, Setting, print};
@@ -57,8 +58,7 @@ impl Peer {
             }
             match self.run_line(&line) {
                 Ok(answer) => print(writer, answer.as_str())?,
-                Err(LineError::BadCommand) => return Err(ScriptError::BadCommand(number)),
-                Err(LineError::OutOfMemory) => return Err(ScriptError::OutOfMemory),
+                Err(error) => return Err(error.at(number)),
             }
         }
         Err(ScriptError::ReadFault)
@@ -76,6 +76,8 @@ impl Peer {
             Line::Params => Ok(tell_params(self.alloc, &self.options)?),
             Line::New(new) => self.make(&new),
             Line::Receive(datagram) => self.receive(&datagram),
+            Line::Window => self.window(),
+            Line::Stats => self.stats(),
             Line::Call(call) => self.call(&call),
         }
     }
@@ -124,6 +126,30 @@ impl Peer {
         }
     }
 
+    /// Tells how many bytes may be in flight, if the end is made.
+    fn window(&self) -> Result<String, LineError>
+        ensures { MatchResult result
+            (λ text. IsDone tells_window (stage_of self.now) (string_bytes text) (stage_of self.now))
+            (λ e. (e ≡ LineError.OutOfMemory) ⊎ ((e ≡ LineError.BadCommand) × IsRefused (Some tells_window) (stage_of self.now))) }
+    {
+        match &self.end {
+            Some(end) => Ok(tell_window(self.alloc, end)?),
+            None => Err(LineError::BadCommand),
+        }
+    }
+
+    /// Tells what was counted of the end, if it is made.
+    fn stats(&self) -> Result<String, LineError>
+        ensures { MatchResult result
+            (λ text. IsDone tells_stats (stage_of self.now) (string_bytes text) (stage_of self.now))
+            (λ e. (e ≡ LineError.OutOfMemory) ⊎ ((e ≡ LineError.BadCommand) × IsRefused (Some tells_stats) (stage_of self.now))) }
+    {
+        match &self.end {
+            Some(end) => Ok(tell_stats(self.alloc, end)?),
+            None => Err(LineError::BadCommand),
+        }
+    }
+
     /// Makes a call, if the end is made.
     fn call(&mut self, call: &Call) -> Result<String, LineError>
         ensures { MatchResult result
@@ -138,13 +164,18 @@ impl Peer {
 }
 
 /// Drives one end of a connection by lines, each of which sets an option, makes the end, hands a
-/// datagram in or is a call: prints that the keys hide nothing, and then each answer before the
-/// next line is read.
+/// datagram in, asks for figures or is a call: prints that the keys hide nothing, and then each
+/// answer before the next line is read.
 ///
-/// `ReadFault`: the reader failed, or gave no end within 2^32 calls. `WriteFault`: the writer
-/// failed, or took nothing. `BadCommand`: a line isn't in the language; or it sets an option or
-/// makes the end when that is made, or needs the end before that. `OutOfMemory`: memory lacked.
-/// What was printed before stands.
+/// # Errors
+///
+/// - [`ScriptError::WriteFault`]: the writer failed, or took nothing. What was printed before
+///   stands.
+/// - [`ScriptError::OutOfMemory`]: an allocation fails. What was printed before stands.
+/// - [`ScriptError::ReadFault`]: the reader failed, or gave no end within 2^32 calls. What was
+///   printed before stands.
+/// - [`ScriptError::BadCommand`]: a line isn't in the language; or it sets an option or makes the
+///   endpoint when that is made, or needs the endpoint before that. What was printed before stands.
 pub fn run_peer<R: Read + Drop, W: Write>(
     alloc: Global,
     reader: R,

@@ -25,9 +25,9 @@ pub use Rattle.quic_recovery_core.specs.DuplicateRuns
 pub use Rattle.quic_recovery_core.specs.PendingAcks
 pub use Rattle.quic_recovery_core.specs.AckRuns
 pub use Rattle.quic_recovery_core.specs.AckSteps
-pub use Rattle.quic_recovery_core.specs.CidQueue
 pub use Rattle.quic_recovery_core.specs.AckFrequency
-pub use Rattle.quic_recovery_core.specs.CidState
+pub use Rattle.quic_ids.specs.CidQueue
+pub use Rattle.quic_ids.specs.CidState
 pub use Rattle.quic_sent_packets.specs.Packets
 pub use Rattle.quic_spaces.specs.Numbers
 pub use Rattle.quic_spaces.specs.Filter

@@ -11,10 +11,10 @@ pub use quic_config::{
 pub use quic_congestion::{
     Controller, ControllerFactory, ControllerMetrics, MtuDiscovery, NewReno, NewRenoConfig, Pacer,
 };
+pub use quic_ids::{CidQueue, CidState, InsertError};
 pub use quic_paths::{InFlight, PathData};
 pub use quic_recovery_core::{
-    AckFrequencyState, CidQueue, CidState, DUPLICATE_SPAN, Dedup, InsertError, LAZY_ACK_THRESHOLD,
-    MAX_ACK_RUNS, PendingAcks,
+    AckFrequencyState, DUPLICATE_SPAN, Dedup, LAZY_ACK_THRESHOLD, MAX_ACK_RUNS, PendingAcks,
 };
 pub use quic_sent_packets::{SentPacket, SentPackets};
 pub use quic_spaces::{

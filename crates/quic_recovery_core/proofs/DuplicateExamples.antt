@@ -1,4 +1,5 @@
--- Duplicates computed at worked values: a number is one of itself, and of a number that is 129 above it.
+-- Duplicates computed at worked values: a number is one of itself, and of a number that is 129
+-- above it.
 use Rattle.std.proofs.Common.{◌≡◌, true, false, [], ◌∷◌, refl}
 use Rattle.quic_recovery_core.specs.Duplicates.{is_duplicate}
 use Rattle.quic_recovery_core.specs.DuplicateRuns.{seen_after}

@@ -72,7 +72,8 @@ next_of-seen (suc g) window = omega arith
 
 -- ---- a new number
 
--- the window after a number has the numbers of the old one, and that number, as far as they are near
+-- the window after a number has the numbers of the old one, and that number, as far as they are
+-- near
 pub placed : (next window next' window' n : ℕ) → next' ≡ max next (n + 1) → (In n (seen next window) → ⊥) → ((k : ℕ) → Marks next' window' k → (k ≡ n) ⊎ Marks next window k) → ((k : ℕ) → next' ≤ k + DUPLICATE_SPAN → (k ≡ n) ⊎ Marks next window k → Marks next' window' k) → seen next' window' ≡ with_number (seen next window) n
 placed next window next' window' n e new f g =
     let s = seen next window in

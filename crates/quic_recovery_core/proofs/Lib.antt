@@ -8,8 +8,4 @@ pub mod AckRunSteps
 pub mod AckLaws
 pub mod AckCounts
 pub mod AckCauses
-pub mod PeerIdSteps
-pub mod OwnIdSteps
-pub mod PeerIdLaws
-pub mod OwnIdLaws
 pub mod FrequencySteps

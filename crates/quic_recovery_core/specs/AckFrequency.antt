@@ -1,5 +1,5 @@
--- How an end asks its peer to acknowledge more or less often, and is asked (the ACK frequency extension).
--- Delays are in nanoseconds; frames and parameters have microseconds.
+-- How an end asks its peer to acknowledge more or less often, and is asked (the ACK frequency
+-- extension). Delays are in nanoseconds; frames and parameters have microseconds.
 use Rattle.std.specs.Prelude.{ℕ, ◌-◌, ◌*◌, ◌^◌, ◌==◌, ◌||◌, Bool, cond, false, true, ltb, leb, max, min, Option, Some, None, unwrap_or, Result, Ok, Err}
 use Rattle.std.specs.Int.{abs_diff}
 use Rattle.quic_wire_core.specs.TransportError.{ErrorValue, plain_error, protocol_violation}
@@ -9,8 +9,9 @@ use Rattle.quic_recovery_core.specs.declared.ack_frequency.Request.{Request}
 use Rattle.quic_config.specs.Configs.{FrequencySettings}
 use Rattle.quic_time.specs.Clocks.{granularity}
 
--- the request in flight, by its packet and the delay that it asks for; the number of the next frame; the delay that the
--- peer keeps to, as far as this end knows; the greatest number of a frame of the peer; and the delay that this end keeps to
+-- the request in flight, by its packet and the delay that it asks for; the number of the next
+-- frame; the delay that the peer keeps to, as far as this end knows; the greatest number of a frame
+-- of the peer; and the delay that this end keeps to
 pub record Frequency : Type 0 where
   pub in_flight : Option Request
   pub next : ℕ
@@ -22,12 +23,13 @@ pub record Frequency : Type 0 where
 abbrev pub micros : ℕ → ℕ
 micros n = min (n * 1000) (2 ^ 64 - 1)
 
--- 25 ms: how long an ACK may wait where nothing else was said (RFC 9000, section 18.2, max_ack_delay), and the least that
--- an end asks for of itself on a short path
+-- 25 ms: how long an ACK may wait where nothing else was said (RFC 9000, section 18.2,
+-- max_ack_delay), and the least that an end asks for of itself on a short path
 abbrev pub usual_delay : ℕ
 usual_delay = 25000000
 
--- before anything was asked: the peer keeps to the delay that it announced, and this end to the usual one
+-- before anything was asked: the peer keeps to the delay that it announced, and this end to the
+-- usual one
 abbrev pub initial_frequency : ℕ → Frequency
 initial_frequency delay = record { in_flight = None; next = 0; peer_delay = delay; last = None; own_delay = usual_delay }
 
@@ -38,8 +40,8 @@ abbrev pub least_delay : Option ℕ → ℕ
 least_delay None = 0
 least_delay (Some n) = micros n
 
--- the delay to ask for: the one that is configured, else the present one, but not above the round-trip time, which counts
--- as 25 ms at least, and not below the least that the peer allows
+-- the delay to ask for: the one that is configured, else the present one, but not above the
+-- round-trip time, which counts as 25 ms at least, and not below the least that the peer allows
 abbrev pub candidate : Frequency → ℕ → FrequencySettings → ParameterValues → ℕ
 candidate f rtt config peer = max (min (unwrap_or config.max_delay f.peer_delay) (max rtt usual_delay)) (least_delay peer.min_ack_delay)
 
@@ -56,7 +58,8 @@ longest_delay f = max f.peer_delay (asked f.in_flight 0)
 abbrev pub differs : ℕ → ℕ → Bool
 differs desired current = ltb current (5 * abs_diff desired current)
 
--- whether a frame should go: as the first, or where the delay to ask for differs from the one asked for last
+-- whether a frame should go: as the first, or where the delay to ask for differs from the one asked
+-- for last
 abbrev pub should_ask : Frequency → ℕ → FrequencySettings → ParameterValues → Bool
 should_ask f rtt config peer = (f.next == 0) || differs (candidate f rtt config peer) (asked f.in_flight f.peer_delay)
 

@@ -1,12 +1,14 @@
--- What happens to the numbers to acknowledge, one step after another, and when an acknowledgement is due.
+-- What happens to the numbers to acknowledge, one step after another, and when an acknowledgement
+-- is due.
 use Rattle.std.specs.Prelude.{◌≡◌, ℕ, ◌+◌, ◌-◌, ◌^◌, ◌<◌, ◌⊎◌, Bool, true, false, max, min, not, List, [], ◌∷◌, Option, Some, None, unwrap_or, IsTrue}
 use Rattle.quic_recovery_core.specs.Duplicates.{Seen}
 use Rattle.quic_recovery_core.specs.PendingAcks.{lazy_threshold, Pending, none_pending, leaves_gap, shows_loss, after_packet, after_acks_sent, after_timeout, after_lazy, after_insert, after_subtract}
 use Rattle.quic_recovery_core.specs.AckRuns.{Change, came, known}
 
--- a packet comes (when, its number, whether it asks, the numbers told apart), an acknowledgement goes or is made due, the timer expires,
--- a packet is made that goes anyway, the peer tells after how many packets, and how far out of order, it wants an acknowledgement,
--- a number is to be acknowledged (which, and when it came), or the peer knows of the numbers up to one
+-- a packet comes (when, its number, whether it asks, the numbers told apart), an acknowledgement
+-- goes or is made due, the timer expires, a packet is made that goes anyway, the peer tells after
+-- how many packets, and how far out of order, it wants an acknowledgement, a number is to be
+-- acknowledged (which, and when it came), or the peer knows of the numbers up to one
 pub data Step : Type 0 where
   packet : ℕ → ℕ → Bool → Seen → Step
   sent : Step
@@ -155,17 +157,19 @@ arrivals_of (cut k ∷ steps) = arrivals_of steps
 
 -- ---- when an acknowledgement is due
 
--- a packet came farther out of order than it may, by the threshold on reordering that was told. With 1 it came below one that asked, or a
--- number lacks between them; with more, the next acknowledgement would show a number as lost that lacks above the greatest one at the last
+-- a packet came farther out of order than it may, by the threshold on reordering that was told.
+-- With 1 it came below one that asked, or a number lacks between them; with more, the next
+-- acknowledgement would show a number as lost that lacks above the greatest one at the last
 -- acknowledgement less the threshold, plus one; with 0 none does
 abbrev pub CameOutOfOrder : List Step → ℕ → Seen → Type 0
 CameOutOfOrder steps n s =
     let before = unwrap_or (greatest_asking steps) 0 in
     ((reordering_told steps ≡ 1) × IsTrue (leaves_gap before n s)) ⊎ ((1 < reordering_told steps) × IsTrue (shows_loss (greatest_acked steps) (reordering_told steps) (max before n) s))
 
--- since the last acknowledgement went, one was required, or the timer expired when a packet had asked, or a packet came that asks and was
--- one more than the threshold told then, or out of order, or a packet was made that goes anyway with too many silent ones; what came before
--- the timer last expired doesn't count
+-- since the last acknowledgement went, one was required, or the timer expired when a packet had
+-- asked, or a packet came that asks and was one more than the threshold told then, or out of order,
+-- or a packet was made that goes anyway with too many silent ones; what came before the timer last
+-- expired doesn't count
 abbrev pub IsDue : List Step → Type 0
 IsDue [] = ⊥
 IsDue (packet now n asks s ∷ steps) = IsDue steps ⊎ ((asks ≡ true) × ((threshold_told steps < min (asking_since steps + 1) (2 ^ 64 - 1)) ⊎ CameOutOfOrder steps n s))

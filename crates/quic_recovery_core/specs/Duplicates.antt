@@ -1,8 +1,10 @@
--- Which packet numbers came before (RFC 9000, section 12.3): a set of numbers, told apart near the greatest of them.
+-- Which packet numbers came before (RFC 9000, section 12.3): a set of numbers, told apart near the
+-- greatest of them.
 use Rattle.std.specs.Prelude.{ℕ, ◌+◌, ◌-◌, Bool, false, cond, max, not, nat_lt, nat_le, ◌==◌, ◌&&◌, ◌||◌, List, [], ◌∷◌, Option, filter}
 use Rattle.std.specs.List.{range_with_len, find}
 
--- so far below the greatest, or farther, a number counts as one that came before (RFC 9000, section 12.3, which names no number: this is our choice)
+-- so far below the greatest, or farther, a number counts as one that came before (RFC 9000, section
+-- 12.3, which names no number: this is our choice)
 abbrev pub duplicate_span : ℕ
 duplicate_span = 129
 

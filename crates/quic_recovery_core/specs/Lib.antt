@@ -5,6 +5,4 @@ pub mod DuplicateRuns
 pub mod PendingAcks
 pub mod AckRuns
 pub mod AckSteps
-pub mod CidQueue
 pub mod AckFrequency
-pub mod CidState

@@ -1,14 +1,16 @@
--- Which packet numbers are to be acknowledged, and when (RFC 9000, section 13.2; the ACK frequency extension, section 6).
+-- Which packet numbers are to be acknowledged, and when (RFC 9000, section 13.2; the ACK frequency
+-- extension, section 6).
 use Rattle.std.specs.Prelude.{ℕ, ◌+◌, ◌-◌, ◌^◌, ◌≤◌, ◌<◌, Bool, true, false, cond, min, max, not, nat_lt, nat_le, ◌==◌, ◌&&◌, ◌||◌, List, [], ◌∷◌, length, Option, Some, None, unwrap_or, is_some, is_none}
 use Rattle.quic_sets.specs.Runs.{Run, Has, AreRuns}
 use Rattle.quic_recovery_core.specs.Duplicates.{Seen, smallest_missing}
 
--- how many runs of numbers an ACK frame names at most (RFC 9000, section 13.2.3, which names no number: this is our choice)
+-- how many runs of numbers an ACK frame names at most (RFC 9000, section 13.2.3, which names no
+-- number: this is our choice)
 abbrev pub most_ack_runs : ℕ
 most_ack_runs = 64
 
--- where more packets than this came that don't ask, an acknowledgement goes with a datagram that is made anyway (RFC 9000, section 13.2.1, which names no
--- number: this is our choice)
+-- where more packets than this came that don't ask, an acknowledgement goes with a datagram that is
+-- made anyway (RFC 9000, section 13.2.1, which names no number: this is our choice)
 abbrev pub lazy_threshold : ℕ
 lazy_threshold = 10
 
@@ -33,7 +35,8 @@ pub record Pending : Type 0 where
   pub greatest : Option ℕ
   pub acked : Option ℕ
 
--- at first, and until the peer asks otherwise, one asking packet may wait, and each must come in order
+-- at first, and until the peer asks otherwise, one asking packet may wait, and each must come in
+-- order
 abbrev pub none_pending : Pending
 none_pending = record {
   due = false;
@@ -122,12 +125,14 @@ abbrev pub is_lost_by : Option ℕ → ℕ → ℕ → Bool
 is_lost_by None greatest reordering = false
 is_lost_by (Some missing) greatest reordering = nat_le reordering (greatest - missing)
 
--- whether a missing number that the last acknowledgement did not show as lost would be by the next one
+-- whether a missing number that the last acknowledgement did not show as lost would be by the next
+-- one
 abbrev pub shows_loss : Option ℕ → ℕ → ℕ → Seen → Bool
 shows_loss None reordering greatest s = false
 shows_loss (Some acked) reordering greatest s = nat_le reordering acked && is_lost_by (smallest_missing s (acked - reordering + 1) greatest) greatest reordering
 
--- whether a number comes below the greatest before it, or numbers between are missing (RFC 9000, section 13.2.1)
+-- whether a number comes below the greatest before it, or numbers between are missing (RFC 9000,
+-- section 13.2.1)
 abbrev pub leaves_gap : ℕ → ℕ → Seen → Bool
 leaves_gap before n s = nat_lt n before || is_some (smallest_missing s before n)
 

@@ -183,8 +183,8 @@ impl AckFrequencyState {
     ///
     /// # Errors
     ///
-    /// PROTOCOL_VIOLATION where a newer frame asks for less than 1 ms. Its number is kept, and
-    /// nothing else changes.
+    /// - [`TransportError`] of PROTOCOL_VIOLATION: the frame is newer than all before, and asks for
+    ///   less than 1 ms. Its number is kept, and nothing else changes.
     pub fn ack_frequency_received(&mut self, frame: &AckFrequency) -> Result<bool, TransportError>
         ensures answer { result ≡ received_answer self.old frame.now }
         ensures new { self.new ≡ after_received self.old frame.now }

@@ -2,31 +2,23 @@
 //! law.
 ghost use Rattle.std.specs.Prelude.{◌≡◌};
 ghost use Rattle.quic_recovery_core.specs.declared.spaces.dedup.TheConstants.{WINDOW_BITS};
-ghost use Rattle.quic_recovery_core.specs.CidQueue.{kept_ids};
 ghost use Rattle.quic_recovery_core.specs.DuplicateBits.{window_bits};
 ghost use Rattle.quic_recovery_core.specs.Duplicates.{duplicate_span};
 ghost use Rattle.quic_recovery_core.specs.PendingAcks.{most_ack_runs, lazy_threshold};
 
 pub mod ack_frequency;
-pub mod cid_queue;
-pub mod cid_state;
 pub mod dedup;
 pub mod pending_acks;
 
-use crate::cid_queue::CidQueue;
 use crate::spaces::dedup::DUPLICATE_SPAN;
 use crate::spaces::pending_acks::{LAZY_ACK_THRESHOLD, MAX_ACK_RUNS};
 
 /// How many runs of numbers an ACK frame tells (RFC 9000, section 13.2.3), above how many packets
-/// that do not ask it goes along (section 13.2.1), how far below the greatest a number counts as
-/// one that came (section 12.3), how many ids of the peer are kept (section 5.1.1), and how many of
-/// their retirements may wait (section 5.1.2). The sections name no numbers: these are our choice.
+/// that do not ask it goes along (section 13.2.1), and how far below the greatest a number counts
+/// as one that came (section 12.3). The sections name no numbers: these are our choice.
 pub fn constants_are_these()
     ensures runs { MAX_ACK_RUNS ≡ most_ack_runs }
     ensures silent { LAZY_ACK_THRESHOLD ≡ lazy_threshold }
     ensures span { DUPLICATE_SPAN ≡ duplicate_span }
     ensures window { WINDOW_BITS ≡ window_bits }
-    ensures ids { CidQueue.LEN ≡ kept_ids }
-    ensures in_definitions { kept_ids ≡ 5 }
-    ensures retirements { CidQueue.MAX_PENDING_RETIREMENTS ≡ 50 }
 {}

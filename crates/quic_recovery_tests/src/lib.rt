@@ -6,10 +6,6 @@ mod ack_frequency;
 #[cfg(test)]
 mod acknowledging;
 #[cfg(test)]
-mod cid_queue;
-#[cfg(test)]
-mod cid_state;
-#[cfg(test)]
 mod dedup;
 #[cfg(test)]
 mod loss;

@@ -1,6 +1,6 @@
 use quic_config::TransportConfig;
 use quic_congestion::NewRenoConfig;
-use quic_paths::PathData;
+use quic_paths::{PathData, PathResponses};
 use quic_time::{Duration, Instant};
 use std::test::Fail;
 
@@ -53,4 +53,36 @@ fn a_reset_path_does_not_wait(rt: HostRuntime) {
     assert_eq!(rt; wait, Some(at(266_400_005)));
     path.reset(at(5), &config, &NewRenoConfig::default());
     assert_eq!(rt; path.pacing.delay(trip, 1200, 1200, 12_000, at(5)), None);
+}
+
+// The latest challenge is to be answered, and it is sent once. The answer validates the path.
+#[test]
+fn the_latest_challenge_is_answered(rt: HostRuntime) {
+    let config = TransportConfig::default();
+    let mut path = PathData::new(false, None, 0, at(0), &config, &NewRenoConfig::default());
+    assert_eq!(rt; path.pop_challenge(), None);
+    path.challenge_with(7);
+    path.challenge_with(9);
+    assert_eq!(rt; path.pop_challenge(), Some(9));
+    assert_eq!(rt; path.pop_challenge(), None);
+    assert!(rt; !path.on_response(7));
+    assert!(rt; path.anti_amplification_blocked(1));
+    assert!(rt; path.on_response(9));
+    assert!(rt; !path.anti_amplification_blocked(1));
+    assert!(rt; !path.on_response(9));
+}
+
+// The answer that waits is that to the newest packet, of two challenges in one the later.
+#[test]
+fn the_newest_challenge_is_answered(rt: HostRuntime) {
+    let mut responses = PathResponses::default();
+    assert!(rt; responses.is_empty());
+    responses.push(4, 40);
+    responses.push(3, 30);
+    assert_eq!(rt; responses.pop_on_path(), Some(40));
+    responses.push(3, 30);
+    responses.push(3, 31);
+    assert!(rt; !responses.is_empty());
+    assert_eq!(rt; responses.pop_on_path(), Some(31));
+    assert_eq!(rt; responses.pop_on_path(), None);
 }

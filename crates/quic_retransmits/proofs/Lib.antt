@@ -1,2 +1,3 @@
 mod IdSteps
+mod Lasts
 mod Ranges

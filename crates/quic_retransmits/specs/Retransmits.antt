@@ -1,5 +1,6 @@
--- What waits to be sent, or was sent in a packet and has to go again if that is lost, beside the bytes of streams (RFC 9000, section 13.3).
-use Rattle.std.specs.Prelude.{ℕ, ◌+◌, ◌-◌, ◌^◌, ◌<◌, Bool, true, false, not, ◌&&◌, ◌||◌, nat_le, List, [], ◌∷◌, ◌++◌, length, Option, Some, None}
+-- What waits to be sent, or was sent in a packet and has to go again if that is lost, beside the
+-- bytes of streams (RFC 9000, section 13.3).
+use Rattle.std.specs.Prelude.{ℕ, ◌+◌, ◌-◌, ◌^◌, ◌<◌, ◌≤◌, Bool, true, false, not, ◌&&◌, ◌||◌, ◌==◌, nat_le, if◌then◌else◌, List, [], ◌∷◌, ◌++◌, length, Option, Some, None}
 use Rattle.std.specs.List.{range_with_len, list_any, AllByRecursion}
 use Rattle.std.specs.Ordering.{nat_cmp}
 use Rattle.std.specs.BTreeMap.{is_at}
@@ -10,10 +11,11 @@ use Rattle.quic_wire_core.specs.declared.stream_id.Dir.TheVariants.{Bi, Uni}
 use Rattle.quic_wire.specs.Value.{StopSendingValue}
 use Rattle.quic_streams_parts.specs.Dirs.{Flags, no_flag, of}
 use Rattle.quic_retransmits.specs.declared.retransmits.ControlKind.{ControlKind}
-use Rattle.quic_retransmits.specs.declared.retransmits.ControlKind.TheVariants.{ResetStream, StopSending, MaxData, MaxStreamData, MaxStreams, DataBlocked, StreamDataBlocked}
+use Rattle.quic_retransmits.specs.declared.retransmits.ControlKind.TheVariants.{ResetStream, StopSending, MaxData, MaxStreamData, MaxStreams, DataBlocked, StreamDataBlocked, NewConnectionId, RetireConnectionId}
 
--- MAX_DATA; DATA_BLOCKED; MAX_STREAMS of each kind; RESET_STREAM of these streams with these codes; STOP_SENDING; MAX_STREAM_DATA and STREAM_DATA_BLOCKED of the
--- streams of these sets; NEW_CONNECTION_ID; RETIRE_CONNECTION_ID of these numbers; and ACK_FREQUENCY
+-- MAX_DATA; DATA_BLOCKED; MAX_STREAMS of each kind; RESET_STREAM of these streams with these codes;
+-- STOP_SENDING; MAX_STREAM_DATA and STREAM_DATA_BLOCKED of the streams of these sets;
+-- NEW_CONNECTION_ID; RETIRE_CONNECTION_ID of these numbers; and ACK_FREQUENCY
 pub record Retransmits : Type 0 where
   pub max_data : Bool
   pub data_blocked : Bool
@@ -25,6 +27,15 @@ pub record Retransmits : Type 0 where
   pub new_cids : List IssuedCid
   pub retire_cids : List ℕ
   pub ack_frequency : Bool
+
+-- an id that NEW_CONNECTION_ID can tell: its number can be written, and it has bytes (RFC 9000,
+-- sections 16 and 19.15)
+abbrev pub CanBeTold : IssuedCid → Type 0
+CanBeTold cid = (cid.sequence < 2 ^ 62) × (1 ≤ length cid.id)
+
+-- all ids that wait to be told can be, and all numbers that wait to be retired can be written
+abbrev pub HaveForm : List IssuedCid → List ℕ → Type 0
+HaveForm new_cids retire_cids = AllByRecursion CanBeTold new_cids × AllByRecursion (λ n. n < 2 ^ 62) retire_cids
 
 -- nothing
 abbrev pub nothing_waits : Retransmits
@@ -71,6 +82,7 @@ AreIds ids = AllByRecursion (λ id. id < 2 ^ 62) ids
 
 -- ---- lists and sets, from the front
 
+-- the first of a list, if it isn't empty
 abbrev pub first_of : {A : Type 0} → List A → Option A
 first_of [] = None
 first_of (x ∷ xs) = Some x
@@ -120,14 +132,24 @@ can_retire r a z = nat_le (length r.retire_cids + (z - a)) most_retirements
 abbrev pub after_retire : Retransmits → ℕ → ℕ → Retransmits
 after_retire r a z = record r { retire_cids = r.retire_cids ++ range_with_len a (z - a) }
 
--- the kinds of frames about streams, in the order in which they go into a datagram (RFC 9000, sections 19.4, 19.5, 19.9 to 19.13): RESET_STREAM, STOP_SENDING,
--- MAX_DATA, MAX_STREAM_DATA, MAX_STREAMS of two-way and then of one-way streams, DATA_BLOCKED, STREAM_DATA_BLOCKED. The order is our choice
+-- an id comes late whose number is retired: it is to be retired once more, unless that waits, or as
+-- many wait as may
+abbrev pub after_late : Retransmits → ℕ → Retransmits
+after_late r n = if nat_le most_retirements (length r.retire_cids) || list_any (λ m. m == n) r.retire_cids then r
+    else record r { retire_cids = r.retire_cids ++ n ∷ [] }
+
+-- the kinds of control frames, in the order in which they go into a datagram (RFC 9000, sections
+-- 19.4, 19.5, 19.9 to 19.13, 19.15, 19.16): RESET_STREAM, STOP_SENDING, MAX_DATA, MAX_STREAM_DATA,
+-- MAX_STREAMS of two-way and then of one-way streams, DATA_BLOCKED, STREAM_DATA_BLOCKED,
+-- NEW_CONNECTION_ID, RETIRE_CONNECTION_ID. The order is our choice
 abbrev pub control_kinds : List ControlKind
-control_kinds = ResetStream ∷ StopSending ∷ MaxData ∷ MaxStreamData ∷ MaxStreams Bi ∷ MaxStreams Uni ∷ DataBlocked ∷ StreamDataBlocked ∷ []
+control_kinds = ResetStream ∷ StopSending ∷ MaxData ∷ MaxStreamData ∷ MaxStreams Bi ∷ MaxStreams Uni ∷ DataBlocked ∷ StreamDataBlocked
+    ∷ NewConnectionId ∷ RetireConnectionId ∷ []
 
 -- ---- whether something goes
 
--- whether something waits of a kind that may go: what has a gate counts where it is open, for the kind or on the stream
+-- whether something waits of a kind that may go: what has a gate counts where it is open, for the
+-- kind or on the stream
 abbrev pub any_counts : (ControlKind → Bool) → (ControlKind → ℕ → Bool) → ControlKind → Retransmits → Bool
 any_counts gate gate_on ResetStream r = is_any r.reset_stream
 any_counts gate gate_on StopSending r = is_any r.stop_sending
@@ -136,7 +158,9 @@ any_counts gate gate_on MaxStreamData r = list_any (λ id. gate_on MaxStreamData
 any_counts gate gate_on (MaxStreams dir) r = of dir r.max_stream_id
 any_counts gate gate_on DataBlocked r = r.data_blocked && gate DataBlocked
 any_counts gate gate_on StreamDataBlocked r = list_any (λ id. gate_on StreamDataBlocked id) r.stream_data_blocked
+any_counts gate gate_on NewConnectionId r = is_any r.new_cids
+any_counts gate gate_on RetireConnectionId r = is_any r.retire_cids
 
 -- nothing waits that may go
 abbrev pub is_empty_where : (ControlKind → Bool) → (ControlKind → ℕ → Bool) → Retransmits → Bool
-is_empty_where gate gate_on r = not (list_any (λ kind. any_counts gate gate_on kind r) control_kinds || is_any r.new_cids || is_any r.retire_cids || r.ack_frequency)
+is_empty_where gate gate_on r = not (list_any (λ kind. any_counts gate gate_on kind r) control_kinds || r.ack_frequency)

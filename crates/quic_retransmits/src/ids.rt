@@ -145,7 +145,7 @@ impl StreamIds {
     ///
     /// # Errors
     ///
-    /// [`AllocError`] where memory lacks for an id that is new; nothing changes.
+    /// - [`AllocError`]: an allocation fails, where the id is new. Nothing changes.
     pub fn insert(&mut self, id: StreamId) -> Result<bool, AllocError>
         ensures new { OnOk result (self.new ≡ with_id id self.old) }
         ensures answer { IfOk result (λ is_new. is_new ≡ not (has_id id self.old)) }
@@ -236,7 +236,7 @@ impl StreamIds {
     ///
     /// # Errors
     ///
-    /// [`AllocError`] where memory lacks, and the other set has an id; nothing changes.
+    /// - [`AllocError`]: an allocation fails, where the other set isn't empty. Nothing changes.
     pub fn extend(&mut self, alloc: Global, more: &StreamIds) -> Result<Vec<u64>, AllocError>
         ensures ok { OnOk result (self.new ≡ with_ids more.now self.old) }
         ensures back { IfOk result (λ added. without_ids added.items self.new ≡ self.old) }

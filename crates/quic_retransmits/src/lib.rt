@@ -11,5 +11,7 @@ mod thin_retransmits;
 
 pub use ids::StreamIds;
 pub use queries::LimitQueries;
-pub use retransmits::{CONTROL_KINDS, ControlKind, RetireError, Retransmits};
+pub use retransmits::{
+    CONTROL_KINDS, ControlKind, MAX_PENDING_RETIRED_CIDS, RetireError, Retransmits,
+};
 pub use thin_retransmits::ThinRetransmits;

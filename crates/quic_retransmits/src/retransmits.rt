@@ -1,12 +1,13 @@
 //! What waits to be sent beside the bytes of streams.
-ghost use Rattle.std.specs.Prelude.{◌≡◌, ℕ, ◌∷◌, [], ◌++◌, IsTrue, IfOk, OnOk, OnErr, IsErrOf, ◌↔◌, false, not};
+ghost use Rattle.std.specs.Prelude.{◌≡◌, ◌<◌, ◌≤◌, ◌^◌, ℕ, ◌∷◌, [], ◌++◌, length, set, IsTrue, IfOk, IfSome, OnOk, OnErr, IsErrOf, ◌↔◌, false, not};
+ghost use Rattle.std.specs.List.{slice_get};
 ghost use Rattle.std.specs.Option.{option_map};
 ghost use Rattle.quic_wire.specs.FrameView.{stop_sending_view};
 ghost use Rattle.quic_wire.specs.Value.{StopSendingValue};
 ghost use Rattle.quic_streams_parts.specs.Dirs.{of, with_of};
 ghost use Rattle.quic_retransmits.specs.declared.retransmits.RetireError.TheVariants as errors;
 ghost use Rattle.quic_retransmits.specs.RetireCode.{retire_code};
-ghost use Rattle.quic_retransmits.specs.Retransmits.{Retransmits as Waiting, nothing_waits, has_id, merged, can_retire, after_retire, is_empty_where, first_of, others_of, with_id, without_id, with_ids};
+ghost use Rattle.quic_retransmits.specs.Retransmits.{Retransmits as Waiting, nothing_waits, CanBeTold, has_id, merged, can_retire, after_retire, after_late, is_empty_where, first_of, others_of, with_id, without_id, with_ids};
 
 use crate::ids::StreamIds;
 use crate::lists::{append, append_range, first};
@@ -26,7 +27,7 @@ pub enum RetireError {
     /// More than 50 retirements would wait: CONNECTION_ID_LIMIT_ERROR (RFC 9000, section 5.1.2).
     #[error("queued too many retired CIDs")]
     LimitExceeded,
-    /// Memory lacked.
+    /// Out of memory: an allocation failed.
     #[error("out of memory")]
     Memory,
 }
@@ -54,7 +55,7 @@ impl From<AllocError> for RetireError {
     }
 }
 
-/// A kind of frame about streams that waits in [`Retransmits`] (RFC 9000, section 19).
+/// A kind of control frame that waits in [`Retransmits`] (RFC 9000, section 19).
 #[derive(Clone, Copy)]
 pub enum ControlKind {
     /// RESET_STREAM.
@@ -71,10 +72,14 @@ pub enum ControlKind {
     DataBlocked,
     /// STREAM_DATA_BLOCKED.
     StreamDataBlocked,
+    /// NEW_CONNECTION_ID.
+    NewConnectionId,
+    /// RETIRE_CONNECTION_ID.
+    RetireConnectionId,
 }
 
 /// The kinds, in the order in which their frames go into a datagram.
-pub const CONTROL_KINDS: [ControlKind; 8] = [
+pub const CONTROL_KINDS: [ControlKind; 10] = [
     ControlKind::ResetStream,
     ControlKind::StopSending,
     ControlKind::MaxData,
@@ -83,10 +88,13 @@ pub const CONTROL_KINDS: [ControlKind; 8] = [
     ControlKind::MaxStreams(Dir::Uni),
     ControlKind::DataBlocked,
     ControlKind::StreamDataBlocked,
+    ControlKind::NewConnectionId,
+    ControlKind::RetireConnectionId,
 ];
 
-/// The most retirements that wait: ten for each id that this end keeps of the peer's.
-const MAX_PENDING_RETIRED_CIDS: u64 = 50;
+/// The most retirements of the peer's ids that wait, but for those of lost packets: ten for each id
+/// that is kept of the peer's (RFC 9000, section 5.1.2; quinn-proto's constant of that name).
+pub const MAX_PENDING_RETIRED_CIDS: u64 = 50;
 
 /// What waits to be sent, or what a packet carried that goes again where the packet is lost
 /// (quinn-proto's `Retransmits`).
@@ -108,7 +116,7 @@ pub struct Retransmits {
 impl Model for Retransmits {
     ghost use Rattle.std.specs.Prelude.{map};
     ghost use Rattle.quic_wire.specs.FrameView.{stop_sending_view};
-    ghost use Rattle.quic_retransmits.specs.Retransmits.{Retransmits};
+    ghost use Rattle.quic_retransmits.specs.Retransmits.{Retransmits, HaveForm};
 
     ghost Value = { Retransmits };
 
@@ -124,6 +132,8 @@ impl Model for Retransmits {
       retire_cids = r.retire_cids.items;
       ack_frequency = r.ack_frequency;
     } };
+
+    ghost invariant = { λ r. HaveForm r.new_cids.items r.retire_cids.items };
 }
 
 // Joins two sets with two others, or neither.
@@ -236,7 +246,7 @@ impl Retransmits {
     ///
     /// # Errors
     ///
-    /// [`AllocError`] where memory lacks; nothing changes.
+    /// - [`AllocError`]: an allocation fails. Nothing changes.
     pub fn push_reset_stream(&mut self, id: StreamId, code: VarInt) -> Result<(), AllocError>
         ensures ok { OnOk result (self.new ≡ record self.old { reset_stream = self.old.reset_stream ++ (id, code) ∷ [] }) }
         ensures err { OnErr result (self.new ≡ self.old) }
@@ -271,7 +281,7 @@ impl Retransmits {
     ///
     /// # Errors
     ///
-    /// [`AllocError`] where memory lacks; nothing changes.
+    /// - [`AllocError`]: an allocation fails. Nothing changes.
     pub fn push_stop_sending(&mut self, stop: StopSending) -> Result<(), AllocError>
         ensures ok { OnOk result (self.new ≡ record self.old { stop_sending = self.old.stop_sending ++ stop_sending_view stop ∷ [] }) }
         ensures err { OnErr result (self.new ≡ self.old) }
@@ -307,7 +317,8 @@ impl Retransmits {
     ///
     /// # Errors
     ///
-    /// [`AllocError`] where memory lacks for one that didn't wait; nothing changes.
+    /// - [`AllocError`]: an allocation fails, where the stream's didn't wait before. Nothing
+    ///   changes.
     pub fn insert_max_stream_data(&mut self, id: StreamId) -> Result<bool, AllocError>
         ensures ok { OnOk result (self.new ≡ record self.old { max_stream_data = with_id id self.old.max_stream_data }) }
         ensures answer { IfOk result (λ is_new. is_new ≡ not (has_id id self.old.max_stream_data)) }
@@ -359,7 +370,7 @@ impl Retransmits {
     ///
     /// # Errors
     ///
-    /// [`AllocError`] where memory lacks; nothing changes.
+    /// - [`AllocError`]: an allocation fails. Nothing changes.
     pub fn insert_stream_data_blocked(&mut self, id: StreamId) -> Result<(), AllocError>
         ensures ok { OnOk result (self.new ≡ record self.old { stream_data_blocked = with_id id self.old.stream_data_blocked }) }
         ensures err { OnErr result (self.new ≡ self.old) }
@@ -394,8 +405,9 @@ impl Retransmits {
     ///
     /// # Errors
     ///
-    /// [`AllocError`] where memory lacks; nothing changes.
+    /// - [`AllocError`]: an allocation fails. Nothing changes.
     pub fn push_new_cid(&mut self, cid: IssuedCid) -> Result<(), AllocError>
+        requires { CanBeTold cid }
         ensures ok { OnOk result (self.new ≡ record self.old { new_cids = self.old.new_cids ++ cid ∷ [] }) }
         ensures err { OnErr result (self.new ≡ self.old) }
     {
@@ -405,7 +417,8 @@ impl Retransmits {
 
     /// The first NEW_CONNECTION_ID that waits.
     pub fn first_new_cid(&self) -> Option<IssuedCid>
-        ensures { result ≡ first_of self.now.new_cids }
+        ensures first { result ≡ first_of self.now.new_cids }
+        ensures form { IfSome result CanBeTold }
     {
         first(&self.new_cids)
     }
@@ -418,14 +431,44 @@ impl Retransmits {
         self.new_cids.pop_front()
     }
 
+    /// How many NEW_CONNECTION_ID wait.
+    pub fn new_cids(&self) -> usize
+        ensures { result ≡ length self.now.new_cids }
+    {
+        self.new_cids.len()
+    }
+
+    /// The id whose NEW_CONNECTION_ID waits behind so many others.
+    pub fn new_cid(&self, place: usize) -> Option<IssuedCid>
+        ensures id { result ≡ slice_get self.now.new_cids place }
+        ensures form { IfSome result CanBeTold }
+    {
+        match self.new_cids.get(place) {
+            Some(cid) => Some(*cid),
+            None => None,
+        }
+    }
+
+    /// Puts an id in the place of the one whose NEW_CONNECTION_ID waits behind so many others, if
+    /// one does.
+    pub fn set_new_cid(&mut self, place: usize, cid: IssuedCid)
+        requires { CanBeTold cid }
+        ensures { self.new ≡ record self.old { new_cids = set self.old.new_cids place cid } }
+    {
+        if let Some(slot) = self.new_cids.get_mut(place) {
+            *slot = cid;
+        }
+    }
+
     /// The ids with these numbers are to be retired: RETIRE_CONNECTION_ID of each waits behind the
     /// others (RFC 9000, sections 5.1.2 and 19.16).
     ///
     /// # Errors
     ///
-    /// [`RetireError::LimitExceeded`] where more than 50 would wait, and [`RetireError::Memory`]
-    /// where memory lacks; nothing changes.
+    /// - [`RetireError::LimitExceeded`]: more than 50 would wait. Nothing changes.
+    /// - [`RetireError::Memory`]: an allocation fails. Nothing changes.
     pub fn retire_cids(&mut self, cids: Range<u64>) -> Result<(), RetireError>
+        requires { cids.end ≤ 2 ^ 62 }
         ensures ok { OnOk result (self.new ≡ after_retire self.old cids.start cids.end) }
         ensures few { OnOk result (IsTrue (can_retire self.old cids.start cids.end)) }
         ensures many { IsErrOf result errors.LimitExceeded ↔ (can_retire self.old cids.start cids.end ≡ false) }
@@ -440,9 +483,44 @@ impl Retransmits {
         Ok(())
     }
 
+    /// An id came late whose number was retired before: RETIRE_CONNECTION_ID of that waits once
+    /// more behind the others, unless it does already, or as many wait as may (RFC 9000, sections
+    /// 5.1.2 and 19.15).
+    ///
+    /// # Errors
+    ///
+    /// - [`AllocError`]: an allocation fails. Nothing changes.
+    pub fn retire_late_cid(&mut self, sequence: u64) -> Result<(), AllocError>
+        requires { sequence < 2 ^ 62 }
+        ensures ok { OnOk result (self.new ≡ after_late self.old sequence) }
+        ensures err { OnErr result (self.new ≡ self.old) }
+    {
+        let count = self.retire_cids.len() as u64;
+        if count >= MAX_PENDING_RETIRED_CIDS || self.retire_cids.contains(&sequence) {
+            return Ok(());
+        }
+        self.push_retire_cid(sequence)
+    }
+
+    /// RETIRE_CONNECTION_ID of a number waits behind the others, however many wait (RFC 9000,
+    /// section 19.16).
+    ///
+    /// # Errors
+    ///
+    /// - [`AllocError`]: an allocation fails. Nothing changes.
+    pub fn push_retire_cid(&mut self, sequence: u64) -> Result<(), AllocError>
+        requires { sequence < 2 ^ 62 }
+        ensures ok { OnOk result (self.new ≡ record self.old { retire_cids = self.old.retire_cids ++ sequence ∷ [] }) }
+        ensures err { OnErr result (self.new ≡ self.old) }
+    {
+        self.retire_cids.push_back(sequence)?;
+        Ok(())
+    }
+
     /// The first number whose RETIRE_CONNECTION_ID waits.
     pub fn first_retire_cid(&self) -> Option<u64>
-        ensures { result ≡ first_of self.now.retire_cids }
+        ensures first { result ≡ first_of self.now.retire_cids }
+        ensures form { IfSome result (λ n. n < 2 ^ 62) }
     {
         first(&self.retire_cids)
     }
@@ -460,7 +538,7 @@ impl Retransmits {
     ///
     /// # Errors
     ///
-    /// [`AllocError`] where memory lacks; nothing changes.
+    /// - [`AllocError`]: an allocation fails. Nothing changes.
     pub fn merge(&mut self, other: &Retransmits) -> Result<(), AllocError>
         ensures ok { OnOk result (self.new ≡ merged self.old other.now) }
         ensures err { OnErr result (self.new ≡ self.old) }

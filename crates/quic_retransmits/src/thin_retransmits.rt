@@ -39,7 +39,7 @@ impl ThinRetransmits {
     ///
     /// # Errors
     ///
-    /// [`AllocError`] where memory lacks.
+    /// - [`AllocError`]: an allocation fails. What the packet carried is dropped.
     pub fn of(alloc: Global, retransmits: Retransmits) -> Result<Self, AllocError>
         ensures { IfOk result (λ kept. kept ≡ Some retransmits) }
     {
@@ -73,7 +73,7 @@ impl ThinRetransmits {
     ///
     /// # Errors
     ///
-    /// [`AllocError`] where memory lacks; nothing changes.
+    /// - [`AllocError`]: an allocation fails. Nothing changes.
     pub fn create(&mut self, alloc: Global) -> Result<(), AllocError>
         ensures ok { OnOk result (self.new ≡ Some (made self.old)) }
         ensures err { OnErr result (self.new ≡ self.old) }

@@ -15,7 +15,8 @@ erased_push s [] kept t line text u run does =
 erased_push s (l ∷ ls) kept t line text u run does =
     (run.0, run.1, run.2 ++ line_kept text line, run.3, erased_push run.1 ls run.2 t line text u run.4 does, rw run.5 (append_assoc (line_kept run.0 l) run.2 (line_kept text line)))
 
--- Some lines of a script were run, and this stays of them; `number` is that of the next one, and `left` are the bytes behind them.
+-- Some lines of a script were run, and this stays of them; `number` is that of the next one, and
+-- `left` are the bytes behind them.
 pub record Erasing (script : Option (List ℕ)) (number : ℕ) (stage : Stage) (left : Option (List ℕ)) (kept : List ℕ) : Type 0 where
   pub done : List (List ℕ)
   pub ran : HasRun done stage None None

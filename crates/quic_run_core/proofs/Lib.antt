@@ -1,6 +1,4 @@
-pub mod InPlace
-pub mod Mates
-pub mod Constant
+pub mod Sources
 pub mod Saying
 pub mod Showing
 pub mod Taking

@@ -1,5 +1,5 @@
 -- The two ends of a script, as they are made and as they go on.
-use Rattle.std.proofs.Common.{◌≡◌, ◌-◌, ℕ, suc, Bool, true, false, cond, List, ◌++◌, [], length, Option, Some, None, Result, Ok, Err, IfOk, OnErr, refl, sym, ap, ◌∙◌, subst, append-nil, append_assoc, arith}
+use Rattle.std.proofs.Common.{◌≡◌, ◌≢◌, ◌⊎◌, ◌+◌, ◌-◌, ℕ, Bool, true, false, if◌then◌else◌, ◌||◌, inl, inr, List, ◌++◌, [], length, Option, Some, None, Result, Ok, Err, IfOk, OnErr, refl, sym, ap, ◌∙◌, subst, append-nil, append_assoc, arith}
 use Rattle.std.specs.Prelude.{replicate, codes, is_some, IfSome, OnOk}
 use Rattle.std.specs.declared.alloc.AllocError.{AllocError}
 use Rattle.quic_wire_core.specs.declared.stream_id.Side.{Side}
@@ -17,33 +17,41 @@ use Rattle.quic_machine.specs.Control.{Control}
 use Rattle.quic_machine.specs.Heard.{Heard, nothing_heard}
 use Rattle.quic_machine.specs.Parts.{Windows}
 use Rattle.quic_machine.specs.Policy.{keys_policy}
-use Rattle.quic_machine.specs.End.{End, ConnectionValue, MadeFrom, are_sizes_wrong, is_window_small, refusal_of, policy_of}
-use Rattle.quic_connection_core.specs.Configured.{Configured}
-use Rattle.quic_connection_core.specs.Drawn.{words_of, after_words}
+use Rattle.quic_machine.specs.End.{End, ConnectionValue, MadeFrom, KeyLimits, are_keys_short, are_sizes_wrong, is_window_small, refusal_of, policy_of, words_drawn}
+use Rattle.quic_connection_parts.specs.Configured.{Configured}
+use Rattle.quic_connection_parts.specs.Drawn.{words_of, after_words}
 use Rattle.quic_connection.specs.Ends.{Serves}
+use Rattle.quic_connection.specs.GoingOn.{words_behind}
 use Rattle.rand_core.specs.Stream.{Stream, u64_call}
 use Rattle.quic_machine.specs.Machine.{World, Policies, IsStep, given_by, end_at, end_met, control_at, heard_at, changed, gives, policy_at}
 use Rattle.quic_run_core.specs.declared.options.Options.{Options}
 use Rattle.quic_machine.specs.Start.{IsMaking, AreStarted}
-use Rattle.quic_run_core.specs.declared.key.PlainHeaderKey.{PlainHeaderKey}
-use Rattle.quic_run_core.specs.declared.key.PlainKey.{PlainKey}
-use Rattle.quic_run_core.specs.Plain.{plain_protection, plain_aead}
-use Rattle.quic_run_core.specs.KeysOf.{keys_of}
-use Rattle.quic_run_core.specs.declared.words.Source.{Source}
-use Rattle.quic_run_core.specs.declared.words.Words.{Words}
-use Rattle.quic_run_core.specs.Words.{stream_from, source_stream, words_from}
-use Rattle.quic_run_core.proofs.Constant.{words_are}
-use Rattle.quic_run_core.specs.Policies.{plain_policy}
-use Rattle.quic_run_core.specs.Scripts.{first_id, settings_of, first_controller, first_windows, first_end, first_world, making, Made, Stage, made_or_first, made_at, with_made, IsSettled, TellsRest, IsSettling, line_feed}
+use Rattle.quic_keys.specs.declared.key.PlainHeaderKey.{PlainHeaderKey}
+use Rattle.quic_keys.specs.declared.key.PlainKey.{PlainKey}
+use Rattle.quic_keys.specs.Plain.{plain_protection, plain_aead}
+use Rattle.quic_keys.specs.KeysOf.{keys_with}
+use Rattle.quic_keys.specs.declared.words.Words.{Words}
+use Rattle.quic_keys.specs.Words.{stream_from, source_stream, words_from}
+use Rattle.quic_keys.proofs.Constant.{words_are}
+use Rattle.quic_keys.specs.Policies.{plain_policy}
+use Rattle.quic_run_core.specs.Scripts.{limits_in, are_short, lack_ends, first_id, settings_of, first_controller, first_windows, first_end, first_world, making, Made, Stage, made_or_first, made_at, with_made, IsSettled, TellsRest, IsSettling, line_feed}
 use Rattle.quic_run_core.specs.declared.session.Session.{Session}
+use Rattle.quic_run_core.specs.declared.script.LineError.{LineError}
+use Rattle.quic_run_core.specs.declared.script.LineError.TheVariants.{BadCommand, OutOfMemory}
+use Rattle.quic_run_core.specs.Refusals.{line_error}
 use Rattle.quic_run_core.specs.Stages.{made_in}
 use Rattle.quic_connection.specs.Ends.{world_of}
 
--- the ids of both ends are lawful, and so are sizes that are the default ones
-lawful : (E : Type 0) (side : Side) (settings : Settings) (theirs : ParameterValues) → are_sizes_wrong settings theirs ≡ false → is_window_small settings default_reno.initial ≡ false
-    → refusal_of {E = E} settings default_reno.initial (Ok theirs) (first_id side) (first_id (other_side side)) ≡ None
-lawful E Client settings theirs fits roomy = rw (fits, roomy) refl
-lawful E Server settings theirs fits roomy = rw (fits, roomy) refl
+-- why an end is refused, where at most its key lasts too short
+abbrev pub for_short : Bool → Option ConfigError
+for_short short = if short then Some config_errors.KeyLimit else None
+
+-- the ids of both ends are lawful, and so are sizes that are the default ones: an end is refused
+-- for its key alone
+for_its_key : (E : Type 0) (side : Side) (settings : Settings) (limits : KeyLimits) (theirs : ParameterValues) → are_sizes_wrong settings theirs ≡ false → is_window_small settings default_reno.initial ≡ false
+    → refusal_of {E = E} settings default_reno.initial limits (Ok theirs) (first_id side) (first_id (other_side side)) ≡ for_short (are_keys_short limits)
+for_its_key E Client settings limits theirs fits roomy = rw (fits, roomy) refl
+for_its_key E Server settings limits theirs fits roomy = rw (fits, roomy) refl
 
 -- the window holds two datagrams of the default size
 window_fits : (own : Options) → is_window_small (settings_of own) default_reno.initial ≡ false
@@ -76,10 +84,12 @@ are_started client server client_is server_is = record {
   server = made Server server client client_is.says;
   client_gave = refl;
   server_gave = refl;
+  client_heard = refl;
+  server_heard = refl;
 }
   where
     made : (side : Side) (own peer : Options) → parameters_at (making (other_side side) peer).parameters ≡ Ok (parameters_of (settings_of peer))
-        → MadeFrom side (making side own).settings first_windows (making (other_side side) peer).parameters (first_id side) (first_id (other_side side)) 0 true (words_from own.source 0) (first_end side own peer)
+        → MadeFrom side (making side own).settings first_windows (making (other_side side) peer).parameters (first_id side) (first_id (other_side side)) 0 own.validated (words_from own.source) (first_end side own peer)
     made side own peer says = rw says refl
 
 -- the controller that is made of a configuration of these options at moment 0
@@ -91,38 +101,79 @@ pub first_ends : (client server : Options) (a b : End) (x y : List (List ℕ)) (
     → the_world a b x y c d h l ≡ first_world client server
 first_ends client server a b x y c d h l is_client is_server no_client no_server client_control server_control client_heard server_heard = rw (is_client, is_server, no_client, no_server, client_control, server_control, client_heard, server_heard) refl
 
--- an end is never refused
-pub never_refused : {E : Type 0} (side other : Side) (e : ConfigError) (own peer : Options) (settings told : Settings) (window : ℕ) (read : Result ParameterValues E) (own_id peer_id : List ℕ)
-    → settings ≡ settings_of own → told ≡ settings_of peer → window ≡ default_reno.initial → read ≡ Ok (parameters_of told) → own_id ≡ first_id side → other ≡ other_side side → peer_id ≡ first_id other
-    → Some e ≡ refusal_of settings window read own_id peer_id → ⊥
-never_refused {E} side other e own peer settings told window read own_id peer_id set said shows is own_is turned peer_is refusal =
+-- why an end of these options is refused
+pub refusal-made : {E : Type 0} (side other : Side) (own peer : Options) (settings told : Settings) (window : ℕ) (limits : KeyLimits) (read : Result ParameterValues E) (own_id peer_id : List ℕ)
+    → settings ≡ settings_of own → told ≡ settings_of peer → window ≡ default_reno.initial → limits ≡ limits_in own → read ≡ Ok (parameters_of told) → own_id ≡ first_id side → other ≡ other_side side → peer_id ≡ first_id other
+    → refusal_of settings window limits read own_id peer_id ≡ for_short (are_keys_short (limits_in own))
+refusal-made {E} side other own peer settings told window limits read own_id peer_id set said shows lasts is own_is turned peer_is =
     let theirs : ParameterValues = parameters_of (settings_of peer) in
-    let refused : Some e ≡ refusal_of {E = E} (settings_of own) default_reno.initial (Ok theirs) (first_id side) (first_id (other_side side)) =
-    refusal
-    ∙ ap (λ (s : Settings). refusal_of s window read own_id peer_id) set
-    ∙ ap (λ (n : ℕ). refusal_of (settings_of own) n read own_id peer_id) shows
-    ∙ ap (λ (r : Result ParameterValues E). refusal_of (settings_of own) default_reno.initial r own_id peer_id) (is ∙ ap (λ (s : Settings). Ok (parameters_of s)) said)
-    ∙ ap (λ (id : List ℕ). refusal_of {E = E} (settings_of own) default_reno.initial (Ok theirs) id peer_id) own_is
-    ∙ ap (λ (id : List ℕ). refusal_of {E = E} (settings_of own) default_reno.initial (Ok theirs) (first_id side) id) (peer_is ∙ ap first_id turned) in
-    let never : Some e ≡ None = refused ∙ lawful E side (settings_of own) theirs (sizes_fit own peer) (window_fits own) in
-    cc
+    ap (λ (s : Settings). refusal_of s window limits read own_id peer_id) set
+    ∙ ap (λ (n : ℕ). refusal_of (settings_of own) n limits read own_id peer_id) shows
+    ∙ ap (λ (l : KeyLimits). refusal_of (settings_of own) default_reno.initial l read own_id peer_id) lasts
+    ∙ ap (λ (r : Result ParameterValues E). refusal_of (settings_of own) default_reno.initial (limits_in own) r own_id peer_id) (is ∙ ap (λ (s : Settings). Ok (parameters_of s)) said)
+    ∙ ap (λ (id : List ℕ). refusal_of {E = E} (settings_of own) default_reno.initial (limits_in own) (Ok theirs) id peer_id) own_is
+    ∙ ap (λ (id : List ℕ). refusal_of {E = E} (settings_of own) default_reno.initial (limits_in own) (Ok theirs) (first_id side) id) (peer_is ∙ ap first_id turned)
+    ∙ for_its_key E side (settings_of own) (limits_in own) theirs (sizes_fit own peer) (window_fits own)
+
+-- where nothing is refused, a key lasts long enough
+pub lasting : (short : Bool) (r : Option ConfigError) → r ≡ for_short short → r ≡ None → short ≡ false
+lasting true r is none = absurd cc
+lasting false r is none = refl
+
+-- what is refused is a key that lasts too short
+at_limit : (short : Bool) (e : ConfigError) → Some e ≡ for_short short → short ≡ true
+at_limit true e is = refl
+at_limit false e is = absurd cc
+
+-- memory lacked, or a key lasts too short
+abbrev pub LacksOrShort : LineError → Bool → Type 0
+LacksOrShort e short = (e ≡ OutOfMemory) ⊎ ((e ≡ BadCommand) × (short ≡ true))
+
+-- so it is of an end that isn't made
+pub lacks_or_short : (short : Bool) (e : ConfigError) (r : Option ConfigError) → r ≡ for_short short → (e ≢ config_errors.Memory → Some e ≡ r) → LacksOrShort (line_error e) short
+lacks_or_short short config_errors.Memory r is refusal = inl refl
+lacks_or_short short config_errors.Parameters r is refusal = inr (refl, at_limit short config_errors.Parameters (refusal (λ m. cc) ∙ is))
+lacks_or_short short config_errors.IdLength r is refusal = inr (refl, at_limit short config_errors.IdLength (refusal (λ m. cc) ∙ is))
+lacks_or_short short config_errors.Size r is refusal = inr (refl, at_limit short config_errors.Size (refusal (λ m. cc) ∙ is))
+lacks_or_short short config_errors.Window r is refusal = inr (refl, at_limit short config_errors.Window (refusal (λ m. cc) ∙ is))
+lacks_or_short short config_errors.KeyLimit r is refusal = inr (refl, at_limit short config_errors.KeyLimit (refusal (λ m. cc) ∙ is))
+
+-- and of ends of which one isn't made
+pub short_too : (a b : Bool) (e : LineError) → (a ≡ true → b ≡ true) → LacksOrShort e a → LacksOrShort e b
+short_too a b e more or = elim or [
+  | inl memory ↦ inl memory
+  | inr short ↦ inr (short.0, more short.1)
+]
+
+-- one or the other
+pub or_first : (a b : Bool) → a ≡ true → (a || b) ≡ true
+or_first true b is = refl
+or_first false b is = absurd cc
+
+-- ends can be made of the options where there are none
+pub without_ends : (o : Option Session) (client server : Options) → is_some o ≡ false → lack_ends (made_in o) client server ≡ are_short client server
+without_ends (Some x) client server none = absurd cc
+without_ends None client server none = refl
 
 -- what is made of the options is the first end
-pub made_first : (side other : Side) (own peer : Options) (settings told : Settings) (windows : Windows) (bytes items own_id peer_id : List ℕ) (now word : ℕ) (end : End) → settings ≡ settings_of own → told ≡ settings_of peer → windows ≡ first_windows → bytes ≡ items → parameters_at items ≡ Ok (parameters_of told) → own_id ≡ first_id side → other ≡ other_side side → peer_id ≡ first_id other → now ≡ 0 → word ≡ words_from own.source 0 → MadeFrom side settings windows bytes own_id peer_id now true word end → end ≡ first_end side own peer
-made_first side other own peer settings told windows bytes items own_id peer_id now word end set said shows same read own_is turned peer_is zero first made =
-    rw (same, read, said, set, shows, own_is, peer_is, turned, zero, first) at made
+pub made_first : (side other : Side) (own peer : Options) (settings told : Settings) (windows : Windows) (bytes items own_id peer_id : List ℕ) (now : ℕ) (words : ℕ → ℕ) (end : End)
+    → settings ≡ settings_of own → told ≡ settings_of peer → windows ≡ first_windows → bytes ≡ items → parameters_at items ≡ Ok (parameters_of told) → own_id ≡ first_id side → other ≡ other_side side → peer_id ≡ first_id other → now ≡ 0 → words ≡ words_from own.source
+    → MadeFrom side settings windows bytes own_id peer_id now own.validated words end → end ≡ first_end side own peer
+made_first side other own peer settings told windows bytes items own_id peer_id now words end set said shows same read own_is turned peer_is zero random made =
+    rw (same, read, said, set, shows, own_is, peer_is, turned, zero, random) at made
 
--- an end with the stand-in keys, whose random source answered its first word
-pub plain_at : (side : Side) (source : Source) (w : ConnectionValue PlainHeaderKey PlainKey Words Reno) → w.keys ≡ keys_of side → w.end.filter.drawn ≡ 1 → stream_from w.random ≡ after_words 1 (source_stream source)
-    → Serves (plain_policy side (words_from source)) (policy_of (λ _. plain_protection) (λ k. plain_aead k.mark) (words_of stream_from) w) w.end
-plain_at side source w keys drawn random = record {
-  keys = ap (λ ks. keys_policy (λ _. plain_protection) (λ k. plain_aead k.mark) ks (words_from source)) (sym keys);
+-- an end with the stand-in keys, whose random source answered as many words as it has drawn
+pub plain_at : (side : Side) (own : Options) (w : ConnectionValue PlainHeaderKey PlainKey Words Reno) → w.keys ≡ keys_with own.seal_limit own.open_limit side → stream_from w.random ≡ after_words (words_drawn w.end) (source_stream own.source)
+    → Serves (plain_policy (limits_in own) side (words_from own.source)) (policy_of (λ _. plain_protection) (λ k. plain_aead k.mark) (λ k. k.confidentiality_limit) (λ k. k.integrity_limit) (words_of stream_from) w) w.end
+plain_at side own w keys random = record {
+  keys = ap (λ ks. keys_policy (λ _. plain_protection) (λ k. plain_aead k.mark) (λ k. k.confidentiality_limit) (λ k. k.integrity_limit) ks (words_from own.source)) (sym keys);
   words = λ o n h.
-      let rest : ℕ = n - w.end.filter.drawn in
-      let next : n ≡ suc rest = omega (arith, h, drawn) in
-      words_are source n
-      ∙ ap (λ (m : ℕ). (source_stream source).u64_after (replicate m u64_call)) next
-      ∙ ap (λ (s : Stream). s.u64_after (replicate rest u64_call)) (sym random);
+      let drawn : ℕ = words_drawn w.end in
+      let sum : n ≡ n - drawn + drawn = omega (arith, h) in
+      words_are own.source n
+      ∙ ap (λ (m : ℕ). (source_stream own.source).u64_after (replicate m u64_call)) sum
+      ∙ sym (words_behind drawn (n - drawn) (source_stream own.source))
+      ∙ ap (λ (s : Stream). s.u64_after (replicate (n - drawn) u64_call)) (sym random);
 }
 
 -- an end has given what it had given, and more
@@ -151,10 +202,10 @@ if_some_at P Q (Some m) k is f = f k is
 if_some_at P Q None k is f = tt
 
 -- the ends are made where they weren't
-pub begun : (o : Option Session) (client server : Options) (s : Session) → is_some o ≡ false → world_of window_after s.ends s.given ≡ first_world client server → s.client_source ≡ client.source → s.server_source ≡ server.source
+pub begun : (o : Option Session) (client server : Options) (s : Session) → is_some o ≡ false → world_of window_after s.ends s.given ≡ first_world client server → s.client ≡ client → s.server ≡ server
     → the_stage client server (made_in (Some s)) ≡ with_made (made_or_first (made_in o) client server) (the_stage client server (made_in o))
-begun (Some x) client server s none world client_source server_source = cc
-begun None client server s none world client_source server_source = rw (world, client_source, server_source) refl
+begun (Some x) client server s none world client_is server_is = cc
+begun None client server s none world client_is server_is = rw (world, client_is, server_is) refl
 
 -- both ends settle
 pub is_settling : (now : ℕ) (s : Stage) (client server : Options) (m : Made) (next : World) (policies : Policies) (before behind text : List ℕ) → the_stage client server (Some m) ≡ with_made (made_at s) s → TellsRest m.policies m.world now before behind next

@@ -6,6 +6,7 @@ use Rattle.std.proofs.lemmas.Bool.{lt-ltb}
 use Rattle.quic_run_core.specs.declared.error.ScriptError.{ScriptError}
 use Rattle.quic_run_core.specs.declared.script.LineError.{LineError}
 use Rattle.quic_run_core.specs.declared.script.LineError.TheVariants.{BadCommand, OutOfMemory}
+use Rattle.quic_run_core.specs.Refusals.{script_error}
 use Rattle.quic_run_core.specs.Language.{said}
 use Rattle.quic_run_core.specs.Scripts.{Stage, first_stage, Does, IsRefused, IsRun, lines_of}
 use Rattle.quic_run_core.specs.Reading.{IsNextLine, IsOver, BeginsTooLong, IsUnread}
@@ -28,12 +29,12 @@ run-push s (l ∷ ls) text t line more u run does =
 -- ---- what a writer holds
 
 -- nothing is appended
-appends-nil : (known : Option (List ℕ)) → Appends known known []
+pub appends-nil : (known : Option (List ℕ)) → Appends known known []
 appends-nil None = tt
 appends-nil (Some xs) = sym (append-nil xs)
 
 -- a text behind another
-appends-more : (old mid new : Option (List ℕ)) (text more : List ℕ) → Appends old mid text → Appends mid new more → Appends old new (text ++ more)
+pub appends-more : (old mid new : Option (List ℕ)) (text more : List ℕ) → Appends old mid text → Appends mid new more → Appends old new (text ++ more)
 appends-more None mid new text more a b = tt
 appends-more (Some xs) None new text more a b = absurd a
 appends-more (Some xs) (Some ys) None text more a b = absurd b
@@ -47,7 +48,8 @@ IsBehind None done left = Unit {0}
 IsBehind (Some bytes) done None = ⊥
 IsBehind (Some bytes) done (Some rest) = lines_of bytes ≡ done ++ lines_of rest
 
--- Some lines of a script were run; `number` is that of the next one, and `left` are the bytes behind them.
+-- Some lines of a script were run; `number` is that of the next one, and `left` are the bytes
+-- behind them.
 pub record Running (script old : Option (List ℕ)) (number : ℕ) (stage : Stage) (left new : Option (List ℕ)) : Type 0 where
   pub done : List (List ℕ)
   pub ran : HasRun done stage old new
@@ -97,7 +99,7 @@ running-more script old number stage left new line text next rest written r take
 }
 
 -- the lines that were run are the first ones
-begins_done : (script : Option (List ℕ)) (done : List (List ℕ)) (left : Option (List ℕ)) → IsBehind script done left → Begins script done
+pub begins_done : (script : Option (List ℕ)) (done : List (List ℕ)) (left : Option (List ℕ)) → IsBehind script done left → Begins script done
 begins_done None done left b = tt
 begins_done (Some bytes) done None b = absurd b
 begins_done (Some bytes) done (Some rest) b = (lines_of rest, b)
@@ -151,9 +153,9 @@ stopped_fault e script old new fault some =
       | inr is ↦ rw is some
     ]
 
--- a bad command is refused
-pub refused : (e : LineError) (P : Type 0) → e ≡ BadCommand → (e ≡ OutOfMemory) ⊎ ((e ≡ BadCommand) × P) → P
-refused e P is or = elim or [
-  | inl memory ↦ absurd (cc)
-  | inr bad ↦ bad.1
+-- a line stops the script that can't be run, or at which memory lacked
+pub running-refused : (script old : Option (List ℕ)) (number : ℕ) (stage : Stage) (left new : Option (List ℕ)) (line : List ℕ) (rest : Option (List ℕ)) (e : LineError) → Running script old number stage left new → IsNextLine left line rest → (e ≡ OutOfMemory) ⊎ ((e ≡ BadCommand) × IsRefused (said line) stage) → Stopped (script_error number e) script old new
+running-refused script old number stage left new line rest e r taken or = elim or [
+  | inl memory ↦ rw memory (running-some script old number stage left new r)
+  | inr bad ↦ rw bad.0 (running-bad script old number stage left new line rest r taken bad.1)
 ]

@@ -7,10 +7,10 @@ use Rattle.quic_wire_core.specs.declared.stream_id.Side.{Side}
 use Rattle.quic_wire_core.specs.StreamId.{other_side}
 use Rattle.quic_packet.specs.declared.crypto.Keys.{Keys}
 use Rattle.quic_packet.specs.Datagram.{Opening, opened_packet}
-use Rattle.quic_run_core.specs.declared.key.PlainHeaderKey.{PlainHeaderKey}
-use Rattle.quic_run_core.specs.declared.key.PlainKey.{PlainKey}
-use Rattle.quic_run_core.specs.Plain.{plain_protection, plain_aead}
-use Rattle.quic_run_core.specs.KeysOf.{keys_of}
+use Rattle.quic_keys.specs.declared.key.PlainHeaderKey.{PlainHeaderKey}
+use Rattle.quic_keys.specs.declared.key.PlainKey.{PlainKey}
+use Rattle.quic_keys.specs.Plain.{plain_protection, plain_aead}
+use Rattle.quic_keys.specs.KeysOf.{keys_of}
 use Rattle.quic_run_core.specs.Shown.{parts_of, opening_at, number_behind, number_of, numbers_from, expected_behind, behind_last, AreNumbers, parts_text, shown_text}
 
 -- each datagram has a number

@@ -17,7 +17,7 @@ use Rattle.quic_run_core.specs.declared.script.Line.TheVariants as lines
 use Rattle.quic_run_core.specs.declared.script.LineError.{LineError}
 use Rattle.quic_run_core.specs.declared.script.LineError.TheVariants.{BadCommand, OutOfMemory}
 use Rattle.quic_run_core.specs.declared.script.Setting.{Setting}
-use Rattle.quic_run_core.specs.declared.script.Setting.TheVariants.{ReceiveWindow, StreamWindow, SendWindow, Bidi, Uni, Messages, Search, Word, Pcg}
+use Rattle.quic_run_core.specs.declared.script.Setting.TheVariants.{ReceiveWindow, StreamWindow, SendWindow, Bidi, Uni, Idle, Messages, Search, SealLimit, OpenLimit, Validated, Word, Pcg}
 use Rattle.quic_run_core.specs.Named.{side_named, dir_named, mark_named, timer_named, bytes_named}
 
 -- ---- what may be asked for
@@ -38,6 +38,9 @@ pub data Asked : Type 0 where
   sends : List ℕ → Asked
   reads_message : Asked
   pings : Asked
+  -- a close by the application, with its code and text
+  closes : ℕ → ℕ → List ℕ → Asked
+  uses_next_id : Asked
   polls : ℕ → Asked
   times_out : ℕ → Asked
   delivers : ℕ → Option EcnCodepoint → ℕ → Asked
@@ -45,6 +48,7 @@ pub data Asked : Type 0 where
   asks_event : Asked
   asks_timer : Timer → Asked
   asks_next : Asked
+  asks_state : Asked
   -- a call that no line asks for
   others : Asked
 
@@ -156,11 +160,15 @@ setting_said name args =
     else (if is_word name (codes "send_window") then one SendWindow number_named args
     else (if is_word name (codes "bidi") then one Bidi varint_named args
     else (if is_word name (codes "uni") then one Uni varint_named args
+    else (if is_word name (codes "idle") then one Idle varint_named args
     else (if is_word name (codes "messages") then one Messages number_named args
     else (if is_word name (codes "search") then one Search switch_named args
+    else (if is_word name (codes "seal_limit") then one SealLimit number_named args
+    else (if is_word name (codes "open_limit") then one OpenLimit number_named args
+    else (if is_word name (codes "validated") then one Validated switch_named args
     else (if is_word name (codes "word") then one Word number_named args
     else (if is_word name (codes "pcg") then one Pcg number_named args
-    else None))))))))
+    else None))))))))))))
 
 -- the same, where there is a name
 abbrev pub settings_said : List (List ℕ) → Option Setting
@@ -187,6 +195,8 @@ call_said name args =
     else (if is_word name (codes "send") then one sends bytes_named args
     else (if is_word name (codes "recv") then ends args (Some reads_message)
     else (if is_word name (codes "ping") then ends args (Some pings)
+    else (if is_word name (codes "close") then three closes number_named varint_named bytes_named args
+    else (if is_word name (codes "use_next_id") then ends args (Some uses_next_id)
     else (if is_word name (codes "poll") then one polls number_named args
     else (if is_word name (codes "timeout") then one times_out number_named args
     else (if is_word name (codes "deliver") then three delivers number_named mark_named number_named args
@@ -194,7 +204,8 @@ call_said name args =
     else (if is_word name (codes "event") then ends args (Some asks_event)
     else (if is_word name (codes "timer") then one asks_timer timer_named args
     else (if is_word name (codes "next") then ends args (Some asks_next)
-    else None))))))))))))))))))
+    else (if is_word name (codes "state") then ends args (Some asks_state)
+    else None)))))))))))))))))))))
 
 -- what the words behind an end's ask for
 abbrev pub command_said : Side → List ℕ → List (List ℕ) → Option Command
@@ -221,7 +232,8 @@ abbrev pub is_skipped : List ℕ → Bool
 is_skipped [] = true
 is_skipped (b ∷ bs) = b == 35
 
--- What a line asks for, if it is in the language: it has 2^20 bytes at most, and is empty, a comment, or text whose words ask for something.
+-- What a line asks for, if it is in the language: it has 2^20 bytes at most, and is empty, a
+-- comment, or text whose words ask for something.
 abbrev pub said : List ℕ → Option Command
 said line =
     if nat_lt 1048576 (length line) then None
@@ -257,6 +269,8 @@ asked_of (calls.ReceivedReset id) = others
 asked_of (calls.Send message makes_room) = asked_send message makes_room
 asked_of calls.Recv = reads_message
 asked_of calls.Ping = pings
+asked_of (calls.Close close) = closes close.now close.error_code close.reason
+asked_of calls.UseNextId = uses_next_id
 asked_of (calls.Poll now) = polls now
 asked_of (calls.Timeout now) = times_out now
 asked_of (calls.Deliver delivery) = delivers delivery.now delivery.ecn delivery.index
@@ -264,6 +278,7 @@ asked_of (calls.Inject injection) = injects injection.now injection.ecn injectio
 asked_of calls.Event = asks_event
 asked_of (calls.Timer timer) = asks_timer timer
 asked_of calls.NextTimeout = asks_next
+asked_of calls.State = asks_state
 
 -- what is done at a line
 abbrev pub command_of : Line → Command
@@ -273,7 +288,8 @@ command_of (lines.Call event) = asks event.side (asked_of event.call)
 command_of (lines.Show side index) = shows side index
 command_of (lines.Settle now) = settles now
 
--- What was read of a line's words, with those that are left: the whole names it where none are left, and nothing else. A bad command: the whole names nothing.
+-- What was read of a line's words, with those that are left: the whole names it where none are
+-- left, and nothing else. A bad command: the whole names nothing.
 abbrev pub Reads : {T A : Type 0} → Result T LineError → (T → A) → Option A → List (List ℕ) → Type 0
 Reads (Ok x) view whole left = whole ≡ ends left (Some (view x))
 Reads (Err BadCommand) view whole left = whole ≡ None

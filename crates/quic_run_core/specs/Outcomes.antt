@@ -1,4 +1,5 @@
--- How a script ends: which of its lines were run, and what was printed of them. A script's bytes, and those that a writer holds, are there where they are known.
+-- How a script ends: which of its lines were run, and what was printed of them. A script's bytes,
+-- and those that a writer holds, are there where they are known.
 use Rattle.std.specs.Prelude.{◌≡◌, ◌+◌, ℕ, List, [], ◌∷◌, ◌++◌, length, Option, Some, None, IfSome}
 use Rattle.std.specs.Io.KnownBytes.{Appends}
 use Rattle.quic_run_core.specs.declared.error.ScriptError.{ScriptError}
@@ -6,7 +7,8 @@ use Rattle.quic_run_core.specs.declared.error.ScriptError.TheVariants.{BadComman
 use Rattle.quic_run_core.specs.Language.{said}
 use Rattle.quic_run_core.specs.Scripts.{Stage, first_stage, IsRun, IsRefused, lines_of}
 
--- Lines were run in turn from the first stage on, and what they print was appended, and nothing else.
+-- Lines were run in turn from the first stage on, and what they print was appended, and nothing
+-- else.
 pub record HasRun (done : List (List ℕ)) (stage : Stage) (old new : Option (List ℕ)) : Type 0 where
   pub text : List ℕ
   pub run : IsRun first_stage done text stage

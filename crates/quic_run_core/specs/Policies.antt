@@ -1,34 +1,14 @@
--- What the stand-in keys and random sources of two ends do, as the machine sees it.
-use Rattle.std.specs.Prelude.{ℕ}
-use Rattle.quic_wire_core.specs.declared.stream_id.Side.{Side}
-use Rattle.quic_wire_core.specs.declared.stream_id.Side.TheVariants.{Client, Server}
+-- What the stand-in keys and random sources of the two ends of a script do, as the machine sees it.
 use Rattle.quic_congestion.specs.NewReno.{Reno}
-use Rattle.quic_machine.specs.Policy.{Policy}
 use Rattle.quic_machine.specs.Machine.{Policies}
 use Rattle.quic_connection.specs.Ends.{AreOf}
 use Rattle.quic_connection.specs.declared.running.Ends.{Ends}
-use Rattle.quic_run_core.specs.declared.key.PlainHeaderKey.{PlainHeaderKey}
-use Rattle.quic_run_core.specs.declared.key.PlainKey.{PlainKey}
-use Rattle.quic_run_core.specs.Plain.{plain_sealed, plain_opened, plain_protection, plain_aead}
-use Rattle.quic_run_core.specs.KeysOf.{keys_of}
-use Rattle.quic_run_core.specs.declared.words.Words.{Words}
-use Rattle.quic_run_core.specs.Words.{stream_from}
-
--- what the keys of an end do, and its random source, which answers these words one after another
-abbrev pub plain_policy : Side → (ℕ → ℕ) → Policy
-plain_policy side words = record {
-  words = words;
-  header = plain_protection;
-  packet = record {
-    seal = plain_sealed (keys_of side).packet.local.mark;
-    unseal = plain_opened (keys_of side).packet.remote.mark;
-  };
-}
-
--- what the keys of both do, and their random sources, of which the client's answers the first words and the server's the second
-abbrev pub plain_policies : (ℕ → ℕ) → (ℕ → ℕ) → Policies
-plain_policies client server = record { client = plain_policy Client client; server = plain_policy Server server }
+use Rattle.quic_keys.specs.declared.key.PlainHeaderKey.{PlainHeaderKey}
+use Rattle.quic_keys.specs.declared.key.PlainKey.{PlainKey}
+use Rattle.quic_keys.specs.declared.words.Words.{Words}
+use Rattle.quic_keys.specs.Plain.{plain_protection, plain_aead}
+use Rattle.quic_keys.specs.Words.{stream_from}
 
 -- these policies do what the keys and the random sources of these two ends do
 abbrev pub ArePlain : Policies → Ends PlainHeaderKey PlainKey Words Reno → Type 0
-ArePlain k ends = AreOf k (λ _. plain_protection) (λ k. plain_aead k.mark) stream_from ends
+ArePlain k ends = AreOf k (λ _. plain_protection) (λ k. plain_aead k.mark) (λ k. k.confidentiality_limit) (λ k. k.integrity_limit) stream_from ends

@@ -28,6 +28,10 @@ use Rattle.quic_machine.specs.declared.answers.Received.{Received}
 use Rattle.quic_machine.specs.declared.answers.Received.TheVariants as receives
 use Rattle.quic_machine.specs.declared.answers.Transmit.{Transmit}
 use Rattle.quic_machine.specs.declared.answers.Failed.{Failed}
+use Rattle.quic_machine.specs.declared.answers.State.{State}
+use Rattle.quic_machine.specs.declared.answers.State.TheVariants as states
+use Rattle.quic_machine.specs.declared.answers.NextIdError.{NextIdError}
+use Rattle.quic_machine.specs.declared.answers.NextIdError.TheVariants as next_ids
 use Rattle.quic_machine.specs.declared.answers.LostReason.{LostReason}
 use Rattle.quic_machine.specs.declared.answers.LostReason.TheVariants as losses
 use Rattle.quic_streams_parts.specs.declared.answers.StreamEvent.TheVariants as happenings
@@ -157,6 +161,13 @@ received_text (receives.Dropped reason) = codes "dropped " ++ reason_text reason
 received_text (receives.Closed error) = coded_text (codes "closed") error.code
 received_text receives.Failed = codes "failed"
 
+-- whether the next id is used, or why it isn't
+abbrev pub next_id_text : Result (Unit {0}) NextIdError → List ℕ
+next_id_text (Ok done) = codes "ok"
+next_id_text (Err next_ids.NoId) = codes "noid"
+next_id_text (Err next_ids.TooManyPending) = codes "toomany"
+next_id_text (Err next_ids.Memory) = codes "memory"
+
 -- whether timers were let expire, or the end has failed
 abbrev pub timeout_text : Result (Unit {0}) Failed → List ℕ
 timeout_text (Ok done) = codes "ok"
@@ -165,11 +176,24 @@ timeout_text (Err failed) = codes "failed"
 -- the name of the reason why an end is lost
 abbrev pub loss_text : LostReason → List ℕ
 loss_text losses.Application = codes "application"
+loss_text (losses.Peer close) = codes "peer"
 loss_text losses.Pieces = codes "pieces"
 loss_text losses.Idle = codes "idle"
 loss_text losses.KeyLimit = codes "keylimit"
 loss_text losses.NumberLimit = codes "numberlimit"
 loss_text (losses.Transport error) = codes "transport"
+
+-- whether an end is open, and else in which way it isn't
+abbrev pub state_text : State → List ℕ
+state_text states.Open = codes "open"
+state_text states.Closing = codes "closing"
+state_text states.Drained = codes "drained"
+state_text states.Failed = codes "failed"
+
+-- a blank, and whether the address of an end's peer is validated
+abbrev pub validated_text : Bool → List ℕ
+validated_text true = codes " validated"
+validated_text false = codes " unvalidated"
 
 -- how a kind of stream is named
 abbrev pub dir_text : Dir → List ℕ
@@ -199,7 +223,8 @@ rest_text None = codes "gave up"
 
 -- ---- any answer
 
--- An answer, where the end gave so many datagrams by then: a datagram is the last of these, counted from 0.
+-- An answer, where the end gave so many datagrams by then: a datagram is the last of these, counted
+-- from 0.
 abbrev pub answer_text : ℕ → Answer → List ℕ
 answer_text given (answers.Open id) = id_text id
 answer_text given (answers.Accept id) = id_text id
@@ -215,6 +240,8 @@ answer_text given (answers.Read (Err error)) = unreadable_text error
 answer_text given (answers.Send sent) = send_text sent
 answer_text given (answers.Recv message) = message_text message
 answer_text given answers.Ping = codes "ok"
+answer_text given answers.Close = codes "ok"
+answer_text given (answers.UseNextId changed) = next_id_text changed
 answer_text given (answers.Poll (Ok (Some transmit))) = transmit_text (given - 1) transmit
 answer_text given (answers.Poll (Ok None)) = codes "none"
 answer_text given (answers.Poll (Err failed)) = codes "failed"
@@ -226,6 +253,7 @@ answer_text given answers.Opens = codes "opens"
 answer_text given (answers.Event told) = event_text told
 answer_text given (answers.Timer moment) = moment_text moment
 answer_text given (answers.NextTimeout moment) = moment_text moment
+answer_text given (answers.State state validated) = state_text state ++ validated_text validated
 
 -- ---- calls
 
@@ -249,6 +277,8 @@ call_text (calls.ReceivedReset id) = codes "received_reset"
 call_text (calls.Send message makes_room) = codes "send"
 call_text calls.Recv = codes "recv"
 call_text calls.Ping = codes "ping"
+call_text (calls.Close close) = codes "close"
+call_text calls.UseNextId = codes "use_next_id"
 call_text (calls.Poll now) = codes "poll"
 call_text (calls.Timeout now) = codes "timeout"
 call_text (calls.Deliver delivery) = codes "deliver"
@@ -256,3 +286,4 @@ call_text (calls.Inject injection) = codes "inject"
 call_text calls.Event = codes "event"
 call_text (calls.Timer timer) = codes "timer"
 call_text calls.NextTimeout = codes "next"
+call_text calls.State = codes "state"

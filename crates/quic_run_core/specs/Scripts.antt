@@ -1,5 +1,5 @@
 -- What a script does: its lines in turn, each with what it prints.
-use Rattle.std.specs.Prelude.{min, ◌^◌, ◌≡◌, ◌≤◌, ◌==◌, ℕ, Bool, true, false, if◌then◌else◌, List, [], ◌∷◌, ◌++◌, length, replicate, codes, Option, Some, None, IsSome, IfSome, Ok}
+use Rattle.std.specs.Prelude.{min, ◌^◌, ◌≡◌, ◌≤◌, ◌==◌, ◌||◌, ℕ, Bool, true, false, if◌then◌else◌, List, [], ◌∷◌, ◌++◌, length, replicate, codes, Option, Some, None, IsSome, IfSome, Ok}
 use Rattle.std.specs.declared.alloc.AllocError.{AllocError}
 use Rattle.std.specs.List.{slice_split}
 use Rattle.quic_wire_core.specs.declared.stream_id.Side.{Side}
@@ -10,7 +10,7 @@ use Rattle.quic_config.specs.Transport.{Settings, settings_with, default_transpo
 use Rattle.quic_parameters.specs.ParametersWritten.{written_parameters}
 use Rattle.quic_congestion.specs.NewReno.{Reno, default_reno, reno_made, window_after}
 use Rattle.quic_machine.specs.Parts.{Windows}
-use Rattle.quic_machine.specs.End.{End, new_end}
+use Rattle.quic_machine.specs.End.{End, new_end, KeyLimits, are_keys_short}
 use Rattle.quic_machine.specs.Heard.{nothing_heard}
 use Rattle.quic_machine.specs.Start.{Making}
 use Rattle.quic_connection.specs.Ends.{in_order}
@@ -20,19 +20,21 @@ use Rattle.quic_machine.specs.declared.run.Answer.{Answer}
 use Rattle.quic_connection.specs.Settled.{AreAtRest, Settles}
 use Rattle.quic_run_core.specs.declared.options.Options.{Options}
 use Rattle.quic_run_core.specs.declared.script.Setting.{Setting}
-use Rattle.quic_run_core.specs.declared.script.Setting.TheVariants.{ReceiveWindow, StreamWindow, SendWindow, Bidi, Uni, Messages, Search, Word, Pcg}
-use Rattle.quic_run_core.specs.declared.words.Source.TheVariants as sources
-use Rattle.quic_run_core.specs.Words.{words_from}
-use Rattle.quic_run_core.specs.Policies.{plain_policies}
+use Rattle.quic_run_core.specs.declared.script.Setting.TheVariants.{ReceiveWindow, StreamWindow, SendWindow, Bidi, Uni, Idle, Messages, Search, SealLimit, OpenLimit, Validated, Word, Pcg}
+use Rattle.quic_keys.specs.declared.words.Source.TheVariants as sources
+use Rattle.quic_keys.specs.Words.{words_from}
+use Rattle.quic_keys.specs.KeysOf.{usual_limit}
+use Rattle.quic_keys.specs.Policies.{plain_policies}
 use Rattle.quic_run_core.specs.Printed.{call_text, rest_text, answer_text}
 use Rattle.quic_run_core.specs.Shown.{shown_text}
 use Rattle.quic_run_core.specs.Language.{Command, Asked, nothing, sets, asks, shows, settles, asked_of, said}
 
 -- ---- options
 
--- the options of an end for which none is set: no greater size is looked for
+-- the options of an end for which none is set: no greater size is looked for, and its keys have the
+-- usual limits
 abbrev pub first_options : Options
-first_options = record { transport = record default_transport { mtu_discovery_config = None }; source = sources.Word 63 }
+first_options = record { transport = record default_transport { mtu_discovery_config = None }; seal_limit = usual_limit; open_limit = usual_limit; source = sources.Word 63; validated = true }
 
 -- the settings of an end with these options; none sets a size of datagrams
 abbrev pub settings_of : Options → Settings
@@ -49,15 +51,32 @@ search_if false = None
 
 -- the options with one of them set
 abbrev pub with_setting : Setting → Options → Options
-with_setting (ReceiveWindow value) o = record { transport = record o.transport { receive_window = value }; source = o.source }
-with_setting (StreamWindow value) o = record { transport = record o.transport { stream_receive_window = value }; source = o.source }
-with_setting (SendWindow value) o = record { transport = record o.transport { send_window = value }; source = o.source }
-with_setting (Bidi count) o = record { transport = record o.transport { max_bidi = min count (2 ^ 60) }; source = o.source }
-with_setting (Uni count) o = record { transport = record o.transport { max_uni = min count (2 ^ 60) }; source = o.source }
-with_setting (Messages bytes) o = record { transport = record o.transport { datagram_receive_buffer_size = kept_size bytes }; source = o.source }
-with_setting (Search on) o = record { transport = record o.transport { mtu_discovery_config = search_if on }; source = o.source }
-with_setting (Word word) o = record { transport = o.transport; source = sources.Word word }
-with_setting (Pcg seed) o = record { transport = o.transport; source = sources.Pcg seed }
+with_setting (ReceiveWindow value) o = record o { transport = record o.transport { receive_window = value } }
+with_setting (StreamWindow value) o = record o { transport = record o.transport { stream_receive_window = value } }
+with_setting (SendWindow value) o = record o { transport = record o.transport { send_window = value } }
+with_setting (Bidi count) o = record o { transport = record o.transport { max_bidi = min count (2 ^ 60) } }
+with_setting (Uni count) o = record o { transport = record o.transport { max_uni = min count (2 ^ 60) } }
+with_setting (Idle millis) o = record o { transport = record o.transport { max_idle_timeout = Some millis } }
+with_setting (Messages bytes) o = record o { transport = record o.transport { datagram_receive_buffer_size = kept_size bytes } }
+with_setting (Search on) o = record o { transport = record o.transport { mtu_discovery_config = search_if on } }
+with_setting (SealLimit packets) o = record o { seal_limit = packets }
+with_setting (OpenLimit packets) o = record o { open_limit = packets }
+with_setting (Validated validated) o = record o { validated = validated }
+with_setting (Word word) o = record o { source = sources.Word word }
+with_setting (Pcg seed) o = record o { source = sources.Pcg seed }
+
+-- how long the keys of an end with these options last
+abbrev pub limits_in : Options → KeyLimits
+limits_in o = record { seals = o.seal_limit; openings = o.open_limit }
+
+-- whether no ends can be made of the client's options and the server's: the keys of one last too
+-- short
+abbrev pub are_short : Options → Options → Bool
+are_short client server = are_keys_short (limits_in client) || are_keys_short (limits_in server)
+
+-- what the keys and the random sources of ends with these options do
+abbrev pub policies_for : Options → Options → Policies
+policies_for client server = plain_policies (limits_in client) (limits_in server) (words_from client.source) (words_from server.source)
 
 -- ---- the ends
 
@@ -66,7 +85,8 @@ abbrev pub first_id : Side → List ℕ
 first_id Client = replicate 8 0xc0
 first_id Server = replicate 8 0x50
 
--- the controller of an end as it is made at moment 0: NewReno as nothing is set of it, for datagrams of 1200 bytes
+-- the controller of an end as it is made at moment 0: NewReno as nothing is set of it, for
+-- datagrams of 1200 bytes
 abbrev pub first_controller : Reno
 first_controller = reno_made default_reno 0 1200
 
@@ -76,7 +96,7 @@ first_windows = record { initial = default_reno.initial; present = default_reno.
 
 -- an end as it is made at moment 0: the other end's options are its limits
 abbrev pub first_end : Side → Options → Options → End
-first_end side own peer = new_end side (settings_of own) first_windows (parameters_of (settings_of peer)) (first_id side) (first_id (other_side side)) 0 true (words_from own.source 0)
+first_end side own peer = new_end side (settings_of own) first_windows (parameters_of (settings_of peer)) (first_id side) (first_id (other_side side)) 0 own.validated (words_from own.source)
 
 -- both ends as they are made, of the client's options and the server's
 abbrev pub first_world : Options → Options → World
@@ -91,13 +111,15 @@ first_world client server = record {
   server_heard = nothing_heard;
 }
 
--- how an end is made, as the premises of every promise on runs name it (its parameters are written in the order of their ids)
+-- how an end is made, as the premises of every promise on runs name it (its parameters are written
+-- in the order of their ids)
 abbrev pub making : Side → Options → Making
 making side own =
     let settings = settings_of own in
-    record { settings = settings; windows = first_windows; parameters = written_parameters (parameters_of settings) in_order; id = first_id side; moment = 0; validated = true; word = words_from own.source 0 }
+    record { settings = settings; windows = first_windows; parameters = written_parameters (parameters_of settings) in_order; id = first_id side; moment = 0; validated = own.validated; words = words_from own.source }
 
--- What is printed of an event in a world, and the world behind it: the machine answers so, and leaves it so.
+-- What is printed of an event in a world, and the world behind it: the machine answers so, and
+-- leaves it so.
 pub record IsTold (k : Policies) (w : World) (event : RunEvent) (text : List ℕ) (next : World) : Type 0 where
   pub answer : Answer
   pub step : IsStep k w event answer next
@@ -107,8 +129,8 @@ pub record IsTold (k : Policies) (w : World) (event : RunEvent) (text : List ℕ
 abbrev pub Tells : Policies → World → RunEvent → List ℕ → List ℕ → World → Type 0
 Tells k w event old new next = (text : List ℕ) × IsTold k w event text next × (new ≡ old ++ text)
 
--- What is printed where two ends talk from a moment on, turn by turn, and the world behind it: a moment, not before that one, at which both
--- rest, or that they were given up.
+-- What is printed where two ends talk from a moment on, turn by turn, and the world behind it: a
+-- moment, not before that one, at which both rest, or that they were given up.
 pub record IsSettled (k : Policies) (w : World) (now : ℕ) (text : List ℕ) (next : World) : Type 0 where
   pub answer : Option ℕ
   pub talk : Settles {E = AllocError} k now w (Ok answer) next
@@ -122,14 +144,15 @@ TellsRest k w now old new next = (text : List ℕ) × IsSettled k w now text nex
 
 -- ---- a line
 
--- Two ends as they are made and go on: the world that they make, and what their keys and random sources do.
+-- Two ends as they are made and go on: the world that they make, and what their keys and random
+-- sources do.
 pub record Made : Type 0 where
   pub world : World
   pub policies : Policies
 
 -- those that are made of the client's options and the server's
 abbrev pub first_made : Options → Options → Made
-first_made client server = record { world = first_world client server; policies = plain_policies (words_from client.source) (words_from server.source) }
+first_made client server = record { world = first_world client server; policies = policies_for client server }
 
 -- how far a script is: the options of both ends, and the ends once they are made
 pub record Stage : Type 0 where
@@ -158,6 +181,15 @@ made_or_first (Some m) client server = m
 -- the ends at a stage, which are made now if they aren't yet
 abbrev pub made_at : Stage → Made
 made_at s = made_or_first s.made s.client s.server
+
+-- whether ends can't be made of these options, where there are none yet
+abbrev pub lack_ends : Option Made → Options → Options → Bool
+lack_ends None client server = are_short client server
+lack_ends (Some m) client server = false
+
+-- whether a stage has no ends, and none can be made
+abbrev pub has_no_ends : Stage → Bool
+has_no_ends s = lack_ends s.made s.client s.server
 
 -- a stage whose ends went on to this world
 abbrev pub with_world : World → Stage → Stage
@@ -199,27 +231,29 @@ pub record IsSettling (now : ℕ) (s : Stage) (text : List ℕ) (t : Stage) : Ty
   pub line : text ≡ codes "settle " ++ (answer ++ line_feed)
   pub after : t ≡ with_world next s
 
--- What a command prints, and the stage behind it. An option is set before the ends are made.
+-- What a command prints, and the stage behind it. An option is set before the ends are made; they
+-- are made where another command needs them, if they can be.
 abbrev pub IsDone : Command → Stage → List ℕ → Stage → Type 0
 IsDone nothing s text t = (text ≡ []) × (t ≡ s)
 IsDone (sets side setting) s text t = (s.made ≡ None) × (text ≡ line_text side (codes "set") (codes "ok")) × (t ≡ with_option side setting s)
-IsDone (asks side asked) s text t = IsCall side asked s text t
-IsDone (shows side index) s text t = (text ≡ line_text side (codes "show") (shown_text side (given_by side (made_at s).world) index)) × (t ≡ with_made (made_at s) s)
-IsDone (settles now) s text t = IsSettling now s text t
+IsDone (asks side asked) s text t = (has_no_ends s ≡ false) × IsCall side asked s text t
+IsDone (shows side index) s text t = (has_no_ends s ≡ false) × (text ≡ line_text side (codes "show") (shown_text side (given_by side (made_at s).world) index)) × (t ≡ with_made (made_at s) s)
+IsDone (settles now) s text t = (has_no_ends s ≡ false) × IsSettling now s text t
 
 -- what a line prints, and the stage behind it, by what it asks for
 abbrev pub Does : Option Command → Stage → List ℕ → Stage → Type 0
 Does None s text t = ⊥
 Does (Some command) s text t = IsDone command s text t
 
--- a line that can't be run at a stage: it isn't in the language, or sets an option once the ends are made
+-- a line that can't be run at a stage: it isn't in the language, sets an option once the ends are
+-- made, or needs ends that can't be made
 abbrev pub IsRefused : Option Command → Stage → Type 0
 IsRefused None s = Unit {0}
 IsRefused (Some nothing) s = ⊥
 IsRefused (Some (sets side setting)) s = IsSome s.made
-IsRefused (Some (asks side asked)) s = ⊥
-IsRefused (Some (shows side index)) s = ⊥
-IsRefused (Some (settles now)) s = ⊥
+IsRefused (Some (asks side asked)) s = has_no_ends s ≡ true
+IsRefused (Some (shows side index)) s = has_no_ends s ≡ true
+IsRefused (Some (settles now)) s = has_no_ends s ≡ true
 
 -- ---- a script
 

@@ -4,8 +4,8 @@ use Rattle.std.specs.Fmt.{decimal}
 use Rattle.quic_wire_core.specs.declared.stream_id.Side.{Side}
 use Rattle.quic_wire_core.specs.StreamId.{other_side}
 use Rattle.quic_packet.specs.Datagram.{Opening, opened_packet}
-use Rattle.quic_run_core.specs.Plain.{plain_protection, plain_aead}
-use Rattle.quic_run_core.specs.KeysOf.{keys_of}
+use Rattle.quic_keys.specs.Plain.{plain_protection, plain_aead}
+use Rattle.quic_keys.specs.KeysOf.{keys_of}
 use Rattle.quic_run_core.specs.Printed.{bytes_text}
 
 -- the number and the payload of a datagram that opened
@@ -13,8 +13,8 @@ abbrev pub parts_of : Option Opening → Option (ℕ × List ℕ)
 parts_of None = None
 parts_of (Some o) = Some (o.number, o.payload)
 
--- What a datagram of an end opens to at the other one, where this number is expected: it has a first byte, an id of
--- eight bytes, and room for a number and a sample.
+-- What a datagram of an end opens to at the other one, where this number is expected: it has a
+-- first byte, an id of eight bytes, and room for a number and a sample.
 unfoldable pub opening_at : Side → ℕ → List ℕ → Option (ℕ × List ℕ)
 opening_at side expected d = if nat_lt (length d) 29 then None else parts_of (opened_packet plain_protection (plain_aead (keys_of (other_side side)).packet.remote.mark) 9 expected d)
 
@@ -56,6 +56,7 @@ abbrev pub datagram_text : Side → ℕ → Option (List ℕ) → List ℕ
 datagram_text side expected None = codes "nodatagram"
 datagram_text side expected (Some d) = parts_text (opening_at side expected d)
 
--- the datagram of this index among those that an end gave: the number expected is one above that of the datagram before it, and 0 at the first
+-- the datagram of this index among those that an end gave: the number expected is one above that of
+-- the datagram before it, and 0 at the first
 abbrev pub shown_text : Side → List (List ℕ) → ℕ → List ℕ
 shown_text side given index = datagram_text side (expected_behind side 0 (take index given)) (slice_get given index)

@@ -5,14 +5,12 @@ use Rattle.quic_congestion.specs.NewReno.{window_after}
 use Rattle.quic_connection.specs.Ends.{world_of}
 use Rattle.quic_run_core.specs.declared.session.Session.{Session}
 use Rattle.quic_run_core.specs.declared.runner.Runner.{Runner}
-use Rattle.quic_run_core.specs.Words.{words_from}
-use Rattle.quic_run_core.specs.Policies.{plain_policies}
-use Rattle.quic_run_core.specs.Scripts.{Made, Stage}
+use Rattle.quic_run_core.specs.Scripts.{Made, Stage, policies_for}
 
 -- the ends of a session, if there is one
 abbrev pub made_in : Option Session → Option Made
 made_in None = None
-made_in (Some session) = Some (record { world = world_of window_after session.ends session.given; policies = plain_policies (words_from session.client_source) (words_from session.server_source) })
+made_in (Some session) = Some (record { world = world_of window_after session.ends session.given; policies = policies_for session.client session.server })
 
 -- how far a runner is
 abbrev pub stage_of : Runner → Stage

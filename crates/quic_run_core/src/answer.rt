@@ -1,12 +1,12 @@
 //! What is printed of an answer.
 ghost use Rattle.std.specs.Prelude.{◌≡◌, ◌++◌, OnOk, string_bytes};
-ghost use Rattle.quic_run_core.specs.Printed.{bytes_text, coded_text, id_text, moment_text, mark_text, write_text, chunks_text, finish_text, update_text, reset_text, dir_text, stream_event_text, unreadable_text, next_text, send_text, message_text, transmit_text, reason_text, received_text, timeout_text, loss_text, event_text, rest_text, answer_text, call_text};
+ghost use Rattle.quic_run_core.specs.Printed.{bytes_text, coded_text, id_text, moment_text, mark_text, write_text, chunks_text, finish_text, update_text, reset_text, dir_text, stream_event_text, unreadable_text, next_text, send_text, message_text, transmit_text, reason_text, received_text, timeout_text, loss_text, state_text, validated_text, event_text, rest_text, answer_text, call_text, next_id_text};
 
 use bytes::Bytes;
 use quic_connection::{
     Answer, Call, Chunk, ClosedStream, DropReason, Event, Failed, FinishError, Instant, LostReason,
-    ReadError, ReadableError, Received, SendDatagramError, StreamEvent, Transmit, UpdateError,
-    WriteError, Written,
+    NextIdError, ReadError, ReadableError, Received, SendDatagramError, State, StreamEvent,
+    Transmit, UpdateError, WriteError, Written,
 };
 use quic_wire_core::{Dir, EcnCodepoint, StreamId, VarInt};
 use std::alloc::{AllocError, Global};
@@ -20,6 +20,10 @@ fn put_code(out: &mut String, word: &str, code: VarInt) -> Result<(), AllocError
 }
 
 /// Appends bytes in hexadecimal, where `-` stands for none.
+///
+/// # Errors
+///
+/// - [`AllocError`]: an allocation fails. Some of the text may stand in `out`.
 pub fn put_bytes(alloc: Global, out: &mut String, bytes: &[u8]) -> Result<(), AllocError>
     ensures { OnOk result (string_bytes out.new ≡ string_bytes out.old ++ bytes_text bytes.now) }
 {
@@ -215,6 +219,10 @@ fn reason_name(reason: DropReason) -> &'static str
 }
 
 /// Appends what came of a datagram.
+///
+/// # Errors
+///
+/// - [`AllocError`]: an allocation fails. Some of the text may stand in `out`.
 pub fn put_received(out: &mut String, received: &Received) -> Result<(), AllocError>
     ensures { OnOk result (string_bytes out.new ≡ string_bytes out.old ++ received_text received.now) }
 {
@@ -245,11 +253,48 @@ fn loss_name(reason: &LostReason) -> &'static str
 {
     match reason {
         LostReason::Application => "application",
+        LostReason::Peer(_) => "peer",
         LostReason::Pieces => "pieces",
         LostReason::Idle => "idle",
         LostReason::KeyLimit => "keylimit",
         LostReason::NumberLimit => "numberlimit",
         LostReason::Transport(_) => "transport",
+    }
+}
+
+/// How it is printed whether an end is open, and else in which way it isn't.
+fn state_name(state: State) -> &'static str
+    ensures { result.now ≡ state_text state }
+{
+    match state {
+        State::Open => "open",
+        State::Closing => "closing",
+        State::Drained => "drained",
+        State::Failed => "failed",
+    }
+}
+
+/// Appends whether an end is open, and whether its peer's address is validated.
+fn put_state(out: &mut String, state: State, validated: bool) -> Result<(), AllocError>
+    ensures { OnOk result (string_bytes out.new ≡ string_bytes out.old ++ (state_text state ++ validated_text validated)) }
+{
+    out.push_str(state_name(state))?;
+    out.push_str(if validated {
+        " validated"
+    } else {
+        " unvalidated"
+    })
+}
+
+/// How it is printed whether the next id is used.
+fn next_id_name(changed: &Result<(), NextIdError>) -> &'static str
+    ensures { result.now ≡ next_id_text changed.now }
+{
+    match changed {
+        Ok(()) => "ok",
+        Err(NextIdError::NoId) => "noid",
+        Err(NextIdError::TooManyPending) => "toomany",
+        Err(NextIdError::Memory) => "memory",
     }
 }
 
@@ -317,6 +362,10 @@ pub(crate) fn put_rest(out: &mut String, moment: Option<Instant>) -> Result<(), 
 
 /// Appends an answer. A datagram that was given out is the last of the `given` datagrams of its
 /// end.
+///
+/// # Errors
+///
+/// - [`AllocError`]: an allocation fails. Some of the text may stand in `out`.
 pub fn put_answer(
     alloc: Global,
     out: &mut String,
@@ -341,7 +390,8 @@ pub fn put_answer(
         },
         Answer::Send(sent) => out.push_str(send_name(sent)),
         Answer::Recv(message) => put_message(alloc, out, message),
-        Answer::Ping => out.push_str("ok"),
+        Answer::Ping | Answer::Close => out.push_str("ok"),
+        Answer::UseNextId(changed) => out.push_str(next_id_name(changed)),
         Answer::Poll(Ok(Some(transmit))) => put_transmit(out, transmit, given.saturating_sub(1)),
         Answer::Poll(Ok(None)) => out.push_str("none"),
         Answer::Poll(Err(_)) => out.push_str("failed"),
@@ -351,6 +401,7 @@ pub fn put_answer(
         Answer::Opens => out.push_str("opens"),
         Answer::Event(event) => put_event(out, event),
         Answer::Timer(moment) | Answer::NextTimeout(moment) => put_moment(out, *moment),
+        Answer::State(state, validated) => put_state(out, *state, *validated),
     }
 }
 
@@ -373,6 +424,8 @@ pub fn call_name(call: &Call) -> &'static str
         Call::Send(_, _) => "send",
         Call::Recv => "recv",
         Call::Ping => "ping",
+        Call::Close(_) => "close",
+        Call::UseNextId => "use_next_id",
         Call::Poll(_) => "poll",
         Call::Timeout(_) => "timeout",
         Call::Deliver(_) => "deliver",
@@ -380,5 +433,6 @@ pub fn call_name(call: &Call) -> &'static str
         Call::Event => "event",
         Call::Timer(_) => "timer",
         Call::NextTimeout => "next",
+        Call::State => "state",
     }
 }

@@ -9,7 +9,6 @@ ghost use Rattle.quic_run_core.specs.Stages.{stage_of};
 use crate::error::ScriptError;
 use crate::lines::Lines;
 use crate::runner::{MOST_TURNS, Runner};
-use crate::script::LineError;
 use std::alloc::{AllocError, Global};
 use std::io::Read;
 
@@ -18,8 +17,13 @@ use std::io::Read;
 /// with `tooshort`, `notshort`, `fixedbit`, `unknownid`, `notopened`, `keyphase` or `duplicate`.
 /// Each line that stays is ended by a line feed, also the last. It returns on any script.
 ///
-/// `ReadFault`: the reader failed, or gave no end within 2^32 calls. `BadCommand`: a line isn't in
-/// the language, or sets an option when the ends are made. `OutOfMemory`: memory lacked.
+/// # Errors
+///
+/// - [`ScriptError::OutOfMemory`]: an allocation fails. Nothing is answered.
+/// - [`ScriptError::ReadFault`]: the reader failed, or gave no end within 2^32 calls. Nothing is
+///   answered.
+/// - [`ScriptError::BadCommand`]: a line isn't in the language, or sets an option when the
+///   endpoints are made. Nothing is answered.
 pub fn erase<R: Read + Drop>(alloc: Global, reader: R) -> Result<Vec<u8>, ScriptError>
     ensures ok { IfOk result (λ kept. ErasedAll (R.remaining reader) kept.items) }
     ensures err { IfErr result (λ e. Stopped e (R.remaining reader) None None) }
@@ -48,8 +52,7 @@ fn erase_lines<R: Read + Drop>(
         }
         match runner.run_line(&line) {
             Ok(answer) => keep(&mut kept, &line, answer.as_str())?,
-            Err(LineError::BadCommand) => return Err(ScriptError::BadCommand(number)),
-            Err(LineError::OutOfMemory) => return Err(ScriptError::OutOfMemory),
+            Err(error) => return Err(error.at(number)),
         }
     }
     Err(ScriptError::ReadFault)

@@ -17,7 +17,7 @@ pub enum ScriptError {
     /// The answers can't be written.
     #[error("write fault")]
     WriteFault,
-    /// Memory lacked.
+    /// Out of memory: an allocation failed.
     #[error("out of memory")]
     OutOfMemory,
 }

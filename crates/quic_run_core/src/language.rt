@@ -6,4 +6,3 @@ pub use crate::lines::Lines;
 pub use crate::options::Options;
 pub use crate::runner::{MOST_TURNS, print};
 pub use crate::script::{LineError, LineWords, MAX_LINE, Setting, call_of, is_skipped, side};
-pub use crate::words::Source;

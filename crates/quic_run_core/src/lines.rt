@@ -30,6 +30,10 @@ impl<R: Read + Drop> Lines<R> {
     ghost use Rattle.quic_run_core.specs.Reading.{unread_of, left_of, KnowsEnd, Moves, IsNextLine, IsOver, IsUnread};
 
     /// The lines that a reader gives in so many calls.
+    ///
+    /// # Errors
+    ///
+    /// - [`AllocError`]: an allocation fails. The reader is dropped unread.
     pub fn new(alloc: Global, reader: R, turns: u64) -> Result<Self, AllocError>
         ensures left { IfOk result (λ lines. Keeps (R.remaining reader) (left_of R.remaining lines)) }
         ensures known { IfOk result (λ lines. KnowsEnd R.remaining lines) }
@@ -48,8 +52,11 @@ impl<R: Read + Drop> Lines<R> {
     /// Puts the next line into the buffer, in place of what was there, and says whether there is
     /// one. Of a line that is too long only so much is read that this can be told.
     ///
-    /// `ReadFault`: the reader failed, or was called too often. `OutOfMemory`: memory lacked.
-    /// Nothing is said of the lines then.
+    /// # Errors
+    ///
+    /// - [`ScriptError::OutOfMemory`]: an allocation fails. Nothing is said of the lines then.
+    /// - [`ScriptError::ReadFault`]: the reader failed, or was called too often. Nothing is said of
+    ///   the lines then.
     pub fn next(&mut self, line: &mut Vec<u8>) -> Result<bool, ScriptError>
         requires { KnowsEnd R.remaining self.old }
         ensures known { KnowsEnd R.remaining self.new }

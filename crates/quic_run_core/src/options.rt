@@ -1,11 +1,14 @@
 //! What is set of an end before it is made.
 ghost use Rattle.std.specs.Prelude.{◌≡◌};
 ghost use Rattle.quic_congestion.specs.NewReno.{default_reno};
+ghost use Rattle.quic_keys.specs.KeysOf.{keys_with};
 ghost use Rattle.quic_run_core.specs.Scripts.{first_options, settings_of, kept_size, with_setting};
 
 use crate::script::Setting;
-use crate::words::Source;
-use quic_connection::{Config, MtuDiscoveryConfig, NewRenoConfig, TransportConfig};
+use quic_connection::{
+    Config, IdleTimeout, Keys, MtuDiscoveryConfig, NewRenoConfig, Side, TransportConfig,
+};
+use quic_keys::{KEY_LIMIT, PlainHeaderKey, PlainKey, Source, keys_within};
 
 /// The most bytes of a datagram, and the least that each path carries (RFC 9000, section 14).
 const MTU: u16 = 1200;
@@ -28,8 +31,14 @@ fn kept_size(bytes: usize) -> Option<usize>
 pub struct Options {
     /// The settings of the transport, but for its sizes of datagrams.
     pub transport: TransportConfig,
+    /// How many packets its key may seal.
+    pub seal_limit: u64,
+    /// How many packets the peer's key may fail to open at it.
+    pub open_limit: u64,
     /// Where its random words come from.
     pub source: Source,
+    /// Whether the peer's address is validated from the start.
+    pub validated: bool,
 }
 
 impl Options {
@@ -41,7 +50,10 @@ impl Options {
         transport.mtu_discovery_config(None);
         Options {
             transport,
+            seal_limit: KEY_LIMIT,
+            open_limit: KEY_LIMIT,
             source: SOURCE,
+            validated: true,
         }
     }
 
@@ -54,6 +66,13 @@ impl Options {
         transport.initial_mtu(MTU);
         transport.min_mtu(MTU);
         Config::new(transport, NewRenoConfig::default())
+    }
+
+    /// The keys of an end with these options.
+    pub fn keys(&self, side: Side) -> Keys<PlainHeaderKey, PlainKey>
+        ensures { result ≡ keys_with self.now.seal_limit self.now.open_limit side }
+    {
+        keys_within(side, self.seal_limit, self.open_limit)
     }
 
     /// Sets one option, in place of what it was.
@@ -76,6 +95,10 @@ impl Options {
             Setting::Uni(count) => {
                 self.transport.max_concurrent_uni_streams(count);
             }
+            Setting::Idle(millis) => {
+                self.transport
+                    .max_idle_timeout(Some(IdleTimeout::from(millis)));
+            }
             Setting::Messages(bytes) => {
                 self.transport
                     .datagram_receive_buffer_size(kept_size(bytes));
@@ -88,6 +111,9 @@ impl Options {
                 };
                 self.transport.mtu_discovery_config(search);
             }
+            Setting::SealLimit(packets) => self.seal_limit = packets,
+            Setting::OpenLimit(packets) => self.open_limit = packets,
+            Setting::Validated(validated) => self.validated = validated,
             Setting::Word(word) => self.source = Source::Word(word),
             Setting::Pcg(seed) => self.source = Source::Pcg(seed),
         }

@@ -1,8 +1,8 @@
 //! Runs a script: reads its lines, and prints what each answers.
-ghost use Rattle.std.specs.Prelude.{◌≡◌, ◌⊎◌, MatchResult, IfErr, IfOk, OnOk, IsSome, string_bytes};
+ghost use Rattle.std.specs.Prelude.{◌≡◌, ◌⊎◌, true, false, MatchResult, IfErr, IfOk, OnOk, IsSome, string_bytes};
 ghost use Rattle.std.specs.Io.KnownBytes.{Appends};
 ghost use Rattle.quic_run_core.specs.Language.{sets, asks, shows, settles, asked_of, said};
-ghost use Rattle.quic_run_core.specs.Scripts.{first_stage, with_made, made_at, IsDone, Does, IsRefused, heading as heading_of};
+ghost use Rattle.quic_run_core.specs.Scripts.{first_stage, with_made, made_at, has_no_ends, IsDone, Does, IsRefused, heading as heading_of};
 ghost use Rattle.quic_run_core.specs.Stages.{stage_of};
 ghost use Rattle.quic_run_core.specs.Reading.{left_of, KnowsEnd};
 ghost use Rattle.quic_run_core.specs.Outcomes.{RanAll, Stopped};
@@ -70,8 +70,7 @@ impl Runner {
             }
             match self.run_line(&line) {
                 Ok(answer) => print(writer, answer.as_str())?,
-                Err(LineError::BadCommand) => return Err(ScriptError::BadCommand(number)),
-                Err(LineError::OutOfMemory) => return Err(ScriptError::OutOfMemory),
+                Err(error) => return Err(error.at(number)),
             }
         }
         Err(ScriptError::ReadFault)
@@ -114,7 +113,7 @@ impl Runner {
     fn call(&mut self, event: &RunEvent) -> Result<String, LineError>
         ensures { MatchResult result
             (λ text. IsDone (asks event.now.side (asked_of event.now.call)) (stage_of self.old) (string_bytes text) (stage_of self.new))
-            (λ e. e ≡ LineError.OutOfMemory) }
+            (λ e. (e ≡ LineError.OutOfMemory) ⊎ ((e ≡ LineError.BadCommand) × (has_no_ends (stage_of self.old) ≡ true))) }
     {
         self.begin()?;
         let mut out = heading(self.alloc, event.side, call_name(&event.call))?;
@@ -130,7 +129,7 @@ impl Runner {
     fn show(&mut self, side: Side, index: usize) -> Result<String, LineError>
         ensures { MatchResult result
             (λ text. IsDone (shows side index) (stage_of self.old) (string_bytes text) (stage_of self.new))
-            (λ e. e ≡ LineError.OutOfMemory) }
+            (λ e. (e ≡ LineError.OutOfMemory) ⊎ ((e ≡ LineError.BadCommand) × (has_no_ends (stage_of self.old) ≡ true))) }
     {
         self.begin()?;
         let mut out = heading(self.alloc, side, "show")?;
@@ -146,7 +145,7 @@ impl Runner {
     fn settle(&mut self, now: Instant) -> Result<String, LineError>
         ensures { MatchResult result
             (λ text. IsDone (settles now) (stage_of self.old) (string_bytes text) (stage_of self.new))
-            (λ e. e ≡ LineError.OutOfMemory) }
+            (λ e. (e ≡ LineError.OutOfMemory) ⊎ ((e ≡ LineError.BadCommand) × (has_no_ends (stage_of self.old) ≡ true))) }
     {
         self.begin()?;
         let mut out = String::new(self.alloc);
@@ -159,10 +158,11 @@ impl Runner {
         Ok(out)
     }
 
-    /// Makes the ends, unless they are made.
+    /// Makes the ends, unless they are made. A bad command: a key lasts too short.
     fn begin(&mut self) -> Result<(), LineError>
         ensures stage { OnOk result (stage_of self.new ≡ with_made (made_at (stage_of self.old)) (stage_of self.old)) }
-        ensures memory { IfErr result (λ e. e ≡ LineError.OutOfMemory) }
+        ensures lasts { OnOk result (has_no_ends (stage_of self.old) ≡ false) }
+        ensures refusal { IfErr result (λ e. (e ≡ LineError.OutOfMemory) ⊎ ((e ≡ LineError.BadCommand) × (has_no_ends (stage_of self.old) ≡ true))) }
     {
         if self.session.is_none() {
             let session = Session::new(self.alloc, &self.client, &self.server)?;
@@ -187,9 +187,15 @@ fn heading(alloc: Global, side: Side, name: &str) -> Result<String, AllocError>
 /// each answer before the next line is run. The ends are made at the first line that isn't a
 /// setting.
 ///
-/// `ReadFault`: the reader failed, or gave no end within 2^32 calls. `WriteFault`: the writer
-/// failed, or took nothing. `BadCommand`: a line isn't in the language, or sets an option when the
-/// ends are made. `OutOfMemory`: memory lacked. What was printed before stands.
+/// # Errors
+///
+/// - [`ScriptError::OutOfMemory`]: an allocation fails. What was printed before stands.
+/// - [`ScriptError::ReadFault`]: the reader failed, or gave no end within 2^32 calls. What was
+///   printed before stands.
+/// - [`ScriptError::BadCommand`]: a line isn't in the language, sets an option when the endpoints
+///   are made, or needs endpoints where a key lasts too short. What was printed before stands.
+/// - [`ScriptError::WriteFault`]: the writer failed, or took nothing. What was printed before
+///   stands.
 pub fn run_script<R: Read + Drop, W: Write>(
     alloc: Global,
     reader: R,
@@ -202,6 +208,16 @@ pub fn run_script<R: Read + Drop, W: Write>(
 }
 
 /// As [`run_script`], where the reader is called at most `turns` times.
+///
+/// # Errors
+///
+/// - [`ScriptError::OutOfMemory`]: an allocation fails. What was printed before stands.
+/// - [`ScriptError::ReadFault`]: the reader failed, or gave no end within `turns` calls. What was
+///   printed before stands.
+/// - [`ScriptError::BadCommand`]: a line isn't in the language, sets an option when the endpoints
+///   are made, or needs endpoints where a key lasts too short. What was printed before stands.
+/// - [`ScriptError::WriteFault`]: the writer failed, or took nothing. What was printed before
+///   stands.
 pub fn run_script_within<R: Read + Drop, W: Write>(
     alloc: Global,
     reader: R,
@@ -217,6 +233,11 @@ pub fn run_script_within<R: Read + Drop, W: Write>(
 }
 
 /// Prints an answer, where there is one.
+///
+/// # Errors
+///
+/// - [`ScriptError::WriteFault`]: the writer failed, or took nothing. Some of the answer may be
+///   written.
 pub fn print<W: Write>(writer: &mut W, answer: &str) -> Result<(), ScriptError>
     ensures printed { OnOk result (Appends (W.contents writer.old) (W.contents writer.new) answer.now) }
     ensures fault { IfErr result (λ e. e ≡ ScriptError.WriteFault) }

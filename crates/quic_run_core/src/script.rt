@@ -4,12 +4,14 @@ ghost use Rattle.std.specs.Char.{is_ascii_uppercase};
 ghost use Rattle.std.specs.List.{list_any};
 ghost use Rattle.std.specs.Option.{SomeIff};
 ghost use Rattle.std.specs.Str.Parse.{IsNumeral, digits_value};
+ghost use Rattle.quic_run_core.specs.Refusals.{script_error};
 ghost use Rattle.quic_run_core.specs.Named.{side_named, dir_named, mark_named, timer_named, bytes_named};
-ghost use Rattle.quic_run_core.specs.Language.{number_named, varint_named, switch_in, switch_named, priority_named, first, two, three, reading, resets, stops, delivers, injects, words_left, setting_said, settings_said, call_said, command_said, end_said, words_said, is_skipped, said, command_of, asked_of, asked_read, Reads, words as words_of};
+ghost use Rattle.quic_run_core.specs.Language.{number_named, varint_named, switch_in, switch_named, priority_named, first, two, three, reading, resets, stops, closes, delivers, injects, words_left, setting_said, settings_said, call_said, command_said, end_said, words_said, is_skipped, said, command_of, asked_of, asked_read, Reads, words as words_of};
 
+use crate::error::ScriptError;
 use bytes::Bytes;
 use hex::FromHexError;
-use quic_connection::{Call, Delivery, Injection, Instant, ReadCall, RunEvent, Timer};
+use quic_connection::{Call, CloseCall, Delivery, Injection, Instant, ReadCall, RunEvent, Timer};
 use quic_wire_core::{Dir, EcnCodepoint, Side, StreamId, VarInt};
 use std::alloc::{AllocError, Global};
 use std::str;
@@ -45,10 +47,18 @@ pub enum Setting {
     Bidi(VarInt),
     /// How many one-way streams the peer may have open at a time. It is cut to 2^60.
     Uni(VarInt),
+    /// How many milliseconds the connection may be without a packet: 0 is without end.
+    Idle(VarInt),
     /// How many bytes of messages are kept unread: 0 where the end takes none.
     Messages(usize),
     /// Whether a greater size of datagrams is looked for.
     Search(bool),
+    /// How many packets the end's key may seal.
+    SealLimit(u64),
+    /// How many packets the peer's key may fail to open at the end.
+    OpenLimit(u64),
+    /// Whether the peer's address is validated from the start.
+    Validated(bool),
     /// The random word that the end is given each time.
     Word(u64),
     /// The seed of the generator whose words the end is given.
@@ -60,8 +70,20 @@ pub enum Setting {
 pub enum LineError {
     /// It isn't in the language.
     BadCommand,
-    /// Memory lacked.
+    /// Out of memory: an allocation failed.
     OutOfMemory,
+}
+
+impl LineError {
+    /// How lines end where the one of this number, counted from 1, can't be run for this reason.
+    pub fn at(self, number: u64) -> ScriptError
+        ensures { result ≡ script_error number self }
+    {
+        match self {
+            LineError::BadCommand => ScriptError::BadCommand(number),
+            LineError::OutOfMemory => ScriptError::OutOfMemory,
+        }
+    }
 }
 
 impl From<AllocError> for LineError {
@@ -83,6 +105,10 @@ pub struct LineWords<'a> {
 
 impl<'a> LineWords<'a> {
     /// The next word.
+    ///
+    /// # Errors
+    ///
+    /// - [`LineError::BadCommand`]: no word is left. Nothing changes.
     pub fn next(&mut self) -> Result<&'a str, LineError>
         ensures word { MatchResult result (λ w. words_left self.old.rest ≡ w.now ∷ words_left self.new.rest) (λ e. (e ≡ LineError.BadCommand) × (words_left self.old.rest ≡ [])) }
         ensures rest { words_left self.new.rest ≡ drop 1 (words_left self.old.rest) }
@@ -138,6 +164,10 @@ impl<'a> LineWords<'a> {
     }
 
     /// The moment that the next word names, in nanoseconds.
+    ///
+    /// # Errors
+    ///
+    /// - [`LineError::BadCommand`]: no word is left, or it is no number below 2^64.
     pub fn moment(&mut self) -> Result<Instant, LineError>
         ensures answer { result ≡ ok_or (first number_named (words_left self.old.rest)) LineError.BadCommand }
         ensures rest { words_left self.new.rest ≡ drop 1 (words_left self.old.rest) }
@@ -174,6 +204,11 @@ impl<'a> LineWords<'a> {
     }
 
     /// The bytes that the next word names.
+    ///
+    /// # Errors
+    ///
+    /// - [`LineError::BadCommand`]: no word is left, or it names no bytes.
+    /// - [`LineError::OutOfMemory`]: an allocation fails.
     pub fn bytes(&mut self, alloc: Global) -> Result<Bytes, LineError>
         ensures answer { MatchResult result
             (λ bytes. first bytes_named (words_left self.old.rest) ≡ Some bytes)
@@ -185,6 +220,10 @@ impl<'a> LineWords<'a> {
     }
 
     /// The option that the next word names, and the value behind it.
+    ///
+    /// # Errors
+    ///
+    /// - [`LineError::BadCommand`]: the words name no option and value of it.
     pub fn setting(&mut self) -> Result<Setting, LineError>
         ensures { Reads result (λ setting. setting) (settings_said (words_left self.old.rest)) (words_left self.new.rest) }
     {
@@ -205,6 +244,16 @@ impl<'a> LineWords<'a> {
         })
     }
 
+    fn close_call(&mut self, alloc: Global) -> Result<CloseCall, LineError>
+        ensures { Reads result (λ close. closes close.now close.error_code close.reason) (three closes number_named varint_named bytes_named (words_left self.old.rest)) (words_left self.new.rest) }
+    {
+        Ok(CloseCall {
+            now: self.moment()?,
+            error_code: self.varint()?,
+            reason: self.bytes(alloc)?,
+        })
+    }
+
     fn delivery(&mut self) -> Result<Delivery, LineError>
         ensures { Reads result (λ delivery. delivers delivery.now delivery.ecn delivery.index) (three delivers number_named mark_named number_named (words_left self.old.rest)) (words_left self.new.rest) }
     {
@@ -216,6 +265,11 @@ impl<'a> LineWords<'a> {
     }
 
     /// A moment, a mark and bytes.
+    ///
+    /// # Errors
+    ///
+    /// - [`LineError::BadCommand`]: the words don't name these.
+    /// - [`LineError::OutOfMemory`]: an allocation fails.
     pub fn injection(&mut self, alloc: Global) -> Result<Injection, LineError>
         ensures { Reads result (λ injection. injects injection.now injection.ecn injection.bytes) (three injects number_named mark_named bytes_named (words_left self.old.rest)) (words_left self.new.rest) }
     {
@@ -338,8 +392,12 @@ fn setting_of(name: &str, words: &mut LineWords) -> Result<Setting, LineError>
         "send_window" => Ok(Setting::SendWindow(words.number()?)),
         "bidi" => Ok(Setting::Bidi(words.varint()?)),
         "uni" => Ok(Setting::Uni(words.varint()?)),
+        "idle" => Ok(Setting::Idle(words.varint()?)),
         "messages" => Ok(Setting::Messages(words.index()?)),
         "search" => Ok(Setting::Search(words.switch()?)),
+        "seal_limit" => Ok(Setting::SealLimit(words.number()?)),
+        "open_limit" => Ok(Setting::OpenLimit(words.number()?)),
+        "validated" => Ok(Setting::Validated(words.switch()?)),
         "word" => Ok(Setting::Word(words.number()?)),
         "pcg" => Ok(Setting::Pcg(words.number()?)),
         _ => Err(LineError::BadCommand),
@@ -347,6 +405,11 @@ fn setting_of(name: &str, words: &mut LineWords) -> Result<Setting, LineError>
 }
 
 /// The call that these words name.
+///
+/// # Errors
+///
+/// - [`LineError::BadCommand`]: the words name no call.
+/// - [`LineError::OutOfMemory`]: an allocation fails.
 pub fn call_of(alloc: Global, name: &str, words: &mut LineWords) -> Result<Call, LineError>
     ensures { Reads result asked_of (call_said name.now (words_left words.old.rest)) (words_left words.new.rest) }
 {
@@ -375,6 +438,8 @@ pub fn call_of(alloc: Global, name: &str, words: &mut LineWords) -> Result<Call,
         "send" => Ok(Call::Send(words.bytes(alloc)?, false)),
         "recv" => Ok(Call::Recv),
         "ping" => Ok(Call::Ping),
+        "close" => Ok(Call::Close(words.close_call(alloc)?)),
+        "use_next_id" => Ok(Call::UseNextId),
         "poll" => Ok(Call::Poll(words.moment()?)),
         "timeout" => Ok(Call::Timeout(words.moment()?)),
         "deliver" => Ok(Call::Deliver(words.delivery()?)),
@@ -382,6 +447,7 @@ pub fn call_of(alloc: Global, name: &str, words: &mut LineWords) -> Result<Call,
         "event" => Ok(Call::Event),
         "timer" => Ok(Call::Timer(words.timer()?)),
         "next" => Ok(Call::NextTimeout),
+        "state" => Ok(Call::State),
         _ => Err(LineError::BadCommand),
     }
 }
@@ -442,7 +508,10 @@ pub fn is_skipped(line: &[u8]) -> bool
 
 /// Reads one line, which has no line break.
 ///
-/// `BadCommand`: it isn't in the language. `OutOfMemory`: memory lacked.
+/// # Errors
+///
+/// - [`LineError::BadCommand`]: the line isn't in the language, or is too long.
+/// - [`LineError::OutOfMemory`]: an allocation fails.
 pub fn parse_line(alloc: Global, line: &[u8]) -> Result<Line, LineError>
     ensures too_long { MAX_LINE < length line.now → result ≡ Err LineError.BadCommand }
     ensures skipped { length line.now ≤ MAX_LINE → is_skipped line.now ≡ true → result ≡ Ok Line.Empty }

@@ -4,8 +4,8 @@ ghost use Rattle.quic_run_core.specs.Shown.{opening_at, behind_last, AreNumbers,
 ghost use Rattle.quic_run_core.specs.Opened.{parts_in};
 
 use crate::answer::put_bytes;
-use crate::key::keys_for;
 use quic_connection::Datagram;
+use quic_keys::keys_for;
 use quic_packet::{Opened, open_packet};
 use quic_wire_core::Side;
 use std::alloc::{AllocError, Global};

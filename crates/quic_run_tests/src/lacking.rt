@@ -1,12 +1,11 @@
 //! Calls that take memory and that no script makes by themselves, made again and again where one
 //! allocation fails, or none: one of them lacks memory then, at most, and says so.
-use crate::config::DEFAULTS;
-use crate::ends::{Pair, hello, is_served, new_ends, ran, with_pair};
+use crate::runs::ran;
 use quic_connection::{
-    Answer, Call, Config, ConfigError, FinishError, Instant, NewRenoConfig, ReadableError,
-    Received, RunEvent, TransportConfig, WriteError,
+    Answer, Call, ConfigError, FinishError, Instant, ReadableError, Received, RunEvent,
+    TransportConfig, WriteError,
 };
-use quic_parameters::TransportParameters;
+use quic_pairs::ends::{Pair, hello, is_served, new_ends, with_pair};
 use quic_wire_core::Side;
 use std::alloc::{AllocError, Global};
 use std::process::Abort;
@@ -14,21 +13,6 @@ use std::test::Fail;
 
 /// How often a call is made.
 const TIMES: u8 = 12;
-
-#[test]
-fn parameters(rt: HostRuntime) {
-    let config = Config::new(TransportConfig::default(), NewRenoConfig::default());
-    let mut lacked = false;
-    for _ in 0..TIMES {
-        match config.write_parameters(rt.alloc(), &TransportParameters::ORDER) {
-            Ok(bytes) => assert!(rt; bytes.as_slice() == DEFAULTS.as_slice()),
-            Err(AllocError) => {
-                assert!(rt; !lacked);
-                lacked = true;
-            }
-        }
-    }
-}
 
 /// Why no two ends are made, if they aren't.
 fn refusal(alloc: Global) -> Option<ConfigError> {
@@ -110,9 +94,9 @@ fn are_right(answers: &[Answer], cut_short: bool) -> bool {
 fn a_run(rt: HostRuntime) -> Result<(), Fail> {
     let events = hello(rt.alloc())?;
     for _ in 0..3 {
-        let (answers, cut_short) = ran(rt.alloc(), &events)?;
-        assert!(rt; are_right(&answers, cut_short));
-        assert!(rt; cut_short != (answers.len() == 7));
+        let ran = ran(rt.alloc(), &events)?;
+        assert!(rt; are_right(&ran.answers, ran.cut_short));
+        assert!(rt; ran.cut_short != (ran.answers.len() == 7));
     }
     Ok(())
 }

@@ -4,7 +4,6 @@ use Rattle.quic_sets.specs.Runs.{Run, Has, AreRuns}
 use Rattle.quic_wire_core.specs.Varint.{varint_size}
 use Rattle.quic_sets.specs.Offsets.{has, has_any, first_or, first_lacking, with_offsets, without_offsets, with_all, lacking}
 use Rattle.quic_sets.specs.Parts.{byte_from}
-use Rattle.quic_send_buffer.specs.declared.send_buffer.TheConstants.{LENGTH_ROOM}
 
 -- the offset of the first byte that is kept, and the bytes from there on; the lengths of the pieces
 -- that they came in, one for each write; the first offset that was never sent; and the offsets that
@@ -39,6 +38,7 @@ kept_byte b o = byte_from b.base b.kept o
 
 -- ---- where an offset is
 
+-- it was sent, and the peer acknowledged it
 abbrev pub is_acknowledged : Buffered → ℕ → Bool
 is_acknowledged b o = has b.acked o
 
@@ -185,9 +185,9 @@ room_behind most offset = most - offset_width offset
 abbrev pub needs_length : ℕ → ℕ → Bool
 needs_length left room = ltb left room
 
--- how many bytes go: LENGTH_ROOM bytes of the room are for a length that is written
+-- how many bytes go: eight bytes of the room are for a length that is written
 abbrev pub sent_count : ℕ → ℕ → ℕ
-sent_count left room = min left (cond (needs_length left room) (room - LENGTH_ROOM) room)
+sent_count left room = min left (cond (needs_length left room) (room - 8) room)
 
 -- what goes next: the least lost run, or else all that was never sent
 abbrev pub next_range : Buffered → Run

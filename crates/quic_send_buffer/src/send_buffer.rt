@@ -75,7 +75,7 @@ impl SendBuffer {
     ///
     /// # Errors
     ///
-    /// [`AllocError`] where memory lacks; nothing has changed.
+    /// - [`AllocError`]: an allocation fails, where there are bytes. Nothing changes.
     pub fn write(&mut self, bytes: &[u8]) -> Result<(), AllocError>
         requires { written self.old + length bytes.now < 2 ^ 62 }
         ensures ok { OnOk result (self.new ≡ after_write self.old bytes.now) }
@@ -92,7 +92,7 @@ impl SendBuffer {
     ///
     /// # Errors
     ///
-    /// [`AllocError`] where memory lacks; nothing has changed.
+    /// - [`AllocError`]: an allocation fails, where `len` isn't 0. Nothing changes.
     pub fn write_all(&mut self, chunks: &[Bytes], len: usize) -> Result<(), AllocError>
         requires { written self.old + len < 2 ^ 62 }
         ensures ok { OnOk result (self.new ≡ after_writes self.old (cut_to len chunks.now)) }
@@ -149,8 +149,8 @@ impl SendBuffer {
     ///
     /// # Errors
     ///
-    /// [`AllocError`] where memory lacks, and some offset of the range was sent and isn't
-    /// acknowledged; nothing has changed.
+    /// - [`AllocError`]: an allocation fails, where some offset of the range was sent and isn't
+    ///   acknowledged. Nothing changes.
     pub fn ack(&mut self, range: Range<u64>) -> Result<(), AllocError>
         ensures ok { OnOk result (self.new ≡ after_ack self.old range.start range.end) }
         ensures err { OnErr result (self.new ≡ self.old) }
@@ -169,8 +169,8 @@ impl SendBuffer {
     ///
     /// # Errors
     ///
-    /// [`AllocError`] where memory lacks, and some offset of the range is in flight; nothing has
-    /// changed.
+    /// - [`AllocError`]: an allocation fails, where some offset of the range is in flight. Nothing
+    ///   changes.
     pub fn retransmit(&mut self, range: Range<u64>) -> Result<(), AllocError>
         ensures ok { OnOk result (self.new ≡ after_loss self.old range.start range.end) }
         ensures err { OnErr result (self.new ≡ self.old) }

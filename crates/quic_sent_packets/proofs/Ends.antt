@@ -1,4 +1,5 @@
--- The first packet from a number on, and the last of a range, where some packets come before others.
+-- The first packet from a number on, and the last of a range, where some packets come before
+-- others.
 use Rattle.std.proofs.Common.{◌≡◌, ℕ, ◌+◌, ◌≤◌, nat_le, List, [], ◌∷◌, ◌++◌, length, Option, Some, None, refl, ap, ◌∙◌, append-nil, arith}
 use Rattle.std.specs.Option.{option_map}
 use Rattle.std.proofs.lemmas.List.Elements.{filter-append}

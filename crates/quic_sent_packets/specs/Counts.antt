@@ -1,4 +1,5 @@
--- How many packets ask for an acknowledgement, and how many count against the congestion window (RFC 9002, section 2).
+-- How many packets ask for an acknowledgement, and how many count against the congestion window
+-- (RFC 9002, section 2).
 use Rattle.std.specs.Prelude.{◌≡◌, ℕ, Bool, nat_lt, cond, Option}
 use Rattle.std.specs.Option.{unwrap_or, option_map}
 use Rattle.std.specs.List.{count_by}

@@ -1,4 +1,5 @@
--- Packets that were sent and are neither acknowledged nor lost, by number (RFC 9002, sections 2 and A.1.1).
+-- Packets that were sent and are neither acknowledged nor lost, by number (RFC 9002, sections 2 and
+-- A.1.1).
 use Rattle.std.specs.Prelude.{ℕ, Bool, ◌&&◌, nat_lt, nat_le, List, [], ◌∷◌, filter, Option, Some, None}
 use Rattle.std.specs.List.{list_any}
 use Rattle.std.specs.List.Sorted.{IsStrictlySortedBy}
@@ -8,15 +9,17 @@ use Rattle.quic_send_buffer.specs.declared.stream_meta.StreamMeta.{StreamMeta}
 use Rattle.quic_streams_parts.specs.Table.{Table}
 use Rattle.quic_retransmits.specs.Retransmits.{Retransmits, nothing_waits}
 
--- what a packet carried: the greatest number that its ACK frame named, if it had one, the offsets and ends of its STREAM frames, and what has to be sent
--- again besides if it is lost (RFC 9000, section 13.3)
+-- what a packet carried: the greatest number that its ACK frame named, if it had one, the offsets
+-- and ends of its STREAM frames, and what has to be sent again besides if it is lost (RFC 9000,
+-- section 13.3)
 pub record Carried : Type 0 where
   pub largest_acked : Option ℕ
   pub stream_frames : List StreamMeta
   pub retransmits : Retransmits
 
--- a packet that was sent: the path generation, when it went, its size in bytes where it counts against the congestion window, else 0, whether it asks for
--- an acknowledgement (is ack-eliciting), and what it carried
+-- a packet that was sent: the path generation, when it went, its size in bytes where it counts
+-- against the congestion window, else 0, whether it asks for an acknowledgement (is ack-eliciting),
+-- and what it carried
 pub record TrackedPacket : Type 0 where
   pub generation : ℕ
   pub time_sent : ℕ
@@ -47,10 +50,12 @@ abbrev pub oldest : Table TrackedPacket → Option (ℕ × TrackedPacket)
 oldest [] = None
 oldest (p ∷ ps) = Some p
 
+-- the last of some packets, of which this one stands before these
 abbrev pub newest_behind : ℕ × TrackedPacket → Table TrackedPacket → ℕ × TrackedPacket
 newest_behind p [] = p
 newest_behind p (q ∷ qs) = newest_behind q qs
 
+-- the last of some packets, if there is one
 abbrev pub newest : Table TrackedPacket → Option (ℕ × TrackedPacket)
 newest [] = None
 newest (p ∷ ps) = Some (newest_behind p ps)

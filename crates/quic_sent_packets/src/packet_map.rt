@@ -72,7 +72,7 @@ impl PacketMap {
     ///
     /// # Errors
     ///
-    /// [`AllocError`] where memory lacks; nothing changes.
+    /// - [`AllocError`]: an allocation fails. Nothing changes.
     pub(crate) fn insert(
         &mut self,
         number: u64,

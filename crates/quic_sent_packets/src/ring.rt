@@ -140,7 +140,7 @@ impl Ring {
     ///
     /// # Errors
     ///
-    /// [`AllocError`] where memory lacks; no packet changes.
+    /// - [`AllocError`]: an allocation fails. No packet changes.
     pub(crate) fn insert(
         &mut self,
         number: u64,
@@ -212,7 +212,7 @@ impl Ring {
     ///
     /// # Errors
     ///
-    /// [`AllocError`] where memory lacks. Some may have moved, and none is lost.
+    /// - [`AllocError`]: an allocation fails. Some may have moved, and none is lost.
     pub(crate) fn reach(
         &mut self,
         number: u64,
@@ -236,7 +236,7 @@ impl Ring {
     ///
     /// # Errors
     ///
-    /// [`AllocError`] where memory lacks; nothing changes.
+    /// - [`AllocError`]: an allocation fails. Nothing changes.
     fn retire(&mut self, earlier: &mut BTreeMap<u64, SentPacket>) -> Result<(), AllocError>
         requires some { 0 < length self.old.places }
         requires next { self.old.base + 1 < 2 ^ 64 }

@@ -47,7 +47,7 @@ impl SentPackets {
     ///
     /// # Errors
     ///
-    /// [`AllocError`] where memory lacks; nothing changes.
+    /// - [`AllocError`]: an allocation fails. Nothing changes.
     pub fn insert(
         &mut self,
         number: u64,

@@ -23,6 +23,10 @@ pub fn next_part(parts: &BTreeMap<u64, Bytes>, at: u64) -> Option<(u64, &Bytes)>
 }
 
 /// Keeps a part that ends at `end`.
+///
+/// # Errors
+///
+/// - [`AllocError`]: an allocation fails. Nothing changes.
 pub fn keep(parts: &mut BTreeMap<u64, Bytes>, end: u64, part: Bytes) -> Result<(), AllocError>
     ensures ok { OnOk result (parts.new.entries ≡ insert_entry nat_cmp parts.old.entries end part) }
     ensures err { OnErr result (parts.new.entries ≡ parts.old.entries) }

@@ -406,8 +406,8 @@ impl OffsetSet {
     ///
     /// # Errors
     ///
-    /// [`AllocError`] where memory lacks, and some offset of the range isn't in the set or is in
-    /// the other; both sets stay.
+    /// - [`AllocError`]: an allocation fails, where some offset of the range isn't in the set or is
+    ///   in the other. Neither set changes.
     pub fn insert_from(&mut self, x: Range<u64>, other: &mut OffsetSet) -> Result<(), AllocError>
         requires { x.end < 2 ^ 62 }
         ensures ok { OnOk result (Adds self.old self.new x.start x.end) }
@@ -428,8 +428,8 @@ impl OffsetSet {
     ///
     /// # Errors
     ///
-    /// [`AllocError`] where memory lacks, and some offset of the range is in neither set; the set
-    /// stays.
+    /// - [`AllocError`]: an allocation fails, where some offset of the range is in neither set.
+    ///   Nothing changes.
     pub fn insert_lacking(&mut self, x: Range<u64>, other: &OffsetSet) -> Result<(), AllocError>
         requires { x.end < 2 ^ 62 }
         ensures ok { OnOk result (AddsLacking self.old other.now self.new x.start x.end) }
@@ -446,8 +446,8 @@ impl OffsetSet {
     ///
     /// # Errors
     ///
-    /// [`AllocError`] where memory lacks, and some offset of the range isn't in the set; the set
-    /// stays.
+    /// - [`AllocError`]: an allocation fails, where some offset of the range isn't in the set.
+    ///   Nothing changes.
     pub fn insert(&mut self, x: Range<u64>) -> Result<(), AllocError>
         requires { x.end < 2 ^ 62 }
         ensures ok { OnOk result (Adds self.old self.new x.start x.end) }

@@ -91,8 +91,8 @@ impl PrefixSet {
     ///
     /// # Errors
     ///
-    /// [`AllocError`] where memory lacks, and some offset of the range isn't in the set; the set
-    /// stays.
+    /// - [`AllocError`]: an allocation fails, where some offset of the range isn't in the set.
+    ///   Nothing changes.
     pub fn insert(&mut self, x: Range<u64>) -> Result<(), AllocError>
         requires { x.end < 2 ^ 62 }
         ensures ok { OnOk result (Adds self.old self.new x.start x.end) }
@@ -115,8 +115,8 @@ impl PrefixSet {
     ///
     /// # Errors
     ///
-    /// [`AllocError`] where memory lacks, and some offset of the range isn't in the set or is in
-    /// the other; both sets stay.
+    /// - [`AllocError`]: an allocation fails, where some offset of the range isn't in the set or is
+    ///   in the other. Neither set changes.
     pub fn insert_from(&mut self, x: Range<u64>, other: &mut OffsetSet) -> Result<(), AllocError>
         requires { x.end < 2 ^ 62 }
         ensures ok { OnOk result (Adds self.old self.new x.start x.end) }
@@ -142,8 +142,8 @@ impl PrefixSet {
     ///
     /// # Errors
     ///
-    /// [`AllocError`] where memory lacks, and some offset of the range is in neither set; the other
-    /// stays.
+    /// - [`AllocError`]: an allocation fails, where some offset of the range is in neither set.
+    ///   Neither set changes.
     pub fn insert_lacking_into(&self, x: Range<u64>, set: &mut OffsetSet) -> Result<(), AllocError>
         requires { x.end < 2 ^ 62 }
         ensures ok { OnOk result (AddsLacking set.old self.now set.new x.start x.end) }

@@ -75,8 +75,8 @@ impl RangeSet {
     ///
     /// # Errors
     ///
-    /// [`AllocError`] where the numbers are a run of their own, which no run of the set meets or
-    /// touches, and memory lacks; the set stays.
+    /// - [`AllocError`]: an allocation fails, where the range meets and touches no run of the set.
+    ///   Nothing changes.
     pub fn insert(&mut self, x: Range<u64>) -> Result<bool, AllocError>
         ensures ok { OnOk result (Adds self.old self.new x.start x.end) }
         ensures runs { AreRuns self.new }
@@ -91,7 +91,8 @@ impl RangeSet {
     ///
     /// # Errors
     ///
-    /// [`AllocError`] where the number is a run of its own and memory lacks; the set stays.
+    /// - [`AllocError`]: an allocation fails, where the number lies in no run of the set and
+    ///   touches none. Nothing changes.
     pub fn insert_one(&mut self, x: u64) -> Result<bool, AllocError>
         requires { x < u64.MAX }
         ensures ok { OnOk result (Adds self.old self.new x (x + 1)) }
@@ -108,8 +109,8 @@ impl RangeSet {
     ///
     /// # Errors
     ///
-    /// [`AllocError`] where a run goes on at both ends of the range, so that it comes to be two,
-    /// and memory lacks; the set stays.
+    /// - [`AllocError`]: an allocation fails, where a run goes on at both ends of the range, so
+    ///   that it is split. Nothing changes.
     pub fn remove(&mut self, x: Range<u64>) -> Result<bool, AllocError>
         ensures ok { OnOk result (Drops self.old self.new x.start x.end) }
         ensures runs { AreRuns self.new }
@@ -124,8 +125,8 @@ impl RangeSet {
     ///
     /// # Errors
     ///
-    /// [`AllocError`] where the other set isn't empty and there is no memory for as many runs more
-    /// as it has; the set stays.
+    /// - [`AllocError`]: an allocation fails, of room for as many more runs as the other set has,
+    ///   unless that is empty. Nothing changes.
     pub fn subtract(&mut self, other: &RangeSet) -> Result<(), AllocError>
         ensures ok { OnOk result (IsDifference self.old other.now self.new) }
         ensures runs { AreRuns self.new }
@@ -139,8 +140,8 @@ impl RangeSet {
     ///
     /// # Errors
     ///
-    /// [`AllocError`] where the other set isn't empty and there is no memory for as many runs more
-    /// as it has; the set stays.
+    /// - [`AllocError`]: an allocation fails, of room for as many more runs as the other set has,
+    ///   unless that is empty. Nothing changes.
     pub fn add(&mut self, other: &RangeSet) -> Result<(), AllocError>
         ensures ok { OnOk result (IsUnion self.old other.now self.new) }
         ensures runs { AreRuns self.new }
@@ -188,7 +189,7 @@ impl RangeSet {
     ///
     /// # Errors
     ///
-    /// [`AllocError`] where memory lacks for it.
+    /// - [`AllocError`]: an allocation fails. Nothing changes.
     pub fn try_clone(&self) -> Result<Self, AllocError>
         ensures { IfOk result (λ copy. copy ≡ self.now) }
     {

@@ -100,7 +100,7 @@ fn add_run(spans: &mut BTreeMap<u64, u64>, start: u64, end: u64) -> Result<(), A
 ///
 /// # Errors
 ///
-/// [`AllocError`] where memory lacks; nothing changed.
+/// - [`AllocError`]: an allocation fails, where `len` isn't 0. Nothing changes.
 pub fn add(spans: &mut BTreeMap<u64, u64>, at: u64, len: u64) -> Result<(), AllocError>
     requires small { at + len < 2 ^ 62 }
     requires spans { AreSpans 0 spans.old.entries }

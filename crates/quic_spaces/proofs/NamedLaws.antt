@@ -43,8 +43,8 @@ none_pass test m (x ∷ es) fails above = rw (fails x.0 (less m x.0 above.0)) (n
 
 -- ---- the greatest number of a range is taken out
 
--- what stays and what is found, where the last packet that passes a test is taken out: a test that says the same of what lies below it, and holds of nothing
--- above it, does as well then
+-- what stays and what is found, where the last packet that passes a test is taken out: a test that
+-- says the same of what lies below it, and holds of nothing above it, does as well then
 record TakesLast (test less : ℕ → Bool) (es rest : Table TrackedPacket) (n : ℕ) (v : TrackedPacket) : Type 0 where
   pub found : at es n ≡ Some v
   pub holds : test n ≡ true
@@ -91,7 +91,8 @@ module _ (test less : ℕ → Bool) (n : ℕ) (v : TrackedPacket) (same : test n
           let also : less x.0 ≡ false = same t.holds x.0 l ∙ is in
           record { found = rw (apart l) t.found; holds = t.holds; passes = rw (apart l, also) t.passes; others = rw (apart l, is, also) (ap (λ z. x ∷ z) t.others) }
 
--- whether a number below another lies within, where the other does, and no greater one up to the number below it
+-- whether a number below another lies within, where the other does, and no greater one up to the
+-- number below it
 below_within : (low high n : ℕ) → is_within low high n ≡ true → (k : ℕ) → k < n → is_within low (n - 1) k ≡ is_within low high k
 below_within low high n holds k l =
     let top : n ≤ high = leb-true n high (and_parts (nat_le low n) (nat_le n high) holds).1 in

@@ -5,7 +5,8 @@ use Rattle.quic_spaces.specs.PersistentSteps.{Watch, no_losses, follows, kept_if
 
 -- ---- what the lost packets show, from the first on
 
--- behind a number, each follows the one before, up to one that asks and went more than the period after a moment
+-- behind a number, each follows the one before, up to one that asks and went more than the period
+-- after a moment
 abbrev pub Far : ℕ → ℕ → ℕ → List Loss → Type 0
 Far period n t [] = ⊥
 Far period n t (m ∷ ms) = (m.number ≡ n + 1) × (((m.asks ≡ true) × (t + period < m.time_sent)) ⊎ Far period m.number t ms)

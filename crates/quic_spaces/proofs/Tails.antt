@@ -314,7 +314,8 @@ goes t p o up is = go (forgets t p) refl
 
 -- ---- what is asked of the tail
 
--- the packets from its start on are the tail, where that start has 64 bits, and so are those from a number on below which it has none
+-- the packets from its start on are the tail, where that start has 64 bits, and so are those from a
+-- number on below which it has none
 tail_from : (greatest : Option ℕ) (low : ℕ) (es : Packets) → ((g : ℕ) → greatest ≡ Some g → g + 1 < 2 ^ 64) → HoldsOfAll (IsBehindFrom greatest low) es → from (max (tail_start greatest) low) es ≡ tail greatest es
 tail_from greatest low [] small holds = refl
 tail_from greatest low (x ∷ es) small holds = rw (same greatest small (All-head (λ (p : Numbered). IsBehindFrom greatest low p.0) x es holds), tail_from greatest low es small (All-tail (λ (p : Numbered). IsBehindFrom greatest low p.0) x es holds)) refl
@@ -440,7 +441,8 @@ silent_sent t n p after silent left =
     ap (λ (es : Packets). record t { packets = es }) left
     ∙ ap (λ (b : Bool). asking_sent b n p.time_sent (record t { packets = added (without_packet (forgotten t p) t.packets) n p })) (sym silent)
 
--- where the oldest of the tail is forgotten, if one is, the tail has none below it, nor below a lesser number
+-- where the oldest of the tail is forgotten, if one is, the tail has none below it, nor below a
+-- lesser number
 pub forgetting_holds : (t : Tracking) (p : TrackedPacket) (o : Option ℕ) (low m : ℕ) → Ascends t.packets → o ≡ option_map (λ p. p.0) (forgotten t p) → m ≤ unwrap_or o low
     → HoldsOfAll (IsBehindFrom t.greatest_asking low) t.packets → HoldsOfAll (IsBehindFrom t.greatest_asking m) t.packets
 forgetting_holds t p None low m up is le holds = holds_map (IsBehindFrom t.greatest_asking low) (IsBehindFrom t.greatest_asking m) (λ n h passes. let l : low ≤ n = h passes in omega (arith, l, le)) t.packets holds

@@ -17,7 +17,8 @@ ack_due moment = min (moment + max_ack_delay) (2 ^ 64 - 1)
 abbrev pub with_due : Bool → Pending → Pending
 with_due due p = record p { due = p.due || due }
 
--- so many nanoseconds as an ACK frame says them: whole microseconds, less their last three bits (RFC 9000, sections 18.2 and 19.3)
+-- so many nanoseconds as an ACK frame says them: whole microseconds, less their last three bits
+-- (RFC 9000, sections 18.2 and 19.3)
 abbrev pub written_delay : ℕ → ℕ
 written_delay nanos = min (nanos / 1000 / 8) (2 ^ 62 - 1)
 
@@ -29,6 +30,7 @@ delay_at p now = written_delay (delay_of p.newest now)
 abbrev pub ack_at : Pending → ℕ → Option Counts → AckValue
 ack_at p now counts = ack_of_set (delay_at p now) p.runs counts
 
--- the most bytes of an ACK frame with 64 ranges: its type, four numbers, two for each further range, and three counts
+-- the most bytes of an ACK frame with 64 ranges: its type, four numbers, two for each further
+-- range, and three counts
 abbrev pub most_ack_bytes : ℕ
 most_ack_bytes = 1065

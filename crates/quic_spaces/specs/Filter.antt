@@ -1,8 +1,9 @@
--- Which packet numbers are left out, so that a peer that acknowledges what it never got gives itself away (RFC 9000, section 21.4).
+-- Which packet numbers are left out, so that a peer that acknowledges what it never got gives
+-- itself away (RFC 9000, section 21.4).
 use Rattle.std.specs.Prelude.{ℕ, ◌+◌, ◌%◌, ◌^◌, min, Bool, false, ◌==◌, ◌&&◌, nat_le, if◌then◌else◌, Option, Some, None}
 
--- the next number to be left out, the one that was left out last, and how far apart they may lie: the next but one is at least two to this power; and how many
--- words of the random source said so
+-- the next number to be left out, the one that was left out last, and how far apart they may lie:
+-- the next but one is at least two to this power; and how many words of the random source said so
 pub record Filter : Type 0 where
   pub next : ℕ
   pub last : Option ℕ
@@ -13,6 +14,7 @@ pub record Filter : Type 0 where
 abbrev pub first_exponent : ℕ
 first_exponent = 6
 
+-- the power at most: packet numbers lie below 2^62
 abbrev pub most_exponent : ℕ
 most_exponent = 62
 

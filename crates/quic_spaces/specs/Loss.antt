@@ -7,19 +7,22 @@ use Rattle.quic_spaces.specs.Tracking.{TrackedPacket, Tracking, asks_any}
 
 -- ---- how late a packet may be
 
--- how long after it was sent a packet counts as lost once a later one is acknowledged: this part of the greater of the estimate and the latest round trip,
--- and no less than the granularity of clocks (section 6.1.2)
+-- how long after it was sent a packet counts as lost once a later one is acknowledged: this part of
+-- the greater of the estimate and the latest round trip, and no less than the granularity of clocks
+-- (section 6.1.2)
 abbrev pub loss_delay : ℕ × ℕ → Rtt → ℕ
 loss_delay part rtt = saturated (max (part.0 * conservative_rtt rtt / part.1) granularity)
 
--- the moment at or before which what was sent counts as lost: so long before now, if there is such a moment
+-- the moment at or before which what was sent counts as lost: so long before now, if there is such
+-- a moment
 abbrev pub lost_before : ℕ → ℕ → Option ℕ
 lost_before delay now = if nat_le delay now then Some (now - delay) else None
 
 -- ---- a verdict
 
--- the greatest number that was acknowledged, how far below it a packet is lost (section 6.1.1), the moment up to which what was sent is lost, if there is
--- one, and how long after it was sent a packet is
+-- the greatest number that was acknowledged, how far below it a packet is lost (section 6.1.1), the
+-- moment up to which what was sent is lost, if there is one, and how long after it was sent a
+-- packet is
 pub record Verdict : Type 0 where
   pub greatest : ℕ
   pub threshold : ℕ
@@ -35,7 +38,8 @@ abbrev pub is_by : Option ℕ → ℕ → Bool
 is_by None moment = false
 is_by (Some last) moment = nat_le moment last
 
--- whether a tracked packet is lost: it lies below the greatest acknowledged, and so far below, or it went so long ago
+-- whether a tracked packet is lost: it lies below the greatest acknowledged, and so far below, or
+-- it went so long ago
 abbrev pub is_lost : Verdict → ℕ × TrackedPacket → Bool
 is_lost v p = nat_lt p.0 v.greatest && (nat_le (p.0 + v.threshold) v.greatest || is_by v.before p.1.time_sent)
 
@@ -43,6 +47,7 @@ is_lost v p = nat_lt p.0 v.greatest && (nat_le (p.0 + v.threshold) v.greatest ||
 abbrev pub lost_by : Verdict → Table TrackedPacket → Table TrackedPacket
 lost_by v packets = filter (is_lost v) packets
 
+-- the packets that aren't lost, ascending
 abbrev pub kept_by : Verdict → Table TrackedPacket → Table TrackedPacket
 kept_by v packets = filter (λ p. not (is_lost v p)) packets
 
@@ -51,6 +56,7 @@ abbrev pub lesser : ℕ → Option ℕ → ℕ
 lesser n None = n
 lesser n (Some k) = min n k
 
+-- the least of some numbers, None where there is none
 abbrev pub least_of : List ℕ → Option ℕ
 least_of [] = None
 least_of (n ∷ ns) = Some (lesser n (least_of ns))

@@ -1,4 +1,5 @@
--- The marks of congestion (RFC 9000, section 13.4). Counts are how many packets came with ECT(0), with ECT(1) and with CE.
+-- The marks of congestion (RFC 9000, section 13.4). Counts are how many packets came with ECT(0),
+-- with ECT(1) and with CE.
 use Rattle.std.specs.Prelude.{ℕ, ◌+◌, ◌-◌, Bool, true, false, not, ◌==◌, ◌&&◌, ◌||◌, nat_lt, if◌then◌else◌, Option, Some, None, Result, Ok, Err}
 use Rattle.quic_wire_core.specs.declared.shared.EcnCodepoint.{EcnCodepoint}
 use Rattle.quic_wire_core.specs.declared.shared.EcnCodepoint.TheVariants.{Ect0, Ect1, Ce}
@@ -34,8 +35,9 @@ is_congested (Some Ce) = true
 
 -- ---- marks that the peer counted (section 13.4.2.1)
 
--- what is wrong with counts that came with so many packets newly acknowledged, if anything is: one fell, ECT(0), ECT(1) or CE; they grew by less than the
--- packets; those of ECT(0) and CE did, or that of ECT(1) grew, with which nothing is marked
+-- what is wrong with counts that came with so many packets newly acknowledged, if anything is: one
+-- fell, ECT(0), ECT(1) or CE; they grew by less than the packets; those of ECT(0) and CE did, or
+-- that of ECT(1) grew, with which nothing is marked
 abbrev pub marks_refused : ℕ → Counts → Counts → Option EcnError
 marks_refused newly last counts =
     if nat_lt counts.0 last.0 then Some errors.Ect0Regression

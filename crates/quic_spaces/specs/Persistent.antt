@@ -1,4 +1,5 @@
--- Persistent congestion: two packets that ask are lost, far apart in time, and so is each between them (RFC 9002, section 7.6).
+-- Persistent congestion: two packets that ask are lost, far apart in time, and so is each between
+-- them (RFC 9002, section 7.6).
 use Rattle.std.specs.Prelude.{ℕ, ◌+◌, ◌≡◌, ◌<◌, Bool, true, List, [], ◌∷◌, ◌++◌, Option, Some, None}
 
 -- a lost packet: its number, when it went, and whether it asks for an acknowledgement
@@ -18,8 +19,8 @@ abbrev pub IsSampled : Option ℕ → ℕ → Type 0
 IsSampled None number = ⊥
 IsSampled (Some first) number = first < number
 
--- Among what is lost at once, ascending by number, two packets that ask went more than the period apart, none between them is missing, and a round trip was
--- measured before the first of them went.
+-- Among what is lost at once, ascending by number, two packets that ask went more than the period
+-- apart, none between them is missing, and a round trip was measured before the first of them went.
 pub record IsPersistent (period : ℕ) (sampled : Option ℕ) (lost : List Loss) : Type 0 where
   pub front : List Loss
   pub first : Loss

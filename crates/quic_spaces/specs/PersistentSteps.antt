@@ -1,9 +1,11 @@
--- What is kept of lost packets, one after another, to tell persistent congestion (RFC 9002, section 7.6).
+-- What is kept of lost packets, one after another, to tell persistent congestion (RFC 9002, section
+-- 7.6).
 use Rattle.std.specs.Prelude.{◌≡◌, ℕ, ◌+◌, min, Bool, true, false, nat_lt, ◌==◌, ◌&&◌, ◌||◌, ◌↔◌, List, fold, Option, Some, None}
 use Rattle.quic_spaces.specs.Persistent.{Loss, IsPersistent}
 
--- the period, the first number that was sent after a round trip was measured, the number lost last, when the earliest went of those that ask, lie above that
--- number and are lost with each up to the last, and whether two lie more than the period apart
+-- the period, the first number that was sent after a round trip was measured, the number lost last,
+-- when the earliest went of those that ask, lie above that number and are lost with each up to the
+-- last, and whether two lie more than the period apart
 pub record Watch : Type 0 where
   pub period : ℕ
   pub sampled : Option ℕ

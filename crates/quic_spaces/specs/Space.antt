@@ -1,4 +1,5 @@
--- A packet number space of an end (RFC 9000, section 12.3; RFC 9002, section A.1): what it gave and opened, what it has to acknowledge, and what it waits for.
+-- A packet number space of an end (RFC 9000, section 12.3; RFC 9002, section A.1): what it gave and
+-- opened, what it has to acknowledge, and what it waits for.
 use Rattle.std.specs.Prelude.{ℕ, Bool, true, false, not, nat_lt, ◌||◌, Option, Some, None}
 use Rattle.std.proofs.Common.{lit<}
 use Rattle.quic_wire.specs.declared.frame.ack.EcnCounts.{EcnCounts}
@@ -39,7 +40,8 @@ pub record Probed : Type 0 where
   pub space : PacketSpace
   pub pending : Retransmits
 
--- a record moves from its packet, which stays tracked, to what waits; where there is none, PING waits, unless IMMEDIATE_ACK does
+-- a record moves from its packet, which stays tracked, to what waits; where there is none, PING
+-- waits, unless IMMEDIATE_ACK does
 abbrev pub record_moved : Option (ℕ × TrackedPacket) → PacketSpace → Retransmits → Probed
 record_moved None s pending = record { space = record s { ping_pending = s.ping_pending || not s.immediate_ack_pending }; pending = pending }
 record_moved (Some p) s pending = record {

@@ -5,9 +5,10 @@ use Rattle.quic_wire.specs.Value.{AckValue}
 use Rattle.quic_streams_parts.specs.Table.{Table, added, without}
 pub use Rattle.quic_sent_packets.specs.Packets.{Carried, TrackedPacket, asks_any, has_in_flight, oldest, without_record}
 
--- the packets that were sent and are neither acknowledged, lost nor forgotten, by number; the greatest number that was sent and asks; when the last that
--- asks went (or the space was made); when one that lies below the greatest acknowledged counts as lost by time, if one may; how often the loss timer
--- expired since an acknowledgement came; and how many probes wait
+-- the packets that were sent and are neither acknowledged, lost nor forgotten, by number; the
+-- greatest number that was sent and asks; when the last that asks went (or the space was made);
+-- when one that lies below the greatest acknowledged counts as lost by time, if one may; how often
+-- the loss timer expired since an acknowledgement came; and how many probes wait
 pub record Tracking : Type 0 where
   pub packets : Table TrackedPacket
   pub greatest_asking : Option ℕ
@@ -65,7 +66,8 @@ after_sent t number p = asking_sent p.asks number p.time_sent (record t { packet
 abbrev pub counted : ℕ → ℕ → ℕ
 counted n more = min (n + more) (2 ^ 64 - 1)
 
--- the loss timer expired, and no packet was to be judged by time: two probes wait (RFC 9002, section 6.2.4)
+-- the loss timer expired, and no packet was to be judged by time: two probes wait (RFC 9002,
+-- section 6.2.4)
 abbrev pub after_loss_timeout : Tracking → Tracking
 after_loss_timeout t = record t { timeouts = counted t.timeouts 1; probes = counted t.probes 2 }
 

@@ -67,7 +67,7 @@ impl Acknowledging {
     ///
     /// # Errors
     ///
-    /// [`AllocError`] where memory lacks; nothing changes.
+    /// - [`AllocError`]: an allocation fails. Nothing changes.
     pub fn take(
         &mut self,
         number: u64,

@@ -103,7 +103,8 @@ impl PacketNumberFilter {
     ///
     /// # Errors
     ///
-    /// PROTOCOL_VIOLATION where the range has that number (RFC 9000, section 21.4).
+    /// - [`TransportError`] of PROTOCOL_VIOLATION: the range has that number (RFC 9000, section
+    ///   21.4).
     pub fn check_ack(&self, range: RangeInclusive<u64>) -> Result<(), TransportError>
         ensures ok { names_skipped self.now.last (range_inclusive_start range) (range_inclusive_end range) ≡ false → IsOk result }
         ensures err { names_skipped self.now.last (range_inclusive_start range) (range_inclusive_end range) ≡ true → IsErrOf result (plain_error protocol_violation) }

@@ -3,7 +3,7 @@
 ghost use Rattle.std.specs.Prelude.{◌≡◌, ◌-◌, ◌<◌, ◌≤◌, ◌^◌, if◌then◌else◌};
 ghost use Rattle.quic_packet.specs.Number.{truncated};
 ghost use Rattle.quic_recovery_core.specs.Duplicates.{is_duplicate};
-ghost use Rattle.quic_spaces.specs.Numbers.{no_numbers, expected, cut_against, can_number, number_given, number_opened, number_taken, number_named};
+ghost use Rattle.quic_spaces.specs.Numbers.{no_numbers, expected, cut_against, can_number, may_give, number_given, number_opened, number_taken, number_named};
 
 use quic_packet::PacketNumber;
 use quic_recovery_core::Dedup;
@@ -12,13 +12,16 @@ use std::marker::Model;
 /// How many numbers are kept for closes.
 const KEPT_NUMBERS: u64 = 16;
 
-/// The next number to give, the greatest that the peer named, the numbers opened, and the greatest
-/// whose whole payload was taken.
+/// The next number to give, how many were given, the greatest that the peer named, the numbers
+/// opened and the last of them, and the greatest whose whole payload was taken.
 #[derive(Drop)]
 pub struct Numbers {
     next: u64,
+    // How many were given: those that are left out aren't.
+    sealed: u64,
     largest_acked: Option<u64>,
     dedup: Dedup,
+    last_opened: u64,
     largest_taken: Option<u64>,
 }
 
@@ -28,10 +31,10 @@ impl Model for Numbers {
 
     ghost Value = { words.Numbers };
 
-    ghost view = { λ n. record { next = n.next; largest_acked = n.largest_acked; opened = n.dedup; taken = n.largest_taken } };
+    ghost view = { λ n. record { next = n.next; sealed = n.sealed; largest_acked = n.largest_acked; opened = n.dedup; present = n.last_opened; taken = n.largest_taken } };
 
-    // All numbers lie below 2^62, and the peer named none that wasn't given.
-    ghost invariant = { λ n. (n.next ≤ 2 ^ 62) × IfSome n.largest_acked (λ a. a < n.next) × IfSome n.largest_taken (λ t. t < 2 ^ 62) };
+    // All numbers lie below 2^62, no more were given, and the peer named none that wasn't given.
+    ghost invariant = { λ n. (n.next ≤ 2 ^ 62) × (n.sealed ≤ n.next) × IfSome n.largest_acked (λ a. a < n.next) × IfSome n.largest_taken (λ t. t < 2 ^ 62) };
 }
 
 impl Numbers {
@@ -41,8 +44,10 @@ impl Numbers {
     {
         Numbers {
             next: 0,
+            sealed: 0,
             largest_acked: None,
             dedup: Dedup::new(),
+            last_opened: 0,
             largest_taken: None,
         }
     }
@@ -65,6 +70,23 @@ impl Numbers {
     {
         self.next + KEPT_NUMBERS < 1 << 62
             && self.next.saturating_sub(self.reference()) + KEPT_NUMBERS < 1 << 31
+    }
+
+    /// Whether a packet may be given this number, the next or one above it: it lies below 2^62, and
+    /// less than 2^31 above the greatest that the peer named.
+    pub fn may_give(&self, number: u64) -> bool
+        requires { self.now.next ≤ number }
+        ensures { result ≡ may_give self.now number }
+    {
+        number < 1 << 62 && number.saturating_sub(self.reference()) < 1 << 31
+    }
+
+    /// How many numbers were given: so many packets were sealed (RFC 9001, section 6.6).
+    pub fn sealed(&self) -> u64
+        ensures value { result ≡ self.now.sealed }
+        ensures bound { result ≤ self.now.next }
+    {
+        self.sealed
     }
 
     /// The next number to give.
@@ -109,6 +131,7 @@ impl Numbers {
         ensures { self.new ≡ number_given self.old number }
     {
         self.next = number + 1;
+        self.sealed += 1;
     }
 
     /// The peer named own numbers up to this one.
@@ -135,7 +158,19 @@ impl Numbers {
         ensures answer { result ≡ is_duplicate self.old.opened number }
         ensures next { self.new ≡ (if is_duplicate self.old.opened number then self.old else number_opened self.old number) }
     {
-        self.dedup.insert(number)
+        let came = self.dedup.insert(number);
+        if !came {
+            self.last_opened = number;
+        }
+        came
+    }
+
+    /// The number of the packet that opened last, of those that didn't come before: 0 where none
+    /// opened.
+    pub fn last_opened(&self) -> u64
+        ensures { result ≡ self.now.present }
+    {
+        self.last_opened
     }
 
     /// The whole payload of a packet of this number was taken.

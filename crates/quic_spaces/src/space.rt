@@ -130,7 +130,7 @@ impl PacketSpace {
     ///
     /// # Errors
     ///
-    /// [`AllocError`] where memory lacks; nothing changes.
+    /// - [`AllocError`]: an allocation fails. Nothing changes.
     pub fn sent(
         &mut self,
         number: u64,
@@ -174,7 +174,8 @@ impl PacketSpace {
     ///
     /// # Errors
     ///
-    /// [`AllocError`] where memory lacks; nothing changes.
+    /// - [`AllocError`]: an allocation fails, where a probe waits, nothing waits in `pending`, and
+    ///   a tracked packet carried something. Nothing changes.
     pub fn maybe_queue_probe(
         &mut self,
         request_immediate_ack: bool,
@@ -246,8 +247,12 @@ impl PacketSpace {
     ///
     /// # Errors
     ///
-    /// [`EcnError`] where the counts can't be right: the path or the peer doesn't keep marks. Then
-    /// nothing changes.
+    /// - [`EcnError::Ect0Regression`]: the count of ECT(0) fell. Nothing changes.
+    /// - [`EcnError::Ect1Regression`]: the count of ECT(1) fell. Nothing changes.
+    /// - [`EcnError::CeRegression`]: the count of CE fell. Nothing changes.
+    /// - [`EcnError::Bleaching`]: all counts grew by less than `newly_acked`. Nothing changes.
+    /// - [`EcnError::Corruption`]: those of ECT(0) and CE grew by less than `newly_acked`, or that
+    ///   of ECT(1) grew. Nothing changes.
     pub fn detect_ecn(&mut self, newly_acked: u64, counts: &EcnCounts) -> Result<bool, EcnError>
         ensures answer { let last = counts_view self.old.ecn_feedback in
             let now = counts_view counts.now in

@@ -197,6 +197,13 @@ impl Tracking {
         self.packets.has_in_flight()
     }
 
+    /// How often the loss timer expired since an acknowledgement came (quinn-proto's `pto_count`).
+    pub fn timeouts(&self) -> u64
+        ensures { result ≡ self.now.timeouts }
+    {
+        self.timeouts
+    }
+
     /// Whether probes wait to go.
     pub fn has_probes(&self) -> bool
         ensures { result ≡ nat_lt 0 self.now.probes }
@@ -230,7 +237,7 @@ impl Tracking {
     ///
     /// # Errors
     ///
-    /// [`AllocError`] where memory lacks; nothing changes.
+    /// - [`AllocError`]: an allocation fails. Nothing changes.
     pub fn sent(
         &mut self,
         number: u64,
@@ -296,8 +303,8 @@ impl Tracking {
     ///
     /// # Errors
     ///
-    /// [`AllocError`] where memory lacks; some of the packets are gone then, and nothing else has
-    /// changed.
+    /// - [`AllocError`]: an allocation fails. Some of the packets are gone then, and nothing else
+    ///   changes.
     pub fn take_named(
         &mut self,
         frame: &Ack<'_>,

@@ -6,6 +6,7 @@ mod connection;
 mod frames;
 pub mod laws;
 mod path;
+mod printing;
 mod udp;
 
 pub use connection::ConnectionStats;

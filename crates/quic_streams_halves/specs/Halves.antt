@@ -1,4 +1,5 @@
--- The halves of streams that run one way at one end: sending parts, or receiving parts (RFC 9000, sections 2.1 and 3).
+-- The halves of streams that run one way at one end: sending parts, or receiving parts (RFC 9000,
+-- sections 2.1 and 3).
 use Rattle.std.specs.Prelude.{◌≡◌, ℕ, ◌+◌, ◌≤◌, Bool, true, false, if◌then◌else◌, List, [], length, Option, Some, None}
 use Rattle.std.specs.List.{sum_by, All}
 use Rattle.std.specs.Map.{values_of}
@@ -14,8 +15,8 @@ use Rattle.quic_streams_parts.specs.RecvHalf.{RecvHalf, credit}
 use Rattle.quic_streams_parts.specs.Table.{Table, at, put, without, added}
 use Rattle.quic_streams_parts.specs.Dirs.{of, with_of, is_own}
 
--- the halves that are in use, by id; and the places of the streams whose half was ever in use: those of them that are no longer are done. A half that was
--- never in use takes no place at all
+-- the halves that are in use, by id; and the places of the streams whose half was ever in use:
+-- those of them that are no longer are done. A half that was never in use takes no place at all
 pub record Halves (A : Type 0) : Type 0 where
   pub live : Table A
   pub places : Places
@@ -28,7 +29,8 @@ no_places = record { own = record { bi = []; uni = [] }; remote = record { bi = 
 abbrev pub no_halves : {A : Type 0} → Halves A
 no_halves = record { live = []; places = no_places }
 
--- how far a half has come: its stream isn't opened; nothing was done on it yet; it is in use; nothing is left to do on it
+-- how far a half has come: its stream isn't opened; nothing was done on it yet; it is in use;
+-- nothing is left to do on it
 pub data Status (A : Type 0) : Type 0 where
   unknown : Status A
   fresh : Status A
@@ -97,6 +99,7 @@ without_half h id = record h { live = without h.live id }
 
 -- ---- a change of a half that is in use
 
+-- a table, in which the half of this number, if it is one of it, has another value
 abbrev pub changed_at : {A : Type 0} → Option A → (A → A) → Table A → ℕ → Table A
 changed_at None f halves id = halves
 changed_at (Some a) f halves id = put halves id (f a)

@@ -1,4 +1,5 @@
--- What becomes of a sending half and of the queue of those with something to send, which follows it.
+-- What becomes of a sending half and of the queue of those with something to send, which follows
+-- it.
 use Rattle.std.specs.Prelude.{ℕ, ◌^◌, ◌<◌, Bool, true, false, not, ◌&&◌, ◌==◌, if◌then◌else◌, List, length, Option, Some, None}
 use Rattle.std.specs.List.{AllByRecursion}
 use Rattle.std.specs.Option.{is_some}
@@ -41,7 +42,8 @@ is_ended_at (Some h) = is_ended h
 abbrev pub lost_with : StreamMeta → Queue → SendHalf → Queued
 lost_with m q h = requeued q m.id (half_lost h m)
 
--- the next frame of a half goes if it brings a byte or the end, where streams take turns or don't, and so many bytes are left behind its type and id
+-- the next frame of a half goes if it brings a byte or the end, where streams take turns or don't,
+-- and so many bytes are left behind its type and id
 abbrev pub sent_if_counts : Bool → ℕ → ℕ → Queue → SendHalf → Queued
 sent_if_counts fair id room q h = if frame_counts h room then turned fair q id (half_after h room) else unmoved q h
 

@@ -34,8 +34,12 @@ impl PendingStreams {
         }
     }
 
-    /// Queues a stream behind those of its rank, and says where it stands. An `Err` (want of
-    /// memory, or 2^64 - 1 streams were queued before) changes nothing.
+    /// Queues a stream behind those of its rank, and says where it stands.
+    ///
+    /// # Errors
+    ///
+    /// - [`AllocError`]: 2^64 - 1 streams were queued before, or an allocation fails. Nothing
+    ///   changes.
     pub fn push(&mut self, rank: u64, id: StreamId) -> Result<Place, AllocError>
         ensures place { IfOk result (λ place. place ≡ (rank, self.old.next)) }
         ensures new { OnOk result (self.new ≡ after_push self.old rank id) }

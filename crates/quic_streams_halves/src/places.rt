@@ -123,7 +123,11 @@ impl Places {
         }
     }
 
-    /// The place of a stream comes among them. An `Err` (want of memory) changes nothing.
+    /// The place of a stream comes among them.
+    ///
+    /// # Errors
+    ///
+    /// - [`AllocError`]: an allocation fails. Nothing changes.
     pub fn add(&mut self, side: Side, id: StreamId) -> Result<(), AllocError>
         ensures ok { OnOk result (self.new ≡ with_place side id self.old) }
         ensures err { OnErr result (self.new ≡ self.old) }

@@ -246,6 +246,13 @@ pub(crate) fn write_all(
 
 /// What a write of so many bytes to a part is answered on an open end, where all streams together
 /// have so much room.
+///
+/// # Errors
+///
+/// - [`WriteError::Blocked`]: all streams together have no room. Nothing changes.
+/// - [`WriteError::ClosedStream`]: the part was finished or reset. Nothing changes.
+/// - [`WriteError::Stopped`]: the peer sent STOP_SENDING for the stream. Nothing changes.
+/// - [`WriteError::Blocked`]: the part's own limit leaves no room. Nothing changes.
 pub fn written_to(half: &Send, room: u64, len: usize) -> Result<usize, WriteError>
     ensures answer { result ≡ written_to (Some half.now) room len }
     ensures memory { result ≢ Err write_errors.Memory }

@@ -116,7 +116,11 @@ impl RecvHalves {
         self.places.has(side, id)
     }
 
-    /// A part comes into use. An `Err` (want of memory) changes nothing.
+    /// A part comes into use.
+    ///
+    /// # Errors
+    ///
+    /// - [`AllocError`]: an allocation fails. Nothing changes, and the part is dropped.
     pub fn add(&mut self, side: Side, id: StreamId, half: Recv) -> Result<(), AllocError>
         requires none { at self.old.live id ≡ None }
         requires room { seen_in self.old.live + half.seen ≤ greatest_offset }
@@ -153,7 +157,10 @@ impl RecvHalves {
     }
 
     /// Keeps a frame's bytes on a part that isn't in use yet, and breaks no rule on its final size.
-    /// An `Err` (want of memory) changes nothing.
+    ///
+    /// # Errors
+    ///
+    /// - [`AllocError`]: an allocation fails. Nothing changes.
     pub fn insert_on(&mut self, half: &mut Recv, frame: &Stream<'_>) -> Result<(), AllocError>
         requires end { end_of (stream_view frame.now) < 2 ^ 62 }
         requires size { breaks_final half.old.final half.old.seen (end_of (stream_view frame.now)) frame.now.fin ≡ false }
@@ -165,7 +172,12 @@ impl RecvHalves {
     }
 
     /// Takes a frame on its part, if it is in use: its offsets alone where this end stopped the
-    /// part, nothing where the peer reset it. An `Err` (want of memory) changes nothing.
+    /// part, nothing where the peer reset it.
+    ///
+    /// # Errors
+    ///
+    /// - [`AllocError`]: an allocation fails, where the part is in use, this endpoint didn't stop
+    ///   it, and the frame brings a byte that is new or segments are to be joined. Nothing changes.
     pub fn take(&mut self, frame: &Stream<'_>) -> Result<(), AllocError>
         requires end { IfSome (at self.old.live frame.now.id) (λ h. end_of (stream_view frame.now) < 2 ^ 62) }
         requires size { IfSome (at self.old.live frame.now.id) (λ h. breaks_final h.final h.seen (end_of (stream_view frame.now)) frame.now.fin ≡ false) }
@@ -228,8 +240,12 @@ impl RecvHalves {
         self.consumed = with_term(self.consumed, consumed, half.credit());
     }
 
-    /// A read of a part, if it is in use, begins, in order or not. [`IllegalOrderedRead`] where it
-    /// would be in order after one that wasn't; nothing changes.
+    /// A read of a part, if it is in use, begins, in order or not.
+    ///
+    /// # Errors
+    ///
+    /// - [`IllegalOrderedRead`]: the read is in order, and came after one that wasn't. Nothing
+    ///   changes.
     pub fn begin(&mut self, id: StreamId, ordered: bool) -> Result<(), IllegalOrderedRead>
         ensures refused { IfSome (at self.old.live id) (λ h. is_err result ≡ is_illegal h ordered) }
         ensures new { self.new ≡ changed (λ h. begun h ordered) self.old id }
@@ -240,7 +256,14 @@ impl RecvHalves {
         half.begin(ordered)
     }
 
-    /// Reads on of a part, which is in use. An error, and an answer without bytes, change nothing.
+    /// Reads on of a part, which is in use. An answer without bytes changes nothing.
+    ///
+    /// # Errors
+    ///
+    /// - [`ReadError::Reset`]: the peer reset the stream. Nothing changes.
+    /// - [`ReadError::Blocked`]: no byte waits that may be given, and not all up to the final size
+    ///   were read. Nothing changes.
+    /// - [`ReadError::Memory`]: an allocation fails. Nothing changes.
     pub fn next(&mut self, id: StreamId, max: usize) -> Result<Option<Chunk>, ReadError>
         requires { IsSome (at self.old.live id) }
         ensures answer { result ≢ Err read_errors.Memory → IfSome (at self.old.live id) (λ h. result ≡ next_of h max) }

@@ -83,7 +83,11 @@ impl SendHalves {
         self.places.has(side, id)
     }
 
-    /// A copy of bytes, to be a piece. An `Err` is want of memory.
+    /// A copy of bytes, to be a piece.
+    ///
+    /// # Errors
+    ///
+    /// - [`AllocError`]: an allocation fails. No piece is made.
     pub fn piece(&mut self, bytes: &[u8]) -> Result<Bytes, AllocError>
         ensures piece { IfOk result (λ piece. piece ≡ bytes.now) }
         ensures same { self.new ≡ self.old }
@@ -91,7 +95,11 @@ impl SendHalves {
         self.copies.copy(bytes)
     }
 
-    /// A part comes into use. An `Err` (want of memory) changes nothing.
+    /// A part comes into use.
+    ///
+    /// # Errors
+    ///
+    /// - [`AllocError`]: an allocation fails. Nothing changes, and the part is dropped.
     pub fn add(&mut self, side: Side, id: StreamId, half: Send) -> Result<(), AllocError>
         requires none { at self.old.live id ≡ None }
         requires room { buffered_in self.old.live + length half.buffer.kept < 2 ^ 64 }
@@ -160,8 +168,11 @@ impl SendHalves {
     }
 
     /// The first `len` bytes of chunks go behind those that were written on a part, if it is in
-    /// use, each chunk as a piece that shares its bytes, and wait to go. An `Err` (want of memory)
-    /// changes nothing.
+    /// use, each chunk as a piece that shares its bytes, and wait to go.
+    ///
+    /// # Errors
+    ///
+    /// - [`AllocError`]: an allocation fails. Nothing changes.
     pub fn write_all(
         &mut self,
         id: StreamId,
@@ -187,8 +198,16 @@ impl SendHalves {
     }
 
     /// Writes as many of the bytes to a part as fit, where all streams together have so much room:
-    /// how many. [`WriteError::ClosedStream`] where the part isn't in use. That and any other
-    /// error, as [`written_to`](crate::written_to) says, or want of memory, changes nothing.
+    /// how many.
+    ///
+    /// # Errors
+    ///
+    /// - [`WriteError::ClosedStream`]: the part isn't in use. Nothing changes.
+    /// - [`WriteError::Blocked`]: all streams together have no room. Nothing changes.
+    /// - [`WriteError::ClosedStream`]: the part was finished or reset. Nothing changes.
+    /// - [`WriteError::Stopped`]: the peer sent STOP_SENDING for the stream. Nothing changes.
+    /// - [`WriteError::Blocked`]: the part's own limit leaves no room. Nothing changes.
+    /// - [`WriteError::Memory`]: an allocation fails, where some byte fits. Nothing changes.
     pub fn write(
         &mut self,
         id: StreamId,
@@ -213,8 +232,12 @@ impl SendHalves {
         Ok(taken)
     }
 
-    /// The end of a part has to go, if it is in use, and it stands in the queue. An `Err` (want of
-    /// memory) changes nothing.
+    /// The end of a part has to go, if it is in use, and it stands in the queue.
+    ///
+    /// # Errors
+    ///
+    /// - [`AllocError`]: an allocation fails, where the part is in use and stands nowhere in the
+    ///   queue. Nothing changes.
     pub fn finish(&mut self, id: StreamId, queue: &mut PendingStreams) -> Result<(), AllocError>
         ensures ok { OnOk result (self.new ≡ changed (λ h. (finished_with id queue.old h).half) self.old id) }
         ensures queue { OnOk result (queue.new ≡ queue_with (finished_with id queue.old) (at self.old.live id) queue.old) }
@@ -251,8 +274,12 @@ impl SendHalves {
         half.set_place(place);
     }
 
-    /// A frame of a part was acknowledged, if it is in use. An `Err` (want of memory) changes
-    /// nothing.
+    /// A frame of a part was acknowledged, if it is in use.
+    ///
+    /// # Errors
+    ///
+    /// - [`AllocError`]: an allocation fails, where the part is in use, and some of the frame was
+    ///   sent or the part stands nowhere in the queue. Nothing changes.
     pub fn ack(&mut self, frame: &StreamMeta, queue: &mut PendingStreams) -> Result<(), AllocError>
         ensures ok { OnOk result (self.new ≡ changed (λ h. (acked_with frame.now queue.old h).half) self.old frame.now.id) }
         ensures queue { OnOk result (queue.new ≡ queue_with (acked_with frame.now queue.old) (at self.old.live frame.now.id) queue.old) }
@@ -270,7 +297,12 @@ impl SendHalves {
     }
 
     /// The same, unless the part's end or a reset was told: it stays then. Says whether the part is
-    /// in use, its end was told, and no reset. An `Err` (want of memory) changes nothing.
+    /// in use, its end was told, and no reset.
+    ///
+    /// # Errors
+    ///
+    /// - [`AllocError`]: an allocation fails, where the part is in use and not reset, and some of
+    ///   the frame was sent or the part stands nowhere in the queue. Nothing changes.
     pub fn ack_if_ready(
         &mut self,
         frame: &StreamMeta,
@@ -292,7 +324,12 @@ impl SendHalves {
         Ok(ended)
     }
 
-    /// A frame of a part was lost, if it is in use. An `Err` (want of memory) changes nothing.
+    /// A frame of a part was lost, if it is in use.
+    ///
+    /// # Errors
+    ///
+    /// - [`AllocError`]: an allocation fails, where the part is in use, and some of the frame was
+    ///   sent or the part stands nowhere in the queue. Nothing changes.
     pub fn retransmit(
         &mut self,
         frame: &StreamMeta,
@@ -312,8 +349,12 @@ impl SendHalves {
 
     /// Appends the next frame of a part, if it is in use and the frame brings a byte or the end,
     /// with `max_len` bytes of room, 16 at least, behind its type and id, and takes it: what it
-    /// carries. Where streams take turns (`fair`) the part goes behind its equals. After an `Err`
-    /// (want of memory) the frame is taken, and its part may stand nowhere in the queue.
+    /// carries. Where streams take turns (`fair`) the part goes behind its equals.
+    ///
+    /// # Errors
+    ///
+    /// - [`AllocError`]: an allocation fails, where there is a frame. It stands in `out` and is
+    ///   taken, and its part may stand nowhere in the queue.
     pub fn put_frame(
         &mut self,
         id: StreamId,

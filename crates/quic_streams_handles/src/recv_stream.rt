@@ -89,10 +89,11 @@ impl<'a> RecvStream<'a> {
     ///
     /// # Errors
     ///
-    /// [`ReadableError::ClosedStream`] where there is no such stream, this end stopped it, or its
-    /// end or reset was told; [`ReadableError::IllegalOrderedRead`] in order after a read that
-    /// wasn't; [`ReadableError::Memory`] where memory lacks. They are tested in this order, and
-    /// change nothing.
+    /// - [`ReadableError::ClosedStream`]: there is no such stream, this endpoint stopped it, or its
+    ///   FIN or reset was given to the application. Nothing changes.
+    /// - [`ReadableError::IllegalOrderedRead`]: the read is in order, and came after one that
+    ///   wasn't. Nothing changes.
+    /// - [`ReadableError::Memory`]: an allocation fails. Nothing changes.
     pub fn read(self, ordered: bool) -> Result<Chunks<'a>, ReadableError>
         ensures* unchanged_at_error { sem 𝓛 (follows_if streams_row streams_row self.entry.streams.ghost_name (name_if_ok chunks_lender result) (λ streams. streams) self.entry.streams.now) }
         ensures same_reference { IfOk result (λ chunks. chunks.streams.ghost_name ≡ self.entry.streams.ghost_name) }
@@ -116,9 +117,9 @@ impl<'a> RecvStream<'a> {
     ///
     /// # Errors
     ///
-    /// [`UpdateError::ClosedStream`] where there is no such stream, this end stopped it before, or
-    /// its end or reset was told; [`UpdateError::Memory`] where memory lacks. Either changes
-    /// nothing.
+    /// - [`UpdateError::ClosedStream`]: there is no such stream, this endpoint stopped it before,
+    ///   or its FIN or reset was given to the application. Nothing changes.
+    /// - [`UpdateError::Memory`]: an allocation fails. Nothing changes.
     pub fn stop(&mut self, error_code: VarInt) -> Result<(), UpdateError>
         ensures same_reference { self.new.streams.ghost_name ≡ self.old.streams.ghost_name }
         ensures same_stream { self.new.id ≡ self.old.id }
@@ -133,9 +134,12 @@ impl<'a> RecvStream<'a> {
     }
 
     /// The code with which the peer reset the stream, if it did (RFC 9000, section 3.2;
-    /// quinn-proto's `RecvStream::received_reset`); nothing is left to read then. [`ClosedStream`]
-    /// where there is no such stream, this end stopped it, or its end or reset was told; nothing
-    /// changes.
+    /// quinn-proto's `RecvStream::received_reset`); nothing is left to read then.
+    ///
+    /// # Errors
+    ///
+    /// - [`ClosedStream`]: there is no such stream, this endpoint stopped it, or its FIN or reset
+    ///   was given to the application. Nothing changes.
     pub fn received_reset(&mut self) -> Result<Option<VarInt>, ClosedStream>
         ensures same_reference { self.new.streams.ghost_name ≡ self.old.streams.ghost_name }
         ensures same_stream { self.new.id ≡ self.old.id }
@@ -156,9 +160,10 @@ impl Chunks<'_> {
     ///
     /// # Errors
     ///
-    /// [`ReadError::Reset`] where the peer reset the stream; [`ReadError::Blocked`] where no byte
-    /// waits that may be given, which changes nothing; [`ReadError::Memory`] where memory lacks to
-    /// give some, and nothing changes either.
+    /// - [`ReadError::Reset`]: the peer reset the stream. Its receiving half is done then.
+    /// - [`ReadError::Blocked`]: no byte waits that may be given, and not all up to the final size
+    ///   were read. Nothing changes.
+    /// - [`ReadError::Memory`]: an allocation fails. Nothing changes.
     pub fn next(&mut self, max_length: usize) -> Result<Option<Chunk>, ReadError>
         ensures same_reference { self.new.streams.ghost_name ≡ self.old.streams.ghost_name }
         ensures same_stream { self.new.id ≡ self.old.id }

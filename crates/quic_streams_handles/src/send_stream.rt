@@ -1,5 +1,5 @@
 //! A stream on which an application writes.
-ghost use Rattle.std.specs.Prelude.{◌≡◌, ◌≢◌, Ok, Err, None, true, length, IfSome};
+ghost use Rattle.std.specs.Prelude.{◌≡◌, ◌≢◌, ℕ, Ok, Err, None, true, length, IfSome, IsSome};
 ghost use Rattle.quic_streams_parts.specs.declared.answers.WriteError.TheVariants as write_errors;
 ghost use Rattle.quic_streams_parts.specs.declared.answers.FinishError.TheVariants as finish_errors;
 ghost use Rattle.quic_streams_parts.specs.declared.answers.UpdateError.TheVariants as update_errors;
@@ -7,12 +7,14 @@ ghost use Rattle.quic_streams_parts.specs.Table.{at};
 ghost use Rattle.quic_streams_state.specs.Parts.{room};
 ghost use Rattle.quic_streams_state.specs.State.{sending_half};
 ghost use Rattle.quic_send_buffer.specs.Source.{bytes_of};
+ghost use Rattle.quic_streams_state.specs.Blocking.{blocked_by};
 ghost use Rattle.quic_streams_state.specs.SendLacking.{WriteMayLack};
 ghost use Rattle.quic_streams_state.specs.Writing.{write_answer, after_write, write_chunks_answer, after_write_chunks, stopped_answer, finish_answer, after_finish, reset_answer, after_reset, priority_answer, set_priority_answer, after_set_priority};
 
 use crate::end_streams::EndStreams;
 use bytes::Bytes;
 use quic_streams_parts::{ClosedStream, FinishError, UpdateError, WriteError, Written};
+use quic_streams_state::BlockedBy;
 use quic_wire_core::{StreamId, VarInt};
 
 /// The sending half of a stream (quinn-proto's `SendStream`).
@@ -46,12 +48,18 @@ impl<'a> SendStream<'a> {
     ///
     /// # Errors
     ///
-    /// [`WriteError::Blocked`] where the end isn't open; `ClosedStream` where there is no such
-    /// stream, or its sending half is done; `Blocked` where the connection's limit or the send
-    /// window leaves no room; `ClosedStream` where it was finished or reset; `Stopped` where the
-    /// peer stopped it; `Blocked` where its own limit leaves no room. They are tested in this
-    /// order, and none of the bytes is taken: `Blocked` on an open end notes that the stream is.
-    /// `Memory` where memory lacks to take some bytes, or to note that; nothing changes.
+    /// - [`WriteError::Blocked`]: the endpoint isn't open. Nothing changes.
+    /// - [`WriteError::ClosedStream`]: there is no such stream, or its sending half is done.
+    ///   Nothing changes.
+    /// - [`WriteError::Blocked`]: the connection's limit or the send window leaves no room. The
+    ///   stream is noted as blocked, DATA_BLOCKED is pending where that limit is used up, and no
+    ///   byte is taken.
+    /// - [`WriteError::ClosedStream`]: the stream was finished or reset. Nothing changes.
+    /// - [`WriteError::Stopped`]: the peer sent STOP_SENDING for the stream. Nothing changes.
+    /// - [`WriteError::Blocked`]: the stream's own limit leaves no room. STREAM_DATA_BLOCKED is
+    ///   pending, and no byte is taken.
+    /// - [`WriteError::Memory`]: an allocation fails, of room to take some bytes, or to note that
+    ///   the stream is blocked. Nothing changes.
     pub fn write(&mut self, data: &[u8]) -> Result<usize, WriteError>
         ensures same_reference { self.new.streams.ghost_name ≡ self.old.streams.ghost_name }
         ensures same_stream { self.new.id ≡ self.old.id }
@@ -73,7 +81,18 @@ impl<'a> SendStream<'a> {
     ///
     /// # Errors
     ///
-    /// Those of `write`, in the same order.
+    /// - [`WriteError::Blocked`]: the endpoint isn't open. Nothing changes.
+    /// - [`WriteError::ClosedStream`]: there is no such stream, or its sending half is done.
+    ///   Nothing changes.
+    /// - [`WriteError::Blocked`]: the connection's limit or the send window leaves no room. The
+    ///   stream is noted as blocked, DATA_BLOCKED is pending where that limit is used up, and no
+    ///   byte is taken.
+    /// - [`WriteError::ClosedStream`]: the stream was finished or reset. Nothing changes.
+    /// - [`WriteError::Stopped`]: the peer sent STOP_SENDING for the stream. Nothing changes.
+    /// - [`WriteError::Blocked`]: the stream's own limit leaves no room. STREAM_DATA_BLOCKED is
+    ///   pending, and no byte is taken.
+    /// - [`WriteError::Memory`]: an allocation fails, of room to take some bytes, or to note that
+    ///   the stream is blocked. Nothing changes.
     pub fn write_chunks(&mut self, chunks: &[Bytes]) -> Result<Written, WriteError>
         ensures same_reference { self.new.streams.ghost_name ≡ self.old.streams.ghost_name }
         ensures same_stream { self.new.id ≡ self.old.id }
@@ -88,9 +107,24 @@ impl<'a> SendStream<'a> {
         state.write_chunks(self.is_open, self.id, chunks, pending)
     }
 
+    /// Which limit lets a write take nothing now (RFC 9000, section 4.1): why `write` answers
+    /// [`WriteError::Blocked`]. In the order in which `write` tests them: [`BlockedBy::Closed`]
+    /// where the end isn't open, `Connection`, `SendWindow`, `Stream`. `None` where a write would
+    /// take bytes, or answer another error. Nothing changes. quinn-proto has no such call.
+    pub fn blocked_by(&self) -> Option<BlockedBy>
+        ensures value { result ≡ blocked_by self.now.is_open self.now.streams.now.state self.now.id }
+        ensures some { (len : ℕ) → IsSome result → write_answer self.now.is_open self.now.streams.now.state self.now.id len ≡ Err write_errors.Blocked }
+        ensures none { (len : ℕ) → result ≡ None → write_answer self.now.is_open self.now.streams.now.state self.now.id len ≢ Err write_errors.Blocked }
+    {
+        self.streams.state.blocked_by(self.is_open, self.id)
+    }
+
     /// The code with which the peer stopped the stream, if it did (RFC 9000, section 3.5;
-    /// quinn-proto's `SendStream::stopped`). [`ClosedStream`] where there is no such stream, or its
-    /// sending half is done.
+    /// quinn-proto's `SendStream::stopped`).
+    ///
+    /// # Errors
+    ///
+    /// - [`ClosedStream`]: there is no such stream, or its sending half is done.
     pub fn stopped(&self) -> Result<Option<VarInt>, ClosedStream>
         ensures { result ≡ stopped_answer self.now.streams.now.state self.now.id }
     {
@@ -102,10 +136,12 @@ impl<'a> SendStream<'a> {
     ///
     /// # Errors
     ///
-    /// [`FinishError::ClosedStream`] where there is no such stream, or its sending half is done;
-    /// [`FinishError::Stopped`] where the peer stopped it; `ClosedStream` where it was finished or
-    /// reset; [`FinishError::Memory`] where memory lacks to queue it. They are tested in this
-    /// order, and change nothing.
+    /// - [`FinishError::ClosedStream`]: there is no such stream, or its sending half is done.
+    ///   Nothing changes.
+    /// - [`FinishError::Stopped`]: the peer sent STOP_SENDING for the stream. Nothing changes.
+    /// - [`FinishError::ClosedStream`]: the stream was finished or reset. Nothing changes.
+    /// - [`FinishError::Memory`]: an allocation fails, where the stream isn't queued yet. Nothing
+    ///   changes.
     pub fn finish(&mut self) -> Result<(), FinishError>
         ensures same_reference { self.new.streams.ghost_name ≡ self.old.streams.ghost_name }
         ensures same_stream { self.new.id ≡ self.old.id }
@@ -125,8 +161,9 @@ impl<'a> SendStream<'a> {
     ///
     /// # Errors
     ///
-    /// [`UpdateError::ClosedStream`] where there is no such stream, its sending half is done, or it
-    /// was reset; [`UpdateError::Memory`] where memory lacks. Either changes nothing.
+    /// - [`UpdateError::ClosedStream`]: there is no such stream, its sending half is done, or it
+    ///   was reset. Nothing changes.
+    /// - [`UpdateError::Memory`]: an allocation fails. Nothing changes.
     pub fn reset(&mut self, error_code: VarInt) -> Result<(), UpdateError>
         ensures same_reference { self.new.streams.ghost_name ≡ self.old.streams.ghost_name }
         ensures same_stream { self.new.id ≡ self.old.id }
@@ -142,13 +179,14 @@ impl<'a> SendStream<'a> {
     }
 
     /// Sets the priority of the stream, which counts when it is queued next (quinn-proto's
-    /// `SendStream::set_priority`).
+    /// `SendStream::set_priority`). A stream of a greater priority goes first. The default is 0.
     ///
     /// # Errors
     ///
-    /// [`UpdateError::ClosedStream`] where there is no such stream, or its sending half is done;
-    /// [`UpdateError::Memory`] where memory lacks to bring its sending half into use. Either
-    /// changes nothing.
+    /// - [`UpdateError::ClosedStream`]: there is no such stream, or its sending half is done.
+    ///   Nothing changes.
+    /// - [`UpdateError::Memory`]: an allocation fails, of room to bring its sending half into use.
+    ///   Nothing changes.
     pub fn set_priority(&mut self, priority: i32) -> Result<(), UpdateError>
         ensures same_reference { self.new.streams.ghost_name ≡ self.old.streams.ghost_name }
         ensures same_stream { self.new.id ≡ self.old.id }
@@ -163,8 +201,11 @@ impl<'a> SendStream<'a> {
         self.streams.state.set_priority(self.id, priority)
     }
 
-    /// The priority of the stream (quinn-proto's `SendStream::priority`). [`ClosedStream`] where
-    /// there is no such stream, or its sending half is done.
+    /// The priority of the stream (quinn-proto's `SendStream::priority`).
+    ///
+    /// # Errors
+    ///
+    /// - [`ClosedStream`]: there is no such stream, or its sending half is done.
     pub fn priority(&self) -> Result<i32, ClosedStream>
         ensures { result ≡ priority_answer self.now.streams.now.state self.now.id }
     {

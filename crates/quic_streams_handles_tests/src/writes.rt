@@ -1,6 +1,7 @@
 use super::ends::{first_id, with_streams};
 use quic_streams_handles::{EndStreams, SendStream, Streams};
 use quic_streams_parts::{UpdateError, WriteError};
+use quic_streams_state::BlockedBy;
 use quic_wire_core::{Dir, Side, VarInt};
 use std::process::Abort;
 use std::test::Fail;
@@ -37,6 +38,7 @@ fn write(rt: &impl Abort, stream: &mut SendStream<'_>, data: &[u8], taken: usize
 // It takes nothing where the end isn't open.
 fn block(rt: &impl Abort, streams: &mut EndStreams) {
     let mut stream = SendStream::new(first_id(), streams, false);
+    assert_eq!(rt; stream.blocked_by(), Some(BlockedBy::Closed));
     assert_eq!(rt; stream.write(b"hello"), Err(WriteError::Blocked));
 }
 
@@ -48,7 +50,9 @@ fn write_all(rt: &impl Abort, streams: &mut EndStreams) -> Result<(), Fail> {
     }
     assert_eq!(rt; stream.priority(), Ok(3));
     write(rt, &mut stream, b"hello", 5);
+    assert_eq!(rt; stream.blocked_by(), None);
     write(rt, &mut stream, b"hello", 2);
+    assert_eq!(rt; stream.blocked_by(), Some(BlockedBy::Connection));
     assert_eq!(rt; stream.stopped(), Ok(None));
     Ok(())
 }

@@ -1,4 +1,5 @@
--- Streams are accepted in their order, and none is left where a call that accepts one finds none (RFC 9000, section 2.1).
+-- Streams are accepted in their order, and none is left where a call that accepts one finds none
+-- (RFC 9000, section 2.1).
 use Rattle.std.proofs.Common.{◌≡◌, ℕ, ◌+◌, ◌<◌, ◌≤◌, ◌⊎◌, inl, inr, Bool, true, false, Option, Some, None, refl, sym, ap, ◌∙◌, subst, arith}
 use Rattle.std.specs.Prelude.{◌==◌, ◌&&◌, ◌||◌, not, nat_lt, if◌then◌else◌}
 use Rattle.std.proofs.lemmas.Bool.{cases_eq, cond_both, ltb-true, ltb-false, and_parts, both_ways}

@@ -1,4 +1,5 @@
--- What was acknowledged of what was sent on streams arrived, and of a stream that was finished all of it (RFC 9000, sections 3.1 and 13.3).
+-- What was acknowledged of what was sent on streams arrived, and of a stream that was finished all
+-- of it (RFC 9000, sections 3.1 and 13.3).
 use Rattle.std.specs.Prelude.{◌≡◌, ℕ, ◌<◌, ◌≤◌, ◌^◌, ◌⊎◌, true, length}
 use Rattle.std.specs.Option.{IsSome}
 use Rattle.quic_sets.specs.Runs.{Has}
@@ -31,7 +32,8 @@ IsSettled arrived end_arrived w = AllArrived arrived end_arrived w ⊎ IsSome w.
 abbrev pub IsAckedStatus : (ℕ → Type 0) → Type 0 → Wrote → Status SendHalf → Type 0
 IsAckedStatus arrived end_arrived w status = StatusIs (w ≡ nothing_done) (λ h. IsSendHalf w h × HalfArrived arrived end_arrived h) (IsSettled arrived end_arrived w) status
 
--- all streams hold what was written on them, and what was acknowledged of them arrived: `arrived id o` says so of an offset of a stream, `end_arrived id` of its end
+-- all streams hold what was written on them, and what was acknowledged of them arrived: `arrived id
+-- o` says so of an offset of a stream, `end_arrived id` of its end
 pub record AckedHave (arrived : ℕ → ℕ → Type 0) (end_arrived : ℕ → Type 0) (wrote : ℕ → Wrote) (s : StreamsState) : Type 0 where
   pub shape : IsShaped s
   pub first : (id : ℕ) → first_limit s id < 2 ^ 62

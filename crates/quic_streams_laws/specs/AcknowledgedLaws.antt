@@ -1,4 +1,5 @@
--- What was acknowledged arrived, after each call and frame; and a stream is told finished only where all of it arrived.
+-- What was acknowledged arrived, after each call and frame; and a stream is told finished only
+-- where all of it arrived.
 use Rattle.std.proofs.Common.{◌≡◌, ℕ, ◌^◌, ◌<◌, ◌≤◌, length, Bool, true, false, List, Option, Some, None, refl, sym, ap, ◌∙◌, subst, arith, inl, inr}
 use Rattle.std.specs.Prelude.{◌&&◌, not, if◌then◌else◌, ℤ}
 use Rattle.std.specs.Option.{is_some, is_none, IsSome, option_map}
@@ -105,7 +106,8 @@ module _ (arrived : ℕ → ℕ → Type 0) (end_arrived : ℕ → Type 0) where
     each = λ id. half_status (wrote id ≡ nothing_done) (λ h. IsSendHalf (wrote id) h × HalfArrived (arrived id) (end_arrived id) h) (IsSettled (arrived id) (end_arrived id) (wrote id)) (at s.sending.halves.live id) (sends_on s.side id && is_opened s id) (has_place s.side s.sending.halves.places id) (i.shape.sending.allowed id) (i.each id);
   }
 
-  -- each word keeps it that changes halves only so that they hold what they held, and what was acknowledged of them arrived
+  -- each word keeps it that changes halves only so that they hold what they held, and what was
+  -- acknowledged of them arrived
   pub acked_kept : (wrote : ℕ → Wrote) → KeepsBy (λ r id old new. Unit {0})
       (λ s id old new. IsSendHalf (wrote id) old × HalfArrived (arrived id) (end_arrived id) old → IsSendHalf (wrote id) new × HalfArrived (arrived id) (end_arrived id) new)
       (λ s id n old new. IsSendHalf (wrote id) old × HalfArrived (arrived id) (end_arrived id) old → IsSendHalf (wrote id) new × HalfArrived (arrived id) (end_arrived id) new) (AckedHave arrived end_arrived wrote)
@@ -196,7 +198,8 @@ done_events : (b : Bool) (id : ℕ) (s : StreamsState) → (done_if b id s).even
 done_events true id s = refl
 done_events false id s = refl
 
--- it is told that a stream is finished where that frame was the last to be acknowledged, and nothing else
+-- it is told that a stream is finished where that frame was the last to be acknowledged, and
+-- nothing else
 pub acked_events : (s : StreamsState) (p : Retransmits) (m : StreamMeta) → (after_stream_acked s p m).state.events ≡ (if finishes (sent_half s m.id) m then with_event (stream_events.Finished m.id) s.events else s.events)
 acked_events s p m = go (at s.sending.halves.live m.id)
   where

@@ -1,4 +1,5 @@
--- What is read of streams is what was written on them, stream by stream (RFC 9000, sections 2.2, 3.2 and 4.5).
+-- What is read of streams is what was written on them, stream by stream (RFC 9000, sections 2.2,
+-- 3.2 and 4.5).
 use Rattle.std.specs.Prelude.{◌≡◌, ℕ, ◌⊎◌, true, false, Option, Some, Result, Err}
 use Rattle.quic_assembler.specs.declared.assembler.Chunk.{Chunk}
 use Rattle.quic_streams_parts.specs.declared.answers.ReadError.{ReadError}
@@ -28,7 +29,8 @@ IsRecvStatus w r done = IsReadOf w r
 abbrev pub HoldsRead : (ℕ → Wrote) → (ℕ → Reads) → StreamsState → Type 0
 HoldsRead wrote read s = AllReceiving (λ id x. IsRecvStatus (wrote id) (read id) x) s
 
--- what the reads of a stream have told is so: its end only where it ended and all of it was read, and its reset with its code
+-- what the reads of a stream have told is so: its end only where it ended and all of it was read,
+-- and its reset with its code
 abbrev pub TellsRight : Wrote → Reads → Told → Type 0
 TellsRight w r told_bytes = Unit {0}
 TellsRight w r told_end = (w.ended ≡ true) × IsAllRead w r

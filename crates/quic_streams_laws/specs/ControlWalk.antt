@@ -1,4 +1,5 @@
--- What holds of the frames that go into a datagram about streams, whichever of them go: what each step keeps holds of all.
+-- What holds of the frames that go into a datagram about streams, whichever of them go: what each
+-- step keeps holds of all.
 use Rattle.std.proofs.Common.{◌≡◌, ℕ, zero, suc, ◌+◌, ◌≤◌, Bool, true, false, nat_le, List, [], ◌∷◌, length, Option, Some, None, refl, ap, ◌∙◌}
 use Rattle.std.specs.Prelude.{if◌then◌else◌}
 use Rattle.std.specs.List.{fold}
@@ -21,7 +22,8 @@ use Rattle.quic_streams_state.specs.Frames.{Sent, least_stream_room, stream_room
 pub others_wait : (kind : ControlKind) (p : Retransmits) (e : Entry) (es : List Entry) → waiting kind p ≡ e ∷ es → waiting kind (without_first kind p) ≡ es
 others_wait kind p e es is = control_laws.others_wait kind p ∙ ap others_of is
 
--- what holds of a draft stays where the first that waits of a kind is dropped, since it is no longer due, or its frame goes, of which is known what it says
+-- what holds of a draft stays where the first that waits of a kind is dropped, since it is no
+-- longer due, or its frame goes, of which is known what it says
 pub record GoesOn (most : ℕ) (P : Draft → Type 0) : Type 0 where
   pub drops : (d : Draft) (kind : ControlKind) (e : Entry) (es : List Entry) → waiting kind d.pending ≡ e ∷ es → e.frame d.state ≡ None → P d → P (first_dropped kind d)
   pub sends : (d : Draft) (kind : ControlKind) (f : FrameValue) → GoesFirst kind d.pending d.state f → d.used + frame_size f ≤ most → P d → P (first_sent kind f d)
@@ -51,7 +53,8 @@ module _ (most : ℕ) (P : Draft → Type 0) (c : GoesOn most P) where
 
 -- ---- STREAM frames
 
--- what holds stays where the frame of the stream goes that stands first in the queue, which brings something, where enough bytes are left
+-- what holds stays where the frame of the stream goes that stands first in the queue, which brings
+-- something, where enough bytes are left
 abbrev pub SendsOne : Bool → ℕ → (Sent → Type 0) → Type 0
 SendsOne fair most P = (d : Sent) (id : ℕ) (h : SendHalf) → at d.state.sending.halves.live id ≡ Some h → first_queued d.state.sending.queue ≡ Some id → length d.bytes + least_stream_room ≤ most → frame_counts h (stream_room most d id) ≡ true → P d → P (frame_sent fair most d id h)
 

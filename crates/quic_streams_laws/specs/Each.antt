@@ -21,13 +21,15 @@ StatusIs N Q D fresh = N
 StatusIs N Q D (live a) = Q a
 StatusIs N Q D done = D
 
--- such facts of the sending half of each stream, with the halves in order, and one of how far each may come at first
+-- such facts of the sending half of each stream, with the halves in order, and one of how far each
+-- may come at first
 pub record EachSends (F : ℕ → ℕ → Type 0) (N : ℕ → Type 0) (Q : ℕ → SendHalf → Type 0) (D : ℕ → Type 0) (s : StreamsState) : Type 0 where
   pub shape : IsShaped s
   pub first : (id : ℕ) → F id (first_limit s id)
   pub each : (id : ℕ) → HalfIs (N id) (Q id) (D id) (at s.sending.halves.live id) (has_place s.side s.sending.halves.places id)
 
--- they hold of a half that comes into use, and of one that is done; and it doesn't matter to them whether a half is blocked, or where it stands in the queue
+-- they hold of a half that comes into use, and of one that is done; and it doesn't matter to them
+-- whether a half is blocked, or where it stands in the queue
 pub record AreOfHalves (F : ℕ → ℕ → Type 0) (N : ℕ → Type 0) (Q : ℕ → SendHalf → Type 0) (D : ℕ → Type 0) : Type 0 where
   pub fresh : (id limit : ℕ) → F id limit → N id → Q id (new_send_half limit)
   pub over : (id : ℕ) (h : SendHalf) → Q id h → HasEnded h → D id

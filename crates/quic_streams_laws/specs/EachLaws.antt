@@ -29,7 +29,8 @@ use Rattle.quic_streams_laws.specs.Each.{HalfIs, StatusIs, EachSends, AreOfHalve
 -- ---- one half
 
 module _ {A : Type 0} (N : Type 0) (Q : A → Type 0) (D : Type 0) where
-  -- how far a half has come says where it stands: one that was ever in use is that of an opened stream
+  -- how far a half has come says where it stands: one that was ever in use is that of an opened
+  -- stream
   pub status_half : (o : Option A) (m u : Bool) → (u ≡ true → m ≡ true) → StatusIs N Q D (status_from o m u) → HalfIs N Q D o u
   status_half (Some a) m u may i = i
   status_half None true true may i = i

@@ -1,4 +1,5 @@
--- What an entry more, and one less, leave of a map in the order of its keys, whatever that order is.
+-- What an entry more, and one less, leave of a map in the order of its keys, whatever that order
+-- is.
 use Rattle.std.proofs.Common.{◌≡◌, List, [], ◌∷◌, Bool, true, false, cond, Some, None, refl, sym, ap, ◌∙◌}
 use Rattle.std.specs.Ordering.{match_ordering, is_eq, ordering_reverse}
 use Rattle.std.specs.declared.cmp.Ordering.{Ordering}

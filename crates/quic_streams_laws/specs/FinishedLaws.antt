@@ -1,4 +1,5 @@
--- That a stream is finished is told only where all of it arrived; no word but an acknowledgement tells so.
+-- That a stream is finished is told only where all of it arrived; no word but an acknowledgement
+-- tells so.
 use Rattle.std.proofs.Common.{◌≡◌, ℕ, ◌+◌, ◌<◌, ◌≤◌, length, List, [], ◌∷◌, ◌++◌, Bool, true, false, Some, refl, sym, ap, subst, arith, ◌⊎◌, inl, inr}
 use Rattle.std.specs.Prelude.{◌==◌, ◌&&◌, ◌||◌, not, if◌then◌else◌}
 use Rattle.std.proofs.lemmas.Bool.{cases_Bool, eqb-true}
@@ -59,7 +60,8 @@ module _ (F : ℕ → Type 0) (T : Events → Type 0) (less : (old new : Events)
   told_kept (changes.ends_receiving id h) s may t = same s.events (recv_done s id).events (received_events s id) t
   told_kept c s may t = t
 
--- no stream more is to be told finished than before: so it stays with each word, but where one is acknowledged
+-- no stream more is to be told finished than before: so it stays with each word, but where one is
+-- acknowledged
 pub none_more_kept : (e : Events) → KeepsAll (λ r id old new. Unit {0}) (λ s id old new. Unit {0}) (λ s id n old new. Unit {0}) (λ s dir. Unit {0}) (λ id. ⊥) (λ s. NoneMoreFinished e s.events)
 none_more_kept e = told_kept (λ id. ⊥) (λ x. NoneMoreFinished e x) (λ old new none t id. (let a = none id in let b = t id in omega arith)) (λ x id f t. absurd f)
 
@@ -98,7 +100,8 @@ module _ (arrived : ℕ → ℕ → Type 0) (end_arrived : ℕ → Type 0) where
   to_tell : (wrote : ℕ → Wrote) → KeepsAll (λ r id old new. Unit {0}) (λ s id old new. Unit {0}) (λ s id n old new. Unit {0}) (λ s dir. Unit {0}) (λ id. AllArrived (arrived id) (end_arrived id) (wrote id)) (λ s. ToldHave wrote s.events)
   to_tell wrote = told_kept (λ id. AllArrived (arrived id) (end_arrived id) (wrote id)) (λ e. ToldHave wrote e) (fewer_told wrote) (one_told wrote)
 
-  -- each word keeps it that changes halves only so that they hold what they held, and what was acknowledged of them arrived
+  -- each word keeps it that changes halves only so that they hold what they held, and what was
+  -- acknowledged of them arrived
   pub finished_kept : (wrote : ℕ → Wrote) → KeepsAll (λ r id old new. Unit {0})
       (λ s id old new. IsSendHalf (wrote id) old × HalfArrived (arrived id) (end_arrived id) old → IsSendHalf (wrote id) new × HalfArrived (arrived id) (end_arrived id) new)
       (λ s id n old new. IsSendHalf (wrote id) old × HalfArrived (arrived id) (end_arrived id) old → IsSendHalf (wrote id) new × HalfArrived (arrived id) (end_arrived id) new)

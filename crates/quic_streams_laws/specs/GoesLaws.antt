@@ -1,9 +1,11 @@
--- A frame of control that goes of streams which hold what was written on them has a form (RFC 9000, sections 16 and 19).
+-- A frame of control that goes of streams which hold what was written on them has a form (RFC 9000,
+-- sections 16 and 19).
 use Rattle.std.proofs.Common.{◌≡◌, ℕ, ◌<◌, ◌^◌, Bool, true, false, ◌==◌, ◌&&◌, not, length, Option, Some, None, refl, sym, ◌∙◌, subst, arith}
 use Rattle.std.specs.Prelude.{if◌then◌else◌}
 use Rattle.std.specs.Option.{is_some, option_map}
 use Rattle.std.proofs.lemmas.Bool.{and_parts}
-use Rattle.quic_wire.specs.Value.{FrameValue, StopSendingValue, reset_stream, stop_sending, max_data, max_stream_data, max_streams, data_blocked, stream_data_blocked}
+use Rattle.quic_wire_core.specs.declared.shared.IssuedCid.{IssuedCid}
+use Rattle.quic_wire.specs.Value.{FrameValue, StopSendingValue, NewConnectionIdValue, reset_stream, stop_sending, max_data, max_stream_data, max_streams, data_blocked, stream_data_blocked, new_connection_id, retire_connection_id}
 use Rattle.quic_wire.specs.Writing.{Fits}
 use Rattle.quic_streams_parts.specs.Table.{at}
 use Rattle.quic_streams_parts.specs.SendHalf.{SendHalf, new_send_half, is_ready, written_on}
@@ -12,14 +14,15 @@ use Rattle.quic_retransmits.specs.Retransmits.{Retransmits, first_of}
 use Rattle.quic_streams_halves.specs.Halves.{half_of, status_from, has_place}
 use Rattle.quic_streams_state.specs.declared.state.StreamsState.{StreamsState}
 use Rattle.quic_streams_state.specs.State.{is_opened, sends_on, receives_on, first_limit, sending_half}
-use Rattle.quic_streams_state.specs.Control.{blocked_limit, Goes}
+use Rattle.quic_streams_state.specs.Control.{told_id, blocked_limit, Goes}
 use Rattle.quic_streams_laws.specs.Few.{AreFew}
 use Rattle.quic_streams_laws.specs.Queued.{IsOrderly}
 use Rattle.quic_streams_laws.specs.SummedLaws.{opened_below}
 use Rattle.quic_streams_laws.specs.Written.{Wrote, IsSendHalf, HoldsWritten}
 use Rattle.quic_streams_laws.specs.WrittenLaws.{half_holds, live_holds}
 
--- streams hold what was written on them; the queue has those that have something to send; there are few; and the limit on all has a form
+-- streams hold what was written on them; the queue has those that have something to send; there are
+-- few; and the limit on all has a form
 pub record Holding (wrote : ℕ → Wrote) (s : StreamsState) : Type 0 where
   pub holds : HoldsWritten wrote s
   pub orderly : IsOrderly s
@@ -65,16 +68,20 @@ module _ (wrote : ℕ → Wrote) (s : StreamsState) (g : Holding wrote s) where
       used_up true due = let same : h.limit ≡ limit = cc in (half_small id h is, subst (λ n. n < 2 ^ 62) same (half_holds wrote s g.holds id h is).limit)
       used_up false due = cc
 
-  -- a frame that goes has a form, where the first RESET_STREAM and the first STOP_SENDING that wait are small
-  pub goes_fits : (p : Retransmits) → ((r : ℕ × ℕ) → first_of p.reset_stream ≡ Some r → r.1 < 2 ^ 62) → ((r : StopSendingValue) → first_of p.stop_sending ≡ Some r → (r.id < 2 ^ 62) × (r.code < 2 ^ 62)) → (f : FrameValue) → Goes p s f → Fits f
-  goes_fits p codes stops (reset_stream f) goes = (
+  -- a frame that goes has a form, where the first RESET_STREAM and the first STOP_SENDING that wait
+  -- are small, and the first NEW_CONNECTION_ID and the first number to retire have one
+  pub goes_fits : (p : Retransmits) → ((r : ℕ × ℕ) → first_of p.reset_stream ≡ Some r → r.1 < 2 ^ 62) → ((r : StopSendingValue) → first_of p.stop_sending ≡ Some r → (r.id < 2 ^ 62) × (r.code < 2 ^ 62))
+      → ((cid : IssuedCid) → first_of p.new_cids ≡ Some cid → Fits (new_connection_id (told_id cid))) → ((n : ℕ) → first_of p.retire_cids ≡ Some n → n < 2 ^ 62) → (f : FrameValue) → Goes p s f → Fits f
+  goes_fits p codes stops ids retired (reset_stream f) goes = (
     sending_small f.id goes.0 goes.2,
     (codes (f.id, f.code) goes.1, (size_small (wrote f.id) goes.0 (live_holds wrote s g.holds f.id goes.0 goes.2) f.final_size goes.3, tt)),
   )
-  goes_fits p codes stops (stop_sending f) goes = let small = stops f goes in (small.0, (small.1, tt))
-  goes_fits p codes stops (max_data limit) goes = (omega arith, tt)
-  goes_fits p codes stops (max_stream_data f) goes = let is = goes.3 in (receiving_small f.id goes.0 goes.2, (omega arith, tt))
-  goes_fits p codes stops (max_streams f) goes = (omega arith, tt)
-  goes_fits p codes stops (data_blocked limit) goes = let small = g.limit in (omega arith, tt)
-  goes_fits p codes stops (stream_data_blocked f) goes = let small = blocked_small f.id f.limit (sending_half s f.id) refl goes in (small.0, (small.1, tt))
-  goes_fits p codes stops f goes = absurd goes
+  goes_fits p codes stops ids retired (stop_sending f) goes = let small = stops f goes in (small.0, (small.1, tt))
+  goes_fits p codes stops ids retired (max_data limit) goes = (omega arith, tt)
+  goes_fits p codes stops ids retired (max_stream_data f) goes = let is = goes.3 in (receiving_small f.id goes.0 goes.2, (omega arith, tt))
+  goes_fits p codes stops ids retired (max_streams f) goes = (omega arith, tt)
+  goes_fits p codes stops ids retired (data_blocked limit) goes = let small = g.limit in (omega arith, tt)
+  goes_fits p codes stops ids retired (stream_data_blocked f) goes = let small = blocked_small f.id f.limit (sending_half s f.id) refl goes in (small.0, (small.1, tt))
+  goes_fits p codes stops ids retired (new_connection_id f) goes = subst (λ (g : NewConnectionIdValue). Fits (new_connection_id g)) (sym goes.2) (ids goes.0 goes.1)
+  goes_fits p codes stops ids retired (retire_connection_id n) goes = (retired n goes, tt)
+  goes_fits p codes stops ids retired f goes = absurd goes

@@ -1,4 +1,5 @@
--- What was done on a stream only grows, and is over once the stream is finished or reset (RFC 9000, section 3.1).
+-- What was done on a stream only grows, and is over once the stream is finished or reset (RFC 9000,
+-- section 3.1).
 use Rattle.std.proofs.Common.{◌≡◌, ℕ, [], ◌++◌, take, length, Bool, true, false, List, Option, Some, None, Result, Ok, Err, refl, sym, ap, ◌∙◌, subst, inl, inr}
 use Rattle.std.specs.Prelude.{◌||◌, not, if◌then◌else◌}
 use Rattle.std.specs.Option.{is_some, IsSome}

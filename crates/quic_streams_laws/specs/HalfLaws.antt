@@ -1,4 +1,5 @@
--- What is read of one receiving half is what was written on its stream, whatever comes, is read, or is stopped.
+-- What is read of one receiving half is what was written on its stream, whatever comes, is read, or
+-- is stopped.
 use Rattle.std.proofs.Common.{◌≡◌, ℕ, ◌+◌, ◌-◌, ◌^◌, ◌<◌, ◌≤◌, inl, inr, ltb, length, List, Bool, true, false, cond, Option, Some, None, refl, sym, ap, ◌∙◌, subst, arith, get_or, slice_get, length-append}
 use Rattle.std.specs.Prelude.{not, ◌||◌, if◌then◌else◌}
 use Rattle.std.specs.Option.{is_some, option_or, IsSome}

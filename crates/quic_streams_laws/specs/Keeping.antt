@@ -1,4 +1,5 @@
--- The small changes that calls and frames make of all streams of one end: a fact that each of them keeps is kept by every word.
+-- The small changes that calls and frames make of all streams of one end: a fact that each of them
+-- keeps is kept by every word.
 use Rattle.std.specs.Prelude.{◌≡◌, ℕ, ◌+◌, ◌-◌, ◌<◌, ◌≤◌, ◌⊎◌, Bool, true, ◌==◌, if◌then◌else◌, List, [], ◌∷◌, Some, None}
 use Rattle.std.specs.Option.{is_some}
 use Rattle.quic_wire_core.specs.declared.stream_id.Dir.{Dir}
@@ -29,7 +30,8 @@ pub record SendsOn (old new : SendHalf) : Type 0 where
   pub as_many : written_on new ≡ written_on old
   pub limit : old.limit ≤ new.limit
 
--- a sending half on which so many bytes were written, within its limit and what the connection leaves
+-- a sending half on which so many bytes were written, within its limit and what the connection
+-- leaves
 pub record WritesOn (room : ℕ) (n : ℕ) (old new : SendHalf) : Type 0 where
   pub stands : StandsAlike old new
   pub more : written_on new ≡ written_on old + n
@@ -37,7 +39,8 @@ pub record WritesOn (room : ℕ) (n : ℕ) (old new : SendHalf) : Type 0 where
   pub fits : n ≤ room_on old
   pub within : n ≤ room
 
--- a receiving half on which more has come, within what the peer was told and what all streams may bring
+-- a receiving half on which more has come, within what the peer was told and what all streams may
+-- bring
 pub record SeesMore (r : Receiving) (old new : RecvHalf) : Type 0 where
   pub more : old.seen ≤ new.seen
   pub announced : new.seen ≤ old.announced
@@ -81,6 +84,7 @@ HasEnded h = (is_some h.reset ≡ true) ⊎ (is_acked h ≡ true)
 
 -- ---- the small changes
 
+-- one small change of the streams, of which every call is a row
 pub data Change : Type 0 where
   -- what the application is told: that a stream is finished, and all else
   finishes : ℕ → Change
@@ -133,7 +137,8 @@ after tells s = record s { receiving = record s.receiving { announced = raised_d
 after (tells_on id h) s = with_recv s id (record h { announced = raised_on s.receiving.stream_window h })
 after (tells_count dir) s = record s { opening = announced_count dir s.opening }
 
--- what is asked of changes: of a receiving half, of a sending half, and of one on which bytes are written; of streams that are accepted; of streams that it is told are finished; of sending halves
+-- what is asked of changes: of a receiving half, of a sending half, and of one on which bytes are
+-- written; of streams that are accepted; of streams that it is told are finished; of sending halves
 -- that are done; and of the limit on all streams
 pub record Asks : Type 1 where
   pub recv : Receiving → ℕ → RecvHalf → RecvHalf → Type 0
@@ -166,13 +171,16 @@ May q tells s = Unit {0}
 May q (tells_on id h) s = at s.receiving.halves.live id ≡ Some h
 May q (tells_count dir) s = Unit {0}
 
--- a fact that each small change keeps, where receiving halves change only as R says of them, sending halves as S says, and those on which bytes are written as W says; where streams of
--- the peer's are accepted as A says; where it is told of streams that they are finished as F says; where sending halves are done as E says; and where the limit on all streams is raised as L says
+-- a fact that each small change keeps, where receiving halves change only as R says of them,
+-- sending halves as S says, and those on which bytes are written as W says; where streams of the
+-- peer's are accepted as A says; where it is told of streams that they are finished as F says;
+-- where sending halves are done as E says; and where the limit on all streams is raised as L says
 abbrev pub KeepsWhere : (Receiving → ℕ → RecvHalf → RecvHalf → Type 0) → (StreamsState → ℕ → SendHalf → SendHalf → Type 0) → (StreamsState → ℕ → ℕ → SendHalf → SendHalf → Type 0) → (StreamsState → Dir → Type 0) → (ℕ → Type 0) → (ℕ → SendHalf → Type 0)
     → (StreamsState → ℕ → Type 0) → (StreamsState → Type 0) → Type 0
 KeepsWhere R S W A F E L P = (c : Change) (s : StreamsState) → May (record { recv = R; send = S; write = W; accept = A; finish = F; end = E; limit = L }) c s → P s → P (after c s)
 
--- such a fact, whichever of the sending halves are done that were reset or are wholly acknowledged, and wherever the limit on all streams doesn't fall
+-- such a fact, whichever of the sending halves are done that were reset or are wholly acknowledged,
+-- and wherever the limit on all streams doesn't fall
 abbrev pub KeepsAll : (Receiving → ℕ → RecvHalf → RecvHalf → Type 0) → (StreamsState → ℕ → SendHalf → SendHalf → Type 0) → (StreamsState → ℕ → ℕ → SendHalf → SendHalf → Type 0) → (StreamsState → Dir → Type 0) → (ℕ → Type 0) → (StreamsState → Type 0) → Type 0
 KeepsAll R S W A F P = KeepsWhere R S W A F (λ id h. HasEnded h) (λ s limit. s.sending.limit ≤ limit) P
 

@@ -366,7 +366,8 @@ refused_by_id s id end fin e = go (receiving_refusal s id) e
     go None f = refl
     go (Some b) f = f
 
--- what a STREAM frame leaves: all as it was where it is refused or its part is done, and else its part with another value
+-- what a STREAM frame leaves: all as it was where it is refused or its part is done, and else its
+-- part with another value
 pub stream_cases : (s : StreamsState) (p : Retransmits) (f : StreamValue) (T : StreamsState → Type 0)
     → ((b : Breach) → refusal s f.id (end_of f) f.fin ≡ Some b → T s)
     → (receiving_refusal s f.id ≡ None → part_for s f.id ≡ None → T s)

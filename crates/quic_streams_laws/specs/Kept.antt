@@ -20,7 +20,8 @@ pub record IsKeptHalf (taken : StreamValue → Type 0) (id : ℕ) (h : RecvHalf)
   pub lawful : IsLawful h.arrived
   pub frames : h.stopped ≡ false → h.reset ≡ None → (f : StreamValue) → taken f → f.id ≡ id → IsFrameKept f h
 
--- the same by how far the half has come: no frame was taken of a stream whose half wasn't in use yet
+-- the same by how far the half has come: no frame was taken of a stream whose half wasn't in use
+-- yet
 abbrev pub IsKeptStatus : (StreamValue → Type 0) → ℕ → Status RecvHalf → Type 0
 IsKeptStatus taken id unknown = (f : StreamValue) → taken f → f.id ≡ id → ⊥
 IsKeptStatus taken id fresh = (f : StreamValue) → taken f → f.id ≡ id → ⊥
@@ -35,8 +36,8 @@ HoldsTaken taken s = AllReceiving (λ id x. IsKeptStatus taken id x) s
 abbrev pub TakesMore : StreamsState → StreamValue → (StreamValue → Type 0) → (StreamValue → Type 0) → Type 0
 TakesMore s f taken more = (g : StreamValue) → more g → taken g ⊎ ((g ≡ f) × (refusal s f.id (end_of f) f.fin ≡ None))
 
--- a frame brought nothing that may be read next: not the first byte that wasn't read, while all reads were in order; no byte that wasn't read, else; and not the end
--- where all before it was read
+-- a frame brought nothing that may be read next: not the first byte that wasn't read, while all
+-- reads were in order; no byte that wasn't read, else; and not the end where all before it was read
 pub record BringsNothing (r : Reads) (f : StreamValue) : Type 0 where
   pub ordered : r.unordered ≡ false → f.offset ≤ length (bytes_of r.chunks) → length (bytes_of r.chunks) < end_of f → ⊥
   pub unordered : r.unordered ≡ true → (o : ℕ) → f.offset ≤ o → o < end_of f → was_given r.chunks o ≡ true

@@ -1,4 +1,5 @@
--- What taken frames brought stays read or waiting, whatever word comes; and a read is blocked only where none of them brought what it may give.
+-- What taken frames brought stays read or waiting, whatever word comes; and a read is blocked only
+-- where none of them brought what it may give.
 use Rattle.std.proofs.Common.{◌≡◌, ℕ, ◌<◌, ◌⊎◌, inl, inr, length, [], Bool, true, false, cond, Option, Some, None, refl, sym, ap, ◌∙◌, subst, arith}
 use Rattle.std.specs.Prelude.{◌==◌, ◌||◌, not, nat_lt, if◌then◌else◌}
 use Rattle.std.specs.Option.{is_some, option_or}
@@ -149,7 +150,8 @@ kept_frame taken more r h f one u k = go h.stopped (is_some h.reset) refl refl
 
 -- ---- a read that is blocked
 
--- why a half that isn't reset is blocked: no byte waits that may be given, and not all up to the end was read
+-- why a half that isn't reset is blocked: no byte waits that may be given, and not all up to the
+-- end was read
 pub record IsBlocked (h : RecvHalf) : Type 0 where
   pub free : h.reset ≡ None
   pub dry : IsDry h.arrived

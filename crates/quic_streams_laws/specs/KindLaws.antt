@@ -1,11 +1,11 @@
--- What is known of a frame that goes of what waits about streams: its kind, and what it says. Only here is an entry's frame taken
--- apart, kind by kind.
+-- What is known of a frame that goes of what waits about streams: its kind, and what it says. Only
+-- here is an entry's frame taken apart, kind by kind.
 use Rattle.std.proofs.Common.{◌≡◌, ℕ, Bool, true, false, List, [], ◌∷◌, Option, Some, None, refl, ap, ◌∙◌, subst}
 use Rattle.std.specs.Prelude.{if◌then◌else◌, map}
 use Rattle.std.specs.Option.{option_map}
 use Rattle.quic_wire_core.specs.declared.stream_id.Dir.{Dir}
 use Rattle.quic_wire_core.specs.declared.stream_id.Dir.TheVariants.{Bi, Uni}
-use Rattle.quic_wire.specs.Value.{FrameValue, reset_stream, stop_sending, max_data, max_stream_data, max_streams, data_blocked, stream_data_blocked}
+use Rattle.quic_wire.specs.Value.{FrameValue, reset_stream, stop_sending, max_data, max_stream_data, max_streams, data_blocked, stream_data_blocked, new_connection_id, retire_connection_id}
 use Rattle.quic_wire.specs.FrameView.{is_one_way}
 use Rattle.quic_streams_parts.specs.Dirs.{of}
 use Rattle.quic_streams_parts.specs.Table.{at}
@@ -13,10 +13,10 @@ use Rattle.quic_streams_parts.specs.SendHalf.{SendHalf}
 use Rattle.quic_streams_parts.specs.RecvHalf.{RecvHalf, takes_limits, raised_on}
 use Rattle.quic_retransmits.specs.Retransmits.{Retransmits, first_of, others_of}
 use Rattle.quic_retransmits.specs.declared.retransmits.ControlKind.{ControlKind}
-use Rattle.quic_retransmits.specs.declared.retransmits.ControlKind.TheVariants.{ResetStream, StopSending, MaxData, MaxStreamData, MaxStreams, DataBlocked, StreamDataBlocked}
+use Rattle.quic_retransmits.specs.declared.retransmits.ControlKind.TheVariants.{ResetStream, StopSending, MaxData, MaxStreamData, MaxStreams, DataBlocked, StreamDataBlocked, NewConnectionId, RetireConnectionId}
 use Rattle.quic_streams_state.specs.declared.state.StreamsState.{StreamsState}
 use Rattle.quic_streams_state.specs.Limits.{raised_data, raised_count, can_send_data_blocked}
-use Rattle.quic_streams_state.specs.Control.{stream_data_blocked_limit, Entry, reset_frame, reset_entry, stop_entry, data_entry, limit_frame, limit_entry, count_entry, blocked_entry, stream_blocked_entry, flagged, waiting, without_first, frame_of_first, kind_of, Goes}
+use Rattle.quic_streams_state.specs.Control.{stream_data_blocked_limit, Entry, reset_frame, reset_entry, stop_entry, data_entry, limit_frame, limit_entry, count_entry, blocked_entry, stream_blocked_entry, new_id_entry, retire_entry, told_id, flagged, waiting, without_first, frame_of_first, kind_of, Goes}
 
 -- ---- the first that waits
 
@@ -95,6 +95,8 @@ module _ (p : Retransmits) (s : StreamsState) (f : FrameValue) where
   first_is (MaxStreams dir) e es is due = count_goes dir (ap (λ (y : Entry). y.frame s) (flag_first (of dir p.max_stream_id) (count_entry dir) e es is) ∙ due)
   first_is DataBlocked e es is due = blocked_goes (can_send_data_blocked s) (ap (λ (y : Entry). y.frame s) (flag_first p.data_blocked blocked_entry e es is) ∙ due)
   first_is StreamDataBlocked e es is due = let x = listed_first stream_blocked_entry p.stream_data_blocked e es is in stream_blocked_goes x.0 (stream_data_blocked_limit s x.0) refl (ap (λ (y : Entry). y.frame s) x.2 ∙ due)
+  first_is NewConnectionId e es is due = let x = listed_first new_id_entry p.new_cids e es is in known NewConnectionId (new_connection_id (told_id x.0)) (refl, (x.0, x.1, refl)) (ap (λ (y : Entry). y.frame s) x.2 ∙ due)
+  first_is RetireConnectionId e es is due = let x = listed_first retire_entry p.retire_cids e es is in known RetireConnectionId (retire_connection_id x.0) (refl, x.1) (ap (λ (y : Entry). y.frame s) x.2 ∙ due)
 
 -- a frame goes of what waits of a kind
 pub record GoesFirst (kind : ControlKind) (p : Retransmits) (s : StreamsState) (f : FrameValue) : Type 0 where
@@ -112,7 +114,8 @@ first_goes kind p e es s f is due =
 
 -- ---- what waits behind it
 
--- what waits once a frame of a kind went, or one of none: so a fact may be said of the frame alone, by its own kind
+-- what waits once a frame of a kind went, or one of none: so a fact may be said of the frame alone,
+-- by its own kind
 abbrev pub without_of : Option ControlKind → Retransmits → Retransmits
 without_of None p = p
 without_of (Some kind) p = without_first kind p

@@ -1,4 +1,5 @@
--- What is written stays within the peer's limits, and what comes within those that this end told, which never pass those that it may tell (RFC 9000, section 4).
+-- What is written stays within the peer's limits, and what comes within those that this end told,
+-- which never pass those that it may tell (RFC 9000, section 4).
 use Rattle.std.specs.Prelude.{◌≡◌, ℕ, ◌≤◌, Some}
 use Rattle.quic_wire_core.specs.declared.stream_id.Dir.{Dir}
 use Rattle.quic_streams_parts.specs.Table.{at}
@@ -11,7 +12,8 @@ use Rattle.quic_streams_state.specs.Limits.{raised_data, raised_count}
 use Rattle.quic_streams_laws.specs.Keeping.{EndsThere}
 use Rattle.quic_streams_laws.specs.Shape.{IsShaped}
 
--- what is consumed of a half was seen, what was seen is within what the peer was told, and this within what it may be told
+-- what is consumed of a half was seen, what was seen is within what the peer was told, and this
+-- within what it may be told
 pub record IsWithin (window : ℕ) (h : RecvHalf) : Type 0 where
   pub consumed : credit h ≤ h.seen
   pub seen : h.seen ≤ h.announced

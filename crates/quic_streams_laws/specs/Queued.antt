@@ -1,4 +1,5 @@
--- The queue has the halves that have something to send, each at its place; and the list of those whose write the connection blocked has those that say so.
+-- The queue has the halves that have something to send, each at its place; and the list of those
+-- whose write the connection blocked has those that say so.
 use Rattle.std.specs.Prelude.{◌≡◌, ℕ, Bool, true, false, ◌==◌, ◌||◌, List, [], ◌∷◌, Option, Some, None}
 use Rattle.std.specs.Option.{is_some}
 use Rattle.std.specs.List.Sorted.{IsStrictlySortedBy}
@@ -24,7 +25,8 @@ place_of (Some h) = h.place
 abbrev pub place_at : Table SendHalf → ℕ → Option Place
 place_at live id = place_of (at live id)
 
--- the queue in the order of ranks and turns; each turn was given before; and a stream stands at a place where its half says so, and nowhere else
+-- the queue in the order of ranks and turns; each turn was given before; and a stream stands at a
+-- place where its half says so, and nowhere else
 pub record Stand (q : Queue) (place : ℕ → Option Place) : Type 0 where
   pub sorted : IsStrictlySortedBy place_cmp (keys_of q.entries)
   pub earlier : IsQueue q.entries q.next
@@ -46,7 +48,8 @@ abbrev pub AreOnce : List ℕ → Type 0
 AreOnce [] = Unit {0}
 AreOnce (x ∷ xs) = (has_in xs x ≡ false) × AreOnce xs
 
--- the halves in use that are in the list of those that are blocked are those that say so; the others in it are done
+-- the halves in use that are in the list of those that are blocked are those that say so; the
+-- others in it are done
 pub record AreBlocked (s : StreamsState) : Type 0 where
   pub once : AreOnce s.sending.blocked
   pub told : (id : ℕ) (h : SendHalf) → at s.sending.halves.live id ≡ Some h → h.blocked ≡ has_in s.sending.blocked id

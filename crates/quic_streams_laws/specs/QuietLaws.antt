@@ -1,4 +1,5 @@
--- A fact that every small change keeps, however sending halves change, is left by each word about what an end sends.
+-- A fact that every small change keeps, however sending halves change, is left by each word about
+-- what an end sends.
 use Rattle.std.proofs.Common.{◌≡◌, ℕ, refl}
 use Rattle.quic_wire_core.specs.declared.stream_id.Dir.{Dir}
 use Rattle.quic_wire.specs.Value.{FrameValue, max_data, max_stream_data, max_streams}

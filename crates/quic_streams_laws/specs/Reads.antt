@@ -11,7 +11,8 @@ use Rattle.quic_streams_parts.specs.declared.answers.ReadableError.{ReadableErro
 use Rattle.quic_streams_parts.specs.RecvHalf.{RecvHalf}
 use Rattle.quic_streams_laws.specs.Written.{Wrote, IsOver, StandsAt}
 
--- what an application read of a stream: the chunks, the first first; and whether a read was begun that isn't in order
+-- what an application read of a stream: the chunks, the first first; and whether a read was begun
+-- that isn't in order
 pub record Reads : Type 0 where
   pub chunks : List Chunk
   pub unordered : Bool
@@ -69,8 +70,8 @@ abbrev pub FollowOn : ℕ → List Chunk → Type 0
 FollowOn offset [] = Unit {0}
 FollowOn offset (c ∷ cs) = (c.offset ≡ offset) × FollowOn (end_of c) cs
 
--- this was read of a stream on which that was written: slices at their offsets, no offset twice; and while all reads were in order, one behind another from the
--- first byte on
+-- this was read of a stream on which that was written: slices at their offsets, no offset twice;
+-- and while all reads were in order, one behind another from the first byte on
 pub record IsReadOf (w : Wrote) (r : Reads) : Type 0 where
   pub slices : AreSlices w.bytes r.chunks
   pub once : AreDistinct r.chunks
@@ -99,13 +100,15 @@ pub record IsRecvHalf (w : Wrote) (r : Reads) (h : RecvHalf) : Type 0 where
 abbrev pub IsAllRead : Wrote → Reads → Type 0
 IsAllRead w r = (o : ℕ) → o < length w.bytes → was_given r.chunks o ≡ true
 
--- a chunk may be read next: it stands in what was written at its offset, none of its offsets was read, and while all reads were in order it follows on
+-- a chunk may be read next: it stands in what was written at its offset, none of its offsets was
+-- read, and while all reads were in order it follows on
 pub record IsNextChunk (w : Wrote) (r : Reads) (c : Chunk) : Type 0 where
   pub stands : StandsAt w.bytes c.offset c.bytes
   pub new : (o : ℕ) → in_chunk (Some c) o ≡ true → was_given r.chunks o ≡ false
   pub follows : r.unordered ≡ false → c.offset ≡ length (bytes_of r.chunks)
 
--- what may be answered: a chunk; the end, only where the stream ended and all of it was read; a reset only with its code
+-- what may be answered: a chunk; the end, only where the stream ended and all of it was read; a
+-- reset only with its code
 abbrev pub IsNextOf : Wrote → Reads → Result (Option Chunk) ReadError → Type 0
 IsNextOf w r (Ok (Some c)) = IsNextChunk w r c
 IsNextOf w r (Ok None) = (w.ended ≡ true) × IsAllRead w r

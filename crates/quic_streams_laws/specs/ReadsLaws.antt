@@ -1,4 +1,5 @@
--- What chunks that were read come to: a prefix where they follow one another, and all bytes where they are as many.
+-- What chunks that were read come to: a prefix where they follow one another, and all bytes where
+-- they are as many.
 use Rattle.std.proofs.Common.{◌≡◌, ℕ, zero, suc, ◌+◌, ◌-◌, ◌<◌, ◌≤◌, ◌⊎◌, inl, inr, ltb, length, List, [], ◌∷◌, ◌++◌, take, drop, Bool, true, false, cond, Some, refl, sym, ap, ◌∙◌, subst, arith, get_or, length-append, length-take, append_assoc, append-nil, take-append-drop, min}
 use Rattle.std.specs.Prelude.{not, ◌&&◌, ◌||◌, slice_get}
 use Rattle.std.proofs.lemmas.Bool.{ltb-true, ltb-false, cases_Bool, both_ways, or_parts, or_from}

@@ -18,14 +18,16 @@ pub record ArePlaces (p : Places) : Type 0 where
   pub remote_bi : AreRuns p.remote.bi
   pub remote_uni : AreRuns p.remote.uni
 
--- the halves of one way stand in the order of their ids; each that is in use has its place; and a place is that of a stream on which there may be such a half
+-- the halves of one way stand in the order of their ids; each that is in use has its place; and a
+-- place is that of a stream on which there may be such a half
 pub record AreHalves {A : Type 0} (side : Side) (may : ℕ → Bool) (h : Halves A) : Type 0 where
   pub sorted : IsStrictlySortedBy nat_cmp (keys_of h.live)
   pub runs : ArePlaces h.places
   pub placed : (id : ℕ) (a : A) → at h.live id ≡ Some a → has_place side h.places id ≡ true
   pub allowed : (id : ℕ) → has_place side h.places id ≡ true → may id ≡ true
 
--- sending halves stand on opened streams on which this end may send, receiving ones where the peer may
+-- sending halves stand on opened streams on which this end may send, receiving ones where the peer
+-- may
 pub record IsShaped (s : StreamsState) : Type 0 where
   pub sending : AreHalves s.side (λ id. sends_on s.side id && is_opened s id) s.sending.halves
   pub receiving : AreHalves s.side (λ id. receives_on s.side id && is_opened s id) s.receiving.halves

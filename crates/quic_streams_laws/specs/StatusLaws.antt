@@ -1,4 +1,5 @@
--- How far the halves of streams have come, stream by stream, after each small change: what holds of each stays so where the change of one keeps it.
+-- How far the halves of streams have come, stream by stream, after each small change: what holds of
+-- each stays so where the change of one keeps it.
 use Rattle.std.proofs.Common.{◌≡◌, ℕ, ◌+◌, ◌⊎◌, inl, inr, Bool, true, false, Option, Some, None, refl, sym, ap, ◌∙◌, subst, arith}
 use Rattle.std.specs.Prelude.{◌&&◌, ◌||◌, not}
 use Rattle.std.specs.Ordering.{nat_cmp}
@@ -67,7 +68,8 @@ status_opens {A} side may more h id i wider = go (at h.live id) (may id) more (h
 
 -- ---- receiving halves of all streams
 
--- a fact of a half at each stream that stays as the stream goes on: it is opened, comes into use, the peer is told of its limit, and it is done
+-- a fact of a half at each stream that stays as the stream goes on: it is opened, comes into use,
+-- the peer is told of its limit, and it is done
 pub record GoesOn (Q : ℕ → Status RecvHalf → Type 0) : Type 0 where
   pub opens : (id : ℕ) → Q id unknown → Q id fresh
   pub comes : (id window : ℕ) → Q id fresh → Q id (live (new_recv_half window))
@@ -136,7 +138,8 @@ done_one Q g s id h is i q = elim (cases_eq q id) [
   | inr ne ↦ subst (Q q) (sym (status_left s.side (receives_on s.side q && is_opened s q) s.receiving.halves id q ne)) (i.each q)
 ]
 
--- a fact that goes on as streams do is kept by every small change that keeps it at the half that changes
+-- a fact that goes on as streams do is kept by every small change that keeps it at the half that
+-- changes
 pub each_kept : (Q : ℕ → Status RecvHalf → Type 0) → GoesOn Q → KeepsBy (λ r id old new. Q id (live old) → Q id (live new)) (λ s id old new. Unit {0}) (λ s id n old new. Unit {0}) (AllReceiving Q)
 each_kept Q g (changes.opens_own dir) s lt i = record { shape = shape_any (changes.opens_own dir) s lt i.shape; each = open_more Q g s (record s.opening { own = more dir s.opening.own; sending = s.opening.sending + 1 }) (record { own = λ d. more_own dir d s.opening.own; remote = λ d. omega arith }) i }
 each_kept Q g (changes.opens_theirs id) s (e, within) i = let past = past_remote s id e in record { shape = shape_any (changes.opens_theirs id) s (e, within) i.shape; each = open_more Q g s (with_remote (dir_of id) (index_of id + 1) s.opening) (more_remote (dir_of id) (index_of id + 1) s.opening (omega (arith, past.1))) i }

@@ -1,4 +1,5 @@
--- What all streams of one end sum up to, those too whose halves are done: what was written, what was seen, and what was consumed (RFC 9000, section 4.1).
+-- What all streams of one end sum up to, those too whose halves are done: what was written, what
+-- was seen, and what was consumed (RFC 9000, section 4.1).
 use Rattle.std.specs.Prelude.{◌≡◌, ℕ, zero, suc, ◌+◌, ◌≤◌, Bool, true, false, Option, Some, None}
 use Rattle.quic_wire_core.specs.declared.stream_id.Side.{Side}
 use Rattle.quic_streams_parts.specs.Table.{at}
@@ -16,7 +17,8 @@ unfoldable pub sum_below : ℕ → (ℕ → ℕ) → ℕ
 sum_below zero f = 0
 sum_below (suc n) f = f n + sum_below n f
 
--- what a half comes to: what is said of it while it is in use, what it came to at last where it is done, and nothing where it was never in use
+-- what a half comes to: what is said of it while it is in use, what it came to at last where it is
+-- done, and nothing where it was never in use
 abbrev pub amount_of : {A : Type 0} → (A → ℕ) → ℕ → Option A → Bool → ℕ
 amount_of f final (Some a) used = f a
 amount_of f final None true = final
@@ -46,7 +48,8 @@ pub record IsWritten (n : ℕ) (first : ℕ → ℕ) (s : StreamsState) : Type 0
   pub accepted : s.sending.accepted ≡ sum_below n (written_in final s)
   pub more : (id : ℕ) → first id ≤ written_in final s id
 
--- what was seen, and what was consumed, are sums of what was seen and consumed of each stream, no less of any than at first
+-- what was seen, and what was consumed, are sums of what was seen and consumed of each stream, no
+-- less of any than at first
 pub record IsSeen (n : ℕ) (first_seen first_consumed : ℕ → ℕ) (s : StreamsState) : Type 0 where
   pub limits : IsLimited s
   pub few : AreFew s

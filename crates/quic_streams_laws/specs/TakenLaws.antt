@@ -1,4 +1,5 @@
--- What STREAM frames that were taken brought is read or waits on each stream, whatever word comes (RFC 9000, sections 2.1, 2.2 and 3.2).
+-- What STREAM frames that were taken brought is read or waits on each stream, whatever word comes
+-- (RFC 9000, sections 2.1, 2.2 and 3.2).
 use Rattle.std.proofs.Common.{◌≡◌, ℕ, ◌+◌, ◌⊎◌, inl, inr, Bool, true, false, Option, Some, None, refl, sym, ap, ◌∙◌, subst, arith}
 use Rattle.std.specs.Prelude.{◌&&◌, ◌||◌, not, nat_lt, nat_le, if◌then◌else◌}
 use Rattle.std.specs.declared.result.Result.{Result}

@@ -1,4 +1,5 @@
--- What an application did on a stream that it writes, what frames say of it, and that an end holds it (RFC 9000, sections 2.2, 3.1, 19.4 and 19.8).
+-- What an application did on a stream that it writes, what frames say of it, and that an end holds
+-- it (RFC 9000, sections 2.2, 3.1, 19.4 and 19.8).
 use Rattle.std.specs.Prelude.{◌≡◌, ℕ, ◌<◌, ◌≤◌, ◌^◌, ◌⊎◌, Bool, true, false, ◌==◌, if◌then◌else◌, List, [], ◌++◌, length, take, drop, Option, Some, None, Result, Ok, Err}
 use Rattle.std.specs.Option.{IsSome, option_map}
 use Rattle.std.specs.List.{concat, AllByRecursion}
@@ -19,7 +20,8 @@ use Rattle.quic_streams_state.specs.State.{sending_status, first_limit}
 use Rattle.quic_streams_laws.specs.Shape.{IsShaped}
 use Rattle.quic_streams_laws.specs.Each.{StatusIs}
 
--- the bytes that were accepted; whether its finish was answered Ok; and the code of its reset that was answered Ok
+-- the bytes that were accepted; whether its finish was answered Ok; and the code of its reset that
+-- was answered Ok
 pub record Wrote : Type 0 where
   pub bytes : List ℕ
   pub ended : Bool
@@ -29,7 +31,8 @@ pub record Wrote : Type 0 where
 abbrev pub IsOver : Wrote → Type 0
 IsOver w = (w.ended ≡ true) ⊎ IsSome w.reset
 
--- more was done: bytes only get longer, and none come once the stream ended or was reset, which stays so
+-- more was done: bytes only get longer, and none come once the stream ended or was reset, which
+-- stays so
 pub record Grows (w more : Wrote) : Type 0 where
   pub rest : List ℕ
   pub bytes : w.bytes ++ rest ≡ more.bytes
@@ -46,7 +49,8 @@ pub record StandsAt (all : List ℕ) (offset : ℕ) (bytes : List ℕ) : Type 0 
   pub is : (before ++ bytes) ++ behind ≡ all
   pub place : length before ≡ offset
 
--- a STREAM frame says what was written: its bytes stand at their offset, and its end is that of a stream that ended
+-- a STREAM frame says what was written: its bytes stand at their offset, and its end is that of a
+-- stream that ended
 pub record IsStreamOf (w : Wrote) (f : StreamValue) : Type 0 where
   pub stands : StandsAt w.bytes f.offset f.bytes
   pub ended : f.fin ≡ true → w.ended ≡ true
@@ -57,7 +61,8 @@ pub record IsResetOf (w : Wrote) (f : ResetStreamValue) : Type 0 where
   pub code : w.reset ≡ Some f.code
   pub size : f.final_size ≡ length w.bytes
 
--- a STREAM frame says what was written, with the end exactly where it reaches that of a stream that was finished; and the stream wasn't reset
+-- a STREAM frame says what was written, with the end exactly where it reaches that of a stream that
+-- was finished; and the stream wasn't reset
 pub record SaysWritten (w : Wrote) (f : StreamValue) : Type 0 where
   pub says : IsStreamOf w f
   pub ends : w.ended ≡ true → end_of f ≡ length w.bytes → f.fin ≡ true
@@ -135,7 +140,8 @@ pub record KeepsNothing (h : SendHalf) : Type 0 where
   pub kept : h.buffer.kept ≡ []
   pub end : h.end_waits ≡ false
 
--- a half holds what was written from where it keeps bytes on; of one that was reset nothing but its final size
+-- a half holds what was written from where it keeps bytes on; of one that was reset nothing but its
+-- final size
 pub record IsSendHalf (w : Wrote) (h : SendHalf) : Type 0 where
   pub lawful : IsBuffered h.buffer
   pub finished : h.finished ≡ w.ended
@@ -148,17 +154,20 @@ pub record IsSendHalf (w : Wrote) (h : SendHalf) : Type 0 where
   pub waits : h.end_waits ≡ true → w.ended ≡ true
   pub acked : h.end_acked ≡ true → w.ended ≡ true
 
--- how a half that has come so far holds what was written; where nothing is left to do, the stream was finished or reset
+-- how a half that has come so far holds what was written; where nothing is left to do, the stream
+-- was finished or reset
 abbrev pub IsSendStatus : Wrote → Status SendHalf → Type 0
 IsSendStatus w status = StatusIs (w ≡ nothing_done) (λ h. IsSendHalf w h) (IsOver w) status
 
--- all streams hold what was written on them, with their halves in order, and the first limits are below 2^62
+-- all streams hold what was written on them, with their halves in order, and the first limits are
+-- below 2^62
 pub record HoldsWritten (wrote : ℕ → Wrote) (s : StreamsState) : Type 0 where
   pub shape : IsShaped s
   pub first : (id : ℕ) → first_limit s id < 2 ^ 62
   pub each : (id : ℕ) → IsSendStatus (wrote id) (sending_status s id)
 
--- a peer's first limits for what comes on streams are below 2^62, as those are that parameters may tell (RFC 9000, section 18.2)
+-- a peer's first limits for what comes on streams are below 2^62, as those are that parameters may
+-- tell (RFC 9000, section 18.2)
 pub record HasSmallLimits (p : ParameterValues) : Type 0 where
   pub own_bi : p.initial_max_stream_data_bidi_remote < 2 ^ 62
   pub own_uni : p.initial_max_stream_data_uni < 2 ^ 62

@@ -1,4 +1,5 @@
--- RESET_STREAM frames say how streams were reset: what waits, what a datagram carries, and what goes (RFC 9000, sections 3.1, 13.3 and 19.4).
+-- RESET_STREAM frames say how streams were reset: what waits, what a datagram carries, and what
+-- goes (RFC 9000, sections 3.1, 13.3 and 19.4).
 use Rattle.std.proofs.Common.{◌≡◌, ℕ, [], ◌∷◌, ◌++◌, length, Bool, true, false, List, Option, Some, None, Ok, Err, refl, sym, ap, ◌∙◌, subst}
 use Rattle.std.specs.Prelude.{if◌then◌else◌}
 use Rattle.std.specs.Option.{is_some, option_map}
@@ -57,7 +58,8 @@ resets_reset wrote s p id code i says = go (sending_half s id) (resets_grow wrot
 
 -- ---- what goes
 
--- streams hold what was written; what waits, what the datagram carries and its frames say how streams were reset
+-- streams hold what was written; what waits, what the datagram carries and its frames say how
+-- streams were reset
 pub record TellsResets (wrote : ℕ → Wrote) (d : Draft) : Type 0 where
   pub holds : HoldsWritten wrote d.state
   pub waits : SaysResets wrote d.pending

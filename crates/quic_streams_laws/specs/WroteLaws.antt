@@ -1,4 +1,5 @@
--- What is done on streams, with a further fact of each half: writes, finishes and resets keep it where what they make of a half does.
+-- What is done on streams, with a further fact of each half: writes, finishes and resets keep it
+-- where what they make of a half does.
 use Rattle.std.proofs.Common.{◌≡◌, ℕ, zero, suc, ◌+◌, ◌^◌, ◌<◌, ◌≤◌, length, take, [], ◌∷◌, Bool, true, false, List, Option, Some, None, Result, Ok, Err, refl, sym, ap, ◌∙◌, subst, arith, inl, inr, length-take}
 use Rattle.std.specs.Prelude.{◌==◌, if◌then◌else◌}
 use Rattle.std.specs.Option.{is_some, is_none, option_map}

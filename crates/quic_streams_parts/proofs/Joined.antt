@@ -1,4 +1,5 @@
--- Values of which the first ones all have numbers below a number, and the others none: each call is one on the first, or on the others.
+-- Values of which the first ones all have numbers below a number, and the others none: each call is
+-- one on the first, or on the others.
 use Rattle.std.proofs.Common.{append-nil, ◌≡◌, ℕ, ◌≤◌, ◌<◌, Bool, true, false, cond, [], ◌∷◌, ◌++◌, Some, None, refl, sym, ap, ◌∙◌, arith}
 use Rattle.std.specs.BTreeMap.{is_at}
 use Rattle.std.specs.Ordering.{nat_cmp, match_ordering}

@@ -5,7 +5,8 @@ use Rattle.quic_wire_core.specs.declared.stream_id.Dir.TheVariants.{Bi, Uni}
 use Rattle.quic_streams_parts.specs.declared.answers.StreamEvent.{StreamEvent}
 use Rattle.quic_streams_parts.specs.Dirs.{Flags, with_of, no_flag}
 
--- whether the peer opened streams of each kind since that was told last; and what else happened, in its order
+-- whether the peer opened streams of each kind since that was told last; and what else happened, in
+-- its order
 pub record Events : Type 0 where
   pub opened : Flags
   pub queue : List StreamEvent

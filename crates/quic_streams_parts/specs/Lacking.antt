@@ -8,6 +8,7 @@ use Rattle.quic_assembler.specs.Waiting.{BringsNew}
 abbrev pub FrameMayLack : Arrived → StreamValue → Type 0
 FrameMayLack a f = BringsNew a f.offset f.bytes ⊎ (is_crowded a.parts ≡ true)
 
--- a read may lack it: one in order where it cuts a part, any other where a byte waits that is asked for
+-- a read may lack it: one in order where it cuts a part, any other where a byte waits that is asked
+-- for
 abbrev pub read_may_lack : Arrived → ℕ → Bool
 read_may_lack a most = if a.unordered then nat_lt 0 most && is_next_in true a else cuts a.parts a.read most

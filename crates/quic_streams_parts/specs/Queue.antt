@@ -1,4 +1,5 @@
--- The streams with something to send: the highest priority first, equal ones in the order in which they were queued.
+-- The streams with something to send: the highest priority first, equal ones in the order in which
+-- they were queued.
 use Rattle.std.specs.Prelude.{ℕ, ℤ, pos, negsuc, ◌+◌, ◌-◌, ◌^◌, ◌<◌, Bool, true, false, nat_lt, if◌then◌else◌, List, [], ◌∷◌, ◌++◌, map, Option, Some, None}
 use Rattle.std.specs.List.{AllByRecursion}
 use Rattle.std.specs.Ordering.{nat_cmp, ordering_then}

@@ -8,7 +8,8 @@ use Rattle.quic_streams_parts.specs.RecvHalf.{greatest_offset}
 abbrev pub AreBelow : ℕ → Arrived → Type 0
 AreBelow end a = (o : ℕ) → (is_given a o || waits a.parts o) ≡ true → o < end
 
--- what has arrived is lawful and lies below the greatest offset that arrived, which a final size is at least; and offsets are at most the greatest
+-- what has arrived is lawful and lies below the greatest offset that arrived, which a final size is
+-- at least; and offsets are at most the greatest
 pub record IsWithin (a : Arrived) (seen : ℕ) (size : Option ℕ) (announced : ℕ) : Type 0 where
   pub lawful : IsLawful a
   pub below : AreBelow seen a

@@ -4,14 +4,14 @@ use Rattle.std.specs.Option.{is_some}
 use Rattle.quic_wire.specs.Value.{StreamValue}
 use Rattle.quic_assembler.specs.Arrived.{Arrived, after_insert, after_read, after_ordering, given_by, bytes_read_of, runs_of}
 use Rattle.quic_assembler.specs.declared.assembler.Chunk.{Chunk}
-use Rattle.quic_assembler.specs.declared.assembler.TheConstants.{MOST_PIECES}
 use Rattle.quic_streams_parts.specs.declared.answers.ReadError.{ReadError}
 use Rattle.quic_streams_parts.specs.declared.answers.ReadError.TheVariants as read_errors
 use Rattle.quic_streams_parts.specs.declared.answers.ReadableError.{ReadableError}
 use Rattle.quic_streams_parts.specs.declared.answers.ReadableError.TheVariants as readable_errors
 
--- what has arrived; the offset behind the greatest that arrived; the final size where it is known; how far the peer was told that it may come; whether this end
--- stopped it; and the code with which the peer reset it, if it did
+-- what has arrived; the offset behind the greatest that arrived; the final size where it is known;
+-- how far the peer was told that it may come; whether this end stopped it; and the code with which
+-- the peer reset it, if it did
 pub record RecvHalf : Type 0 where
   pub arrived : Arrived
   pub seen : ℕ
@@ -32,7 +32,8 @@ new_recv_half announced = record { arrived = nothing_arrived; seen = 0; final = 
 abbrev pub greatest_offset : ℕ
 greatest_offset = 2 ^ 62 - 1
 
--- how many bytes of a half count as consumed: those that were read; or where nothing more is read, all up to the greatest offset that arrived
+-- how many bytes of a half count as consumed: those that were read; or where nothing more is read,
+-- all up to the greatest offset that arrived
 abbrev pub credit : RecvHalf → ℕ
 credit h = if h.stopped || is_some h.reset then h.seen else bytes_read_of h.arrived
 
@@ -40,7 +41,8 @@ credit h = if h.stopped || is_some h.reset then h.seen else bytes_read_of h.arri
 abbrev pub raised_on : ℕ → RecvHalf → ℕ
 raised_on window h = min (bytes_read_of h.arrived + window) greatest_offset
 
--- whether the peer may still be told how far it may come: its end isn't known, nor did this end stop it (RFC 9000, section 4.1)
+-- whether the peer may still be told how far it may come: its end isn't known, nor did this end
+-- stop it (RFC 9000, section 4.1)
 abbrev pub takes_limits : RecvHalf → Bool
 takes_limits h = not (h.stopped || is_some h.final)
 
@@ -58,8 +60,8 @@ limit_grew window h = takes_limits h && nat_le (h.announced + least_growth windo
 abbrev pub end_of : StreamValue → ℕ
 end_of f = f.offset + length f.bytes
 
--- whether bytes up to an offset, with the end or without, go past a known final size, name another one, or one below an offset that arrived (RFC 9000,
--- section 4.5)
+-- whether bytes up to an offset, with the end or without, go past a known final size, name another
+-- one, or one below an offset that arrived (RFC 9000, section 4.5)
 abbrev pub breaks_final : Option ℕ → ℕ → ℕ → Bool → Bool
 breaks_final (Some size) seen end fin = nat_lt size end || (fin && not (end == size))
 breaks_final None seen end fin = fin && nat_lt end seen
@@ -80,7 +82,8 @@ with_frame h f = record h { arrived = after_insert h.arrived f.offset f.bytes; s
 abbrev pub with_offsets_of : RecvHalf → StreamValue → RecvHalf
 with_offsets_of h f = record h { seen = max h.seen (end_of f); final = final_after h (end_of f) f.fin }
 
--- the half after a frame: one that this end stopped takes its offsets alone, one that the peer reset takes nothing
+-- the half after a frame: one that this end stopped takes its offsets alone, one that the peer
+-- reset takes nothing
 abbrev pub after_frame : RecvHalf → StreamValue → RecvHalf
 after_frame h f = if h.stopped then with_offsets_of h f else (if is_some h.reset then h else with_frame h f)
 
@@ -92,13 +95,14 @@ cleared h = record h { arrived = record h.arrived { parts = [] } }
 abbrev pub reset_by : RecvHalf → ℕ → ℕ → RecvHalf
 reset_by h code size = record (cleared h) { seen = size; final = Some size; reset = Some code }
 
--- the half after RESET_STREAM: one that this end stopped takes its size alone, a second one changes nothing
+-- the half after RESET_STREAM: one that this end stopped takes its size alone, a second one changes
+-- nothing
 abbrev pub after_reset_stream : RecvHalf → ℕ → ℕ → RecvHalf
 after_reset_stream h code size = if h.stopped then record h { seen = size; final = Some size } else (if is_some h.reset then h else reset_by h code size)
 
--- more pieces wait than may
+-- more pieces wait than may: 2048, our choice, as section 21.7 names no number
 abbrev pub has_too_many : RecvHalf → Bool
-has_too_many h = nat_lt MOST_PIECES (runs_of h.arrived.parts)
+has_too_many h = nat_lt 2048 (runs_of h.arrived.parts)
 
 -- ---- reading (RFC 9000, section 2.2) and stopping (section 3.5)
 
@@ -106,7 +110,8 @@ has_too_many h = nat_lt MOST_PIECES (runs_of h.arrived.parts)
 abbrev pub is_illegal : RecvHalf → Bool → Bool
 is_illegal h ordered = ordered && h.arrived.unordered
 
--- what a read is answered, in this order: there is no such half, or this end stopped it; it would be in order after one that wasn't
+-- what a read is answered, in this order: there is no such half, or this end stopped it; it would
+-- be in order after one that wasn't
 abbrev pub readable : Option RecvHalf → Bool → Result (Unit {0}) ReadableError
 readable None ordered = Err readable_errors.ClosedStream
 readable (Some h) ordered = if h.stopped then Err readable_errors.ClosedStream else (if is_illegal h ordered then Err readable_errors.IllegalOrderedRead else Ok tt)

@@ -11,9 +11,11 @@ use Rattle.quic_streams_parts.specs.declared.answers.WriteError.TheVariants as w
 use Rattle.quic_streams_parts.specs.declared.answers.FinishError.{FinishError}
 use Rattle.quic_streams_parts.specs.declared.answers.FinishError.TheVariants as finish_errors
 
--- what was written and may have to go; how far the peer lets it come; its priority; whether it is finished, whether its end waits to go, and whether its end is
--- acknowledged; the final size that was told, if it was reset; the code with which the peer stopped it, if it did; and whether it is among those whose
--- write the connection blocked; and its place among the streams with something to send, while it has something
+-- what was written and may have to go; how far the peer lets it come; its priority; whether it is
+-- finished, whether its end waits to go, and whether its end is acknowledged; the final size that
+-- was told, if it was reset; the code with which the peer stopped it, if it did; and whether it is
+-- among those whose write the connection blocked; and its place among the streams with something to
+-- send, while it has something
 pub record SendHalf : Type 0 where
   pub buffer : Buffered
   pub limit : ℕ
@@ -38,7 +40,8 @@ written_on h = unwrap_or h.reset (written h.buffer)
 abbrev pub room_on : SendHalf → ℕ
 room_on h = h.limit - written_on h
 
--- whether more may be written: neither its end nor a reset was told (the state "Ready" or "Send" of section 3.1)
+-- whether more may be written: neither its end nor a reset was told (the state "Ready" or "Send" of
+-- section 3.1)
 abbrev pub is_ready : SendHalf → Bool
 is_ready h = not (h.finished || is_some h.reset)
 
@@ -61,8 +64,9 @@ abbrev pub taken_unless : Option ℕ → SendHalf → ℕ → ℕ → Result ℕ
 taken_unless (Some code) h room len = Err (write_errors.Stopped code)
 taken_unless None h room len = taken_by h room len
 
--- what a write of so many bytes is answered on an open end, in this order: there is no such half; the connection leaves no room; it is finished or reset;
--- the peer stopped it; its own limit leaves no room
+-- what a write of so many bytes is answered on an open end, in this order: there is no such half;
+-- the connection leaves no room; it is finished or reset; the peer stopped it; its own limit leaves
+-- no room
 abbrev pub written_to : Option SendHalf → ℕ → ℕ → Result ℕ WriteError
 written_to None room len = Err write_errors.ClosedStream
 written_to (Some h) room len = if room == 0 then Err write_errors.Blocked else (if is_ready h then taken_unless h.stopped h room len else Err write_errors.ClosedStream)
@@ -82,7 +86,8 @@ abbrev pub finish_unless : Option ℕ → SendHalf → Result (Unit {0}) FinishE
 finish_unless (Some code) h = Err (finish_errors.Stopped code)
 finish_unless None h = if is_ready h then Ok tt else Err finish_errors.ClosedStream
 
--- what a finish is answered, in this order: there is no such half; the peer stopped it; it is finished or reset
+-- what a finish is answered, in this order: there is no such half; the peer stopped it; it is
+-- finished or reset
 abbrev pub finish_of : Option SendHalf → Result (Unit {0}) FinishError
 finish_of None = Err finish_errors.ClosedStream
 finish_of (Some h) = finish_unless h.stopped h
@@ -121,12 +126,14 @@ half_after h room = record h { buffer = after_poll h.buffer room; end_waits = h.
 abbrev pub half_acked : SendHalf → StreamMeta → SendHalf
 half_acked h m = record h { buffer = after_ack h.buffer m.offsets.start m.offsets.end; end_acked = h.end_acked || m.fin }
 
--- the half after a frame of it was lost: what isn't acknowledged goes again, and its end too, even where another frame brought it
+-- the half after a frame of it was lost: what isn't acknowledged goes again, and its end too, even
+-- where another frame brought it
 abbrev pub half_lost : SendHalf → StreamMeta → SendHalf
 half_lost h m = record h { buffer = after_loss h.buffer m.offsets.start m.offsets.end; end_waits = h.end_waits || m.fin }
 
 -- ---- the queue follows a part: it is in it while it has something to send, with the priority that it had when this began
 
+-- a sending half, and the queue in which its stream stands or doesn't
 pub record Queued : Type 0 where
   pub half : SendHalf
   pub queue : Queue
@@ -154,7 +161,8 @@ requeued_at (Some place) false q id h = dequeued q h place
 abbrev pub requeued : Queue → ℕ → SendHalf → Queued
 requeued q id h = requeued_at h.place (has_pending h) q id h
 
--- after a frame of it went, it goes behind its equals if streams take turns, and else keeps its place
+-- after a frame of it went, it goes behind its equals if streams take turns, and else keeps its
+-- place
 abbrev pub turned_at : Option Place → Queue → ℕ → SendHalf → Queued
 turned_at None q id h = enqueued q id h
 turned_at (Some place) q id h = enqueued (after_remove q place) id h
@@ -177,7 +185,8 @@ frame_meta h room = record {
   has_length = writes_length h.buffer room;
 }
 
--- its bytes are some of those that are kept, and end below the greatest offset (RFC 9000, section 4.5)
+-- its bytes are some of those that are kept, and end below the greatest offset (RFC 9000, section
+-- 4.5)
 pub record HasFrame (h : SendHalf) (room : ℕ) : Type 0 where
   pub kept : h.buffer.base ≤ next_start h.buffer
   pub ordered : next_start h.buffer ≤ sent_end h.buffer room

@@ -48,7 +48,7 @@ pub enum WriteError {
     /// There is no such stream, or it was finished or reset.
     #[error("closed stream")]
     ClosedStream,
-    /// Memory lacked; nothing has changed.
+    /// Out of memory: an allocation failed. Nothing has changed.
     #[error("out of memory")]
     Memory,
 }
@@ -62,7 +62,7 @@ pub enum FinishError {
     /// There is no such stream, or it was finished or reset.
     #[error("closed stream")]
     ClosedStream,
-    /// Memory lacked; nothing has changed.
+    /// Out of memory: an allocation failed. Nothing has changed.
     #[error("out of memory")]
     Memory,
 }
@@ -78,7 +78,7 @@ pub enum UpdateError {
     /// There is no such stream, or nothing is left to do on it.
     #[error("closed stream")]
     ClosedStream,
-    /// Memory lacked; nothing has changed.
+    /// Out of memory: an allocation failed. Nothing has changed.
     #[error("out of memory")]
     Memory,
 }
@@ -92,7 +92,7 @@ pub enum ReadableError {
     /// An ordered read after an unordered one.
     #[error("attempted an ordered read after an unordered one")]
     IllegalOrderedRead,
-    /// Memory lacked; nothing has changed.
+    /// Out of memory: an allocation failed. Nothing has changed.
     #[error("out of memory")]
     Memory,
 }
@@ -106,7 +106,7 @@ pub enum ReadError {
     /// The peer reset the stream, with this code (RFC 9000, section 3.2).
     #[error("reset by peer")]
     Reset(VarInt),
-    /// Memory lacked; nothing has changed.
+    /// Out of memory: an allocation failed. Nothing has changed.
     #[error("out of memory")]
     Memory,
 }
@@ -135,7 +135,7 @@ pub enum ReceivedError {
     /// It broke a rule.
     #[error("a rule of streams was broken")]
     Breach(Breach),
-    /// Memory lacked: the streams are lawful, and may have some of the frame.
+    /// Out of memory: an allocation failed. The streams are lawful, and may have some of the frame.
     #[error("out of memory")]
     Memory,
 }

@@ -107,7 +107,7 @@ impl<T> ByNumber<T> {
     ///
     /// # Errors
     ///
-    /// [`AllocError`] where memory lacks; nothing changes.
+    /// - [`AllocError`]: an allocation fails. Nothing changes.
     pub(crate) fn insert(&mut self, number: u64, value: T) -> Result<Option<T>, AllocError>
     where
         T: Drop,

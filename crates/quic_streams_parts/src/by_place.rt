@@ -76,7 +76,7 @@ impl ByPlace {
     ///
     /// # Errors
     ///
-    /// [`AllocError`] where memory lacks; nothing changes.
+    /// - [`AllocError`]: an allocation fails. Nothing changes.
     pub(crate) fn insert(&mut self, place: Place, id: u64) -> Result<(), AllocError>
         ensures ok { OnOk result (self.new ≡ insert_entry place_cmp self.old place id) }
         ensures err { OnErr result (self.new ≡ self.old) }
@@ -101,7 +101,7 @@ impl ByPlace {
     ///
     /// # Errors
     ///
-    /// [`AllocError`] where memory lacks; nothing changes.
+    /// - [`AllocError`]: an allocation fails. Nothing changes.
     fn put(&mut self, place: Place, id: u64) -> Result<(), AllocError>
         ensures ok { OnOk result (self.new ≡ insert_entry place_cmp self.old place id) }
         ensures err { OnErr result (self.new ≡ self.old) }

@@ -54,7 +54,7 @@ impl Events {
     ///
     /// # Errors
     ///
-    /// [`AllocError`] where memory lacks; nothing changes.
+    /// - [`AllocError`]: an allocation fails. Nothing changes.
     pub fn push(&mut self, event: StreamEvent) -> Result<(), AllocError>
         ensures ok { OnOk result (self.new ≡ with_event event self.old) }
         ensures err { OnErr result (self.new ≡ self.old) }

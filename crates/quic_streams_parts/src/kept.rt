@@ -25,7 +25,7 @@ impl<T> Kept<T> {
     ///
     /// # Errors
     ///
-    /// [`AllocError`] where memory lacks.
+    /// - [`AllocError`]: an allocation fails.
     pub(crate) fn new(alloc: Global, value: T) -> Result<Self, AllocError>
     where
         T: Drop,

@@ -75,7 +75,7 @@ impl<T> Numbered<T> {
     ///
     /// # Errors
     ///
-    /// [`AllocError`] where memory lacks; nothing changes.
+    /// - [`AllocError`]: an allocation fails. Nothing changes.
     pub fn insert(&mut self, number: u64, value: T) -> Result<Option<Kept<T>>, AllocError>
     where
         T: Drop,

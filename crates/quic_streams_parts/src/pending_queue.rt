@@ -43,7 +43,8 @@ impl PendingStreamsQueue {
     ///
     /// # Errors
     ///
-    /// [`AllocError`] where memory lacks, or 2^64 - 1 streams were queued before; nothing changes.
+    /// - [`AllocError`]: 2^64 - 1 streams were queued before, or an allocation fails. Nothing
+    ///   changes.
     pub fn push(&mut self, rank: u64, id: u64) -> Result<Place, AllocError>
         ensures place { IfOk result (λ place. place ≡ (rank, self.old.next)) }
         ensures new { OnOk result (self.new ≡ after_push self.old rank id) }

@@ -171,7 +171,12 @@ impl Recv {
     }
 
     /// Keeps a frame's bytes, which break no rule on its final size, copied by `copies` where they
-    /// come in order. An `Err` (want of memory) changes nothing.
+    /// come in order.
+    ///
+    /// # Errors
+    ///
+    /// - [`AllocError`]: an allocation fails, where the frame brings a byte that is new or segments
+    ///   are to be joined. Nothing changes.
     pub fn insert(&mut self, frame: &Stream<'_>, copies: &mut Copies) -> Result<(), AllocError>
         requires end { end_of (stream_view frame.now) < 2 ^ 62 }
         requires size { breaks_final self.old.final self.old.seen (end_of (stream_view frame.now)) frame.now.fin ≡ false }
@@ -234,8 +239,12 @@ impl Recv {
         self.assembler.runs() > MOST_PIECES
     }
 
-    /// A read begins, in order or not. [`IllegalOrderedRead`] where it would be in order after one
-    /// that wasn't; nothing changes.
+    /// A read begins, in order or not.
+    ///
+    /// # Errors
+    ///
+    /// - [`IllegalOrderedRead`]: the read is in order, and came after one that wasn't. Nothing
+    ///   changes.
     pub fn begin(&mut self, ordered: bool) -> Result<(), IllegalOrderedRead>
         ensures refused { is_err result ≡ is_illegal self.old ordered }
         ensures new { self.new ≡ begun self.old ordered }
@@ -264,7 +273,14 @@ impl Recv {
         self.assembler.read(max)
     }
 
-    /// Reads on, unless the peer reset it. An error, and an answer without bytes, change nothing.
+    /// Reads on, unless the peer reset it. An answer without bytes changes nothing.
+    ///
+    /// # Errors
+    ///
+    /// - [`ReadError::Reset`]: the peer reset it. Nothing changes.
+    /// - [`ReadError::Blocked`]: no byte waits that may be given, and not all up to the final size
+    ///   were read. Nothing changes.
+    /// - [`ReadError::Memory`]: an allocation fails. Nothing changes.
     pub fn next(&mut self, max: usize) -> Result<Option<Chunk>, ReadError>
         ensures answer { result ≢ Err read_errors.Memory → result ≡ next_of self.old max }
         ensures new { self.new ≡ half_after_next result self.old max }

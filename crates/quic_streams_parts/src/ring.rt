@@ -169,7 +169,7 @@ impl<T: Drop> Ring<T> {
     ///
     /// # Errors
     ///
-    /// [`AllocError`] where memory lacks; no value changes.
+    /// - [`AllocError`]: an allocation fails. No value changes.
     pub(crate) fn insert(&mut self, number: u64, value: T) -> Result<Option<T>, AllocError>
         requires from { self.old.base ≤ number }
         requires near { 0 < length self.old.slots → number < self.old.base + 65536 }
@@ -223,7 +223,7 @@ impl<T: Drop> Ring<T> {
     ///
     /// # Errors
     ///
-    /// [`AllocError`] where memory lacks. Some may have moved, and none is lost.
+    /// - [`AllocError`]: an allocation fails. Some may have moved, and none is lost.
     pub(crate) fn reach(
         &mut self,
         number: u64,
@@ -248,7 +248,7 @@ impl<T: Drop> Ring<T> {
     ///
     /// # Errors
     ///
-    /// [`AllocError`] where memory lacks; nothing changes.
+    /// - [`AllocError`]: an allocation fails. Nothing changes.
     fn retire(&mut self, earlier: &mut BTreeMap<u64, T>) -> Result<(), AllocError>
         requires some { 0 < length self.old.slots }
         requires next { self.old.base + 1 < 2 ^ 64 }

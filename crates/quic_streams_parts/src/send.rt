@@ -212,8 +212,11 @@ impl Send {
         self.place = place;
     }
 
-    /// Takes over the first `len` bytes of chunks, each chunk as a piece that shares its bytes. An
-    /// `Err` (want of memory, where there are some) takes none.
+    /// Takes over the first `len` bytes of chunks, each chunk as a piece that shares its bytes.
+    ///
+    /// # Errors
+    ///
+    /// - [`AllocError`]: an allocation fails, where `len` isn't 0. Nothing changes.
     pub fn write_all(&mut self, chunks: &[Bytes], len: usize) -> Result<(), AllocError>
         requires reset { self.old.reset ≡ None }
         requires room { len ≤ room_on self.old }
@@ -244,8 +247,11 @@ impl Send {
         self.reset = Some(size);
     }
 
-    /// A frame of it was acknowledged: its bytes never go again. An `Err` (want of memory, where
-    /// some of it was sent) changes nothing.
+    /// A frame of it was acknowledged: its bytes never go again.
+    ///
+    /// # Errors
+    ///
+    /// - [`AllocError`]: an allocation fails, where some of the frame was sent. Nothing changes.
     pub fn ack(&mut self, frame: &StreamMeta) -> Result<(), AllocError>
         ensures ok { OnOk result (self.new ≡ half_acked self.old frame.now) }
         ensures err { OnErr result (self.new ≡ self.old) }
@@ -260,8 +266,11 @@ impl Send {
     }
 
     /// A frame of it was lost: what isn't acknowledged of it goes again (RFC 9000, section 13.3),
-    /// and its end even where another frame brought it. An `Err` (want of memory, where some of it
-    /// was sent) changes nothing.
+    /// and its end even where another frame brought it.
+    ///
+    /// # Errors
+    ///
+    /// - [`AllocError`]: an allocation fails, where some of the frame was sent. Nothing changes.
     pub fn retransmit(&mut self, frame: &StreamMeta) -> Result<(), AllocError>
         ensures ok { OnOk result (self.new ≡ half_lost self.old frame.now) }
         ensures err { OnErr result (self.new ≡ self.old) }

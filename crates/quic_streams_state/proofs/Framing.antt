@@ -140,7 +140,8 @@ put_is fair s id h room found =
 
 -- ---- the loop
 
--- the frames so far, from which on those that are left go: what stands written, what is noted of them, and the streams
+-- the frames so far, from which on those that are left go: what stands written, what is noted of
+-- them, and the streams
 pub record Framed (fair : Bool) (most : ℕ) (all : Sent) (before : List ℕ) (first : List StreamMeta) (out : List ℕ) (noted : List StreamMeta) (s : StreamsState) : Type 0 where
   pub so_far : Sent
   pub fuel : ℕ

@@ -60,6 +60,14 @@ goes_stale kind most used s p sent any none = go (waiting kind p) (others_wait k
         ap (λ o. first_and_more o (with_listed kind most es) kind most (no_frames used s p sent)) none
         ∙ ap (λ xs. with_listed kind most xs (no_frames used s (without_first kind p) sent)) (sym others)
 
+-- and fewer wait then
+pub fewer_wait : (kind : ControlKind) (p q : Retransmits) → is_any (waiting kind p) ≡ true → q ≡ without_first kind p → length (waiting kind q) < length (waiting kind p)
+fewer_wait kind p q any is = subst (λ (r : Retransmits). length (waiting kind r) < length (waiting kind p)) (sym is) (go (waiting kind p) (others_wait kind p) any)
+  where
+    go : (es : List Entry) → waiting kind (without_first kind p) ≡ others_of es → is_any es ≡ true → length (waiting kind (without_first kind p)) < length es
+    go [] others any = cc
+    go (e ∷ es) others any = let same : length (waiting kind (without_first kind p)) ≡ length es = ap (λ (xs : List Entry). length xs) others in omega arith
+
 -- nothing goes where nothing waits
 pub goes_none : (kind : ControlKind) (most used : ℕ) (s : StreamsState) (p sent : Retransmits) → is_any (waiting kind p) ≡ false → with_kind most (no_frames used s p sent) kind ≡ no_frames used s p sent
 goes_none kind most used s p sent none = go (waiting kind p) none

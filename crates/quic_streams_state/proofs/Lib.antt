@@ -12,3 +12,4 @@ mod Coming
 mod Fresh
 mod Framing
 mod Putting
+mod Limiting

@@ -14,7 +14,8 @@ use Rattle.quic_streams_state.specs.Sends.{blocked_in, blocked_fresh}
 use Rattle.quic_streams_state.specs.Taking.{limited_half, writable_again, limit_at, limit_raised, is_used_up, joined}
 use Rattle.quic_streams_state.proofs.Tables.{with_half-twice, changed-with_half, sum-with_half, sum-fresh}
 
--- all streams together have as much room where a half keeps as many bytes, or comes into use with none
+-- all streams together have as much room where a half keeps as many bytes, or comes into use with
+-- none
 pub room-kept : (s : StreamsState) (id : ℕ) (h w : SendHalf) → at s.sending.halves.live id ≡ Some h → length w.buffer.kept ≡ length h.buffer.kept → room (with_send s id w).sending ≡ room s.sending
 room-kept s id h w found same = rw (sum-with_half (λ (h : SendHalf). length h.buffer.kept) s.side s.sending.halves id h w found same) refl
 

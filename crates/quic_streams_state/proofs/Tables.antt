@@ -61,7 +61,8 @@ module _ {A : Type 0} where
   pub changed-with_half : (f : A → A) (side : Side) (hs : Halves A) (id : ℕ) (h u : A) → at hs.live id ≡ Some h → changed f (with_half side hs id u) id ≡ with_half side hs id (f u)
   changed-with_half f side hs id h u found = rw (found, at-put hs.live id h u found, put-put hs.live id u (f u)) refl
 
-  -- a sum stays where a half takes a value that counts as much, or comes into use with one that doesn't count
+  -- a sum stays where a half takes a value that counts as much, or comes into use with one that
+  -- doesn't count
   pub sum-with_half : (f : A → ℕ) (side : Side) (hs : Halves A) (id : ℕ) (h v : A) → at hs.live id ≡ Some h → f v ≡ f h → sum_by f (values_of (with_half side hs id v).live) ≡ sum_by f (values_of hs.live)
   sum-with_half f side hs id h v found same = rw found (omega (arith, sum_by-set_value f (is_at (nat_cmp id)) hs.live h v found))
 

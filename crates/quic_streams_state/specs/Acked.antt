@@ -1,4 +1,5 @@
--- What an acknowledgement and a loss make of what was sent on streams (RFC 9000, sections 3.1 and 13.3).
+-- What an acknowledgement and a loss make of what was sent on streams (RFC 9000, sections 3.1 and
+-- 13.3).
 use Rattle.std.specs.Prelude.{ℕ, Bool, true, false, not, ◌&&◌, if◌then◌else◌, Option, Some, None}
 use Rattle.std.specs.Option.{is_some}
 use Rattle.quic_send_buffer.specs.declared.stream_meta.StreamMeta.{StreamMeta}

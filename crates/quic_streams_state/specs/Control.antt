@@ -1,12 +1,15 @@
--- The frames about streams that go into a datagram, in this order: RESET_STREAM, STOP_SENDING, MAX_DATA, MAX_STREAM_DATA, MAX_STREAMS of two-way and of one-way
--- streams, DATA_BLOCKED, STREAM_DATA_BLOCKED (RFC 9000, sections 13.3 and 19). What waits of a kind is taken from its front: what is no longer due is dropped, what
--- is due goes where it fits, and the first that is due and doesn't fit stays, with all behind it.
+-- The control frames that go into a datagram, in this order: RESET_STREAM, STOP_SENDING, MAX_DATA,
+-- MAX_STREAM_DATA, MAX_STREAMS of two-way and of one-way streams, DATA_BLOCKED,
+-- STREAM_DATA_BLOCKED, NEW_CONNECTION_ID, RETIRE_CONNECTION_ID (RFC 9000, sections 13.3 and 19).
+-- What waits of a kind is taken from its front: what is no longer due is dropped, what is due goes
+-- where it fits, and the first that is due and doesn't fit stays, with all behind it.
 use Rattle.std.specs.Prelude.{◌≡◌, ℕ, ◌+◌, Bool, true, false, ◌==◌, ◌&&◌, not, nat_le, if◌then◌else◌, List, [], ◌∷◌, ◌++◌, map, Option, Some, None}
 use Rattle.std.specs.List.{fold}
 use Rattle.std.specs.Option.{is_some, option_map}
+use Rattle.quic_wire_core.specs.declared.shared.IssuedCid.{IssuedCid}
 use Rattle.quic_wire_core.specs.declared.stream_id.Dir.{Dir}
 use Rattle.quic_wire_core.specs.declared.stream_id.Dir.TheVariants.{Bi, Uni}
-use Rattle.quic_wire.specs.Value.{FrameValue, StopSendingValue, reset_stream, stop_sending, max_data, max_stream_data, max_streams, data_blocked, stream_data_blocked}
+use Rattle.quic_wire.specs.Value.{FrameValue, StopSendingValue, NewConnectionIdValue, reset_stream, stop_sending, max_data, max_stream_data, max_streams, data_blocked, stream_data_blocked, new_connection_id, retire_connection_id}
 use Rattle.quic_wire.specs.FrameView.{is_one_way}
 use Rattle.quic_wire.specs.Writing.{frame_size}
 use Rattle.quic_streams_parts.specs.Table.{at}
@@ -16,7 +19,7 @@ use Rattle.quic_streams_parts.specs.RecvHalf.{RecvHalf, takes_limits, raised_on}
 use Rattle.quic_streams_halves.specs.Halves.{changed}
 use Rattle.quic_retransmits.specs.Retransmits.{Retransmits, with_id, first_of, others_of, control_kinds}
 use Rattle.quic_retransmits.specs.declared.retransmits.ControlKind.{ControlKind}
-use Rattle.quic_retransmits.specs.declared.retransmits.ControlKind.TheVariants.{ResetStream, StopSending, MaxData, MaxStreamData, MaxStreams, DataBlocked, StreamDataBlocked}
+use Rattle.quic_retransmits.specs.declared.retransmits.ControlKind.TheVariants.{ResetStream, StopSending, MaxData, MaxStreamData, MaxStreams, DataBlocked, StreamDataBlocked, NewConnectionId, RetireConnectionId}
 use Rattle.quic_streams_state.specs.State.{StreamsState, Receiving, sending_half}
 use Rattle.quic_streams_state.specs.Opening.{announced_count}
 use Rattle.quic_streams_state.specs.Limits.{raised_data, raised_count, can_send_data_blocked, can_send_flow_control}
@@ -49,7 +52,8 @@ may_go_on s kind id = true
 pub record Entry : Type 0 where
   pub frame : StreamsState → Option FrameValue
 
--- the RESET_STREAM frame of a stream and a code, with its final size: none of a half that wasn't reset, or is done
+-- the RESET_STREAM frame of a stream and a code, with its final size: none of a half that wasn't
+-- reset, or is done
 abbrev pub reset_frame : ℕ × ℕ → Option SendHalf → Option FrameValue
 reset_frame e None = None
 reset_frame e (Some h) = option_map (λ size. reset_stream (record { id = e.0; code = e.1; final_size = size })) h.reset
@@ -66,7 +70,8 @@ stop_entry e = record { frame = λ s. Some (stop_sending e) }
 abbrev pub data_entry : Entry
 data_entry = record { frame = λ s. Some (max_data (raised_data s.receiving)) }
 
--- the MAX_STREAM_DATA frame of a stream, how far the peer may come on it now: none of a half that takes no more limits
+-- the MAX_STREAM_DATA frame of a stream, how far the peer may come on it now: none of a half that
+-- takes no more limits
 abbrev pub limit_frame : ℕ → ℕ → Option RecvHalf → Option FrameValue
 limit_frame window id None = None
 limit_frame window id (Some h) = if takes_limits h then Some (max_stream_data (record { id = id; limit = raised_on window h })) else None
@@ -87,6 +92,18 @@ blocked_entry = record { frame = λ s. if can_send_data_blocked s then Some (dat
 abbrev pub stream_blocked_entry : ℕ → Entry
 stream_blocked_entry id = record { frame = λ s. option_map (λ limit. stream_data_blocked (record { id = id; limit = limit })) (stream_data_blocked_limit s id) }
 
+-- what NEW_CONNECTION_ID tells of an id: it asks for none to be retired
+abbrev pub told_id : IssuedCid → NewConnectionIdValue
+told_id cid = record { sequence = cid.sequence; retire_prior_to = 0; id = cid.id; token = cid.reset_token }
+
+-- NEW_CONNECTION_ID of an id
+abbrev pub new_id_entry : IssuedCid → Entry
+new_id_entry cid = record { frame = λ s. Some (new_connection_id (told_id cid)) }
+
+-- RETIRE_CONNECTION_ID of a number
+abbrev pub retire_entry : ℕ → Entry
+retire_entry n = record { frame = λ s. Some (retire_connection_id n) }
+
 -- what waits where a flag is set
 abbrev pub flagged : Bool → Entry → List Entry
 flagged true e = e ∷ []
@@ -101,6 +118,8 @@ waiting MaxStreamData p = map limit_entry p.max_stream_data
 waiting (MaxStreams dir) p = flagged (of dir p.max_stream_id) (count_entry dir)
 waiting DataBlocked p = flagged p.data_blocked blocked_entry
 waiting StreamDataBlocked p = map stream_blocked_entry p.stream_data_blocked
+waiting NewConnectionId p = map new_id_entry p.new_cids
+waiting RetireConnectionId p = map retire_entry p.retire_cids
 
 -- what waits without the first of a kind
 abbrev pub without_first : ControlKind → Retransmits → Retransmits
@@ -111,6 +130,8 @@ without_first MaxStreamData p = record p { max_stream_data = others_of p.max_str
 without_first (MaxStreams dir) p = record p { max_stream_id = with_of dir false p.max_stream_id }
 without_first DataBlocked p = record p { data_blocked = false }
 without_first StreamDataBlocked p = record p { stream_data_blocked = others_of p.stream_data_blocked }
+without_first NewConnectionId p = record p { new_cids = others_of p.new_cids }
+without_first RetireConnectionId p = record p { retire_cids = others_of p.retire_cids }
 
 -- ---- a frame that goes
 
@@ -134,7 +155,12 @@ frame_told (max_stream_data f) s = record s { receiving = limit_told s.receiving
 frame_told (max_streams f) s = record s { opening = announced_count (dir_named f.one_way) s.opening }
 frame_told f s = s
 
--- what has to be sent again if a frame is lost, beside the bytes of streams: what it said is said anew, as it is then
+-- the id that NEW_CONNECTION_ID gives
+abbrev pub issued_in : NewConnectionIdValue → IssuedCid
+issued_in f = record { sequence = f.sequence; id = f.id; reset_token = f.token }
+
+-- what has to be sent again if a frame is lost, beside the bytes of streams: what it said is said
+-- anew, as it is then
 abbrev pub and_again : Retransmits → FrameValue → Retransmits
 and_again r (reset_stream f) = record r { reset_stream = r.reset_stream ++ (f.id, f.code) ∷ [] }
 and_again r (stop_sending f) = record r { stop_sending = r.stop_sending ++ f ∷ [] }
@@ -143,9 +169,11 @@ and_again r (max_stream_data f) = record r { max_stream_data = with_id f.id r.ma
 and_again r (max_streams f) = record r { max_stream_id = with_of (dir_named f.one_way) true r.max_stream_id }
 and_again r (data_blocked limit) = record r { data_blocked = true }
 and_again r (stream_data_blocked f) = record r { stream_data_blocked = with_id f.id r.stream_data_blocked }
+and_again r (new_connection_id f) = record r { new_cids = r.new_cids ++ issued_in f ∷ [] }
+and_again r (retire_connection_id n) = record r { retire_cids = r.retire_cids ++ n ∷ [] }
 and_again r f = r
 
--- the kind of a frame about streams, but for STREAM; none of any other
+-- the kind of a control frame; none of any other
 abbrev pub kind_of : FrameValue → Option ControlKind
 kind_of (reset_stream f) = Some ResetStream
 kind_of (stop_sending f) = Some StopSending
@@ -154,10 +182,12 @@ kind_of (max_stream_data f) = Some MaxStreamData
 kind_of (max_streams f) = Some (MaxStreams (dir_named f.one_way))
 kind_of (data_blocked limit) = Some DataBlocked
 kind_of (stream_data_blocked f) = Some StreamDataBlocked
+kind_of (new_connection_id f) = Some NewConnectionId
+kind_of (retire_connection_id n) = Some RetireConnectionId
 kind_of f = None
 
--- what is known of a frame that goes of what waits: what it says is so of the streams, and of a reset, a stop and the limit of a
--- stream, that it is the first that waits
+-- what is known of a frame that goes of what waits: what it says is so of the streams, and of a
+-- reset, a stop and the limit of a stream, and of ids, that it is the first that waits
 abbrev pub Goes : Retransmits → StreamsState → FrameValue → Type 0
 Goes p s (reset_stream f) = (h : SendHalf) × (first_of p.reset_stream ≡ Some (f.id, f.code)) × (at s.sending.halves.live f.id ≡ Some h) × (h.reset ≡ Some f.final_size)
 Goes p s (stop_sending f) = first_of p.stop_sending ≡ Some f
@@ -166,11 +196,14 @@ Goes p s (max_stream_data f) = (h : RecvHalf) × (first_of p.max_stream_data ≡
 Goes p s (max_streams f) = f.count ≡ raised_count (dir_named f.one_way) s.opening
 Goes p s (data_blocked limit) = limit ≡ s.sending.limit
 Goes p s (stream_data_blocked f) = stream_data_blocked_limit s f.id ≡ Some f.limit
+Goes p s (new_connection_id f) = (cid : IssuedCid) × (first_of p.new_cids ≡ Some cid) × (f ≡ told_id cid)
+Goes p s (retire_connection_id n) = first_of p.retire_cids ≡ Some n
 Goes p s f = ⊥
 
 -- ---- what goes
 
--- the frames so far, and how many bytes are taken; the streams, what waits, and what has to be sent again if the datagram is lost
+-- the frames so far, and how many bytes are taken; the streams, what waits, and what has to be sent
+-- again if the datagram is lost
 pub record Draft : Type 0 where
   pub frames : List FrameValue
   pub used : ℕ

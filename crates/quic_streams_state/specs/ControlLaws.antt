@@ -1,5 +1,6 @@
--- What waits of each kind of control frame: what is left without its first, what of it is due, and whether it counts. A new kind is a line in each law of the first three parts; those of
--- the last part are of all kinds at once.
+-- What waits of each kind of control frame: what is left without its first, what of it is due, and
+-- whether it counts. A new kind is a line in each law of the first three parts; those of the last
+-- part are of all kinds at once.
 use Rattle.std.proofs.Common.{◌≡◌, ℕ, List, [], ◌∷◌, ◌++◌, Bool, true, false, ◌&&◌, ◌||◌, ◌==◌, not, map, Option, Some, None, slice_get, ◌⊎◌, inl, inr, refl, sym, ap, ◌∙◌, subst}
 use Rattle.std.specs.List.{list_any}
 use Rattle.std.specs.Option.{is_some, option_map}
@@ -10,16 +11,16 @@ use Rattle.std.specs.Cmp.{unsigned_tied}
 use Rattle.std.proofs.lemmas.Bool.{or_left, or_right, cases_Bool, or_cases, not-false, eqb-true, false_from_ne_true, both_ways}
 use Rattle.std.proofs.lemmas.Map.Keys.{any_passes_from_place}
 use Rattle.quic_wire_core.specs.declared.stream_id.Dir.TheVariants.{Bi, Uni}
-use Rattle.quic_wire.specs.Value.{StopSendingValue, stream_data_blocked}
+use Rattle.quic_wire.specs.Value.{stream_data_blocked}
 use Rattle.quic_streams_parts.specs.Table.{at}
 use Rattle.quic_streams_parts.specs.Dirs.{of}
 use Rattle.quic_streams_parts.specs.RecvHalf.{RecvHalf}
 use Rattle.quic_retransmits.specs.declared.retransmits.ControlKind.{ControlKind}
-use Rattle.quic_retransmits.specs.declared.retransmits.ControlKind.TheVariants.{ResetStream, StopSending, MaxData, MaxStreamData, MaxStreams, DataBlocked, StreamDataBlocked}
+use Rattle.quic_retransmits.specs.declared.retransmits.ControlKind.TheVariants.{ResetStream, StopSending, MaxData, MaxStreamData, MaxStreams, DataBlocked, StreamDataBlocked, NewConnectionId, RetireConnectionId}
 use Rattle.quic_retransmits.specs.Retransmits.{Retransmits, merged, with_id, with_ids, first_of, others_of, is_any, control_kinds}
 use Rattle.quic_streams_state.specs.declared.state.StreamsState.{StreamsState}
 use Rattle.quic_streams_state.specs.Limits.{takes_limits_of, can_send_data_blocked}
-use Rattle.quic_streams_state.specs.Control.{stream_data_blocked_limit, may_go_on, Entry, reset_entry, stop_entry, data_entry, limit_frame, limit_entry, count_entry, blocked_entry, stream_blocked_entry, flagged, waiting, without_first}
+use Rattle.quic_streams_state.specs.Control.{stream_data_blocked_limit, may_go_on, Entry, reset_entry, stop_entry, data_entry, limit_frame, limit_entry, count_entry, blocked_entry, stream_blocked_entry, new_id_entry, retire_entry, flagged, waiting, without_first}
 use Rattle.quic_streams_state.specs.Waiting.{any_goes, is_empty}
 
 -- ---- what is left without the first
@@ -42,6 +43,8 @@ others_wait (MaxStreams Bi) p = none_behind p.max_stream_id.bi (count_entry Bi)
 others_wait (MaxStreams Uni) p = none_behind p.max_stream_id.uni (count_entry Uni)
 others_wait DataBlocked p = none_behind p.data_blocked blocked_entry
 others_wait StreamDataBlocked p = others_mapped stream_blocked_entry p.stream_data_blocked
+others_wait NewConnectionId p = others_mapped new_id_entry p.new_cids
+others_wait RetireConnectionId p = others_mapped retire_entry p.retire_cids
 
 -- the place of a kind in the order in which they go
 pub place : ControlKind → ℕ
@@ -53,6 +56,8 @@ place (MaxStreams Bi) = 4
 place (MaxStreams Uni) = 5
 place DataBlocked = 6
 place StreamDataBlocked = 7
+place NewConnectionId = 8
+place RetireConnectionId = 9
 
 -- there it stands
 at_place : (kind : ControlKind) → slice_get control_kinds (place kind) ≡ Some kind
@@ -65,6 +70,8 @@ at_place (MaxStreams Bi) = refl
 at_place (MaxStreams Uni) = refl
 at_place DataBlocked = refl
 at_place StreamDataBlocked = refl
+at_place NewConnectionId = refl
+at_place RetireConnectionId = refl
 
 -- what waits of another kind stays where the first of one is gone
 pub others_same : (kind other : ControlKind) (p : Retransmits) → (place kind == place other) ≡ false → waiting other (without_first kind p) ≡ waiting other p
@@ -77,6 +84,8 @@ others_same (MaxStreams Bi) (MaxStreams Bi) p apart = cc
 others_same (MaxStreams Uni) (MaxStreams Uni) p apart = cc
 others_same DataBlocked DataBlocked p apart = cc
 others_same StreamDataBlocked StreamDataBlocked p apart = cc
+others_same NewConnectionId NewConnectionId p apart = cc
+others_same RetireConnectionId RetireConnectionId p apart = cc
 others_same kind other p apart = refl
 
 -- ---- what is due, and what counts
@@ -94,10 +103,10 @@ any_mapped : {A : Type 0} (s : StreamsState) (entry : A → Entry) (counts : A �
 any_mapped s entry counts same [] = refl
 any_mapped s entry counts same (x ∷ xs) = let first = same x in let rest = any_mapped s entry counts same xs in rw (first, rest) refl
 
--- STOP_SENDING always is
-any_stop : (s : StreamsState) (xs : List StopSendingValue) → any_due s (map stop_entry xs) ≡ is_any xs
-any_stop s [] = refl
-any_stop s (x ∷ xs) = refl
+-- what always is, as STOP_SENDING
+any_listed : {A : Type 0} (s : StreamsState) (entry : A → Entry) → ((x : A) → is_due s (entry x) ≡ true) → (xs : List A) → any_due s (map entry xs) ≡ is_any xs
+any_listed s entry all [] = refl
+any_listed s entry all (x ∷ xs) = or_left (is_due s (entry x)) (any_due s (map entry xs)) (all x)
 
 -- that of a flag where the flag is set, and it is due
 any_flagged : (s : StreamsState) (e : Entry) (b counts : Bool) → is_due s e ≡ counts → any_due s (flagged b e) ≡ (b && counts)
@@ -136,12 +145,14 @@ stream_blocked_due s id = go (stream_data_blocked_limit s id)
 -- of each kind but RESET_STREAM, whose half may be done, something is due where something counts
 due_is : (kind : ControlKind) (p : Retransmits) (s : StreamsState) → (any_due s (waiting kind p) ≡ any_goes kind p s) ⊎ (kind ≡ ResetStream)
 due_is ResetStream p s = inr refl
-due_is StopSending p s = inl (any_stop s p.stop_sending)
+due_is StopSending p s = inl (any_listed s stop_entry (λ x. refl) p.stop_sending)
 due_is MaxData p s = inl (any_flag s data_entry p.max_data refl)
 due_is MaxStreamData p s = inl (any_mapped s limit_entry (may_go_on s MaxStreamData) (limit_due s) p.max_stream_data)
 due_is (MaxStreams dir) p s = inl (any_flag s (count_entry dir) (of dir p.max_stream_id) refl)
 due_is DataBlocked p s = inl (any_flagged s blocked_entry p.data_blocked (can_send_data_blocked s) (blocked_due s))
 due_is StreamDataBlocked p s = inl (any_mapped s stream_blocked_entry (may_go_on s StreamDataBlocked) (stream_blocked_due s) p.stream_data_blocked)
+due_is NewConnectionId p s = inl (any_listed s new_id_entry (λ x. refl) p.new_cids)
+due_is RetireConnectionId p s = inl (any_listed s retire_entry (λ x. refl) p.retire_cids)
 
 -- ---- what is joined
 
@@ -207,6 +218,8 @@ merged_counts (MaxStreams Bi) p q s on = or_right p.max_stream_id.bi q.max_strea
 merged_counts (MaxStreams Uni) p q s on = or_right p.max_stream_id.uni q.max_stream_id.uni on
 merged_counts DataBlocked p q s on = gated_kept p.data_blocked q.data_blocked (can_send_data_blocked s) on
 merged_counts StreamDataBlocked p q s on = any_comes (may_go_on s StreamDataBlocked) q.stream_data_blocked p.stream_data_blocked on
+merged_counts NewConnectionId p q s on = any_behind p.new_cids q.new_cids on
+merged_counts RetireConnectionId p q s on = any_behind p.retire_cids q.retire_cids on
 
 -- ---- all kinds
 
@@ -266,18 +279,15 @@ listed test kind passes = any_passes_from_place test control_kinds (place kind) 
 -- something waits where something of a kind counts
 pub fills : (kind : ControlKind) (p : Retransmits) (s : StreamsState) → any_goes kind p s ≡ true → is_empty p s ≡ false
 fills kind p s on =
-    let kinds : Bool = list_any (λ k. any_goes k p s) control_kinds in
-    ap not (or_left (kinds || is_any p.new_cids || is_any p.retire_cids) p.ack_frequency
-    (or_left (kinds || is_any p.new_cids) (is_any p.retire_cids)
-    (or_left kinds (is_any p.new_cids) (listed (λ k. any_goes k p s) kind on))))
+    ap not (or_left (list_any (λ k. any_goes k p s) control_kinds) p.ack_frequency (listed (λ k. any_goes k p s) kind on))
 
 -- and then something of a kind counts, where nothing else waits
-pub filled : (p : Retransmits) (s : StreamsState) → is_empty p s ≡ false → p.new_cids ≡ [] → p.retire_cids ≡ [] → p.ack_frequency ≡ false → (kind : ControlKind) × (any_goes kind p s ≡ true)
-filled p s some ids retired frequency = passing control_kinds (alone (list_any (λ k. any_goes k p s) control_kinds) (is_any p.new_cids) (is_any p.retire_cids) p.ack_frequency (ap is_any ids) (ap is_any retired) frequency (not-false _ some))
+pub filled : (p : Retransmits) (s : StreamsState) → is_empty p s ≡ false → p.ack_frequency ≡ false → (kind : ControlKind) × (any_goes kind p s ≡ true)
+filled p s some frequency = passing control_kinds (alone (list_any (λ k. any_goes k p s) control_kinds) p.ack_frequency frequency (not-false _ some))
   where
-    alone : (a b c d : Bool) → b ≡ false → c ≡ false → d ≡ false → (a || b || c || d) ≡ true → a ≡ true
-    alone true b c d none no_other no_more on = refl
-    alone false b c d none no_other no_more on = absurd cc
+    alone : (a b : Bool) → b ≡ false → (a || b) ≡ true → a ≡ true
+    alone true b none on = refl
+    alone false b none on = absurd cc
 
     passing : (kinds : List ControlKind) → list_any (λ k. any_goes k p s) kinds ≡ true → (kind : ControlKind) × (any_goes kind p s ≡ true)
     passing [] on = absurd cc
@@ -293,15 +303,9 @@ none_due p s empty kind = false_from_ne_true (any_due s (waiting kind p)) (λ du
 -- something waits where something of what comes does
 pub merged_fills : (p q : Retransmits) (s : StreamsState) → is_empty q s ≡ false → is_empty (merged p q) s ≡ false
 merged_fills p q s some =
-    let m : Retransmits = merged p q in
     let before : Bool = list_any (λ k. any_goes k q s) control_kinds in
-    let after : Bool = list_any (λ k. any_goes k m s) control_kinds in
-    ap not (either (before || is_any q.new_cids || is_any q.retire_cids) q.ack_frequency (after || is_any m.new_cids || is_any m.retire_cids) m.ack_frequency
-    (either (before || is_any q.new_cids) (is_any q.retire_cids) (after || is_any m.new_cids) (is_any m.retire_cids)
-    (either before (is_any q.new_cids) after (is_any m.new_cids) (each control_kinds) (any_behind p.new_cids q.new_cids))
-    (any_behind p.retire_cids q.retire_cids))
-    (or_right p.ack_frequency q.ack_frequency)
-    (not-false _ some))
+    let after : Bool = list_any (λ k. any_goes k (merged p q) s) control_kinds in
+    ap not (either before q.ack_frequency after (merged p q).ack_frequency (each control_kinds) (or_right p.ack_frequency q.ack_frequency) (not-false _ some))
   where
     either : (a b c d : Bool) → (a ≡ true → c ≡ true) → (b ≡ true → d ≡ true) → (a || b) ≡ true → (c || d) ≡ true
     either true b c d f g e = or_left c d (f refl)

@@ -16,11 +16,13 @@ pub record Sent : Type 0 where
   pub bytes : List ℕ
   pub state : StreamsState
 
--- how many bytes have to be left of a datagram at least, so that a frame of a stream goes: its type, and its id, offset and length in eight bytes each
+-- how many bytes have to be left of a datagram at least, so that a frame of a stream goes: its
+-- type, and its id, offset and length in eight bytes each
 abbrev pub least_stream_room : ℕ
 least_stream_room = 25
 
--- how many bytes are left behind the type and the id of a frame, where so many may be written in all
+-- how many bytes are left behind the type and the id of a frame, where so many may be written in
+-- all
 abbrev pub stream_room : ℕ → Sent → ℕ → ℕ
 stream_room most d id = most - length d.bytes - (1 + width_of id)
 
@@ -38,7 +40,8 @@ frame_sent fair most d id h =
       state = after_frame_sent fair d.state id h left;
     }
 
--- the part whose frame goes next: of the stream that stands first in the queue, where enough bytes are left for a frame
+-- the part whose frame goes next: of the stream that stands first in the queue, where enough bytes
+-- are left for a frame
 abbrev pub next_stream : ℕ → Sent → Option ℕ
 next_stream most d = if nat_le (length d.bytes + least_stream_room) most then first_queued d.state.sending.queue else None
 
@@ -57,7 +60,8 @@ abbrev pub stream_frames : ℕ → Bool → ℕ → Sent → Sent
 stream_frames zero fair most d = d
 stream_frames (suc n) fair most d = frame_and_more (next_stream most d) (stream_frames n fair most) fair most d
 
--- frames go while a stream has something to send and bytes are left, `most` in all: each takes one at least
+-- frames go while a stream has something to send and bytes are left, `most` in all: each takes one
+-- at least
 abbrev pub with_stream_frames : Bool → ℕ → Sent → Sent
 with_stream_frames fair most d = stream_frames most fair most d
 
@@ -71,7 +75,8 @@ stream_frames_in fair left s = with_stream_frames fair left (no_stream_frames s)
 
 -- ---- the frame that goes next
 
--- a stream, if its part is in use and the part's frame brings a byte or the end, where so many bytes are left of a datagram
+-- a stream, if its part is in use and the part's frame brings a byte or the end, where so many
+-- bytes are left of a datagram
 abbrev pub stream_if : Option SendHalf → ℕ → ℕ → Option ℕ
 stream_if None left id = None
 stream_if (Some h) left id = if frame_counts h (left - (1 + width_of id)) then Some id else None

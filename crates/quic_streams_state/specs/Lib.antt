@@ -9,6 +9,7 @@ pub mod Taking
 pub mod Received
 pub mod Reading
 pub mod Writing
+pub mod Blocking
 pub mod Acked
 pub mod SendLacking
 pub mod Telling

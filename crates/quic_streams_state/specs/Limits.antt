@@ -13,7 +13,8 @@ use Rattle.quic_streams_state.specs.State.{StreamsState, Opening, Receiving, con
 abbrev pub raised_data : Receiving → ℕ
 raised_data r = min (r.window + consumed r) greatest_offset
 
--- how many streams of a kind the peer may open: by the configured count past those that are done both ways
+-- how many streams of a kind the peer may open: by the configured count past those that are done
+-- both ways
 abbrev pub raised_count : Dir → Opening → ℕ
 raised_count dir o = min (of dir o.configured + of dir o.done) most_streams
 

@@ -1,4 +1,5 @@
--- Streams that this end opens and accepts, and those that the peer's frames open (RFC 9000, sections 2.1 and 4.6).
+-- Streams that this end opens and accepts, and those that the peer's frames open (RFC 9000,
+-- sections 2.1 and 4.6).
 use Rattle.std.specs.Prelude.{ℕ, ◌+◌, ◌-◌, Bool, true, false, nat_lt, nat_le, ◌&&◌, not, if◌then◌else◌, Option, Some, None}
 use Rattle.quic_wire_core.specs.declared.stream_id.Side.{Side}
 use Rattle.quic_wire_core.specs.declared.stream_id.Dir.{Dir}
@@ -18,7 +19,8 @@ use Rattle.quic_streams_state.specs.Limits.{raised_count, most_streams}
 abbrev pub opened_next : Side → Dir → Opening → Option ℕ × Opening
 opened_next side dir o = if nat_lt (of dir o.own) (of dir o.own_limit) then (Some (stream_id side dir (of dir o.own)), record o { own = more dir o.own; sending = o.sending + 1 }) else (None, o)
 
--- the first stream of a kind that the peer opened and that wasn't accepted, and the counts once it is
+-- the first stream of a kind that the peer opened and that wasn't accepted, and the counts once it
+-- is
 abbrev pub accepted_next : Side → Dir → Opening → Option ℕ × Opening
 accepted_next side dir o = if nat_lt (of dir o.accepted) (of dir o.remote) then (Some (stream_id (other_side side) dir (of dir o.accepted)), record o { accepted = more dir o.accepted }) else (None, o)
 
@@ -63,7 +65,8 @@ opened_if false id s = s
 abbrev pub opened_by : StreamsState → ℕ → StreamsState
 opened_by s id = opened_if (opens s id) id s
 
--- an own stream has to be opened before, and one of the peer's has to lie within the count that it may open
+-- an own stream has to be opened before, and one of the peer's has to lie within the count that it
+-- may open
 abbrev pub beyond_in : Opening → Side → ℕ → Option Breach
 beyond_in o side id = if is_own side id then (if is_opened_in o side id then None else Some StreamState) else (if nat_le (raised_count (dir_of id) o) (index_of id) then Some StreamLimit else None)
 
@@ -75,7 +78,8 @@ beyond s id = beyond_in s.opening s.side id
 abbrev pub announced_count : Dir → Opening → Opening
 announced_count dir o = record o { announced = with_of dir (raised_count dir o) o.announced }
 
--- the rule that a frame for the receiving part of a stream breaks by its id: STREAM and RESET_STREAM (sections 19.4 and 19.8)
+-- the rule that a frame for the receiving part of a stream breaks by its id: STREAM and
+-- RESET_STREAM (sections 19.4 and 19.8)
 abbrev pub receiving_refusal : StreamsState → ℕ → Option Breach
 receiving_refusal s id = if is_own s.side id && not (is_two_way (dir_of id)) then Some StreamState else beyond s id
 

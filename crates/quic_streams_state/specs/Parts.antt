@@ -1,4 +1,5 @@
--- What is kept of all streams of one end: how many there are, what is sent on them, and what has come (RFC 9000, section 4).
+-- What is kept of all streams of one end: how many there are, what is sent on them, and what has
+-- come (RFC 9000, section 4).
 use Rattle.std.specs.Prelude.{ℕ, ◌+◌, ◌-◌, ◌^◌, min, Bool, nat_lt, if◌then◌else◌, List, length}
 use Rattle.std.specs.List.{sum_by}
 use Rattle.std.specs.Map.{values_of}
@@ -11,9 +12,11 @@ use Rattle.quic_streams_parts.specs.RecvHalf.{RecvHalf, credit}
 use Rattle.quic_streams_parts.specs.Queue.{Queue}
 use Rattle.quic_streams_halves.specs.Halves.{Halves}
 
--- how many streams of each kind this end opened, and how many it may open; how many the peer opened, how many of these were accepted, and how many of them
--- are done both ways; how many streams the peer may have open at once, and how many it was told that it may open in all; and how many streams are opened on
--- which this end may send, and whose sending part isn't done (section 4.6)
+-- how many streams of each kind this end opened, and how many it may open; how many the peer
+-- opened, how many of these were accepted, and how many of them are done both ways; how many
+-- streams the peer may have open at once, and how many it was told that it may open in all; and how
+-- many streams are opened on which this end may send, and whose sending part isn't done (section
+-- 4.6)
 pub record Opening : Type 0 where
   pub own : Counts
   pub own_limit : Counts
@@ -24,8 +27,9 @@ pub record Opening : Type 0 where
   pub announced : Counts
   pub sending : ℕ
 
--- the sending parts; how many bytes were accepted on all streams, and how far these may come; how many bytes may be buffered; how
--- far each kind of stream may come at first; the streams with something to send; and those whose write the connection blocked, the latest first (section 4.1)
+-- the sending parts; how many bytes were accepted on all streams, and how far these may come; how
+-- many bytes may be buffered; how far each kind of stream may come at first; the streams with
+-- something to send; and those whose write the connection blocked, the latest first (section 4.1)
 pub record Sending : Type 0 where
   pub halves : Halves SendHalf
   pub accepted : ℕ
@@ -36,8 +40,9 @@ pub record Sending : Type 0 where
   pub queue : Queue
   pub blocked : List ℕ
 
--- the receiving halves, and the final sizes of those that are done, summed; how many bytes more than were consumed may come, and how far the peer was told that
--- they may come; and how many bytes more than were read may come on one stream (section 4.1)
+-- the receiving halves, and the final sizes of those that are done, summed; how many bytes more
+-- than were consumed may come, and how far the peer was told that they may come; and how many bytes
+-- more than were read may come on one stream (section 4.1)
 pub record Receiving : Type 0 where
   pub halves : Halves RecvHalf
   pub gone : ℕ
@@ -77,7 +82,8 @@ first_window r = r.stream_window
 abbrev pub most_streams : ℕ
 most_streams = 2 ^ 60
 
--- no stream is opened, and this end may open none; the peer may have so many of each kind open at once
+-- no stream is opened, and this end may open none; the peer may have so many of each kind open at
+-- once
 abbrev pub no_opening : ℕ → ℕ → Opening
 no_opening max_remote_bi max_remote_uni =
     let max_remote : Counts = record { bi = min max_remote_bi most_streams; uni = min max_remote_uni most_streams } in

@@ -17,6 +17,7 @@ use Rattle.quic_streams_state.specs.Limits.{data_grew, counts_grew, settled, str
 
 -- ---- a read begins
 
+-- whether a read of a stream may begin, in order or not, and why not
 abbrev pub read_answer : StreamsState → ℕ → Bool → Result (Unit {0}) ReadableError
 read_answer s id ordered = readable (receiving_half s id) ordered
 
@@ -48,7 +49,8 @@ reserves_unless (Err e) p id = Err e
 abbrev pub begin_answer : StreamsState → Retransmits → ℕ → Bool → Result Bool ReadableError
 begin_answer s p id ordered = reserves_unless (read_answer s id ordered) p id
 
--- memory may lack for that place where it is new, and for a half that an unordered read brings into use
+-- memory may lack for that place where it is new, and for a half that an unordered read brings into
+-- use
 abbrev pub begin_may_lack : StreamsState → Retransmits → ℕ → Bool → Bool
 begin_may_lack s p id ordered = not (has_id id p.max_stream_data) || (not ordered && is_none (at s.receiving.halves.live id))
 
@@ -144,6 +146,7 @@ after_stop s p id code = stopped_at (receiving_half s id) s p id code
 
 -- ---- asking for a reset
 
+-- the code of a half's reset, if it was reset; an error where it is done, or this end stopped it
 abbrev pub reset_of : Option RecvHalf → Result (Option ℕ) ClosedStream
 reset_of None = Err (record {})
 reset_of (Some h) = if h.stopped then Err (record {}) else Ok h.reset

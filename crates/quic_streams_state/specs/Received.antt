@@ -1,4 +1,5 @@
--- What STREAM and RESET_STREAM leave beside the limits that grew, and where memory may lack for them.
+-- What STREAM and RESET_STREAM leave beside the limits that grew, and where memory may lack for
+-- them.
 use Rattle.std.specs.Prelude.{◌≡◌, ℕ, Bool, true, false, ◌&&◌, ◌||◌, not, Option, Some, None}
 use Rattle.std.specs.Option.{is_some}
 use Rattle.quic_wire.specs.Value.{StreamValue, ResetStreamValue}
@@ -25,13 +26,15 @@ reset_on h s f = renewed s f.id h (after_reset_stream h f.code f.final_size) (no
 abbrev pub noted_on : StreamsState → ℕ → RecvHalf → RecvHalf → Bool → StreamsState
 noted_on s id old new tells = with_recv (readable_if (tells && not (old.stopped || opens s id)) id s) id new
 
--- memory may lack for a frame that isn't refused, on a part that isn't done, nor stopped by this end
+-- memory may lack for a frame that isn't refused, on a part that isn't done, nor stopped by this
+-- end
 abbrev pub FrameLacks : Option Breach → Option RecvHalf → Type 0
 FrameLacks (Some b) o = ⊥
 FrameLacks None None = ⊥
 FrameLacks None (Some h) = h.stopped ≡ false
 
--- memory may lack for a reset that isn't refused, on a part that isn't done, nor stopped by this end, nor reset before
+-- memory may lack for a reset that isn't refused, on a part that isn't done, nor stopped by this
+-- end, nor reset before
 abbrev pub ResetLacks : Option Breach → Option RecvHalf → Type 0
 ResetLacks (Some b) o = ⊥
 ResetLacks None None = ⊥

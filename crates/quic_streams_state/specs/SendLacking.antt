@@ -13,7 +13,8 @@ use Rattle.quic_streams_state.specs.Taking.{is_used_up}
 abbrev pub is_idle : StreamsState → ℕ → Bool
 is_idle s id = is_none (at s.sending.halves.live id)
 
--- a part whose write is blocked is noted: as one that the connection blocks, unless it is already; or as one that its own limit blocks
+-- a part whose write is blocked is noted: as one that the connection blocks, unless it is already;
+-- or as one that its own limit blocks
 abbrev pub is_noted : ℕ → SendHalf → Bool
 is_noted room h = (room == 0) && h.blocked
 

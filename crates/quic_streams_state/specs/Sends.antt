@@ -31,6 +31,7 @@ reset_half h s side id = with_queued s side id (requeued_at h.place false s.queu
 
 -- ---- the same of a half that is in use, if it is
 
+-- a half in use has another value, and the queue is another
 abbrev pub with_live_queued : Sending → ℕ → Queued → Sending
 with_live_queued s id q = record s { halves = record s.halves { live = put s.halves.live id q.half }; queue = q.queue }
 
@@ -82,7 +83,8 @@ abbrev pub acked_if_ready_in : Option SendHalf → Sending → StreamMeta → Se
 acked_if_ready_in None s m = s
 acked_if_ready_in (Some h) s m = if is_ready h then acked_in (Some h) s m else s
 
--- a frame of a half in use goes, where streams take turns or don't, and so many bytes are left behind its type and id
+-- a frame of a half in use goes, where streams take turns or don't, and so many bytes are left
+-- behind its type and id
 abbrev pub sent_in : Bool → Option SendHalf → Sending → ℕ → ℕ → Sending
 sent_in fair None s id room = s
 sent_in fair (Some h) s id room = with_live_queued s id (turned fair s.queue id (half_after h room))

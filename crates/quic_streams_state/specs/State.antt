@@ -1,4 +1,5 @@
--- All streams of one end: their counts, what is sent on them, what has come, and what the application is told (RFC 9000, sections 2 to 4).
+-- All streams of one end: their counts, what is sent on them, what has come, and what the
+-- application is told (RFC 9000, sections 2 to 4).
 use Rattle.std.specs.Prelude.{ℕ, ◌+◌, ◌-◌, Bool, true, false, ◌&&◌, ◌||◌, not, [], Option, Some, None}
 use Rattle.quic_wire_core.specs.declared.stream_id.Side.{Side}
 use Rattle.quic_wire_core.specs.declared.stream_id.Dir.{Dir}
@@ -82,7 +83,8 @@ sending_half s id = half_of (new_send_half (first_limit s id)) (sending_status s
 abbrev pub receiving_half : StreamsState → ℕ → Option RecvHalf
 receiving_half s id = half_of (new_recv_half (first_window s.receiving)) (receiving_status s id)
 
--- how many streams may have something to be acknowledged: those on which this end may send, less those whose sending part is done
+-- how many streams may have something to be acknowledged: those on which this end may send, less
+-- those whose sending part is done
 abbrev pub send_streams : StreamsState → ℕ
 send_streams s = s.opening.sending
 

@@ -1,4 +1,5 @@
--- What the peer's frames on streams come to: STREAM and RESET_STREAM, STOP_SENDING, and the limits (RFC 9000, sections 3, 4 and 19).
+-- What the peer's frames on streams come to: STREAM and RESET_STREAM, STOP_SENDING, and the limits
+-- (RFC 9000, sections 3, 4 and 19).
 use Rattle.std.specs.Prelude.{ℕ, ◌+◌, ◌-◌, ◌^◌, max, Bool, true, false, nat_lt, nat_le, ◌==◌, ◌&&◌, ◌||◌, not, if◌then◌else◌, List, [], ◌∷◌, ◌++◌, Option, Some, None}
 use Rattle.std.specs.Option.{is_some}
 use Rattle.quic_wire.specs.Value.{FrameValue, StreamValue, ResetStreamValue, StopSendingValue, stream, reset_stream, stop_sending, max_stream_data, max_streams, stream_data_blocked, streams_blocked}
@@ -23,7 +24,8 @@ use Rattle.quic_streams_parts.specs.Dirs.{is_own, is_two_way}
 abbrev pub part_for : StreamsState → ℕ → Option RecvHalf
 part_for s id = receiving_half (opened_by s id) id
 
--- whether bytes up to an offset go past the limit that the peer was told for their stream, or past that of all streams (section 4.1)
+-- whether bytes up to an offset go past the limit that the peer was told for their stream, or past
+-- that of all streams (section 4.1)
 abbrev pub breaks_limit : Receiving → RecvHalf → ℕ → Bool
 breaks_limit r h end = nat_lt h.announced end || nat_lt (raised_data r) (seen r - h.seen + max h.seen end)
 
@@ -58,12 +60,14 @@ abbrev pub ended_if : Bool → ℕ → StreamsState → StreamsState
 ended_if true id s = recv_done s id
 ended_if false id s = s
 
--- the stream is open, and its part has another value, of which the application is told unless it stopped the stream
+-- the stream is open, and its part has another value, of which the application is told unless it
+-- stopped the stream
 abbrev pub renewed : StreamsState → ℕ → RecvHalf → RecvHalf → Bool → StreamsState
 renewed s id old new tells = readable_if (tells && not (old.stopped || opens s id)) id (ended_if (new.stopped && is_some new.final) id (with_recv (opened_by s id) id new))
 
 -- ---- STREAM (section 19.8)
 
+-- a STREAM frame counts on its part, if that isn't done, and the limits that grew wait to be told
 abbrev pub stream_at : Option RecvHalf → StreamsState → Retransmits → StreamValue → Streams
 stream_at None s p f = streams_of s p
 stream_at (Some h) s p f = settled (renewed s f.id h (after_frame h f) true) p
@@ -93,6 +97,8 @@ after_stream s p f = stream_unless (refusal s f.id (end_of f) f.fin) s p f
 
 -- ---- RESET_STREAM (section 19.4): the first on a part is told, as bytes are
 
+-- a RESET_STREAM frame counts on its part, if that isn't done, and the limits that grew wait to be
+-- told
 abbrev pub reset_at : Option RecvHalf → StreamsState → Retransmits → ResetStreamValue → Streams
 reset_at None s p f = streams_of s p
 reset_at (Some h) s p f = settled (renewed s f.id h (after_reset_stream h f.code f.final_size) (not (is_some h.reset))) p
@@ -112,7 +118,8 @@ after_reset_frame s p f = reset_unless (reset_breach s f) s p f
 
 -- ---- the rules of ids and counts, as a table: what a frame may name, whatever else it does
 
--- the rule that an id breaks that may not be of a stream on which only this end sends (section 19.13), if it does
+-- the rule that an id breaks that may not be of a stream on which only this end sends (section
+-- 19.13), if it does
 abbrev pub not_of_own_breach : StreamsState → ℕ → Option Breach
 not_of_own_breach s id = if is_own s.side id && not (is_two_way (dir_of id)) then Some StreamState else None
 
@@ -143,6 +150,7 @@ sending_for s id = sending_half (opened_by s id) id
 
 -- ---- STOP_SENDING (section 19.5): the first counts
 
+-- a sending part that the peer stopped with this code
 abbrev pub stopped_half : SendHalf → ℕ → SendHalf
 stopped_half h code = record h { stopped = Some code }
 
@@ -162,6 +170,7 @@ after_stop_sending s f = stop_unless (sending_refusal s f.id) s f
 
 -- ---- MAX_DATA (section 19.9) and MAX_STREAM_DATA (section 19.10): limits never fall
 
+-- the limit on all streams is this one, if it is greater than the one before
 abbrev pub after_max_data : StreamsState → ℕ → StreamsState
 after_max_data s limit = record s { sending = record s.sending { limit = max s.sending.limit limit } }
 

@@ -17,7 +17,8 @@ pub record Telling : Type 0 where
 
 -- ---- streams that take bytes again, the latest blocked first
 
--- whether a write on a part would be accepted, or refused for a stop that the application hasn't seen
+-- whether a write on a part would be accepted, or refused for a stop that the application hasn't
+-- seen
 abbrev pub is_writable : Option SendHalf → Bool
 is_writable None = false
 is_writable (Some h) = is_ready h && nat_lt (written_on h) h.limit
@@ -27,7 +28,8 @@ abbrev pub unblocked_at : Option SendHalf → Table SendHalf → ℕ → Table S
 unblocked_at None halves id = halves
 unblocked_at (Some h) halves id = put halves id (record h { blocked = false })
 
--- the first that is writable, and what is left of the others and of the parts: those before it are passed over, unreported
+-- the first that is writable, and what is left of the others and of the parts: those before it are
+-- passed over, unreported
 pub record Passing : Type 0 where
   pub found : Option ℕ
   pub blocked : List ℕ
@@ -48,6 +50,7 @@ after_passing s p = record s { sending = after_passed s.sending p }
 
 -- ---- in this order: streams that were opened, two-way ones first; those that take bytes again; the rest as it came
 
+-- the first event that waits is told, and waits no more
 abbrev pub told_next : StreamsState → Telling
 told_next s = record { answer = first_event s.events; state = record s { events = after_event s.events } }
 

@@ -1,4 +1,5 @@
--- Whether something waits to be sent: a frame is written where this says so, and nowhere else (RFC 9000, sections 4.1 and 19.13).
+-- Whether something waits to be sent: a frame is written where this says so, and nowhere else (RFC
+-- 9000, sections 4.1 and 19.13).
 use Rattle.std.specs.Prelude.{Bool}
 use Rattle.quic_streams_parts.specs.Queue.{is_waiting}
 use Rattle.quic_retransmits.specs.declared.retransmits.ControlKind.{ControlKind}

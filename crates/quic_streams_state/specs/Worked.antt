@@ -81,6 +81,7 @@ hello_frame = record { id = 0; offset = 0; fin = true; bytes = hello }
 
 -- ---- a window of eight bytes
 
+-- twenty bytes
 abbrev pub twenty : List ℕ
 twenty = replicate 20 0x61
 
@@ -98,6 +99,7 @@ eight_read = finalized (read_at (took (server 8 100) eight_frame) 0 32) 0
 
 -- ---- a window of one byte
 
+-- the client wrote what it may of twenty bytes: one
 abbrev pub one_written : StreamsState
 one_written = wrote (after_open true Bi (client 1 100)) 0 twenty
 
@@ -199,7 +201,8 @@ two_written = wrote (wrote (after_open true Bi (after_open true Bi (client 1000 
 abbrev pub higher_written : StreamsState
 higher_written = wrote (after_set_priority (wrote (after_open true Bi (after_open true Bi (client 1000 100))) 0 twenty) 4 (pos 1)) 4 twenty
 
--- the STREAM frames that go where so many bytes are left, once as many went in the datagram before, where streams take turns or don't
+-- the STREAM frames that go where so many bytes are left, once as many went in the datagram before,
+-- where streams take turns or don't
 abbrev pub sends_twice : Bool → ℕ → StreamsState → Sent
 sends_twice fair most s = stream_frames_in fair most (stream_frames_in fair most s).state
 

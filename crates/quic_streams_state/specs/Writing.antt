@@ -1,4 +1,5 @@
--- What writes to streams answer and leave, their end, resets and priorities (RFC 9000, sections 2.2, 2.3, 3.1, 3.5 and 4.1).
+-- What writes to streams answer and leave, their end, resets and priorities (RFC 9000, sections
+-- 2.2, 2.3, 3.1, 3.5 and 4.1).
 use Rattle.std.specs.Prelude.{ℕ, zero, suc, ℤ, nat_le, ◌+◌, ◌-◌, Bool, true, false, ◌==◌, ◌||◌, if◌then◌else◌, List, [], ◌∷◌, ◌++◌, length, take, Option, Some, None, Result, Ok, Err}
 use Rattle.std.specs.Option.{is_some}
 use Rattle.quic_streams_parts.specs.declared.answers.Written.{Written}
@@ -108,6 +109,7 @@ after_write_chunks false answer s p id cs = streams_of s p
 
 -- ---- finish
 
+-- what a finish of a stream is answered, where memory suffices
 abbrev pub finish_answer : StreamsState → ℕ → Result (Unit {0}) FinishError
 finish_answer s id = finish_of (sending_half s id)
 
@@ -127,6 +129,7 @@ after_finish s id = finished_by (finish_answer s id) s id
 
 -- ---- reset (section 3.1)
 
+-- whether there is no such part, or it was reset
 abbrev pub is_reset_at : Option SendHalf → Bool
 is_reset_at None = true
 is_reset_at (Some h) = is_some h.reset
@@ -146,6 +149,7 @@ after_reset s p id code = reset_at (sending_half s id) s p id code
 
 -- ---- priorities (section 2.3), and whether the peer stopped the stream (section 3.5)
 
+-- what a part is asked, and an error where there is no such part
 abbrev pub of_half : {A : Type 0} → (SendHalf → A) → Option SendHalf → Result A ClosedStream
 of_half f None = Err (record {})
 of_half f (Some h) = Ok (f h)

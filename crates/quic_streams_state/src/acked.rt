@@ -92,8 +92,9 @@ impl StreamsState {
     ///
     /// # Errors
     ///
-    /// [`AllocError`] where memory lacks, of a half in use that wasn't reset: where it was
-    /// finished, some of the frame was sent, or the half isn't in the queue. Nothing changes.
+    /// - [`AllocError`]: an allocation fails, where the sending half is in use and wasn't reset,
+    ///   and either it was finished, some of the frame was sent, or it isn't in the queue. Nothing
+    ///   changes.
     pub fn received_ack_of(
         &mut self,
         frame: &StreamMeta,
@@ -145,8 +146,8 @@ impl StreamsState {
     ///
     /// # Errors
     ///
-    /// [`AllocError`] where memory lacks, of a half in use that wasn't reset: where some of the
-    /// frame was sent, or the half isn't in the queue. Nothing changes.
+    /// - [`AllocError`]: an allocation fails, where the sending half is in use and wasn't reset,
+    ///   and some of the frame was sent or the half isn't in the queue. Nothing changes.
     pub fn retransmit(&mut self, frame: &StreamMeta) -> Result<(), AllocError>
         ensures ok { OnOk result (self.new ≡ after_stream_lost self.old frame.now) }
         ensures err { OnErr result (self.new ≡ self.old) }

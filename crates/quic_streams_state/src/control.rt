@@ -1,17 +1,20 @@
-//! The frames about streams that go into a datagram, but for STREAM (RFC 9000, sections 13.3 and
-//! 19).
+//! The control frames that go into a datagram: those about streams, but for STREAM, and those about
+//! connection ids (RFC 9000, sections 13.3 and 19).
 ghost use Rattle.std.specs.Prelude.{◌≡◌, ◌<◌, ◌≤◌, ◌++◌, length, take, Some, IfSome, OnOk, OnErr, vec_len, vec_capacity};
 ghost use Rattle.std.specs.List.{fold};
 ghost use Rattle.std.specs.Option.{option_map};
-ghost use Rattle.quic_wire.specs.FrameView.{frame_view};
+ghost use Rattle.quic_wire.specs.FrameView.{frame_view, new_connection_id_view};
 ghost use Rattle.quic_wire.specs.Writing.{Fits, spelled_all};
-ghost use Rattle.quic_retransmits.specs.Retransmits.{is_any};
-ghost use Rattle.quic_streams_state.specs.Control.{waiting, without_first, frame_of_first, frame_told, and_again, reset_entry, data_entry, limit_entry, count_entry, blocked_entry, stream_blocked_entry, no_frames, with_kind, control_frames};
+ghost use Rattle.quic_retransmits.specs.Retransmits.{is_any, CanBeTold};
+ghost use Rattle.quic_wire.specs.Value.{new_connection_id};
+ghost use Rattle.quic_streams_state.specs.Control.{waiting, without_first, frame_of_first, frame_told, and_again, reset_entry, data_entry, limit_entry, count_entry, blocked_entry, stream_blocked_entry, told_id, issued_in, no_frames, with_kind, control_frames};
 
 use crate::state::StreamsState;
 use quic_retransmits::{CONTROL_KINDS, ControlKind, LimitQueries, Retransmits};
-use quic_wire::frame::{Ack, Frame, ResetStream, Stream, put_frame, size_of_frame};
-use quic_wire_core::{Dir, StreamId, VarInt};
+use quic_wire::frame::{
+    Ack, Frame, NewConnectionId, ResetStream, Stream, put_frame, size_of_frame,
+};
+use quic_wire_core::{Dir, IssuedCid, StreamId, VarInt};
 use std::alloc::AllocError;
 
 // Whether something of a kind waits.
@@ -26,6 +29,8 @@ fn is_waiting(kind: ControlKind, pending: &Retransmits) -> bool
         ControlKind::MaxStreams(dir) => pending.max_stream_id(dir),
         ControlKind::DataBlocked => pending.data_blocked(),
         ControlKind::StreamDataBlocked => pending.first_stream_data_blocked().is_some(),
+        ControlKind::NewConnectionId => pending.first_new_cid().is_some(),
+        ControlKind::RetireConnectionId => pending.first_retire_cid().is_some(),
     }
 }
 
@@ -49,11 +54,43 @@ fn drop_first(kind: ControlKind, pending: &mut Retransmits)
         ControlKind::StreamDataBlocked => {
             let _ = pending.pop_stream_data_blocked();
         }
+        ControlKind::NewConnectionId => {
+            let _ = pending.pop_new_cid();
+        }
+        ControlKind::RetireConnectionId => {
+            let _ = pending.pop_retire_cid();
+        }
     }
+}
+
+// The id that NEW_CONNECTION_ID gives.
+fn issued(frame: &NewConnectionId) -> IssuedCid
+    ensures { result ≡ issued_in (new_connection_id_view frame.now) }
+{
+    IssuedCid {
+        sequence: frame.sequence,
+        id: frame.id,
+        reset_token: frame.reset_token,
+    }
+}
+
+// NEW_CONNECTION_ID of an id, which asks for none to be retired.
+fn new_id_frame(cid: IssuedCid) -> Frame<'static>
+    requires { CanBeTold cid }
+    ensures frame { frame_view result ≡ new_connection_id (told_id cid) }
+    ensures fits { Fits (frame_view result) }
+{
+    Frame::NewConnectionId(NewConnectionId {
+        sequence: cid.sequence,
+        retire_prior_to: 0,
+        id: cid.id,
+        reset_token: cid.reset_token,
+    })
 }
 
 // A datagram carries a frame. An `Err` (want of memory) changes nothing.
 fn note(frame: &Frame<'_>, sent: &mut Retransmits) -> Result<(), AllocError>
+    requires { Fits (frame_view frame.now) }
     ensures ok { OnOk result (sent.new ≡ and_again sent.old (frame_view frame.now)) }
     ensures err { OnErr result (sent.new ≡ sent.old) }
 {
@@ -67,6 +104,8 @@ fn note(frame: &Frame<'_>, sent: &mut Retransmits) -> Result<(), AllocError>
         Frame::MaxStreams { dir, .. } => sent.set_max_stream_id(*dir, true),
         Frame::DataBlocked { .. } => sent.set_data_blocked(true),
         Frame::StreamDataBlocked { id, .. } => sent.insert_stream_data_blocked(*id)?,
+        Frame::NewConnectionId(frame) => sent.push_new_cid(issued(frame))?,
+        Frame::RetireConnectionId { sequence } => sent.push_retire_cid(*sequence)?,
         _ => {}
     }
     Ok(())
@@ -199,6 +238,11 @@ impl StreamsState {
             ControlKind::StreamDataBlocked => {
                 self.stream_blocked_frame(pending.first_stream_data_blocked()?)
             }
+            ControlKind::NewConnectionId => Some(new_id_frame(pending.first_new_cid()?)),
+            ControlKind::RetireConnectionId => {
+                let sequence = pending.first_retire_cid()?;
+                Some(Frame::RetireConnectionId { sequence })
+            }
         }
     }
 
@@ -280,18 +324,18 @@ impl StreamsState {
         Ok(())
     }
 
-    /// Appends the frames about streams that are due and fit, but for STREAM, so that `out` has at
-    /// most `max_size` bytes; memory for these is there. They go in the order of RESET_STREAM,
-    /// STOP_SENDING, MAX_DATA, MAX_STREAM_DATA, MAX_STREAMS (two-way, one-way), DATA_BLOCKED and
-    /// STREAM_DATA_BLOCKED (RFC 9000, section 19), no longer wait in `pending`, and stand in
-    /// `sent`, which has to go again if the datagram is lost (section 13.3; quinn-proto's
-    /// `write_control_frames`).
+    /// Appends the control frames that are due and fit, so that `out` has at most `max_size` bytes;
+    /// memory for these is there. They go in the order of RESET_STREAM, STOP_SENDING, MAX_DATA,
+    /// MAX_STREAM_DATA, MAX_STREAMS (two-way, one-way), DATA_BLOCKED, STREAM_DATA_BLOCKED,
+    /// NEW_CONNECTION_ID and RETIRE_CONNECTION_ID (RFC 9000, section 19), no longer wait in
+    /// `pending`, and stand in `sent`, which has to go again if the datagram is lost (section 13.3;
+    /// quinn-proto's `write_control_frames`).
     ///
     /// # Errors
     ///
-    /// [`AllocError`] where memory lacks to note a frame that fits. What stood in `out` stands
-    /// there yet, behind which some of the frames may be; nothing is promised of the rest, so that
-    /// the connection has to fail.
+    /// - [`AllocError`]: an allocation fails, of room to note a frame that fits. What stood in
+    ///   `out` stands there yet, behind which some of the frames may be; nothing is promised of the
+    ///   rest, so that the connection has to fail.
     pub fn write_control_frames(
         &mut self,
         out: &mut Vec<u8>,

@@ -2,6 +2,7 @@
 #![tactic(auto)]
 
 mod acked;
+mod blocked;
 mod chunks;
 mod control;
 mod limits;
@@ -16,6 +17,7 @@ mod stream_frames;
 mod taking;
 pub mod worked;
 
+pub use blocked::BlockedBy;
 pub use opening::Opening;
 pub use quic_retransmits::{CONTROL_KINDS, ControlKind};
 pub use receiving::Receiving;

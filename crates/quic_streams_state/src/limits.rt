@@ -26,11 +26,13 @@ impl StreamsState {
     ///
     /// # Errors
     ///
-    /// [`ReceivedError::Breach`] where the id breaks a rule: `StreamState` on a stream on which
-    /// only the peer sends, or on one of this end that isn't opened; `StreamLimit` beyond the count
-    /// that the peer may open. It changes nothing. [`ReceivedError::Memory`] where memory lacks to
-    /// note a stream that takes bytes again, or to bring its sending half into use: the stream is
-    /// open by then, and nothing else changed.
+    /// - [`ReceivedError::Breach`] with `StreamState`: only the peer sends on the stream, or it is
+    ///   one of this endpoint that isn't opened. Nothing changes.
+    /// - [`ReceivedError::Breach`] with `StreamLimit`: the stream lies beyond the count that the
+    ///   peer may open. Nothing changes.
+    /// - [`ReceivedError::Memory`]: an allocation fails, of room to note a stream that takes bytes
+    ///   again, or to bring its sending half into use. The stream is open by then, and nothing else
+    ///   changed.
     pub fn received_max_stream_data(
         &mut self,
         id: StreamId,

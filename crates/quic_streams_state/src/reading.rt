@@ -51,8 +51,10 @@ impl StreamsState {
     /// The code with which the peer reset a stream that is still read, if it did (quinn's
     /// `RecvStream::received_reset`); nothing is left to read then.
     ///
-    /// [`ClosedStream`] where there is no such stream, this end stopped it, or its end or reset was
-    /// told; nothing changes.
+    /// # Errors
+    ///
+    /// - [`ClosedStream`]: there is no such stream, this endpoint stopped it, or its FIN or reset
+    ///   was given to the application. Nothing changes.
     pub fn received_reset_code(
         &mut self,
         id: StreamId,
@@ -118,9 +120,11 @@ impl StreamsState {
     /// `RecvStream::stop`): the peer is asked to stop too unless it reset the stream, and the
     /// limits that grew wait to be told.
     ///
-    /// [`UpdateError::ClosedStream`] where there is no such stream, this end stopped it before, or
-    /// its end or reset was told: nothing changes. [`UpdateError::Memory`] where memory lacks, and
-    /// nothing changes either.
+    /// # Errors
+    ///
+    /// - [`UpdateError::ClosedStream`]: there is no such stream, this endpoint stopped it before,
+    ///   or its FIN or reset was given to the application. Nothing changes.
+    /// - [`UpdateError::Memory`]: an allocation fails. Nothing changes.
     pub fn stop(
         &mut self,
         id: StreamId,

@@ -92,10 +92,12 @@ impl StreamsState {
     ///
     /// # Errors
     ///
-    /// [`ReadableError::ClosedStream`] where there is no such stream, this end stopped it, or its
-    /// end or reset was told; [`ReadableError::IllegalOrderedRead`] in order after a read that
-    /// wasn't; [`ReadableError::Memory`] where memory lacks for a MAX_STREAM_DATA that didn't wait,
-    /// or for a half that comes into use. They are tested in this order, and change nothing.
+    /// - [`ReadableError::ClosedStream`]: there is no such stream, this endpoint stopped it, or its
+    ///   FIN or reset was given to the application. Nothing changes.
+    /// - [`ReadableError::IllegalOrderedRead`]: the read is in order, and came after one that
+    ///   wasn't. Nothing changes.
+    /// - [`ReadableError::Memory`]: an allocation fails, of room for a MAX_STREAM_DATA that didn't
+    ///   wait, or for a half that comes into use. Nothing changes.
     pub fn begin_read(
         &mut self,
         id: StreamId,
@@ -128,9 +130,10 @@ impl StreamsState {
     ///
     /// # Errors
     ///
-    /// [`ReadError::Reset`] where the peer reset it: its half is done then. [`ReadError::Blocked`]
-    /// where no byte waits that may be given; [`ReadError::Memory`] where memory lacks to give
-    /// some. These change nothing.
+    /// - [`ReadError::Reset`]: the peer reset the stream. Its receiving half is done then.
+    /// - [`ReadError::Blocked`]: no byte waits that may be given, and not all up to the final size
+    ///   were read. Nothing changes.
+    /// - [`ReadError::Memory`]: an allocation fails. Nothing changes.
     pub fn read_next(&mut self, id: StreamId, max: usize) -> Result<Option<Chunk>, ReadError>
         ensures answer { result ≢ Err read_errors.Memory → result ≡ next_answer told_bytes self.old id max }
         ensures new { self.new ≡ after_next told_bytes result self.old id max }

@@ -88,7 +88,11 @@ impl Receiving {
     }
 
     /// Keeps a frame's bytes on a half that isn't in use yet, which breaks no rule on its final
-    /// size. An `Err` (want of memory) changes nothing.
+    /// size.
+    ///
+    /// # Errors
+    ///
+    /// - [`AllocError`]: an allocation fails. Nothing changes.
     pub fn insert_on(&mut self, half: &mut Recv, frame: &Stream<'_>) -> Result<(), AllocError>
         requires end { end_of (stream_view frame.now) < 2 ^ 62 }
         requires size { breaks_final half.old.final half.old.seen (end_of (stream_view frame.now)) frame.now.fin ≡ false }
@@ -150,7 +154,11 @@ impl Receiving {
         None
     }
 
-    /// A half comes into use. An `Err` (want of memory) changes nothing.
+    /// A half comes into use.
+    ///
+    /// # Errors
+    ///
+    /// - [`AllocError`]: an allocation fails. Nothing changes, and the half is dropped.
     pub fn add(&mut self, side: Side, id: StreamId, half: Recv) -> Result<(), AllocError>
         requires none { at self.old.halves.live id ≡ None }
         requires room { seen self.old + half.seen ≤ greatest_offset }
@@ -161,8 +169,12 @@ impl Receiving {
         Ok(())
     }
 
-    /// A frame that breaks no rule comes for a half that is in use. An `Err` (want of memory)
-    /// changes nothing.
+    /// A frame that breaks no rule comes for a half that is in use.
+    ///
+    /// # Errors
+    ///
+    /// - [`AllocError`]: an allocation fails, where this endpoint didn't stop the half, and the
+    ///   frame brings a byte that is new or segments are to be joined. Nothing changes.
     pub fn take(&mut self, frame: &Stream<'_>) -> Result<(), AllocError>
         requires { IfSome (at self.old.halves.live frame.now.id) (λ h. breach_on self.old h (end_of (stream_view frame.now)) frame.now.fin ≡ None) }
         ensures ok { OnOk result (self.new ≡ record self.old { halves = changed (λ h. after_frame h (stream_view frame.now)) self.old.halves frame.now.id }) }
@@ -200,8 +212,12 @@ impl Receiving {
         self.recv.stop(id);
     }
 
-    /// A read of a half, if it is in use, begins, in order or not. [`IllegalOrderedRead`] where it
-    /// would be in order after one that wasn't; nothing changes.
+    /// A read of a half, if it is in use, begins, in order or not.
+    ///
+    /// # Errors
+    ///
+    /// - [`IllegalOrderedRead`]: the read is in order, and came after one that wasn't. Nothing
+    ///   changes.
     pub fn begin(&mut self, id: StreamId, ordered: bool) -> Result<(), IllegalOrderedRead>
         ensures refused { IfSome (at self.old.halves.live id) (λ h. is_err result ≡ is_illegal h ordered) }
         ensures new { self.new ≡ record self.old { halves = changed (λ h. begun h ordered) self.old.halves id } }
@@ -210,7 +226,14 @@ impl Receiving {
         self.recv.begin(id, ordered)
     }
 
-    /// Reads on of a half, which is in use. An error, and an answer without bytes, change nothing.
+    /// Reads on of a half, which is in use. An answer without bytes changes nothing.
+    ///
+    /// # Errors
+    ///
+    /// - [`ReadError::Reset`]: the peer reset the stream. Nothing changes.
+    /// - [`ReadError::Blocked`]: no byte waits that may be given, and not all up to the final size
+    ///   were read. Nothing changes.
+    /// - [`ReadError::Memory`]: an allocation fails. Nothing changes.
     pub fn next(&mut self, id: StreamId, max: usize) -> Result<Option<Chunk>, ReadError>
         requires { IsSome (at self.old.halves.live id) }
         ensures answer { result ≢ Err read_errors.Memory → IfSome (at self.old.halves.live id) (λ h. result ≡ next_of h max) }

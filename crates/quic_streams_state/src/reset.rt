@@ -14,8 +14,9 @@ impl StreamsState {
     ///
     /// # Errors
     ///
-    /// [`UpdateError::ClosedStream`] where there is no such stream, its sending half is done, or it
-    /// was reset; [`UpdateError::Memory`] where memory lacks. Either changes nothing.
+    /// - [`UpdateError::ClosedStream`]: there is no such stream, its sending half is done, or it
+    ///   was reset. Nothing changes.
+    /// - [`UpdateError::Memory`]: an allocation fails. Nothing changes.
     pub fn reset(
         &mut self,
         id: StreamId,

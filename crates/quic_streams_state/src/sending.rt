@@ -5,6 +5,7 @@ ghost use Rattle.quic_send_buffer.specs.Source.{bytes_of};
 ghost use Rattle.quic_streams_parts.specs.Table.{at};
 ghost use Rattle.quic_streams_parts.specs.SendHalf.{new_send_half, room_on, written_to};
 ghost use Rattle.quic_streams_parts.specs.declared.answers.WriteError.TheVariants as write_errors;
+ghost use Rattle.quic_streams_state.specs.Blocking.{all_blocked_by};
 ghost use Rattle.quic_streams_state.specs.Parts.{first_limit_in, room};
 ghost use Rattle.quic_streams_state.specs.Telling.{is_writable, unblocked_at, passed, after_passed};
 ghost use Rattle.quic_streams_state.specs.Sends.{blocked_in, blocked_fresh, accepted_in, chunks_grown_in, chunks_grown_half, finished_in, finished_half, reset_in};
@@ -15,6 +16,7 @@ ghost use Rattle.quic_streams_halves.specs.Halves.{no_halves, has_place, with_ha
 mod frames;
 mod renewed;
 
+use crate::blocked::BlockedBy;
 use bytes::Bytes;
 use quic_streams_halves::{PendingStreams, SendHalves, is_own};
 use quic_streams_parts::{ByDir, Send, WriteError, rank_of};
@@ -161,7 +163,25 @@ impl Sending {
         limited.min(self.send_window.saturating_sub(self.send.buffered()))
     }
 
-    /// The end of a half that is in use has to go. An `Err` (want of memory) changes nothing.
+    /// What blocks a write on any stream: the peer's limit, or else the send window.
+    pub fn blocked_by(&self) -> Option<BlockedBy>
+        ensures { result ≡ all_blocked_by self.now }
+    {
+        if self.max_data.into_inner() <= self.data_sent {
+            Some(BlockedBy::Connection)
+        } else if self.send_window <= self.send.buffered() {
+            Some(BlockedBy::SendWindow)
+        } else {
+            None
+        }
+    }
+
+    /// The end of a half that is in use has to go.
+    ///
+    /// # Errors
+    ///
+    /// - [`AllocError`]: an allocation fails, where the half stands nowhere in the queue. Nothing
+    ///   changes.
     pub fn finish(&mut self, id: StreamId) -> Result<(), AllocError>
         ensures ok { OnOk result (self.new ≡ finished_in (at self.old.halves.live id) self.old id) }
         ensures err { OnErr result (self.new ≡ self.old) }
@@ -177,7 +197,11 @@ impl Sending {
         self.send.reset(id, &mut self.pending);
     }
 
-    /// A half that isn't in use comes into use. An `Err` (want of memory) changes nothing.
+    /// A half that isn't in use comes into use.
+    ///
+    /// # Errors
+    ///
+    /// - [`AllocError`]: an allocation fails. Nothing changes, and the half is dropped.
     pub fn add(&mut self, side: Side, id: StreamId, half: Send) -> Result<(), AllocError>
         requires none { at self.old.halves.live id ≡ None }
         requires empty { half.buffer.kept ≡ [] }
@@ -189,8 +213,11 @@ impl Sending {
         self.send.add(side, id, half)
     }
 
-    /// The end of a half that isn't in use, and on which nothing was written, has to go. An `Err`
-    /// (want of memory) changes nothing.
+    /// The end of a half that isn't in use, and on which nothing was written, has to go.
+    ///
+    /// # Errors
+    ///
+    /// - [`AllocError`]: an allocation fails. Nothing changes, and the half is dropped.
     pub fn finish_fresh(&mut self, side: Side, id: StreamId, half: Send) -> Result<(), AllocError>
         requires none { at self.old.halves.live id ≡ None }
         requires empty { half.buffer.kept ≡ [] }
@@ -217,7 +244,11 @@ impl Sending {
         self.send.set_priority(id, priority);
     }
 
-    /// A copy of bytes, to be a piece. An `Err` is want of memory.
+    /// A copy of bytes, to be a piece.
+    ///
+    /// # Errors
+    ///
+    /// - [`AllocError`]: an allocation fails. No piece is made.
     pub fn piece(&mut self, bytes: &[u8]) -> Result<Bytes, AllocError>
         ensures piece { IfOk result (λ piece. piece ≡ bytes.now) }
         ensures same { self.new ≡ self.old }
@@ -226,7 +257,11 @@ impl Sending {
     }
 
     /// The first `len` bytes of chunks go behind those that were written on a half that is in use,
-    /// and wait to go. An `Err` (want of memory) changes nothing.
+    /// and wait to go.
+    ///
+    /// # Errors
+    ///
+    /// - [`AllocError`]: an allocation fails. Nothing changes.
     pub fn write_all(
         &mut self,
         id: StreamId,
@@ -250,7 +285,16 @@ impl Sending {
     }
 
     /// Writes as many of the bytes to a half as fit, where the end is open: how many.
-    /// [`WriteError::ClosedStream`] where the half isn't in use. Any error changes nothing.
+    ///
+    /// # Errors
+    ///
+    /// - [`WriteError::ClosedStream`]: the half isn't in use. Nothing changes.
+    /// - [`WriteError::Blocked`]: the connection's limit or the send window leaves no room. Nothing
+    ///   changes.
+    /// - [`WriteError::ClosedStream`]: the half was finished or reset. Nothing changes.
+    /// - [`WriteError::Stopped`]: the peer sent STOP_SENDING for the stream. Nothing changes.
+    /// - [`WriteError::Blocked`]: the half's own limit leaves no room. Nothing changes.
+    /// - [`WriteError::Memory`]: an allocation fails, where some byte fits. Nothing changes.
     pub fn write(&mut self, id: StreamId, bytes: &[u8]) -> Result<usize, WriteError>
         ensures answer { result ≢ Err write_errors.Memory → result ≡ written_to (at self.old.halves.live id) (room self.old) (length bytes.now) }
         ensures ok { IfOk result (λ n. self.new ≡ accepted_in (at self.old.halves.live id) self.old id (take n bytes.now)) }
@@ -267,7 +311,11 @@ impl Sending {
     }
 
     /// The first `len` bytes of chunks go behind those on a half that isn't in use, and on which
-    /// nothing was written, and wait to go. An `Err` (want of memory) changes nothing.
+    /// nothing was written, and wait to go.
+    ///
+    /// # Errors
+    ///
+    /// - [`AllocError`]: an allocation fails. Nothing changes, and the half is dropped.
     pub fn write_fresh(
         &mut self,
         side: Side,
@@ -301,8 +349,11 @@ impl Sending {
         Ok(())
     }
 
-    /// A half that is in use is among those whose write the connection blocked. An `Err` (want of
-    /// memory) changes nothing.
+    /// A half that is in use is among those whose write the connection blocked.
+    ///
+    /// # Errors
+    ///
+    /// - [`AllocError`]: an allocation fails, where the half isn't among them yet. Nothing changes.
     pub fn block(&mut self, id: StreamId) -> Result<(), AllocError>
         ensures ok { OnOk result (self.new ≡ blocked_in (at self.old.halves.live id) self.old id) }
         ensures err { OnErr result (self.new ≡ self.old) }
@@ -320,7 +371,11 @@ impl Sending {
     }
 
     /// A half that isn't in use, and on which nothing was written, is among those whose write the
-    /// connection blocked. An `Err` (want of memory) changes nothing.
+    /// connection blocked.
+    ///
+    /// # Errors
+    ///
+    /// - [`AllocError`]: an allocation fails. Nothing changes, and the half is dropped.
     pub fn block_fresh(&mut self, side: Side, id: StreamId, half: Send) -> Result<(), AllocError>
         requires none { at self.old.halves.live id ≡ None }
         requires empty { half.buffer.kept ≡ [] }

@@ -230,8 +230,11 @@ impl StreamsState {
         }
     }
 
-    /// The priority of a stream. [`ClosedStream`] where there is no such stream, or its sending
-    /// half is done.
+    /// The priority of a stream.
+    ///
+    /// # Errors
+    ///
+    /// - [`ClosedStream`]: there is no such stream, or its sending half is done.
     pub fn priority(&self, id: StreamId) -> Result<i32, ClosedStream>
         ensures { result ≡ priority_answer self.now id }
     {
@@ -244,8 +247,11 @@ impl StreamsState {
         }
     }
 
-    /// The code with which the peer stopped a stream, if it did. [`ClosedStream`] where there is no
-    /// such stream, or its sending half is done.
+    /// The code with which the peer stopped a stream, if it did.
+    ///
+    /// # Errors
+    ///
+    /// - [`ClosedStream`]: there is no such stream, or its sending half is done.
     pub fn stopped(&self, id: StreamId) -> Result<Option<VarInt>, ClosedStream>
         ensures { result ≡ stopped_answer self.now id }
     {
@@ -261,9 +267,11 @@ impl StreamsState {
     /// Takes MAX_STREAMS (RFC 9000, section 19.11), which never lowers a count; the application is
     /// told of one that rose.
     ///
-    /// [`ReceivedError::Breach`] where the count is above 2^60: `FrameEncoding`.
-    /// [`ReceivedError::Memory`] where memory lacks to tell of a count that rose. Either changes
-    /// nothing.
+    /// # Errors
+    ///
+    /// - [`ReceivedError::Breach`] with `FrameEncoding`: the count is above 2^60. Nothing changes.
+    /// - [`ReceivedError::Memory`]: an allocation fails, of room for the event of a count that
+    ///   rose. Nothing changes.
     pub fn received_max_streams(&mut self, dir: Dir, count: u64) -> Result<(), ReceivedError>
         ensures answer { AnswersBreach result (max_streams_breach count) }
         ensures new { UnlessMemory result (self.new ≡ after_max_streams dir count self.old) }
@@ -285,10 +293,14 @@ impl StreamsState {
 
     /// Finishes a stream: its end has to go behind its bytes.
     ///
-    /// [`FinishError::ClosedStream`] where there is no such stream, or its sending half is done;
-    /// [`FinishError::Stopped`] where the peer stopped it; `ClosedStream` where it was finished or
-    /// reset; [`FinishError::Memory`] where memory lacks to queue it. They are tested in this
-    /// order, and change nothing.
+    /// # Errors
+    ///
+    /// - [`FinishError::ClosedStream`]: there is no such stream, or its sending half is done.
+    ///   Nothing changes.
+    /// - [`FinishError::Stopped`]: the peer sent STOP_SENDING for the stream. Nothing changes.
+    /// - [`FinishError::ClosedStream`]: the stream was finished or reset. Nothing changes.
+    /// - [`FinishError::Memory`]: an allocation fails, where the stream isn't queued yet. Nothing
+    ///   changes.
     pub fn finish(&mut self, id: StreamId) -> Result<(), FinishError>
         ensures answer { result ≢ Err finish_errors.Memory → result ≡ finish_answer self.old id }
         ensures new { result ≢ Err finish_errors.Memory → self.new ≡ after_finish self.old id }
@@ -315,11 +327,15 @@ impl StreamsState {
         }
     }
 
-    /// Sets the priority of a stream, which counts when it is queued next.
+    /// Sets the priority of a stream, which counts when it is queued next. A stream of a greater
+    /// priority goes first. The default is 0.
     ///
-    /// [`UpdateError::ClosedStream`] where there is no such stream, or its sending half is done;
-    /// [`UpdateError::Memory`] where memory lacks to bring its sending half into use. Either
-    /// changes nothing.
+    /// # Errors
+    ///
+    /// - [`UpdateError::ClosedStream`]: there is no such stream, or its sending half is done.
+    ///   Nothing changes.
+    /// - [`UpdateError::Memory`]: an allocation fails, of room to bring its sending half into use.
+    ///   Nothing changes.
     pub fn set_priority(&mut self, id: StreamId, priority: i32) -> Result<(), UpdateError>
         ensures answer { result ≢ Err update_errors.Memory → result ≡ set_priority_answer self.old id }
         ensures new { result ≢ Err update_errors.Memory → self.new ≡ after_set_priority self.old id priority }
@@ -513,12 +529,20 @@ impl StreamsState {
 
     /// Writes as many of the bytes as fit, and says how many (RFC 9000, sections 2.2 and 4.1).
     ///
-    /// [`WriteError::Blocked`] where the end isn't open; `ClosedStream` where there is no such
-    /// stream, or its sending half is done; `Blocked` where the connection's limit or the send
-    /// window leaves no room; `ClosedStream` where it was finished or reset; `Stopped` where the
-    /// peer stopped it; `Blocked` where its own limit leaves no room. They are tested in this
-    /// order, and none of the bytes is taken. `Memory` where memory lacks to take some, or to note
-    /// that the stream is blocked, and nothing changes.
+    /// # Errors
+    ///
+    /// - [`WriteError::Blocked`]: the endpoint isn't open. Nothing changes.
+    /// - [`WriteError::ClosedStream`]: there is no such stream, or its sending half is done.
+    ///   Nothing changes.
+    /// - [`WriteError::Blocked`]: the connection's limit or the send window leaves no room. The
+    ///   stream is noted as blocked, DATA_BLOCKED is pending where that limit is used up, and no
+    ///   byte is taken.
+    /// - [`WriteError::ClosedStream`]: the stream was finished or reset. Nothing changes.
+    /// - [`WriteError::Stopped`]: the peer sent STOP_SENDING for the stream. Nothing changes.
+    /// - [`WriteError::Blocked`]: the stream's own limit leaves no room. STREAM_DATA_BLOCKED is
+    ///   pending, and no byte is taken.
+    /// - [`WriteError::Memory`]: an allocation fails, of room to take some bytes, or to note that
+    ///   the stream is blocked. Nothing changes.
     pub fn write(
         &mut self,
         is_open: bool,
@@ -548,12 +572,20 @@ impl StreamsState {
     /// `SendStream::write_chunks`). Says how many bytes, and how many of the buffers they use up,
     /// those without a byte too: the caller goes on behind these.
     ///
-    /// [`WriteError::Blocked`] where the end isn't open; `ClosedStream` where there is no such
-    /// stream, or its sending half is done; `Blocked` where the connection's limit or the send
-    /// window leaves no room; `ClosedStream` where it was finished or reset; `Stopped` where the
-    /// peer stopped it; `Blocked` where its own limit leaves no room. They are tested in this
-    /// order, and none of the bytes is taken. `Memory` where memory lacks to take some, or to note
-    /// that the stream is blocked, and nothing changes.
+    /// # Errors
+    ///
+    /// - [`WriteError::Blocked`]: the endpoint isn't open. Nothing changes.
+    /// - [`WriteError::ClosedStream`]: there is no such stream, or its sending half is done.
+    ///   Nothing changes.
+    /// - [`WriteError::Blocked`]: the connection's limit or the send window leaves no room. The
+    ///   stream is noted as blocked, DATA_BLOCKED is pending where that limit is used up, and no
+    ///   byte is taken.
+    /// - [`WriteError::ClosedStream`]: the stream was finished or reset. Nothing changes.
+    /// - [`WriteError::Stopped`]: the peer sent STOP_SENDING for the stream. Nothing changes.
+    /// - [`WriteError::Blocked`]: the stream's own limit leaves no room. STREAM_DATA_BLOCKED is
+    ///   pending, and no byte is taken.
+    /// - [`WriteError::Memory`]: an allocation fails, of room to take some bytes, or to note that
+    ///   the stream is blocked. Nothing changes.
     pub fn write_chunks(
         &mut self,
         is_open: bool,
@@ -612,10 +644,14 @@ impl StreamsState {
     /// Takes STOP_SENDING (RFC 9000, section 19.5): the first for a sending half that isn't done
     /// counts, and the application is told.
     ///
-    /// [`ReceivedError::Breach`] where the id breaks a rule: `StreamState` on a stream on which
-    /// only the peer sends, or on one of this end that isn't opened; `StreamLimit` beyond the count
-    /// that the peer may open. It changes nothing. [`ReceivedError::Memory`] where memory lacks,
-    /// and the frame counts: the stream is open by then, and nothing else changed.
+    /// # Errors
+    ///
+    /// - [`ReceivedError::Breach`] with `StreamState`: only the peer sends on the stream, or it is
+    ///   one of this endpoint that isn't opened. Nothing changes.
+    /// - [`ReceivedError::Breach`] with `StreamLimit`: the stream lies beyond the count that the
+    ///   peer may open. Nothing changes.
+    /// - [`ReceivedError::Memory`]: an allocation fails, where the frame counts. The stream is open
+    ///   by then, and nothing else changed.
     pub fn received_stop_sending(&mut self, frame: StopSending) -> Result<(), ReceivedError>
         ensures answer { AnswersBreach result (sending_refusal self.old frame.id) }
         ensures new { UnlessMemory result (self.new ≡ after_stop_sending self.old (stop_sending_view frame)) }

@@ -102,10 +102,10 @@ impl StreamsState {
     ///
     /// # Errors
     ///
-    /// [`AllocError`] where memory lacks to queue a stream of which a frame went, or to note what
-    /// it carries. What stood in `out` stands there yet, behind which some of the frames may be;
-    /// the stream may stand nowhere in the queue, and nothing is promised of the rest, so that the
-    /// connection has to fail.
+    /// - [`AllocError`]: an allocation fails, of room to queue a stream of which a frame went, or
+    ///   to note what it carries. What stood in `out` stands there yet, behind which some of the
+    ///   frames may be; the stream may stand nowhere in the queue, and nothing is promised of the
+    ///   rest, so that the connection has to fail.
     pub fn write_stream_frames(
         &mut self,
         out: &mut Vec<u8>,

@@ -315,13 +315,22 @@ impl StreamsState {
     /// kept unless this end stopped the stream or the peer reset it, the application is told that
     /// it may read, and the limits that grew wait to be told.
     ///
-    /// [`ReceivedError::Breach`] where it breaks a rule. These change nothing, and are tested in
-    /// this order: `StreamState` on a stream on which only this end sends, or on one of this end
-    /// that isn't opened; `StreamLimit` beyond the count that the peer may open; and on a half that
-    /// isn't done `FlowControl` beyond 2^62 - 1, `FinalSize` against the final size, and
-    /// `FlowControl` beyond the limit of the stream or of all. `Pieces` where more pieces wait then
-    /// than may: the frame is kept. [`ReceivedError::Memory`] where memory lacks, on a half that
-    /// this end didn't stop, and nothing changes.
+    /// # Errors
+    ///
+    /// - [`ReceivedError::Breach`] with `StreamState`: only this endpoint sends on the stream, or
+    ///   it is one of this endpoint that isn't opened. Nothing changes.
+    /// - [`ReceivedError::Breach`] with `StreamLimit`: the stream lies beyond the count that the
+    ///   peer may open. Nothing changes.
+    /// - [`ReceivedError::Breach`] with `FlowControl`: the half isn't done, and the frame ends
+    ///   beyond 2^62 - 1. Nothing changes.
+    /// - [`ReceivedError::Breach`] with `FinalSize`: the half isn't done, and the frame breaks its
+    ///   final size. Nothing changes.
+    /// - [`ReceivedError::Breach`] with `FlowControl`: the half isn't done, and the frame ends
+    ///   beyond the limit of the stream or of all streams. Nothing changes.
+    /// - [`ReceivedError::Memory`]: an allocation fails, on a half that this endpoint didn't stop.
+    ///   Nothing changes.
+    /// - [`ReceivedError::Breach`] with `Pieces`: more ranges of the stream wait than may. The
+    ///   frame is kept.
     pub fn received(
         &mut self,
         frame: &Stream<'_>,
@@ -443,12 +452,18 @@ impl StreamsState {
     /// kept, what waits to be read goes unless this end stopped the stream, the application is told
     /// of the first that it may read, and the limits that grew wait to be told.
     ///
-    /// [`ReceivedError::Breach`] where it breaks a rule, and nothing changes, in this order:
-    /// `StreamState` on a stream on which only this end sends, or on one of this end that isn't
-    /// opened; `StreamLimit` beyond the count that the peer may open; and on a half that isn't done
-    /// `FinalSize` against another final size, or below what arrived, and `FlowControl` beyond the
-    /// limit of the stream or of all. [`ReceivedError::Memory`] where memory lacks, for the first
-    /// on a half that this end didn't stop, and nothing changes.
+    /// # Errors
+    ///
+    /// - [`ReceivedError::Breach`] with `StreamState`: only this endpoint sends on the stream, or
+    ///   it is one of this endpoint that isn't opened. Nothing changes.
+    /// - [`ReceivedError::Breach`] with `StreamLimit`: the stream lies beyond the count that the
+    ///   peer may open. Nothing changes.
+    /// - [`ReceivedError::Breach`] with `FinalSize`: the half isn't done, and the size is another
+    ///   than the final size before, or below what arrived. Nothing changes.
+    /// - [`ReceivedError::Breach`] with `FlowControl`: the half isn't done, and the size lies
+    ///   beyond the limit of the stream or of all streams. Nothing changes.
+    /// - [`ReceivedError::Memory`]: an allocation fails, at the first reset of a half that this
+    ///   endpoint didn't stop. Nothing changes.
     pub fn received_reset(
         &mut self,
         frame: ResetStream,

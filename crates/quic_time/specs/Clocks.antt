@@ -1,6 +1,5 @@
 -- Moments and lengths of time as numbers of nanoseconds, of which 64 bits hold the lowest.
 use Rattle.std.specs.Prelude.{ℕ, ◌-◌, ◌^◌, min, Option, Some, None, nat_le, if◌then◌else◌}
-use Rattle.quic_time.specs.declared.instant.TheConstants.{MILLISECOND}
 
 -- a number as 64 bits hold it: the greatest that fits stands for all above it
 abbrev pub saturated : ℕ → ℕ
@@ -16,4 +15,4 @@ moment_before moment length = if nat_le length moment then Some (moment - length
 
 -- a millisecond, below which timers don't tell moments apart (RFC 9002, section 6.1.2)
 abbrev pub granularity : ℕ
-granularity = MILLISECOND
+granularity = 1000000

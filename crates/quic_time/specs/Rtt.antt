@@ -3,7 +3,8 @@ use Rattle.std.specs.Prelude.{ℕ, ◌+◌, ◌-◌, ◌*◌, ◌/◌, max, min,
 use Rattle.std.specs.Int.{abs_diff}
 use Rattle.quic_time.specs.Clocks.{saturated, granularity}
 
--- the latest sample, the smoothed time, which there is from the first sample on, its mean variation, and the least sample
+-- the latest sample, the smoothed time, which there is from the first sample on, its mean
+-- variation, and the least sample
 pub record Rtt : Type 0 where
   pub latest : ℕ
   pub smoothed : Option ℕ
@@ -26,8 +27,8 @@ conservative_rtt r = max (best_rtt r) r.latest
 abbrev pub probe_timeout : Rtt → ℕ
 probe_timeout r = saturated (best_rtt r + max (4 * r.var) granularity)
 
--- a sample without the time for which the peer held its acknowledgement back, unless that goes below the least
--- sample (section 5.3)
+-- a sample without the time for which the peer held its acknowledgement back, unless that goes
+-- below the least sample (section 5.3)
 abbrev pub adjusted_rtt : ℕ → ℕ → ℕ → ℕ
 adjusted_rtt least delay rtt = if nat_le (least + delay) rtt then rtt - delay else rtt
 
@@ -35,7 +36,8 @@ adjusted_rtt least delay rtt = if nat_le (least + delay) rtt then rtt - delay el
 abbrev pub smoothed_with : ℕ → ℕ → ℕ
 smoothed_with smoothed sample = (7 * smoothed + sample) / 8
 
--- three quarters of what was, and a quarter of how far the sample is from the smoothed time before it
+-- three quarters of what was, and a quarter of how far the sample is from the smoothed time before
+-- it
 abbrev pub var_with : ℕ → ℕ → ℕ → ℕ
 var_with var smoothed sample = (3 * var + abs_diff smoothed sample) / 4
 
@@ -63,12 +65,14 @@ sampled_rtt (Some smoothed) least var delay rtt = later_sample least var smoothe
 abbrev pub with_sample : Rtt → ℕ → ℕ → Rtt
 with_sample r delay rtt = sampled_rtt r.smoothed r.least r.var delay rtt
 
--- a sample: how long the round trip took, and for how much of that the peer held its acknowledgement back
+-- a sample: how long the round trip took, and for how much of that the peer held its
+-- acknowledgement back
 pub record Sample : Type 0 where
   pub delay : ℕ
   pub rtt : ℕ
 
--- The estimate after a history of samples, the latest first: each part by a formula of its own over the history.
+-- The estimate after a history of samples, the latest first: each part by a formula of its own over
+-- the history.
 
 -- the least sample
 abbrev pub least_over : Sample → List Sample → ℕ

@@ -9,13 +9,13 @@ use std::marker::Model;
 use std::ops::Add;
 
 /// Nanoseconds of a microsecond.
-const MICROSECOND: u64 = 1_000;
+pub(crate) const MICROSECOND: u64 = 1_000;
 
 /// Nanoseconds of a millisecond.
-const MILLISECOND: u64 = 1_000_000;
+pub(crate) const MILLISECOND: u64 = 1_000_000;
 
 /// Nanoseconds of a second.
-const SECOND: u64 = 1_000_000_000;
+pub(crate) const SECOND: u64 = 1_000_000_000;
 
 /// The least length of time that timers tell apart: a millisecond (RFC 9002, section 6.1.2).
 pub const TIMER_GRANULARITY: Duration = Duration(MILLISECOND);
@@ -90,8 +90,9 @@ impl Add<Duration> for Instant {
     }
 }
 
-/// A length of time, in whole nanoseconds. Contracts see the number.
-#[derive(Clone, Copy, Debug, PartialEq, Eq, PartialOrd, Ord)]
+/// A length of time, in whole nanoseconds. Contracts see the number. `Display` and `Debug` print it
+/// with a unit, as `40ms`.
+#[derive(Clone, Copy, PartialEq, Eq, PartialOrd, Ord)]
 pub struct Duration(u64);
 
 impl Model for Duration {

@@ -3,6 +3,7 @@
 
 mod instant;
 pub mod laws;
+mod printing;
 mod rtt;
 mod timer;
 

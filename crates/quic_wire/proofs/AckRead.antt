@@ -1,4 +1,5 @@
--- What is known of the ranges of an ACK frame that was read: they go down, are as many as were counted, and are written in no more bytes.
+-- What is known of the ranges of an ACK frame that was read: they go down, are as many as were
+-- counted, and are written in no more bytes.
 use Rattle.std.proofs.Common.{◌≡◌, ℕ, zero, suc, ◌+◌, ◌-◌, ◌≤◌, ◌<◌, Bool, true, false, cond, ltb, eqb, List, ◌∷◌, length, drop, Option, Some, None, Result, Ok, Err, refl, ap, arith, inl, inr}
 use Rattle.std.specs.Int.{Width, w8, w16, w32, w64, byte_len, from_be_bytes}
 use Rattle.std.specs.Prelude.{slice_index, ◌/◌, ◌%◌, ◌^◌, take, IsOk}

@@ -18,7 +18,8 @@ and_second : (a b : Bool) → (a && b) ≡ true → b ≡ true
 and_second true b e = e
 and_second false b e = absurd cc
 
--- what a test says of each entry of a list of types, and of an unknown number, it says of the kind that is found
+-- what a test says of each entry of a list of types, and of an unknown number, it says of the kind
+-- that is found
 all_named_if : (test : ℕ → Kind → Bool) (type : ℕ) (x : ℕ × Kind) (xs : List (ℕ × Kind)) (b : Bool) → (type == x.0) ≡ b → (test x.0 x.1 && list_all (λ y. test y.0 y.1) xs) ≡ true
     → (list_all (λ y. test y.0 y.1) xs ≡ true → test type (named type xs) ≡ true) → test type (if b then x.1 else named type xs) ≡ true
 all_named_if test type x xs true e all rest = rw (eqb-true type x.0 e) (and_first (test x.0 x.1) _ all)

@@ -3,7 +3,8 @@ use Rattle.std.specs.Prelude.{◌≡◌, ℕ, ◌+◌, ◌-◌, ◌≤◌, ◌<�
 use Rattle.quic_wire.specs.Value.{AckValue}
 use Rattle.quic_wire.specs.FrameTypes.{is_ack, type_of}
 
--- Each range lies below the number, and below the one before it, with a number between that isn't acknowledged.
+-- Each range lies below the number, and below the one before it, with a number between that isn't
+-- acknowledged.
 abbrev pub Below : ℕ → List (ℕ × ℕ) → Type 0
 Below low [] = Unit {0}
 Below low (r ∷ rs) = (r.0 ≤ r.1) × (r.1 + 2 ≤ low) × Below r.0 rs
@@ -18,7 +19,8 @@ abbrev pub EcnFits : Option (ℕ × ℕ × ℕ) → Type 0
 EcnFits None = Unit {0}
 EcnFits (Some e) = (e.0 < 2 ^ 62) × (e.1 < 2 ^ 62) × (e.2 < 2 ^ 62)
 
--- The ACK frame has a form: its ranges go down from its greatest number, and its numbers are below 2^62.
+-- The ACK frame has a form: its ranges go down from its greatest number, and its numbers are below
+-- 2^62.
 abbrev pub AckFits : AckValue → Type 0
 AckFits a = (a.largest < 2 ^ 62) × (a.delay < 2 ^ 62) × EcnFits a.ecn × GoDown a.largest a.ranges
 
@@ -37,7 +39,8 @@ abbrev pub ecn_numbers : Option (ℕ × ℕ × ℕ) → List ℕ
 ecn_numbers None = []
 ecn_numbers (Some e) = e.0 ∷ e.1 ∷ e.2 ∷ []
 
--- The numbers of an ACK frame with these ranges, behind its type: greatest number, delay, count of further ranges, length of the first range, further ranges, counts.
+-- The numbers of an ACK frame with these ranges, behind its type: greatest number, delay, count of
+-- further ranges, length of the first range, further ranges, counts.
 abbrev pub ack_fields : AckValue → List (ℕ × ℕ) → List ℕ
 ack_fields a [] = []
 ack_fields a (r ∷ rs) = a.largest ∷ a.delay ∷ length rs ∷ (r.1 - r.0) ∷ (range_numbers r.0 rs ++ ecn_numbers a.ecn)

@@ -1,4 +1,5 @@
--- Reading ACK frames from left to right (RFC 9000, section 19.3): the first field that can't be read, or that isn't allowed, names the refusal.
+-- Reading ACK frames from left to right (RFC 9000, section 19.3): the first field that can't be
+-- read, or that isn't allowed, names the refusal.
 use Rattle.std.specs.Prelude.{ℕ, zero, suc, ◌+◌, ◌-◌, Bool, true, false, List, [], ◌∷◌, Option, Some, None, Result, Ok, Err, nat_lt, if◌then◌else◌}
 use Rattle.quic_wire.specs.declared.frame.FrameError.{FrameError}
 use Rattle.quic_wire.specs.declared.frame.FrameError.TheVariants.{Malformed}
@@ -6,7 +7,8 @@ use Rattle.quic_wire_core.specs.Taking.{◌>>=◌}
 use Rattle.quic_wire.specs.Fields.{var_at}
 use Rattle.quic_wire.specs.Value.{AckValue}
 
--- One more range below the least number so far: a gap, and the length behind it. The greatest number of the range is `low - gap - 2`, its least is the length below that (section 19.3.1).
+-- One more range below the least number so far: a gap, and the length behind it. The greatest
+-- number of the range is `low - gap - 2`, its least is the length below that (section 19.3.1).
 unfoldable pub range_at : ℕ → List ℕ → Result ((ℕ × ℕ) × List ℕ) FrameError
 range_at low bytes = do
   gap ← var_at bytes
@@ -41,7 +43,8 @@ some_ecn_at true bytes = do
   ecn ← ecn_at bytes
   Ok (Some ecn.0, ecn.1)
 
--- An ACK frame behind its type: greatest number, delay, count of further ranges, length of the first range, further ranges, counts.
+-- An ACK frame behind its type: greatest number, delay, count of further ranges, length of the
+-- first range, further ranges, counts.
 unfoldable pub ack_at : Bool → List ℕ → Result (AckValue × List ℕ) FrameError
 ack_at ecn bytes = do
   largest ← var_at bytes

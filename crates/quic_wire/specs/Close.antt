@@ -10,7 +10,8 @@ use Rattle.quic_wire.specs.declared.frame.close.Close.TheVariants as closes
 use Rattle.quic_wire.specs.declared.frame.close.ConnectionClose.{ConnectionClose}
 use Rattle.quic_wire.specs.declared.frame.close.ApplicationClose.{ApplicationClose}
 
--- A close by an error of QUIC: the type is that of the frame that was at fault, none where it is unknown.
+-- A close by an error of QUIC: the type is that of the frame that was at fault, none where it is
+-- unknown.
 pub record TransportCloseValue : Type 0 where
   pub code : ℕ
   pub frame_type : Option ℕ
@@ -42,7 +43,8 @@ abbrev pub close_view : Close → CloseValue
 close_view (closes.Connection c) = by_transport (transport_close_view c)
 close_view (closes.Application c) = by_application (owned_application_close_view c)
 
--- The close that tells the peer of an error with this reason: by an error of QUIC, with the error's code and frame, and the reason's text.
+-- The close that tells the peer of an error with this reason: by an error of QUIC, with the error's
+-- code and frame, and the reason's text.
 abbrev pub close_of : ErrorValue → Reason → CloseValue
 close_of error reason = by_transport (transport_close error.code error.frame (reason_text reason))
 
@@ -50,15 +52,18 @@ close_of error reason = by_transport (transport_close error.code error.frame (re
 abbrev pub ClosesFor : {E : Type 0} → ErrorValue → Result Close E → Reason → Type 0
 ClosesFor error result reason = MatchResult result (λ c. close_view c ≡ close_of error reason) (λ _. 0 < length (reason_text reason))
 
--- What is printed of a text and of the bytes behind it that are none: the text, and U+FFFD for these bytes, where there are any.
+-- What is printed of a text and of the bytes behind it that are none: the text, and U+FFFD for
+-- these bytes, where there are any.
 abbrev pub piece_text : List ℕ → List ℕ → List ℕ
 piece_text valid invalid = valid ++ (if length invalid == 0 then [] else replacement_bytes)
 
--- What is printed of a close by an error of QUIC: the code, and then the reason as text, where there is one.
+-- What is printed of a close by an error of QUIC: the code, and then the reason as text, where
+-- there is one.
 abbrev pub transport_close_text : TransportCloseValue → List ℕ
 transport_close_text c = code_text c.code ++ (if length c.reason == 0 then [] else codes ": " ++ utf8_lossy c.reason)
 
--- What is printed of an application's close: the reason as text and then the code, or the code alone where there is no reason.
+-- What is printed of an application's close: the reason as text and then the code, or the code
+-- alone where there is no reason.
 abbrev pub application_close_text : ApplicationCloseValue → List ℕ
 application_close_text c = if length c.reason == 0 then decimal c.code else utf8_lossy c.reason ++ (codes " (code " ++ (decimal c.code ++ codes ")"))
 

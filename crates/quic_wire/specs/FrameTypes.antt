@@ -17,7 +17,8 @@ pub data Kind : Type 0 where
   is_crypto : Kind
   -- section 19.7
   is_new_token : Kind
-  -- section 19.8: whether an offset is written, whether a length is written, whether the stream ends
+  -- section 19.8: whether an offset is written, whether a length is written, whether the stream
+  -- ends
   is_stream : Bool → Bool → Bool → Kind
   -- section 19.9
   is_max_data : Kind

@@ -1,4 +1,5 @@
--- The bytes of frames: a frame is a list of numbers, the first of them its type, and behind them bytes (RFC 9000, section 19).
+-- The bytes of frames: a frame is a list of numbers, the first of them its type, and behind them
+-- bytes (RFC 9000, section 19).
 use Rattle.std.specs.Prelude.{◌≡◌, ◌≤◌, ℕ, Bool, true, false, List, [], ◌∷◌, ◌++◌, length}
 use Rattle.quic_wire_core.specs.Varint.{Spells}
 use Rattle.quic_wire.specs.Value.{StreamValue, NewConnectionIdValue, FrameValue, padding, ping, ack, reset_stream, stop_sending, crypto, new_token, stream, max_data, max_stream_data, max_streams, data_blocked, stream_data_blocked, streams_blocked, new_connection_id, retire_connection_id, path_challenge, path_response, connection_close, application_close, handshake_done, immediate_ack, datagram, ack_frequency}
@@ -51,18 +52,21 @@ pub record IsStreamForm (s : StreamValue) (bytes rest : List ℕ) : Type 0 where
   pub ends : Ends sized rest
   pub text : Then (stream_numbers written sized s) s.bytes bytes
 
--- The bytes of an id and of its token: the length of the id in one byte, the id and the token (section 19.15).
+-- The bytes of an id and of its token: the length of the id in one byte, the id and the token
+-- (section 19.15).
 abbrev pub id_and_token : NewConnectionIdValue → List ℕ
 id_and_token n = length n.id ∷ (n.id ++ n.token)
 
--- What a NEW_CONNECTION_ID frame may say: an id of 1 to 20 bytes, a token of 16, and no id to be retired above its own (section 19.15).
+-- What a NEW_CONNECTION_ID frame may say: an id of 1 to 20 bytes, a token of 16, and no id to be
+-- retired above its own (section 19.15).
 pub record IsIssued (n : NewConnectionIdValue) : Type 0 where
   pub retires : n.retire_prior_to ≤ n.sequence
   pub some : 1 ≤ length n.id
   pub short : length n.id ≤ 20
   pub token : length n.token ≡ 16
 
--- The bytes are a form of the DATAGRAM frame, before this rest of the payload (RFC 9221, section 4).
+-- The bytes are a form of the DATAGRAM frame, before this rest of the payload (RFC 9221, section
+-- 4).
 pub record IsDatagramForm (d bytes rest : List ℕ) : Type 0 where
   -- whether the length is written
   pub sized : Bool

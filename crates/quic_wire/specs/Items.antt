@@ -30,7 +30,8 @@ items_within zero bytes = []
 items_within (suc n) [] = []
 items_within (suc n) (b ∷ bytes) = first_and (items_within n) (frame_at (b ∷ bytes))
 
--- The frames of a payload, and behind them the refusal, if there is one. (Each frame takes a byte or more.)
+-- The frames of a payload, and behind them the refusal, if there is one. (Each frame takes a byte
+-- or more.)
 unfoldable pub items : List ℕ → List (Result FrameValue InvalidFrame)
 items bytes = items_within (length bytes) bytes
 

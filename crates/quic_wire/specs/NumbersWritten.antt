@@ -1,4 +1,5 @@
--- Lists of numbers that are written one after another, each in its shortest form (RFC 9000, section 16).
+-- Lists of numbers that are written one after another, each in its shortest form (RFC 9000, section
+-- 16).
 use Rattle.std.specs.Prelude.{ℕ, ◌+◌, ◌<◌, ◌^◌, List, [], ◌∷◌, ◌++◌, length}
 use Rattle.quic_wire_core.specs.Varint.{shortest}
 

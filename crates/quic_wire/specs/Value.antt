@@ -1,7 +1,9 @@
--- What frames say, without where their bytes lie in memory (RFC 9000, section 19; RFC 9221; QUIC Acknowledgement Frequency).
+-- What frames say, without where their bytes lie in memory (RFC 9000, section 19; RFC 9221; QUIC
+-- Acknowledgement Frequency).
 use Rattle.std.specs.Prelude.{ℕ, Bool, true, false, List, Option}
 
--- ACK: the ranges are pairs of least and greatest number, the highest range first; the counts are ECT(0), ECT(1), ECN-CE (section 19.3).
+-- ACK: the ranges are pairs of least and greatest number, the highest range first; the counts are
+-- ECT(0), ECT(1), ECN-CE (section 19.3).
 pub record AckValue : Type 0 where
   pub largest : ℕ
   pub delay : ℕ
@@ -48,7 +50,8 @@ pub record NewConnectionIdValue : Type 0 where
   pub id : List ℕ
   pub token : List ℕ
 
--- CONNECTION_CLOSE of type 1c: the type is that of the frame that was at fault, 0 where it is unknown (section 19.19).
+-- CONNECTION_CLOSE of type 1c: the type is that of the frame that was at fault, 0 where it is
+-- unknown (section 19.19).
 pub record ConnectionCloseValue : Type 0 where
   pub code : ℕ
   pub frame_type : ℕ
@@ -93,7 +96,8 @@ pub data FrameValue : Type 0 where
   datagram : List ℕ → FrameValue
   ack_frequency : AckFrequencyValue → FrameValue
 
--- Whether a packet with this frame asks for an acknowledgement: all frames but PADDING, ACK and the closes do (section 13.2).
+-- Whether a packet with this frame asks for an acknowledgement: all frames but PADDING, ACK and the
+-- closes do (section 13.2).
 abbrev pub asks : FrameValue → Bool
 asks padding = false
 asks (ack a) = false

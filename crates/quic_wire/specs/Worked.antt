@@ -1,4 +1,5 @@
--- Values whose bytes are worked out by hand: a STREAM frame, a short header, and the limits that an end tells (RFC 9000, sections 17.3.1, 18.2 and 19.8).
+-- Values whose bytes are worked out by hand: a STREAM frame, a short header, and the limits that an
+-- end tells (RFC 9000, sections 17.3.1, 18.2 and 19.8).
 use Rattle.std.specs.Prelude.{ℕ, true, List, [], ◌∷◌, ◌++◌, Some, None}
 use Rattle.quic_sets.specs.Runs.{Run}
 use Rattle.quic_wire.specs.Value.{AckValue, StreamValue}

@@ -1,4 +1,5 @@
--- The form in which each frame is written: each number in its shortest width (RFC 9000, sections 16 and 19).
+-- The form in which each frame is written: each number in its shortest width (RFC 9000, sections 16
+-- and 19).
 use Rattle.std.specs.Prelude.{◌≡◌, ℕ, ◌+◌, ◌<◌, ◌≤◌, ◌^◌, Bool, true, false, not, List, [], ◌∷◌, ◌++◌, length, take, Option, Some, None, Result, MatchResult, ◌==◌, if◌then◌else◌}
 pub use Rattle.quic_wire.specs.NumbersWritten.{written, AreNumbers, width_of, widths}
 use Rattle.quic_wire.specs.AckGrammar.{has_ecn, ack_fields, AckFits}
@@ -160,7 +161,8 @@ frame_size (ack a) = ack_size a
 frame_size (stream s) = stream_size true s
 frame_size f = widths (numbers_of f) + length (text_of f)
 
--- The most bytes that a frame takes: 2 for the type of ACK_FREQUENCY, 1 for each other, 8 for each number, and its text.
+-- The most bytes that a frame takes: 2 for the type of ACK_FREQUENCY, 1 for each other, 8 for each
+-- number, and its text.
 abbrev pub most_of : FrameValue → ℕ
 most_of (ack a) = ack_most a
 most_of (reset_stream r) = 1 + 8 + 8 + 8
@@ -196,6 +198,7 @@ type_number f = type_of (kind_as f)
 abbrev pub BeginWith : List ℕ → List ℕ → Type 0
 BeginWith front bytes = take (length front) bytes ≡ front
 
--- A write of n bytes, one part behind another, takes at most n of the room that is spare, and fails only where that room was missing.
+-- A write of n bytes, one part behind another, takes at most n of the room that is spare, and fails
+-- only where that room was missing.
 abbrev pub SpendsSpare : {T E : Type 0} → Result T E → ℕ → ℕ → ℕ → Type 0
 SpendsSpare r old new n = MatchResult r (λ _. old ≤ new + n) (λ _. old < n)

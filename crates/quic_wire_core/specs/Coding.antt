@@ -2,7 +2,8 @@
 use Rattle.std.specs.Prelude.{◌≡◌, ◌<◌, ◌≤◌, ◌*◌, ◌^◌, ◌++◌, ℕ, List, Option, Some, None, Result, Ok, Err, length, take, drop, get_or, nat_lt, if◌then◌else◌}
 use Rattle.std.specs.Int.{Width, byte_len, from_be_bytes, to_be_bytes}
 
--- What a decoder answers, and what it leaves unread: the value and what follows it, or a refusal that takes nothing.
+-- What a decoder answers, and what it leaves unread: the value and what follows it, or a refusal
+-- that takes nothing.
 abbrev pub Decodes : {T E : Type 0} → (List ℕ → Option (T × List ℕ)) → Result T E → List ℕ → List ℕ → Type 0
 Decodes reads (Ok v) old new = reads old ≡ Some (v, new)
 Decodes reads (Err e) old new = (reads old ≡ None) × (new ≡ old)

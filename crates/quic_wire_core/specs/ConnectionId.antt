@@ -1,4 +1,5 @@
--- Ids of connections: at most 20 bytes, kept in twenty with zeros behind them (RFC 9000, section 17.2).
+-- Ids of connections: at most 20 bytes, kept in twenty with zeros behind them (RFC 9000, section
+-- 17.2).
 use Rattle.std.specs.Prelude.{◌≡◌, ◌↔◌, ℕ, ◌-◌, ◌≤◌, ◌/◌, ◌%◌, List, [], ◌∷◌, ◌++◌, length, take, Bool, true, false, nat_eq}
 use Rattle.std.specs.declared.cmp.Ordering.{Ordering}
 use Rattle.std.specs.declared.cmp.Ordering.TheVariants.{Less, Equal, Greater}

@@ -1,11 +1,13 @@
--- Stream ids: who opened the stream, whether it runs one way or both, and its place among those (RFC 9000, section 2.1).
+-- Stream ids: who opened the stream, whether it runs one way or both, and its place among those
+-- (RFC 9000, section 2.1).
 use Rattle.std.specs.Prelude.{ℕ, ◌+◌, ◌*◌, ◌/◌, ◌%◌, ◌==◌, List, [], ◌∷◌, ◌++◌, if◌then◌else◌, codes, decimal}
 use Rattle.quic_wire_core.specs.declared.stream_id.Side.{Side}
 use Rattle.quic_wire_core.specs.declared.stream_id.Side.TheVariants.{Client, Server}
 use Rattle.quic_wire_core.specs.declared.stream_id.Dir.{Dir}
 use Rattle.quic_wire_core.specs.declared.stream_id.Dir.TheVariants.{Bi, Uni}
 
--- The lowest bit of an id: 0 for streams that the client opens, 1 for those of the server (RFC 9000, section 2.1).
+-- The lowest bit of an id: 0 for streams that the client opens, 1 for those of the server (RFC
+-- 9000, section 2.1).
 abbrev pub side_bit : Side → ℕ
 side_bit Client = 0
 side_bit Server = 1
@@ -15,7 +17,8 @@ abbrev pub dir_bit : Dir → ℕ
 dir_bit Bi = 0
 dir_bit Uni = 1
 
--- The id of the stream that this side opens in these directions, at this place among those (RFC 9000, section 2.1).
+-- The id of the stream that this side opens in these directions, at this place among those (RFC
+-- 9000, section 2.1).
 abbrev pub stream_id : Side → Dir → ℕ → ℕ
 stream_id side dir index = 4 * index + 2 * dir_bit dir + side_bit side
 

@@ -155,6 +155,7 @@ abbrev pub reason_part : Reason → List ℕ
 reason_part Unsaid = []
 reason_part reason = codes ": " ++ reason_text reason
 
--- What is printed of an error with this reason: the code, then the type of the frame, and then the reason, where there are.
+-- What is printed of an error with this reason: the code, then the type of the frame, and then the
+-- reason, where there are.
 abbrev pub error_text : ErrorValue → Reason → List ℕ
 error_text e reason = code_text e.code ++ frame_part e.frame ++ reason_part reason

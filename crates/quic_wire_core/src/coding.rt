@@ -28,13 +28,20 @@ pub trait Codec: Sized {
     // What has a spelling: every value of the type.
     ghost fits: { Self → Type 0 };
 
-    /// Reads the value at the front, and leaves what follows it. [`UnexpectedEnd`] comes where the
-    /// bytes end within the value, and then takes nothing.
+    /// Reads the value at the front, and leaves what follows it.
+    ///
+    /// # Errors
+    ///
+    /// - [`UnexpectedEnd`]: the bytes end within the value. None is taken.
     fn decode<B: Buf>(buf: &mut B) -> Result<Self, UnexpectedEnd>
         ensures { Decodes reads result (B.unread buf.old) (B.unread buf.new) };
 
-    /// Writes the value behind what is written. An error comes for want of memory or of room, never
-    /// where the room is spare, and then nothing is written.
+    /// Writes the value behind what is written.
+    ///
+    /// # Errors
+    ///
+    /// - [`AllocError`]: an allocation fails, or the buffer can't grow, where it has no spare room
+    ///   for the value. Nothing is written.
     fn encode<B: BufMut>(&self, buf: &mut B) -> Result<(), AllocError>
         ensures ok { OnOk result (B.written buf.new ≡ B.written buf.old ++ spelling self.now) }
         ensures err { OnErr result (B.written buf.new ≡ B.written buf.old) }

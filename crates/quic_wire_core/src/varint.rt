@@ -54,7 +54,11 @@ impl VarInt {
         VarInt(u64::from(x))
     }
 
-    /// The number, or [`VarIntBoundsExceeded`] from 2^62 on.
+    /// The number, which is below 2^62.
+    ///
+    /// # Errors
+    ///
+    /// - [`VarIntBoundsExceeded`]: the number is 2^62 or greater.
     pub fn from_u64(x: u64) -> Result<Self, VarIntBoundsExceeded>
         ensures { MatchResult result (λ v. v ≡ x) (λ _. 2 ^ 62 ≤ x) }
     {
@@ -198,6 +202,11 @@ impl TryFrom<u64> for VarInt {
 
     ghost try_from_gives = { BoundedBy };
 
+    /// The number, which is below 2^62.
+    ///
+    /// # Errors
+    ///
+    /// - [`VarIntBoundsExceeded`]: the number is 2^62 or greater.
     fn try_from(x: u64) -> Result<VarInt, VarIntBoundsExceeded> {
         VarInt::from_u64(x)
     }
@@ -210,6 +219,11 @@ impl TryFrom<usize> for VarInt {
 
     ghost try_from_gives = { BoundedBy };
 
+    /// The number, which is below 2^62.
+    ///
+    /// # Errors
+    ///
+    /// - [`VarIntBoundsExceeded`]: the number is 2^62 or greater.
     fn try_from(x: usize) -> Result<VarInt, VarIntBoundsExceeded> {
         VarInt::from_u64(x as u64)
     }
@@ -222,6 +236,11 @@ impl TryFrom<u128> for VarInt {
 
     ghost try_from_gives = { BoundedBy };
 
+    /// The number, which is below 2^62.
+    ///
+    /// # Errors
+    ///
+    /// - [`VarIntBoundsExceeded`]: the number is 2^62 or greater.
     fn try_from(x: u128) -> Result<VarInt, VarIntBoundsExceeded> {
         match u64::try_from(x) {
             Ok(x) => VarInt::from_u64(x),

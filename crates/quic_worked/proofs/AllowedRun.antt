@@ -33,8 +33,10 @@ use Rattle.quic_worked.proofs.BrokenRuns.{IsRefused, stops, behind, read_of}
 use Rattle.quic_worked.proofs.WorkedKeys.{are_keys}
 use Rattle.quic_worked.proofs.WorkedRun.{opens}
 use Rattle.quic_worked.proofs.FaultTimes.{kept_gave, kept_held}
-use Rattle.quic_worked.proofs.RestedRun.{rested_started, until_rested, end_in_hello, word_arrived}
-use Rattle.quic_worked.proofs.Steps.{counts_so}
+use Rattle.quic_worked.proofs.RestedRun.{rested_started, until_rested, both_packets, end_in_hello, word_arrived}
+use Rattle.quic_worked.proofs.Steps.{counts_so, others_so}
+use Rattle.quic_worked.proofs.Validated.{unless_limited}
+use Rattle.quic_headline.specs.Polls.{IsHeldBack}
 
 -- ---- where it is so
 
@@ -49,9 +51,9 @@ twice_reset = refl
 
 -- ---- a reset of a stream of which all was acknowledged
 
-late_resets : IsStep worked_policies (once_rested 10) (resets_with 7) reset_closed late_end
+late_resets : IsStep worked_policies (once_rested 13) (resets_with 7) reset_closed late_end
 unfolding once_rested
-late_resets = record { answer = inl refl; end = refl; control = refl; heard = counts_so worked_policies (once_rested 10) (resets_with 7) reset_closed; others = refl; lacking = λ lacks. cc }
+late_resets = record { answer = inl refl; end = refl; control = refl; heard = counts_so worked_policies (once_rested 13) (resets_with 7) reset_closed; openings = tt; others = others_so worked_policies (once_rested 13) (resets_with 7) reset_closed; lacking = λ lacks. cc }
 
 late_seen : still_view ≡ view_of late_end
 unfolding once_rested
@@ -67,7 +69,7 @@ late_answered = refl
 
 -- the code of the reset is the only one
 late_codes : AllSmall reset_late.events
-late_codes = (tt, (tt, (tt, (tt, (tt, (tt, (tt, (tt, (tt, (tt, (lit< tt, tt)))))))))))
+late_codes = (tt, (tt, (tt, (tt, (tt, (tt, (tt, (tt, (tt, (tt, (tt, (tt, (tt, (lit< tt, tt))))))))))))))
 
 pub late_is_run : IsRun reset_late late_end
 late_is_run = record {
@@ -78,23 +80,23 @@ late_is_run = record {
 }
 
 late_own : (side : Side) → AreOwn side [] reset_late.events reset_late.answers reset_late.views
-late_own Client = (tt, (inl refl, (inl refl, (tt, (tt, (tt, (tt, (tt, (tt, (tt, (inl refl, tt)))))))))))
-late_own Server = (tt, (tt, (tt, (tt, (tt, (tt, (tt, (tt, (tt, (tt, (tt, tt)))))))))))
+late_own Client = (tt, (inl refl, (inl refl, (tt, (tt, (tt, (tt, (tt, (tt, (tt, (tt, (tt, (tt, (inl refl, tt))))))))))))))
+late_own Server = (tt, (tt, (tt, (tt, (tt, (tt, (tt, (tt, (tt, (tt, (tt, (tt, (tt, (tt, tt))))))))))))))
 
 pub late_is_honest : IsHonest reset_late
 late_is_honest = record { start = rested_started; keys = are_keys; ids = own_ids reset_late late_own }
 
-late_took : took reset_late Server 10 ≡ hello_packet ∷ []
+late_took : took reset_late Server 13 ≡ both_packets
 unfolding client_acked
 late_took = refl
 
-all_in_hello : AllArrived (hello_packet ∷ []) 0 (until reset_late Client 10)
+all_in_hello : AllArrived both_packets 0 (until reset_late Client 13)
 all_in_hello = record { ended = refl; bytes = word_arrived; end = end_in_hello }
 
-pub late_arrived : AllArrived (took reset_late Server 10) 0 (until reset_late Client 10)
-late_arrived = subst (λ (ps : List Packet). AllArrived ps 0 (until reset_late Client 10)) (sym late_took) all_in_hello
+pub late_arrived : AllArrived (took reset_late Server 13) 0 (until reset_late Client 13)
+late_arrived = subst (λ (ps : List Packet). AllArrived ps 0 (until reset_late Client 13)) (sym late_took) all_in_hello
 
-pub late_kept : reset 0 (until reset_late Client 10) ≡ None
+pub late_kept : reset 0 (until reset_late Client 13) ≡ None
 late_kept = refl
 
 -- ---- a read
@@ -163,7 +165,7 @@ once_halted = ran worked_policies started (take 2 stopped_again.events) (take 2 
 
 halts : IsStep worked_policies once_opened stops_stream (answers.Stop (Ok tt)) once_halted
 unfolding once_halted
-halts = record { answer = inl refl; end = refl; control = refl; heard = counts_so worked_policies once_opened stops_stream (answers.Stop (Ok tt)); others = refl; lacking = λ lacks. cc }
+halts = record { answer = inl refl; end = refl; control = refl; heard = counts_so worked_policies once_opened stops_stream (answers.Stop (Ok tt)); openings = tt; others = refl; lacking = λ lacks. cc }
 
 again_no : IsRefused once_halted stops_stream (answers.Stop (Ok tt))
 unfolding once_halted
@@ -225,4 +227,5 @@ pub one_kept : waiting_messages silent_message Client 2 ≡ ping_message ∷ []
 one_kept = refl
 
 pub kept_shows : MessagesGo silent_message → ⊥
-kept_shows h = kept_held (h Client 1 0 ping_message both_open refl kept_gave (subst (In ping_message) (sym one_kept) (inl refl)))
+kept_shows h =
+    kept_held (unless_limited silent_message Client 2 both_open (IsHeldBack silent_message Client 2 both_open) refl (h Client 1 0 ping_message both_open refl kept_gave (subst (In ping_message) (sym one_kept) (inl refl))))

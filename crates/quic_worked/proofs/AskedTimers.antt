@@ -10,7 +10,7 @@ use Rattle.quic_headline.specs.Runs.{Run}
 use Rattle.quic_headline.specs.Headline.{IsRun}
 use Rattle.quic_headline.specs.Views.{ViewsTell}
 use Rattle.quic_headline.proofs.Timers.Shown.{run_tells}
-use Rattle.quic_worked.specs.Worked.{worked_policies, started, once_opened, once_written, once_ended, once_sent, hello_datagram, open_view, sent_view}
+use Rattle.quic_worked.specs.Worked.{worked_policies, started, once_opened, once_written, once_ended, once_sent, hello_datagram, sent_view, server_open}
 use Rattle.quic_worked.specs.Broken.{IsNoRun}
 use Rattle.quic_worked.specs.Timed.{asks_loss, asks_next, asking_run}
 use Rattle.quic_worked.proofs.WorkedRun.{opens, writes, finishes, gives, sent_seen}
@@ -25,11 +25,11 @@ right = asking_run (Some 1024000000) (Some 1024000000)
 
 tells_loss : IsStep worked_policies once_sent asks_loss (answers.Timer (Some 1024000000)) once_sent
 unfolding once_sent
-tells_loss = record { answer = refl; end = refl; control = refl; heard = counts_so worked_policies once_sent asks_loss (answers.Timer (Some 1024000000)); others = refl; lacking = tt }
+tells_loss = record { answer = refl; end = refl; control = refl; heard = counts_so worked_policies once_sent asks_loss (answers.Timer (Some 1024000000)); openings = tt; others = refl; lacking = tt }
 
 tells_next : IsStep worked_policies once_sent asks_next (answers.NextTimeout (Some 1024000000)) once_sent
 unfolding once_sent
-tells_next = record { answer = refl; end = refl; control = refl; heard = counts_so worked_policies once_sent asks_next (answers.NextTimeout (Some 1024000000)); others = refl; lacking = tt }
+tells_next = record { answer = refl; end = refl; control = refl; heard = counts_so worked_policies once_sent asks_next (answers.NextTimeout (Some 1024000000)); openings = tt; others = refl; lacking = tt }
 
 follows : Follows worked_policies started right.events right.answers right.views once_sent
 follows = (once_opened, opens, refl, (once_written, writes, refl, (once_ended, finishes, refl, (once_sent, gives, sent_seen, (once_sent, tells_loss, sent_seen, (once_sent, tells_next, sent_seen, refl))))))
@@ -52,7 +52,7 @@ tells_timers side i call a view at shown = run_tells worked_policies started onc
 
 -- what is seen once the datagram is given
 abbrev given_view : View
-given_view = record { client = sent_view; server = open_view }
+given_view = record { client = sent_view; server = server_open }
 
 pub hides_timer : ViewsTell (asking_run None (Some 1024000000)) → ⊥
 hides_timer h =

@@ -1,22 +1,28 @@
--- What begins to wait in the run in which a limit is lost and goes again, and ends at which something waits without a cause.
+-- What begins to wait in the run in which a limit is lost and goes again, and ends at which
+-- something waits without a cause.
 use Rattle.std.proofs.Common.{◌≡◌, ℕ, List, [], ◌∷◌, take, length, ◌<◌, true, false, refl, inl, inr, sym, ap, ◌∙◌, subst, arith}
 use Rattle.std.specs.Prelude.{map, ◌==◌, ◌&&◌, nat_lt, Bool}
 use Rattle.std.specs.List.{list_any}
+use Rattle.std.specs.Option.{is_some}
 use Rattle.std.proofs.lemmas.Bool.{both_ways, and_parts, eqb-true, ltb-true}
-use Rattle.quic_wire.specs.Value.{FrameValue, stream}
+use Rattle.quic_wire.specs.Value.{FrameValue, stream, StreamValue}
 use Rattle.quic_streams_parts.specs.Table.{at}
 use Rattle.quic_machine.specs.declared.run.ReadCall.{ReadCall}
+use Rattle.quic_machine.specs.End.{End}
 use Rattle.quic_machine.specs.Machine.{World}
 use Rattle.quic_headline.specs.Runs.{In, written}
 use Rattle.quic_headline.specs.InFlight.{is_max_data}
 use Rattle.quic_headline.specs.Duties.{AllData, on_half}
 use Rattle.quic_headline.specs.Moments.{went}
 use Rattle.quic_headline.specs.Observer.{Sent, HoldsOffset}
-use Rattle.quic_headline.specs.Waited.{stands}
-use Rattle.quic_headline.specs.Begins.{Ack, Ping, Byte, Frame, LimitOf, byte_waits, asks_for, may_hasten, acknowledged_by, WasLost, still, begins, BeginsAt}
+use Rattle.quic_headline.specs.Waited.{stands, is_path_challenge}
+use Rattle.quic_headline.specs.Begins.{Control, Ack, Ping, Challenge, Response, Byte, Frame, LimitOf, NewId, Retirement, control_waits, byte_waits, brings, asks_for, may_hasten, makes_ping, acknowledged_by, IsPending, HasCause, WasLost, still, begins, BeginsAt}
 use Rattle.quic_worked.specs.Credit.{narrow_bytes, credit_written, credit_sent, credit_read, credit_given, ReadsEight}
 use Rattle.quic_worked.specs.Raised.{raised_events, raised_told, after_server_ping, first_ping, second_ping, third_came, third_due, limit_came, NeverComes}
-use Rattle.quic_worked.specs.Begun.{sending_seen, reading_seen, raising_seen, pinging_seen, waiting_seen, losing_seen, limit_at_each_poll, ack_at_each_call, ping_at_each_timeout, bytes_at_each_poll}
+use Rattle.quic_worked.specs.Begun.{sending_seen, reading_seen, raising_seen, pinging_seen, waiting_seen, losing_seen, challenged_seen, using_seen, retired_seen, unanswered_server, limit_at_each_poll, ack_at_each_call, ping_at_each_timeout, bytes_at_each_poll, challenge_at_each_call, response_at_each_call, id_at_each_call, retirement_at_each_call}
+use Rattle.quic_worked.specs.Acknowledged.{client_acked}
+use Rattle.quic_worked.specs.Renamed.{once_renamed}
+use Rattle.quic_worked.specs.Unvalidated.{once_far, once_answered}
 use Rattle.quic_worked.proofs.CreditRuns as credit
 use Rattle.quic_worked.proofs.RaisedRun as raised
 use Rattle.quic_worked.proofs.WrongRuns.{NeverEnds, ends_here, step_on}
@@ -109,27 +115,34 @@ limit_shows read h = elim (h (Frame (LimitOf AllData)) refl) [
 
 -- ---- bytes at each poll
 
--- the first frame of some is STREAM of stream 0, with its first byte
+-- the first STREAM frame of some is of stream 0, with its first byte
 abbrev leads : List FrameValue → Bool
+leads [] = false
 leads (stream f ∷ fs) = (f.id == 0) && ((f.offset == 0) && nat_lt 0 (length f.bytes))
-leads fs = false
+leads (f ∷ fs) = leads fs
 
 abbrev head_leads : List Sent → Bool
 head_leads [] = false
 head_leads (s ∷ ss) = leads s.frames
 
-bears_first : (s : Sent) (ss : List Sent) (fs : List FrameValue) → s.frames ≡ fs → leads fs ≡ true → HoldsOffset (s ∷ ss) 0 0
-bears_first s ss (stream f ∷ fs) same is =
+abbrev Leader : List FrameValue → Type 0
+Leader fs = (f : StreamValue) × In (stream f) fs × (f.id ≡ 0) × (f.offset ≡ 0) × (0 < length f.bytes)
+
+leader : (fs : List FrameValue) → leads fs ≡ true → Leader fs
+leader [] is = cc
+leader (stream f ∷ fs) is =
     let both = and_parts (f.id == 0) ((f.offset == 0) && nat_lt 0 (length f.bytes)) is in
     let more = and_parts (f.offset == 0) (nat_lt 0 (length f.bytes)) both.1 in
-    let first : f.offset ≡ 0 = eqb-true f.offset 0 more.0 in
-    let some : 0 < length f.bytes = ltb-true 0 (length f.bytes) more.1 in
-    record { sent = s; among = inl refl; frame = f; carried = subst (λ (gs : List FrameValue). In (stream f) gs) (sym same) (inl refl); of_stream = eqb-true f.id 0 both.0; from = omega (arith, first); below = omega (arith, first, some) }
-bears_first s ss fs same is = cc
+    (f, inl refl, eqb-true f.id 0 both.0, eqb-true f.offset 0 more.0, ltb-true 0 (length f.bytes) more.1)
+leader (f ∷ fs) is = let rest = leader fs is in (rest.0, inr rest.1, rest.2, rest.3, rest.4)
 
 bears : (ss : List Sent) → head_leads ss ≡ true → HoldsOffset ss 0 0
 bears [] is = cc
-bears (s ∷ ss) is = bears_first s ss s.frames refl is
+bears (s ∷ ss) is =
+    let l = leader s.frames is in
+    let first : l.0.offset ≡ 0 = l.3 in
+    let some : 0 < length l.0.bytes = l.4 in
+    record { sent = s; among = inl refl; frame = l.0; carried = l.1; of_stream = l.2; from = omega (arith, first); below = omega (arith, first, some) }
 
 bytes_went : (read : ReadCall) → head_leads (went (sending_seen read).before (sending_seen read).behind) ≡ true
 unfolding limit_came
@@ -190,10 +203,14 @@ none_pinged : third_came.client.waiting.signals.ping ≡ false
 unfolding third_came
 none_pinged = refl
 
+no_ping_made : (read : ReadCall) → makes_ping (waiting_seen read) ≡ false
+unfolding limit_came
+no_ping_made read = refl
+
 pub ping_shows : (read : ReadCall) → BeginsAt (waiting_seen read) third_came.client ping_at_each_timeout.client → ⊥
 ping_shows read h = elim (h Ping refl) [
   | still set stays ↦ both_ways third_came.client.waiting.signals.ping none_pinged set
-  | begins cause ↦ (let clash : false ≡ true = cause in cc)
+  | begins cause ↦ both_ways (makes_ping (waiting_seen read)) (no_ping_made read) cause
 ]
 
 -- ---- no run comes to them
@@ -214,12 +231,16 @@ never_limit read by views f = (limit_to read by).never views limit_at_each_poll 
 other_ack : ack_at_each_call ≡ after_server_ping credit_given → ⊥
 other_ack e = let clash : true ≡ false = ap (λ (w : World). w.server.acknowledging.due) e ∙ none_due in cc
 
-ack_to : (read : ReadCall) → ReadsEight read → NeverEnds (λ w. ack_at_each_call ≡ w) narrow_bytes (take 8 (raised_events read)) (take 8 raised_told)
-ack_to read by = step_on refl credit.opens (step_on refl credit.writes (step_on refl credit.gives (step_on refl credit.takes (step_on refl credit.accepts (step_on refl (credit.reads read by) (step_on refl credit.raises
-    (step_on refl (raised.pings credit_given) (ends_here other_ack))))))))
+-- behind the call that asks for PING an end is that of the machine alone
+pinged_to : (bad : World) → (bad ≡ after_server_ping credit_given → ⊥) → (read : ReadCall) → ReadsEight read → NeverEnds (λ w. bad ≡ w) narrow_bytes (take 8 (raised_events read)) (take 8 raised_told)
+pinged_to bad other read by = step_on refl credit.opens (step_on refl credit.writes (step_on refl credit.gives (step_on refl credit.takes (step_on refl credit.accepts (step_on refl (credit.reads read by) (step_on refl credit.raises
+    (step_on refl (raised.pings credit_given) (ends_here other))))))))
+
+never_pinged : (bad : World) → (bad ≡ after_server_ping credit_given → ⊥) → (read : ReadCall) → ReadsEight read → NeverComes (take 8 (raised_events read)) (take 8 raised_told) bad
+never_pinged bad other read by views f = (pinged_to bad other read by).never views bad f refl
 
 pub never_ack : (read : ReadCall) → ReadsEight read → NeverComes (take 8 (raised_events read)) (take 8 raised_told) ack_at_each_call
-never_ack read by views f = (ack_to read by).never views ack_at_each_call f refl
+never_ack = never_pinged ack_at_each_call other_ack
 
 still_none : third_due.client.waiting.signals.ping ≡ false
 unfolding third_came
@@ -236,3 +257,124 @@ ping_to read by =
 
 pub never_ping : (read : ReadCall) → ReadsEight read → NeverComes (take 15 (raised_events read)) (take 15 raised_told) ping_at_each_timeout
 never_ping read by views f = (ping_to read by).never views ping_at_each_timeout f refl
+
+-- ---- frames that have a cause
+
+pub was_challenged : HasCause challenged_seen Response
+unfolding client_acked
+was_challenged = refl
+
+pub response_waits : IsPending (once_answered 1).client Response
+unfolding once_answered
+response_waits = refl
+
+pub next_is_used : HasCause using_seen (Frame (Retirement 0))
+unfolding client_acked
+next_is_used = inl refl
+
+pub retirement_waits : IsPending (once_renamed 4).client (Frame (Retirement 0))
+unfolding once_renamed
+retirement_waits = refl
+
+pub was_retired : HasCause retired_seen (Frame (NewId 5))
+unfolding client_acked
+was_retired = inl refl
+
+pub new_id_waits : IsPending (once_renamed 6).server (Frame (NewId 5))
+unfolding once_renamed
+new_id_waits = refl
+
+pub challenge_waits : IsPending unanswered_server Challenge
+unfolding once_far
+challenge_waits = refl
+
+-- ---- frames at each call
+
+none_challenged : is_some credit_given.server.waiting.signals.challenge ≡ false
+unfolding credit_given
+none_challenged = refl
+
+none_answers : is_some credit_given.server.waiting.signals.response ≡ false
+unfolding credit_given
+none_answers = refl
+
+pub challenge_shows : (read : ReadCall) → BeginsAt (pinging_seen read) credit_given.server challenge_at_each_call.server → ⊥
+challenge_shows read h = elim (h Challenge refl) [
+  | still set stays ↦ both_ways (is_some credit_given.server.waiting.signals.challenge) none_challenged set
+  | begins cause ↦ (let clash : false ≡ true = cause in cc)
+]
+
+none_asks : (read : ReadCall) → brings is_path_challenge (pinging_seen read) ≡ false
+unfolding limit_came
+none_asks read = refl
+
+pub response_shows : (read : ReadCall) → BeginsAt (pinging_seen read) credit_given.server response_at_each_call.server → ⊥
+response_shows read h = elim (h Response refl) [
+  | still set stays ↦ both_ways (is_some credit_given.server.waiting.signals.response) none_answers set
+  | begins cause ↦ both_ways (brings is_path_challenge (pinging_seen read)) (none_asks read) cause
+]
+
+-- the call takes nothing from flight
+same_flight : (read : ReadCall) → (pinging_seen read).before.flight.flying ≡ (pinging_seen read).behind.flight.flying
+unfolding limit_came
+same_flight read = refl
+
+-- so a control frame that waits there and didn't before breaks the clause, unless it is called for
+control_shows : (c : Control) (e : End) (read : ReadCall) → asks_for (pinging_seen read) c ≡ false → control_waits credit_given.server.waiting.frames c ≡ false → control_waits e.waiting.frames c ≡ true
+    → BeginsAt (pinging_seen read) credit_given.server e → ⊥
+control_shows c e read unasked none waits h = elim (h (Frame c) waits) [
+  | still waited stays ↦ both_ways (control_waits credit_given.server.waiting.frames c) none waited
+  | begins cause ↦ elim cause [
+    | inl asks ↦ both_ways (asks_for (pinging_seen read) c) unasked asks
+    | inr other ↦ elim other [
+      | inl lost ↦ lost.gone (subst (λ (ss : List Sent). In lost.sent ss) (same_flight read) lost.flew)
+      | inr probed ↦ (let clash : false ≡ true = probed.polls in cc)
+    ]
+  ]
+]
+
+id_unasked : (read : ReadCall) → asks_for (pinging_seen read) (NewId 1) ≡ false
+unfolding limit_came
+id_unasked read = refl
+
+retirement_unasked : (read : ReadCall) → asks_for (pinging_seen read) (Retirement 0) ≡ false
+unfolding limit_came
+retirement_unasked read = refl
+
+no_id : control_waits credit_given.server.waiting.frames (NewId 1) ≡ false
+unfolding credit_given
+no_id = refl
+
+no_retirement : control_waits credit_given.server.waiting.frames (Retirement 0) ≡ false
+unfolding credit_given
+no_retirement = refl
+
+pub id_shows : (read : ReadCall) → BeginsAt (pinging_seen read) credit_given.server id_at_each_call.server → ⊥
+id_shows read = control_shows (NewId 1) id_at_each_call.server read (id_unasked read) no_id refl
+
+pub retirement_shows : (read : ReadCall) → BeginsAt (pinging_seen read) credit_given.server retirement_at_each_call.server → ⊥
+retirement_shows read = control_shows (Retirement 0) retirement_at_each_call.server read (retirement_unasked read) no_retirement refl
+
+other_challenge : challenge_at_each_call ≡ after_server_ping credit_given → ⊥
+other_challenge e = let clash : true ≡ false = ap (λ (w : World). is_some w.server.waiting.signals.challenge) e ∙ none_challenged in cc
+
+other_response : response_at_each_call ≡ after_server_ping credit_given → ⊥
+other_response e = let clash : true ≡ false = ap (λ (w : World). is_some w.server.waiting.signals.response) e ∙ none_answers in cc
+
+other_id : id_at_each_call ≡ after_server_ping credit_given → ⊥
+other_id e = let clash : true ≡ false = ap (λ (w : World). control_waits w.server.waiting.frames (NewId 1)) e ∙ no_id in cc
+
+other_retirement : retirement_at_each_call ≡ after_server_ping credit_given → ⊥
+other_retirement e = let clash : true ≡ false = ap (λ (w : World). control_waits w.server.waiting.frames (Retirement 0)) e ∙ no_retirement in cc
+
+pub never_challenge : (read : ReadCall) → ReadsEight read → NeverComes (take 8 (raised_events read)) (take 8 raised_told) challenge_at_each_call
+never_challenge = never_pinged challenge_at_each_call other_challenge
+
+pub never_response : (read : ReadCall) → ReadsEight read → NeverComes (take 8 (raised_events read)) (take 8 raised_told) response_at_each_call
+never_response = never_pinged response_at_each_call other_response
+
+pub never_id : (read : ReadCall) → ReadsEight read → NeverComes (take 8 (raised_events read)) (take 8 raised_told) id_at_each_call
+never_id = never_pinged id_at_each_call other_id
+
+pub never_retirement : (read : ReadCall) → ReadsEight read → NeverComes (take 8 (raised_events read)) (take 8 raised_told) retirement_at_each_call
+never_retirement = never_pinged retirement_at_each_call other_retirement

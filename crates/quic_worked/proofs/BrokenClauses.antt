@@ -1,5 +1,5 @@
 -- Each broken run breaks a clause of the headline.
-use Rattle.std.proofs.Common.{◌≡◌, ◌+◌, ◌<◌, ◌≤◌, ℕ, List, [], ◌∷◌, ◌++◌, Some, None, Result, Ok, Err, Bool, true, false, Option, refl, inl, ap, sym, ◌∙◌, subst, arith, length}
+use Rattle.std.proofs.Common.{◌≡◌, ◌+◌, ◌<◌, ◌≤◌, ℕ, List, [], ◌∷◌, ◌++◌, Some, None, Result, Ok, Err, Bool, true, false, Option, refl, inl, inr, ap, sym, ◌∙◌, subst, arith, length}
 use Rattle.std.specs.Prelude.{slice_index, ◌==◌, ◌&&◌, not, eqb, if◌then◌else◌}
 use Rattle.std.specs.List.{IsDistinct}
 use Rattle.quic_wire_core.specs.declared.stream_id.Side.TheVariants.{Client, Server}
@@ -17,7 +17,7 @@ use Rattle.quic_headline.specs.Runs.{Run, Told, Packet, Next, In, IsNamed, until
 use Rattle.quic_headline.specs.Observer.{Sent, took, acked_until}
 use Rattle.quic_headline.specs.Headline.{OrderedPrefix, Slices, Once, EndAfterAll, NoneToGive, BlockedOnlyWithoutBytes, AcceptsAll, FinishedMeansArrived, AllHeld, IsAcknowledged, ToldOnce, FinishedIsTold, AcknowledgedWereTaken, LossTimerFollows, LossTimersFollow, AckTimerFollows, AckTimersFollow, NumbersRise}
 use Rattle.quic_worked.specs.Acknowledged.{client_acked, server_acked}
-use Rattle.quic_worked.specs.Worked.{NextAnswers, gives_chunk, all_nexts, once_sent, once_taken, hello, hello_frame, run_with, server_id}
+use Rattle.quic_worked.specs.Worked.{NextAnswers, gives_chunk, all_nexts, once_sent, once_taken, hello, hello_frame, run_with, server_id, behind_ids}
 use Rattle.quic_worked.specs.Broken.{answers_with, duplicate, hellp, changed_nexts, repeated_nexts, early_nexts, changed_byte, repeated_bytes, unwritten_byte, early_end, unwritten_end, taken_twice, blocked_read, never_accepted, early_finish, told_twice, early_acknowledgement, never_timed, still_timed, empty_datagram, repeated_number, answered_run, asked_run, tells_finished}
 use Rattle.quic_worked.proofs.WorkedNumber.{only_number}
 use Rattle.quic_worked.proofs.WorkedRun.{hello_packet, frame_taken}
@@ -97,7 +97,8 @@ took_blocked read = refl
 first_arrived : (id : ℕ) → id ≡ 0 → HasArrived (hello_packet ∷ []) id 0
 first_arrived id e = record { frame = hello_frame; taken = frame_taken; of_stream = sym e; from = omega arith; below = omega arith }
 
--- where nothing was read, and nothing is to be given, the first byte hasn't come, whatever the order
+-- where nothing was read, and nothing is to be given, the first byte hasn't come, whatever the
+-- order
 gives_first : (ordered : Bool) (packets : List Packet) (id : ℕ) → NoneToGive ordered packets id [] → HasArrived packets id 0 → ⊥
 gives_first true packets id none a = none a
 gives_first false packets id none a = none 0 a
@@ -116,7 +117,7 @@ took_unaccepted read = refl
 
 -- its frame opens stream 0
 pub hello_named : WasNamed (hello_packet ∷ []) 0
-hello_named = record { packet = hello_packet; was_taken = inl refl; frame = stream hello_frame; carried = inl refl; opens = refl }
+hello_named = record { packet = hello_packet; was_taken = inl refl; frame = stream hello_frame; carried = inr (inr (inr (inr (inl refl)))); opens = refl }
 
 pub never_accepts : (read : ReadCall) → AcceptsAll (run_with read never_accepted) → ⊥
 never_accepts read h =
@@ -133,7 +134,7 @@ tells_twice h = let most : 2 ≤ 1 = (h Client 0 2 refl).0 in omega (arith, most
 
 -- the client's datagram, as it was sent
 abbrev hello_sent : Sent
-hello_sent = record { id = server_id; number = 0; reference = 0; frames = stream hello_frame ∷ []; moment = 0; size = 34 }
+hello_sent = record { id = server_id; number = 0; reference = 0; frames = behind_ids (stream hello_frame ∷ []); moment = 0; size = 146 }
 
 -- it is acknowledged once the server's datagram came, and not before
 pub acknowledged_last : (read : ReadCall) → acked_until (answered_run read) Client 8 ≡ hello_sent ∷ []
@@ -150,8 +151,8 @@ all_held told ends wrote = record {
   ended = ends;
   bytes = λ o below.
       let five : o < 5 = subst (λ (bs : List ℕ). o < length bs) wrote below in
-      record { sent = hello_sent; among = inl refl; frame = hello_frame; carried = inl refl; of_stream = refl; from = omega arith; below = five };
-  end = record { sent = hello_sent; among = inl refl; frame = hello_frame; carried = inl refl; of_stream = refl; fin = refl };
+      record { sent = hello_sent; among = inl refl; frame = hello_frame; carried = inr (inr (inr (inr (inl refl)))); of_stream = refl; from = omega arith; below = five };
+  end = record { sent = hello_sent; among = inl refl; frame = hello_frame; carried = inr (inr (inr (inr (inl refl)))); of_stream = refl; fin = refl };
 }
 
 -- so it is where the client is asked then
@@ -223,6 +224,7 @@ pub repeats : (first second : ℕ) → first + 1 ≤ second → second ≡ 0 →
 repeats first second above e = omega (arith, above, e)
 
 pub repeated_numbers : NumbersRise repeated_number → ⊥
+unfolding once_taken
 repeated_numbers h =
     let p = h Client 2 refl in
     repeats p.0 p.4.0 p.4.1 (only_number p.4.0 p.4.3)

@@ -18,16 +18,11 @@ use Rattle.quic_machine.specs.Calls.{end_tells}
 use Rattle.quic_machine.specs.StreamCalls.{IsRead}
 use Rattle.quic_machine.specs.Machine.{IsAnswer, IsStep, Follows, World, policy_at, end_met, given_by, fails}
 use Rattle.quic_headline.specs.Runs.{Next}
-use Rattle.quic_headline.specs.Headline.{AckTimersFollow}
 use Rattle.quic_worked.specs.Acknowledged.{client_acked}
 use Rattle.quic_worked.specs.Worked.{once_opened, once_written, writes_hello, finishes_stream, ReadsAs, ReadsBy, two_chunks, reads_stream, run_with, NextAnswers, gives_chunk, delivers, accepts_stream, sending_events, sending_answers, started, once_sent, once_taken, once_again, once_accepted, hello, worked_policies, worked_events}
-use Rattle.quic_worked.specs.Broken.{sent_alone, NeverAnswers, IsNoRun, NeverLeads, answers_with, duplicate, hellp, changed_nexts, repeated_nexts, early_nexts, changed_byte, repeated_bytes, unwritten_byte, early_end, unwritten_end, taken_twice, never_taken, blocked_read, never_accepted, early_finish, all_acked, all_told, asks_event, tells_finished, told_twice, never_told, early_acknowledgement, never_timed, still_timed}
+use Rattle.quic_worked.specs.Broken.{sent_alone, NeverAnswers, IsNoRun, answers_with, duplicate, hellp, changed_nexts, repeated_nexts, early_nexts, changed_byte, repeated_bytes, unwritten_byte, early_end, unwritten_end, taken_twice, never_taken, blocked_read, never_accepted, early_finish, all_acked, all_told, asks_event, tells_finished, told_twice, never_told, early_acknowledgement}
 use Rattle.quic_worked.specs.Reordered.{blocked_nexts}
 use Rattle.quic_machine.specs.RunLaws.{one_world}
-use Rattle.quic_headline.proofs.Timers.Starts.{loss_timers_run}
-use Rattle.quic_headline.proofs.Timers.AckTimers.{ack_timers_follow}
-use Rattle.quic_worked.proofs.BrokenClauses.{never_sets, never_stops}
-use Rattle.quic_worked.proofs.WorkedHonest.{are_started}
 use Rattle.quic_worked.proofs.WorkedRun.{opens, writes, finishes, gives, takes, drops_duplicate, accepts}
 use Rattle.quic_worked.proofs.Steps.{counts_so}
 
@@ -198,7 +193,7 @@ nothing_more is = cc
 
 -- the stream is told to be finished once
 tells_first : IsStep worked_policies all_acked asks_event tells_finished all_told
-tells_first = record { answer = told_once; end = refl; control = refl; heard = counts_so worked_policies all_acked asks_event tells_finished; others = refl; lacking = tt }
+tells_first = record { answer = told_once; end = refl; control = refl; heard = counts_so worked_policies all_acked asks_event tells_finished; openings = tt; others = refl; lacking = tt }
 
 pub never_twice : IsNoRun told_twice
 never_twice = behind refl tells_first (stops _ _ _ _ _ nothing_more)
@@ -210,13 +205,3 @@ never_silent = stops _ _ _ _ _ (λ silent. let is = told_once ∙ sym silent in 
 -- nothing comes to the client that the server never gave
 pub never_acknowledges : IsNoRun early_acknowledgement
 never_acknowledges = stops _ _ _ _ _ (λ came. cc)
-
--- the ends were made for one another, so the timer follows wherever a run leads
-pub never_untimed : (events : List RunEvent) (told : List Answer) → NeverLeads events told never_timed
-never_untimed events told views f = never_sets (loss_timers_run worked_policies started never_timed events told views are_started f)
-
--- no timer is set at the first ends, so the timer of acknowledgements follows wherever a run leads
-pub never_needless : (events : List RunEvent) (told : List Answer) → NeverLeads events told still_timed
-never_needless events told views f =
-    let none : AckTimersFollow started = (λ opened set. cc, λ opened set. cc) in
-    never_stops (ack_timers_follow worked_policies started still_timed events told views f none)

@@ -9,7 +9,7 @@ use Rattle.quic_machine.specs.declared.run.Answer.TheVariants as answers
 use Rattle.quic_machine.specs.Machine.{IsStep, view_of}
 use Rattle.quic_headline.specs.Runs.{until, joined, written}
 use Rattle.quic_headline.specs.Headline.{IsRun}
-use Rattle.quic_worked.specs.Worked.{worked_policies, once_opened, finishes_stream, asks_datagram, gives_bytes, hello, hello_datagram, open_view, sent_view}
+use Rattle.quic_worked.specs.Worked.{worked_policies, once_opened, finishes_stream, asks_datagram, gives_bytes, hello, hello_datagram, sent_view, server_open}
 use Rattle.quic_worked.specs.Broken.{IsNoRun}
 use Rattle.quic_worked.specs.Chunked.{writes_buffers, two_buffers, both_written, after_buffers, chunks_written, chunks_ended, chunks_sent, chunked_run, buffer_lost}
 use Rattle.quic_worked.proofs.WorkedRun.{opens}
@@ -30,18 +30,19 @@ writes buffers are = record {
   end = ap (λ (cs : List (List ℕ)). after_buffers once_opened.client cs) (sym are);
   control = refl;
   heard = refl;
+  openings = tt;
   others = refl;
   lacking = λ lacks. cc;
 }
 
 finishes : IsStep worked_policies chunks_written finishes_stream (answers.Finish (Ok tt)) chunks_ended
-finishes = record { answer = inl refl; end = refl; control = refl; heard = counts_so worked_policies chunks_written finishes_stream (answers.Finish (Ok tt)); others = refl; lacking = λ lacks. cc }
+finishes = record { answer = inl refl; end = refl; control = refl; heard = counts_so worked_policies chunks_written finishes_stream (answers.Finish (Ok tt)); openings = tt; others = refl; lacking = λ lacks. cc }
 
-gives : IsStep worked_policies chunks_ended asks_datagram (gives_bytes 34) chunks_sent
+gives : IsStep worked_policies chunks_ended asks_datagram (gives_bytes 146) chunks_sent
 unfolding chunks_sent
-gives = record { answer = inl refl; end = refl; control = refl; heard = counts_so worked_policies chunks_ended asks_datagram (gives_bytes 34); others = refl; lacking = tt }
+gives = record { answer = inl refl; end = refl; control = refl; heard = counts_so worked_policies chunks_ended asks_datagram (gives_bytes 146); openings = tt; others = refl; lacking = tt }
 
-sent_seen : record { client = sent_view; server = open_view } ≡ view_of chunks_sent
+sent_seen : record { client = sent_view; server = server_open } ≡ view_of chunks_sent
 unfolding chunks_sent
 sent_seen = refl
 

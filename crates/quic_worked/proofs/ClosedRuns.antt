@@ -1,11 +1,10 @@
 -- Ends that close without a reason break the clauses, and no run of the machine is answered so.
-use Rattle.std.proofs.Common.{◌≡◌, ℕ, zero, suc, ◌+◌, ◌<◌, ◌≤◌, ◌⊎◌, eqb, false, List, [], ◌∷◌, ◌++◌, length, Some, None, Ok, refl, sym, ap, ◌∙◌, subst, inl, inr, arith}
+use Rattle.std.proofs.Common.{◌≡◌, ℕ, zero, suc, ◌+◌, ◌<◌, ◌≤◌, ◌⊎◌, eqb, false, List, [], ◌∷◌, ◌++◌, length, Some, refl, sym, ap, ◌∙◌, subst, inl, inr, arith}
 use Rattle.std.specs.Prelude.{drop}
 use Rattle.std.specs.List.{IsDistinct}
 use Rattle.quic_wire.specs.Value.{FrameValue, StreamValue, stream}
-use Rattle.quic_wire.specs.FrameTypes.{kind_of}
-use Rattle.quic_wire.specs.Reading.{block_at, sized_at, offset_at, data_at, stream_at, body_at}
-use Rattle.quic_wire.specs.Items.{frame_at, items_within, items}
+use Rattle.quic_wire.specs.Items.{items}
+use Rattle.quic_wire.specs.Reading.{connection_close_at}
 use Rattle.quic_packet.specs.Datagram.{Opening}
 use Rattle.quic_assembler.specs.declared.assembler.TheConstants.{MOST_PIECES}
 use Rattle.quic_wire_core.specs.declared.stream_id.Side.TheVariants.{Client, Server}
@@ -17,19 +16,21 @@ use Rattle.quic_machine.specs.declared.run.Answer.{Answer}
 use Rattle.quic_machine.specs.declared.run.Answer.TheVariants as answers
 use Rattle.quic_machine.specs.declared.run.ReadCall.{ReadCall}
 use Rattle.quic_machine.specs.Receive.{plain_error}
+use Rattle.quic_headline.specs.Observer.{next_number}
 use Rattle.quic_headline.specs.Runs.{Told, Packet, Intake, In, until, handed, opens_by_key, came_open, frames_of, HasArrived}
-use Rattle.quic_headline.specs.Causes.{Shows, NoBlame, AreUsedUp, NumberLimit, came_by, PacketCame, IsCrowded, IsTakenOrCrowded, BeginsRun, HasMoreRuns, IsUnread, TooManyPieces, TakenOrTooMany}
-use Rattle.quic_worked.specs.Worked.{worked_policies, worked_run, once_ended, once_sent, once_taken, delivery, delivers, asks_datagram, open_view, sent_view, hello_datagram, hello_opening, hello_frame, hello_payload}
+use Rattle.quic_headline.specs.Causes.{Shows, NoBlame, ordinary, AreUsedUp, NumberLimit, came_by, PacketCame, IsCrowded, IsTakenOrCrowded, BeginsRun, HasMoreRuns, IsUnread, TooManyPieces, TakenOrTooMany}
+use Rattle.quic_worked.specs.Worked.{worked_policies, worked_run, once_ended, once_sent, once_taken, delivery, delivers, asks_datagram, sent_view, hello_datagram, hello_opening, hello_frame, gives_bytes, server_open, id_frames, behind_ids, hello_whole}
 use Rattle.quic_worked.specs.Broken.{IsNoRun}
-use Rattle.quic_worked.specs.Closed.{closed_view, below_limits, early_pieces, early_limit}
+use Rattle.quic_worked.specs.Closed.{closed_view, below_limits, early_pieces, early_limit, closed_server}
 use Rattle.quic_worked.proofs.BrokenRuns.{IsRefused, behind, behind_sent, stops}
+use Rattle.quic_worked.proofs.MessageRuns.{given_bytes}
 use Rattle.quic_worked.proofs.WorkedRun as worked
 
 -- ---- bytes below the limits that are refused
 
 -- the server's view behind the delivery
 below_shows : Shows below_limits Server 4 (Some (reasons.Transport (plain_error 3)))
-below_shows = record { served = refl; view = record { client = sent_view; server = closed_view (reasons.Transport (plain_error 3)) }; there = refl; is = refl }
+below_shows = record { served = refl; view = record { client = sent_view; server = closed_server (reasons.Transport (plain_error 3)) }; there = refl; is = refl }
 
 pub below_blames : NoBlame below_limits → ⊥
 below_blames h = h Server 4 (Some (reasons.Transport (plain_error 3))) below_shows
@@ -95,19 +96,24 @@ no_below = behind_sent (stops _ _ _ _ _ below_no)
 -- ---- numbers that aren't used up
 
 early_shows : Shows early_limit Client 3 (Some reasons.NumberLimit)
-early_shows = record { served = refl; view = record { client = closed_view reasons.NumberLimit; server = open_view }; there = refl; is = refl }
+early_shows = record { served = refl; view = record { client = closed_view reasons.NumberLimit; server = server_open }; there = refl; is = refl }
+
+-- it gave its close alone
+early_next : next_number (ordinary early_limit Client 4) ≡ 0
+unfolding once_taken connection_close_at
+early_next = refl
 
 pub early_numbers : NumberLimit early_limit → ⊥
-early_numbers h = go (h Client 3 early_shows)
+early_numbers h = go (subst (λ (n : ℕ). AreUsedUp n 0) early_next (h Client 3 early_shows))
   where
     go : AreUsedUp 0 0 → ⊥
     go (inl many) = omega arith
     go (inr many) = omega arith
 
--- the machine gives a datagram
-early_no : IsRefused once_ended asks_datagram (answers.Poll (Ok None))
+-- the machine gives a datagram of another size
+early_no : IsRefused once_ended asks_datagram (gives_bytes 30)
 unfolding once_sent
-early_no (inl e) = cc
+early_no (inl e) = let clash : ◌≡◌ {A = ℕ} 30 146 = ap given_bytes e in omega (arith, clash)
 early_no (inr e) = cc
 
 pub no_early : IsNoRun early_limit
@@ -117,7 +123,7 @@ no_early = behind refl worked.opens (behind refl worked.writes (behind refl work
 
 -- what the packet of the client has
 abbrev hello_frames : List FrameValue
-hello_frames = stream hello_frame ∷ []
+hello_frames = behind_ids (stream hello_frame ∷ [])
 
 -- where it alone came, and nothing was read, a run of stream 0 begins at offset 0 alone
 first_run : (packet : Packet) → packet.frames ≡ hello_frames → (o : ℕ) → BeginsRun (IsUnread (packet ∷ []) [] 0) o → o ≡ 0
@@ -133,7 +139,11 @@ first_run packet frames (suc o) b = absurd (b.alone o (omega arith) (earlier b.h
 
         is_hello : In (stream a.frame) hello_frames → a.frame ≡ hello_frame
         is_hello (inl is) = cc
-        is_hello (inr i) = absurd i
+        is_hello (inr (inl is)) = cc
+        is_hello (inr (inr (inl is))) = cc
+        is_hello (inr (inr (inr (inl is)))) = cc
+        is_hello (inr (inr (inr (inr (inl is))))) = cc
+        is_hello (inr (inr (inr (inr (inr i))))) = absurd i
 
         same : a.frame ≡ hello_frame
         same = is_hello (among a.taken.was_taken)
@@ -173,9 +183,13 @@ no_frames_behind : (front rest : List FrameValue) (f : FrameValue) → [] ≡ fr
 no_frames_behind [] rest f is = cc
 no_frames_behind (g ∷ front) rest f is = cc
 
-one_frame : (front rest : List FrameValue) (f : StreamValue) → hello_frames ≡ front ++ stream f ∷ rest → (front ≡ []) × (f ≡ hello_frame)
-one_frame [] rest f is = let same : f ≡ hello_frame = cc in (refl, same)
-one_frame (g ∷ front) rest f is = let tail : [] ≡ front ++ stream f ∷ rest = cc in absurd (no_frames_behind front rest (stream f) tail)
+one_frame : (front rest : List FrameValue) (f : StreamValue) → hello_frames ≡ front ++ stream f ∷ rest → (front ≡ id_frames) × (f ≡ hello_frame)
+one_frame [] rest f is = cc
+one_frame (a ∷ []) rest f is = cc
+one_frame (a ∷ b ∷ []) rest f is = cc
+one_frame (a ∷ b ∷ c ∷ []) rest f is = cc
+one_frame (a ∷ b ∷ c ∷ d ∷ []) rest f is = let front : a ∷ b ∷ c ∷ d ∷ [] ≡ id_frames = cc in let same : f ≡ hello_frame = cc in (front, same)
+one_frame (a ∷ b ∷ c ∷ d ∷ e ∷ front) rest f is = let tail : [] ≡ front ++ stream f ∷ rest = cc in absurd (no_frames_behind front rest (stream f) tail)
 
 -- the call that closes the server
 abbrev closing_call : Told
@@ -191,8 +205,8 @@ came told = came_by worked_policies.server (hello_datagram ∷ []) told
 opens_hello : opens_by_key worked_policies.server 0 hello_datagram ≡ Some hello_opening
 opens_hello = refl
 
-hello_frames_are : frames_of (items hello_payload) ≡ hello_frames
-unfolding items items_within frame_at body_at kind_of stream_at offset_at data_at sized_at block_at
+hello_frames_are : frames_of (items hello_whole) ≡ hello_frames
+unfolding once_taken
 hello_frames_are = refl
 
 -- no packet that came to it is crowded
@@ -208,13 +222,13 @@ none_crowded c k =
     let opening : c.opening ≡ hello_opening = cc in
     let split = one_frame k.front k.rest k.frame (sym hello_frames_are ∙ ap (λ (o : Opening). frames_of (items o.payload)) (sym opening) ∙ k.frames) in
     let packet : Packet = record { number = c.opening.number; frames = k.front ++ stream k.frame ∷ [] } in
-    let frames : packet.frames ≡ hello_frames = ap (λ (fs : List FrameValue). fs ++ stream k.frame ∷ []) split.0 ∙ ap (λ (f : StreamValue). stream f ∷ []) split.1 in
+    let frames : packet.frames ≡ hello_frames = ap (λ (fs : List FrameValue). fs ++ stream k.frame ∷ []) split.0 ∙ ap (λ (f : StreamValue). id_frames ++ stream f ∷ []) split.1 in
     let many : HasMoreRuns (IsUnread (packet ∷ []) [] k.frame.id) MOST_PIECES =
     subst (λ (ts : List Told). HasMoreRuns (IsUnread (packet ∷ (came ts).took) ts k.frame.id) MOST_PIECES) told.0 k.many in
     one_run packet frames (subst (λ (f : StreamValue). HasMoreRuns (IsUnread (packet ∷ []) [] f.id) MOST_PIECES) split.1 many)
 
 pieces_show : Shows early_pieces Server 4 (Some reasons.Pieces)
-pieces_show = record { served = refl; view = record { client = sent_view; server = closed_view reasons.Pieces }; there = refl; is = refl }
+pieces_show = record { served = refl; view = record { client = sent_view; server = closed_server reasons.Pieces }; there = refl; is = refl }
 
 pub early_crowd : TooManyPieces early_pieces → ⊥
 early_crowd h = let c = h Server 4 pieces_show in none_crowded c.packet c.crowded

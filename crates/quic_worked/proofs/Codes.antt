@@ -23,6 +23,7 @@ small_codes (e ∷ es) small event (inr i) = small_codes es small.1 event i
 abbrev pub has_code : Call → Bool
 has_code (calls.Reset id code) = true
 has_code (calls.Stop id code) = true
+has_code (calls.Close close) = true
 has_code call = false
 
 -- whether one of these events does
@@ -33,6 +34,7 @@ have_codes (e ∷ es) = has_code e.call || have_codes es
 small : (call : Call) → has_code call ≡ false → CodeIsSmall call
 small (calls.Reset id code) none = absurd cc
 small (calls.Stop id code) none = absurd cc
+small (calls.Close close) none = absurd cc
 small call none = tt
 
 all_small : (events : List RunEvent) → have_codes events ≡ false → AllSmall events

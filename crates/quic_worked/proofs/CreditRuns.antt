@@ -41,22 +41,22 @@ one_heard = record { client = waiting_view; server = sent_view }
 -- ---- bytes
 
 pub opens : IsStep worked_policies narrow_bytes opens_stream (answers.Open (Some 0)) credit_opened
-opens = record { answer = refl; end = refl; control = refl; heard = counts_so worked_policies narrow_bytes opens_stream (answers.Open (Some 0)); others = refl; lacking = tt }
+opens = record { answer = refl; end = refl; control = refl; heard = counts_so worked_policies narrow_bytes opens_stream (answers.Open (Some 0)); openings = tt; others = refl; lacking = tt }
 
 pub writes : IsStep worked_policies credit_opened (writes_on 0 (eight ++ eight)) (answers.Write (Ok 8)) credit_written
-writes = record { answer = inl refl; end = refl; control = refl; heard = counts_so worked_policies credit_opened (writes_on 0 (eight ++ eight)) (answers.Write (Ok 8)); others = refl; lacking = λ lacks. cc }
+writes = record { answer = inl refl; end = refl; control = refl; heard = counts_so worked_policies credit_opened (writes_on 0 (eight ++ eight)) (answers.Write (Ok 8)); openings = tt; others = refl; lacking = λ lacks. cc }
 
-pub gives : IsStep worked_policies credit_written asks_datagram (gives_bytes 37) credit_sent
+pub gives : IsStep worked_policies credit_written asks_datagram (gives_bytes 149) credit_sent
 unfolding credit_sent
-gives = record { answer = inl refl; end = refl; control = refl; heard = counts_so worked_policies credit_written asks_datagram (gives_bytes 37); others = refl; lacking = tt }
+gives = record { answer = inl refl; end = refl; control = refl; heard = counts_so worked_policies credit_written asks_datagram (gives_bytes 149); openings = tt; others = refl; lacking = tt }
 
 pub takes : IsStep worked_policies credit_sent delivers (answers.Deliver receives.Taken) credit_taken
 unfolding credit_taken
-takes = record { answer = inl refl; end = refl; control = refl; heard = counts_so worked_policies credit_sent delivers (answers.Deliver receives.Taken); others = refl; lacking = tt }
+takes = record { answer = inl refl; end = refl; control = refl; heard = counts_so worked_policies credit_sent delivers (answers.Deliver receives.Taken); openings = tt; others = refl; lacking = tt }
 
 pub accepts : IsStep worked_policies credit_taken accepts_stream (answers.Accept (Some 0)) credit_accepted
 unfolding credit_taken
-accepts = record { answer = refl; end = refl; control = refl; heard = counts_so worked_policies credit_taken accepts_stream (answers.Accept (Some 0)); others = refl; lacking = tt }
+accepts = record { answer = refl; end = refl; control = refl; heard = counts_so worked_policies credit_taken accepts_stream (answers.Accept (Some 0)); openings = tt; others = refl; lacking = tt }
 
 reads_so : ReadsSo credit_accepted 0 true eight_bounds eight_nexts credit_read.server
 unfolding credit_taken
@@ -68,17 +68,17 @@ reads_only = refl
 pub reads : (read : ReadCall) → ReadsEight read → IsStep worked_policies credit_accepted (reads_stream read) (answers.Read (Ok eight_nexts)) credit_read
 reads = reads_at credit_accepted credit_read 0 true eight_bounds eight_nexts reads_so reads_only
 
-pub raises : IsStep worked_policies credit_read asks_server (gives_bytes 33) credit_given
+pub raises : IsStep worked_policies credit_read asks_server (gives_bytes 145) credit_given
 unfolding credit_given
-raises = record { answer = inl refl; end = refl; control = refl; heard = counts_so worked_policies credit_read asks_server (gives_bytes 33); others = refl; lacking = tt }
+raises = record { answer = inl refl; end = refl; control = refl; heard = counts_so worked_policies credit_read asks_server (gives_bytes 145); openings = tt; others = refl; lacking = tt }
 
 hears : IsStep worked_policies credit_given client_hears (answers.Deliver receives.Taken) credit_heard
 unfolding credit_heard
-hears = record { answer = inl refl; end = refl; control = refl; heard = counts_so worked_policies credit_given client_hears (answers.Deliver receives.Taken); others = refl; lacking = tt }
+hears = record { answer = inl refl; end = refl; control = refl; heard = counts_so worked_policies credit_given client_hears (answers.Deliver receives.Taken); openings = tt; others = refl; lacking = tt }
 
 writes_on_more : IsStep worked_policies credit_heard (writes_on 0 eight) (answers.Write (Ok 8)) credit_used
 unfolding credit_heard
-writes_on_more = record { answer = inl refl; end = refl; control = refl; heard = counts_so worked_policies credit_heard (writes_on 0 eight) (answers.Write (Ok 8)); others = refl; lacking = λ lacks. cc }
+writes_on_more = record { answer = inl refl; end = refl; control = refl; heard = counts_so worked_policies credit_heard (writes_on 0 eight) (answers.Write (Ok 8)); openings = tt; others = refl; lacking = λ lacks. cc }
 
 sent_seen : one_sent ≡ view_of credit_sent
 unfolding credit_sent
@@ -179,28 +179,28 @@ no_one_below read by views end is = (not_below read by).never views end is.follo
 -- ---- a count
 
 pub counts_open : IsStep worked_policies narrow_count opens_one_way (answers.Open (Some 2)) count_opened
-counts_open = record { answer = refl; end = refl; control = refl; heard = counts_so worked_policies narrow_count opens_one_way (answers.Open (Some 2)); others = refl; lacking = tt }
+counts_open = record { answer = refl; end = refl; control = refl; heard = counts_so worked_policies narrow_count opens_one_way (answers.Open (Some 2)); openings = tt; others = refl; lacking = tt }
 
 pub refuses_second : IsStep worked_policies count_opened opens_one_way (answers.Open None) count_refused
-refuses_second = record { answer = refl; end = refl; control = refl; heard = counts_so worked_policies count_opened opens_one_way (answers.Open None); others = refl; lacking = tt }
+refuses_second = record { answer = refl; end = refl; control = refl; heard = counts_so worked_policies count_opened opens_one_way (answers.Open None); openings = tt; others = refl; lacking = tt }
 
 pub counts_write : IsStep worked_policies count_refused (writes_on 2 hello) (answers.Write (Ok 5)) count_written
-counts_write = record { answer = inl refl; end = refl; control = refl; heard = counts_so worked_policies count_refused (writes_on 2 hello) (answers.Write (Ok 5)); others = refl; lacking = λ lacks. cc }
+counts_write = record { answer = inl refl; end = refl; control = refl; heard = counts_so worked_policies count_refused (writes_on 2 hello) (answers.Write (Ok 5)); openings = tt; others = refl; lacking = λ lacks. cc }
 
 pub counts_end : IsStep worked_policies count_written ends_one_way (answers.Finish (Ok tt)) count_ended
-counts_end = record { answer = inl refl; end = refl; control = refl; heard = counts_so worked_policies count_written ends_one_way (answers.Finish (Ok tt)); others = refl; lacking = λ lacks. cc }
+counts_end = record { answer = inl refl; end = refl; control = refl; heard = counts_so worked_policies count_written ends_one_way (answers.Finish (Ok tt)); openings = tt; others = refl; lacking = λ lacks. cc }
 
-pub counts_give : IsStep worked_policies count_ended asks_datagram (gives_bytes 34) count_sent
+pub counts_give : IsStep worked_policies count_ended asks_datagram (gives_bytes 146) count_sent
 unfolding count_sent
-counts_give = record { answer = inl refl; end = refl; control = refl; heard = counts_so worked_policies count_ended asks_datagram (gives_bytes 34); others = refl; lacking = tt }
+counts_give = record { answer = inl refl; end = refl; control = refl; heard = counts_so worked_policies count_ended asks_datagram (gives_bytes 146); openings = tt; others = refl; lacking = tt }
 
 pub counts_take : IsStep worked_policies count_sent delivers (answers.Deliver receives.Taken) count_taken
 unfolding count_taken
-counts_take = record { answer = inl refl; end = refl; control = refl; heard = counts_so worked_policies count_sent delivers (answers.Deliver receives.Taken); others = refl; lacking = tt }
+counts_take = record { answer = inl refl; end = refl; control = refl; heard = counts_so worked_policies count_sent delivers (answers.Deliver receives.Taken); openings = tt; others = refl; lacking = tt }
 
 pub counts_accept : IsStep worked_policies count_taken accepts_one_way (answers.Accept (Some 2)) count_accepted
 unfolding count_taken
-counts_accept = record { answer = refl; end = refl; control = refl; heard = counts_so worked_policies count_taken accepts_one_way (answers.Accept (Some 2)); others = refl; lacking = tt }
+counts_accept = record { answer = refl; end = refl; control = refl; heard = counts_so worked_policies count_taken accepts_one_way (answers.Accept (Some 2)); openings = tt; others = refl; lacking = tt }
 
 counts_read_so : ReadsSo count_accepted 2 true two_chunks all_nexts count_read.server
 unfolding count_taken
@@ -212,17 +212,17 @@ counts_read_only = refl
 pub counts_read : (read : ReadCall) → ReadsOneWay read → IsStep worked_policies count_accepted (reads_stream read) (answers.Read (Ok all_nexts)) count_read
 counts_read = reads_at count_accepted count_read 2 true two_chunks all_nexts counts_read_so counts_read_only
 
-pub gives_back : IsStep worked_policies count_read asks_server (gives_bytes 33) count_given
+pub gives_back : IsStep worked_policies count_read asks_server (gives_bytes 145) count_given
 unfolding count_given
-gives_back = record { answer = inl refl; end = refl; control = refl; heard = counts_so worked_policies count_read asks_server (gives_bytes 33); others = refl; lacking = tt }
+gives_back = record { answer = inl refl; end = refl; control = refl; heard = counts_so worked_policies count_read asks_server (gives_bytes 145); openings = tt; others = refl; lacking = tt }
 
 counts_hear : IsStep worked_policies count_given client_hears (answers.Deliver receives.Taken) count_heard
 unfolding count_heard
-counts_hear = record { answer = inl refl; end = refl; control = refl; heard = counts_so worked_policies count_given client_hears (answers.Deliver receives.Taken); others = refl; lacking = tt }
+counts_hear = record { answer = inl refl; end = refl; control = refl; heard = counts_so worked_policies count_given client_hears (answers.Deliver receives.Taken); openings = tt; others = refl; lacking = tt }
 
 opens_next : IsStep worked_policies count_heard opens_one_way (answers.Open (Some 6)) count_used
 unfolding count_heard
-opens_next = record { answer = refl; end = refl; control = refl; heard = counts_so worked_policies count_heard opens_one_way (answers.Open (Some 6)); others = refl; lacking = tt }
+opens_next = record { answer = refl; end = refl; control = refl; heard = counts_so worked_policies count_heard opens_one_way (answers.Open (Some 6)); openings = tt; others = refl; lacking = tt }
 
 count_sent_seen : one_sent ≡ view_of count_sent
 unfolding count_sent

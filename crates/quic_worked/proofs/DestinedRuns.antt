@@ -1,4 +1,5 @@
--- Machines that take one id for another break the clauses, and make no run of the reference machine.
+-- Machines that take one id for another break the clauses, and make no run of the reference
+-- machine.
 use Rattle.std.proofs.Common.{◌≡◌, ℕ, List, [], ◌∷◌, inl, inr, refl, ap, ◌∙◌, arith}
 use Rattle.std.specs.Prelude.{slice_index}
 use Rattle.quic_wire_core.specs.declared.stream_id.Side.TheVariants.{Client, Server}
@@ -8,7 +9,7 @@ use Rattle.quic_machine.specs.declared.run.ReadCall.{ReadCall}
 use Rattle.quic_machine.specs.declared.run.Answer.TheVariants as answers
 use Rattle.quic_headline.specs.Headline.{IsHonest}
 use Rattle.quic_headline.specs.Observer.{sents_until}
-use Rattle.quic_headline.specs.ConnectionIds.{SentToFirstId, NoUnknownId}
+use Rattle.quic_headline.specs.ConnectionIds.{IdsAreIssued, UnknownOnlyWhereRetired}
 use Rattle.quic_worked.specs.Worked.{started, once_sent, once_taken, client_id, server_id, hello_datagram, delivery, delivers, sending_events, sending_answers, worked_run, run_with}
 use Rattle.quic_worked.specs.Broken.{IsNoRun}
 use Rattle.quic_worked.specs.Machines.{NeverGives}
@@ -23,16 +24,21 @@ pub word_is : word_to server_id ≡ hello_datagram
 word_is = refl
 
 pub sent_right : (read : ReadCall) → sents_until (worked_run read) Client 4 ≡ sent_to server_id ∷ []
+unfolding once_taken
 sent_right read = refl
 
 sent_wrong : (read : ReadCall) → sents_until (sent_to_itself read) Client 4 ≡ sent_to client_id ∷ []
+unfolding once_taken
 sent_wrong read = refl
 
-pub itself_shows : (read : ReadCall) → SentToFirstId (sent_to_itself read) → ⊥
+-- the server told it of no such id
+pub itself_shows : (read : ReadCall) → IdsAreIssued (sent_to_itself read) → ⊥
 itself_shows read h =
-    let ids : client_id ≡ server_id = h Client 4 (sent_to client_id) refl (inl refl) in
-    let clash : ◌≡◌ {A = ℕ} 0xc0 0x50 = ap (λ (id : List ℕ). slice_index id 0) ids in
-    omega (arith, clash)
+    let issued = h Client 4 [] [] (sent_to client_id) refl (sent_wrong read) in
+    elim issued.told [
+      | inl first ↦ (let clash : ◌≡◌ {A = ℕ} 0xc0 0x50 = ap (λ (id : List ℕ). slice_index id 0) first.1 in omega (arith, clash))
+      | inr told ↦ absurd told.was_taken
+    ]
 
 -- the second byte of the first datagram
 abbrev pub second_of : List (List ℕ) → ℕ
@@ -54,8 +60,9 @@ no_itself read views end is = not_other.never views end is.follows is.from_clien
 
 -- ---- a datagram that comes
 
-pub unknown_shows : (read : ReadCall) → NoUnknownId (run_with read all_unknown) → ⊥
-unknown_shows read h = h Server 4 delivery refl (record { event = refl; answer = refl })
+-- no packet was taken that retires the first id
+pub unknown_shows : (read : ReadCall) → UnknownOnlyWhereRetired (run_with read all_unknown) → ⊥
+unknown_shows read h = absurd (h Server 4 0 delivery hello_datagram refl refl (record { event = refl; answer = refl }) refl (inl (refl, refl))).was_taken
 
 -- the machine takes it
 unknown_no : IsRefused once_sent delivers (answers.Deliver (receives.Dropped drops.UnknownId))

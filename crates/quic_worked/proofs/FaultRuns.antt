@@ -1,4 +1,5 @@
--- Machines with a fault: the clause that is false of the run of each, that it meets the premises, and that the reference machine makes another.
+-- Machines with a fault: the clause that is false of the run of each, that it meets the premises,
+-- and that the reference machine makes another.
 use Rattle.std.proofs.Common.{◌≡◌, ℕ, List, [], ◌∷◌, Some, None, Result, Ok, Err, true, false, refl, inl, inr, ap, sym, ◌∙◌, subst, arith, lit<, lit≤}
 use Rattle.quic_wire_core.specs.TransportError.{plain_error}
 use Rattle.quic_wire_core.specs.declared.stream_id.Side.{Side}
@@ -28,7 +29,7 @@ use Rattle.quic_headline.specs.Amounts.{taken_of, left_for, WritesTakeWhatLimits
 use Rattle.quic_headline.specs.Causes.{Shows, NoBlame, PacketCame, IsTakenOrCrowded, TakenOrTooMany}
 use Rattle.quic_headline.specs.Headline.{AcceptsAll, IsHonest, IsRun}
 use Rattle.quic_worked.specs.Exchange.{with_uni}
-use Rattle.quic_worked.specs.Worked.{steady, worked_policies, worked_parameters, client_id, server_id, ReadsBy, two_chunks, started, once_opened, once_written, once_ended, once_sent, once_taken, once_accepted, once_read, at_server, hello, hello_datagram, hello_opening, writes_hello, asks_datagram, delivery, delivers, accepts_stream, gives_bytes, sent_view, waiting_view, run_with, once_again}
+use Rattle.quic_worked.specs.Worked.{steady, worked_policies, worked_parameters, client_id, server_id, ReadsBy, two_chunks, started, once_opened, once_written, once_ended, once_sent, once_taken, once_accepted, once_read, at_server, hello, hello_datagram, hello_opening, writes_hello, asks_datagram, delivery, delivers, accepts_stream, gives_bytes, sent_view, run_with, once_again, behind_ids, server_waiting, told_ids}
 use Rattle.quic_worked.specs.Acknowledged.{client_datagram}
 use Rattle.quic_worked.specs.Broken.{IsNoRun, duplicate, injects}
 use Rattle.quic_worked.specs.Machines.{all_dropped}
@@ -74,7 +75,7 @@ pub own_blames : NoBlame own_limits → ⊥
 own_blames h = h Server 3 (Some (reasons.Transport (plain_error 3))) own_shows
 
 -- the server does close
-pub own_closes : at_server limited_start.server (client_datagram 0 0 own_payload) ≡ receives.Closed (plain_error 3)
+pub own_closes : at_server limited_start.server (client_datagram 0 0 (told_ids own_payload)) ≡ receives.Closed (plain_error 3)
 unfolding once_taken
 own_closes = refl
 
@@ -125,29 +126,31 @@ one_way_say = refl
 
 one_back_started : AreStarted one_back
 one_back_started = record {
-  client_making = record { settings = with_uni 1; windows = steady; parameters = one_way_parameters; id = client_id; moment = 0; validated = true; word = 63 };
-  server_making = record { settings = plain_settings; windows = steady; parameters = worked_parameters; id = server_id; moment = 0; validated = true; word = 63 };
+  client_making = record { settings = with_uni 1; windows = steady; parameters = one_way_parameters; id = client_id; moment = 0; validated = true; words = λ n. 63 };
+  server_making = record { settings = plain_settings; windows = steady; parameters = worked_parameters; id = server_id; moment = 0; validated = true; words = λ n. 63 };
   client_is = record { range = record { receive_window = lit< tt; stream_receive_window = lit< tt; bounds = record { bidi = lit≤ tt; uni = lit≤ tt; divides = lit< tt; initial = lit≤ tt; least = lit≤ tt }; search = tt }; sizes = lit≤ tt; says = one_way_say; id = refl };
   server_is = record { range = record { receive_window = lit< tt; stream_receive_window = lit< tt; bounds = record { bidi = lit≤ tt; uni = lit≤ tt; divides = lit< tt; initial = lit≤ tt; least = lit≤ tt }; search = tt }; sizes = lit≤ tt; says = parameters_say; id = refl };
-  client = subst (λ read. IsMade Client (with_uni 1) steady read client_id server_id 0 true 63 one_back.client) (sym parameters_say) refl;
-  server = subst (λ read. IsMade Server plain_settings steady read server_id client_id 0 true 63 one_back.server) (sym one_way_say) refl;
+  client = subst (λ read. IsMade Client (with_uni 1) steady read client_id server_id 0 true (λ n. 63) one_back.client) (sym parameters_say) refl;
+  server = subst (λ read. IsMade Server plain_settings steady read server_id client_id 0 true (λ n. 63) one_back.server) (sym one_way_say) refl;
   client_gave = refl;
   server_gave = refl;
+  client_heard = refl;
+  server_heard = refl;
 }
 
 opens_way : IsStep worked_policies one_back opens_one_way (answers.Open (Some 2)) one_way_opened
-opens_way = record { answer = refl; end = refl; control = refl; heard = counts_so worked_policies one_back opens_one_way (answers.Open (Some 2)); others = refl; lacking = tt }
+opens_way = record { answer = refl; end = refl; control = refl; heard = counts_so worked_policies one_back opens_one_way (answers.Open (Some 2)); openings = tt; others = refl; lacking = tt }
 
 writes_way : IsStep worked_policies one_way_opened (writes_on 2 hello) (answers.Write (Ok 5)) one_way_written
-writes_way = record { answer = inl refl; end = refl; control = refl; heard = counts_so worked_policies one_way_opened (writes_on 2 hello) (answers.Write (Ok 5)); others = refl; lacking = λ lacks. cc }
+writes_way = record { answer = inl refl; end = refl; control = refl; heard = counts_so worked_policies one_way_opened (writes_on 2 hello) (answers.Write (Ok 5)); openings = tt; others = refl; lacking = λ lacks. cc }
 
-gives_way : IsStep worked_policies one_way_written asks_datagram (gives_bytes 34) one_way_sent
+gives_way : IsStep worked_policies one_way_written asks_datagram (gives_bytes 146) one_way_sent
 unfolding one_way_sent
-gives_way = record { answer = inl refl; end = refl; control = refl; heard = counts_so worked_policies one_way_written asks_datagram (gives_bytes 34); others = refl; lacking = tt }
+gives_way = record { answer = inl refl; end = refl; control = refl; heard = counts_so worked_policies one_way_written asks_datagram (gives_bytes 146); openings = tt; others = refl; lacking = tt }
 
 takes_way : IsStep worked_policies one_way_sent delivers (answers.Deliver receives.Taken) one_way_taken
 unfolding one_way_taken
-takes_way = record { answer = inl refl; end = refl; control = refl; heard = counts_so worked_policies one_way_sent delivers (answers.Deliver receives.Taken); others = refl; lacking = tt }
+takes_way = record { answer = inl refl; end = refl; control = refl; heard = counts_so worked_policies one_way_sent delivers (answers.Deliver receives.Taken); openings = tt; others = refl; lacking = tt }
 
 -- the stream that an answer accepts
 abbrev accepted_in : Answer → ℕ
@@ -166,14 +169,14 @@ abbrev way_frame : StreamValue
 way_frame = record { id = 2; offset = 0; fin = false; bytes = hello }
 
 abbrev way_packet : Packet
-way_packet = record { number = 0; frames = stream way_frame ∷ [] }
+way_packet = record { number = 0; frames = behind_ids (stream way_frame ∷ []) }
 
 way_took : took opened_instead Server 5 ≡ way_packet ∷ []
 unfolding once_taken
 way_took = refl
 
 way_named : WasNamed (way_packet ∷ []) 2
-way_named = record { packet = way_packet; was_taken = inl refl; frame = stream way_frame; carried = inl refl; opens = refl }
+way_named = record { packet = way_packet; was_taken = inl refl; frame = stream way_frame; carried = inr (inr (inr (inr (inl refl)))); opens = refl }
 
 two_in : In {X = ℕ} 2 (3 ∷ []) → ⊥
 two_in (inl e) = omega (arith, e)
@@ -193,9 +196,9 @@ instead_is_honest = record { start = one_back_started; keys = are_keys; ids = ow
 
 accepts_none : IsStep worked_policies once_read accepts_stream (answers.Accept None) nothing_to_accept
 unfolding once_taken
-accepts_none = record { answer = refl; end = refl; control = refl; heard = counts_so worked_policies once_read accepts_stream (answers.Accept None); others = refl; lacking = tt }
+accepts_none = record { answer = refl; end = refl; control = refl; heard = counts_so worked_policies once_read accepts_stream (answers.Accept None); openings = tt; others = refl; lacking = tt }
 
-none_seen : record { client = sent_view; server = waiting_view } ≡ view_of nothing_to_accept
+none_seen : record { client = sent_view; server = server_waiting } ≡ view_of nothing_to_accept
 unfolding once_taken
 none_seen = refl
 
@@ -301,7 +304,7 @@ abbrev first_dropped : Told
 first_dropped = record { call = (delivers_at 0).call; answer = answers.Deliver duplicate; state = states.Open }
 
 abbrev abc_opening : Opening
-abc_opening = record { first = 0x40; number = 0; payload = 0x0a ∷ 0x00 ∷ 0x03 ∷ abc }
+abc_opening = record { first = 0x40; number = 0; payload = told_ids (0x0a ∷ 0x00 ∷ 0x03 ∷ abc) }
 
 abbrev below_came : CameTo (abc_datagram ∷ def_datagram ∷ []) (until below_dropped Server 7)
 below_came = record {
@@ -357,7 +360,7 @@ noted_takes h = not_dropped (hello_datagram ∷ []) (until noted_early Server 6)
 
 spoilt_drops : IsStep worked_policies once_sent (injects Server spoilt_datagram) (answers.Inject (receives.Dropped drops.NotOpened)) once_spoilt
 unfolding once_sent
-spoilt_drops = record { answer = refl; end = refl; control = refl; heard = counts_so worked_policies once_sent (injects Server spoilt_datagram) (answers.Inject (receives.Dropped drops.NotOpened)); others = refl; lacking = tt }
+spoilt_drops = record { answer = refl; end = refl; control = refl; heard = counts_so worked_policies once_sent (injects Server spoilt_datagram) (answers.Inject (receives.Dropped drops.NotOpened)); openings = refl; others = refl; lacking = tt }
 
 noted_no : IsRefused once_sent delivers (answers.Deliver duplicate)
 unfolding once_taken

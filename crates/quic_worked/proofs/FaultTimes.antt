@@ -1,4 +1,5 @@
--- Machines with a fault in their timers, their numbers, and in what they keep back; and the runs that they part from.
+-- Machines with a fault in their timers, their numbers, and in what they keep back; and the runs
+-- that they part from.
 use Rattle.std.proofs.Common.{◌≡◌, ◌≤◌, ◌<◌, ◌+◌, ℕ, List, [], ◌∷◌, ◌++◌, Option, Some, None, refl, inl, inr, ap, sym, ◌∙◌, subst, arith, length, lit≤}
 use Rattle.std.specs.Prelude.{slice_get, slice_index}
 use Rattle.quic_wire_core.specs.declared.stream_id.Side.{Side}
@@ -19,7 +20,7 @@ use Rattle.quic_headline.specs.Observer.{Sent, took, sents_until}
 use Rattle.quic_headline.specs.Moments.{LossMoments, LossTimerQuiet, AllNamed}
 use Rattle.quic_headline.specs.Polls.{GaveNothing, bytes_flying, IsFull, IsHeldBack}
 use Rattle.quic_headline.specs.Headline.{IsHonest, IsRun, NumbersRise, opened_there, NoneAbove, OpensAs, NewestOpens}
-use Rattle.quic_worked.specs.Worked.{worked_policies, started, once_opened, once_written, once_ended, once_sent, once_taken, hello_frame, hello_payload, hello_datagram, hello_opening, asks_datagram, sending_events, sending_answers, open_view, sent_view, view_with, worked_run, server_id}
+use Rattle.quic_worked.specs.Worked.{worked_policies, started, once_opened, once_written, once_ended, once_sent, once_taken, hello_frame, hello_datagram, hello_opening, asks_datagram, sending_events, sending_answers, open_view, sent_view, view_with, worked_run, server_id, behind_ids, server_open, hello_whole}
 use Rattle.quic_worked.specs.Acknowledged.{client_acked, client_datagram, from_server, ack_payload}
 use Rattle.quic_worked.specs.Broken.{IsNoRun, asks_event, tells_finished}
 use Rattle.quic_worked.specs.Machines.{NeverGives}
@@ -49,13 +50,13 @@ unfolding client_acked
 moved_due = refl
 
 pub moved_moments : LossMoments clock_moved → ⊥
-moved_moments h = let same : ◌≡◌ {A = ℕ} 6024000000 1024000000 = ap moment_in (h Client 4 (record { client = view_with (Some 6024000000) None; server = open_view }) refl refl refl ∙ ap (λ (o : Option ℕ). Some o) moved_due) in absurd (omega arith)
+moved_moments h = let same : ◌≡◌ {A = ℕ} 6024000000 1024000000 = ap moment_in (h Client 4 (record { client = view_with (Some 6024000000) None; server = server_open }) refl refl refl ∙ ap (λ (o : Option ℕ). Some o) moved_due) in absurd (omega arith)
 
 pub moved_is_honest : IsHonest clock_moved
 moved_is_honest = honest clock_moved (record { start = refl; keys = refl; client = (tt, (tt, (inl refl, (inl refl, (tt, tt))))); server = (tt, (tt, (tt, (tt, (tt, tt))))) })
 
 drops_late : IsStep worked_policies started injects_late (answers.Inject (receives.Dropped drops.TooShort)) started
-drops_late = record { answer = refl; end = refl; control = refl; heard = counts_so worked_policies started injects_late (answers.Inject (receives.Dropped drops.TooShort)); others = refl; lacking = tt }
+drops_late = record { answer = refl; end = refl; control = refl; heard = counts_so worked_policies started injects_late (answers.Inject (receives.Dropped drops.TooShort)); openings = tt; others = refl; lacking = tt }
 
 -- the machine shows the moment that is reckoned
 stays : Follows worked_policies started (injected_before 1024000000).events (injected_before 1024000000).answers (injected_before 1024000000).views once_sent
@@ -117,7 +118,7 @@ quiet_is_run read = record { codes = no_codes (quiet_run read).events refl; foll
 
 nothing_told : IsStep worked_policies once_told asks_event (answers.Event None) nothing_to_tell
 unfolding once_acked
-nothing_told = record { answer = refl; end = refl; control = refl; heard = counts_so worked_policies once_told asks_event (answers.Event None); others = refl; lacking = tt }
+nothing_told = record { answer = refl; end = refl; control = refl; heard = counts_so worked_policies once_told asks_event (answers.Event None); openings = tt; others = refl; lacking = tt }
 
 told_seen : both_open ≡ view_of once_told
 unfolding once_acked
@@ -181,7 +182,7 @@ stays_is_honest = acknowledged_is_honest sent_view
 
 -- the one datagram that the client gave, and the packet that it took
 abbrev hello_sent : Sent
-hello_sent = record { id = server_id; number = 0; reference = 0; frames = stream hello_frame ∷ []; moment = 0; size = 34 }
+hello_sent = record { id = server_id; number = 0; reference = 0; frames = behind_ids (stream hello_frame ∷ []); moment = 0; size = 146 }
 
 abbrev ack_packet : Packet
 ack_packet = record { number = 0; frames = ack ack_of_hello ∷ [] }
@@ -226,7 +227,7 @@ hello_is_told read = refl
 abbrev ping_sent : Sent
 ping_sent = record { id = server_id; number = 1; reference = 0; frames = frames_of (items ping_payload); moment = 0; size = 29 }
 
-never_opens : opened_there cut_short Client 6 (client_datagram 300 250 hello_payload) ≡ None
+never_opens : opened_there cut_short Client 6 (client_datagram 300 250 hello_whole) ≡ None
 never_opens = refl
 
 not_as_sent : (s : Sent) → OpensAs s None → ⊥
@@ -236,7 +237,8 @@ none_above : NoneAbove (took cut_short Server 6) 1
 none_above packet i = absurd i
 
 pub short_opens : NewestOpens cut_short → ⊥
-short_opens h = not_as_sent ping_sent (subst (λ (o : Option Opening). OpensAs ping_sent o) never_opens (h Client 6 0 (client_datagram 300 250 hello_payload) ping_sent refl refl refl none_above))
+unfolding once_taken
+short_opens h = not_as_sent ping_sent (subst (λ (o : Option Opening). OpensAs ping_sent o) never_opens (h Client 6 0 (client_datagram 300 250 hello_whole) ping_sent refl refl refl none_above))
 
 pub short_numbers : NumbersRise cut_short → ⊥
 short_numbers h = (h Client 6 refl).4
@@ -247,7 +249,7 @@ short_is_honest = honest cut_short (record { start = refl; keys = refl; client =
 -- the last byte of the number in the tag of the first datagram
 abbrev tagged : List (List ℕ) → ℕ
 tagged [] = 1
-tagged (d ∷ ds) = slice_index d 25
+tagged (d ∷ ds) = slice_index d 137
 
 right_tag : tagged pinged_once.from_client ≡ 0
 unfolding pinged_once
@@ -266,11 +268,11 @@ never_short views end is = not_short.never views end is.follows is.from_client
 
 waits_behind : IsStep worked_policies (once_held 3) (sends_message ping_message) is_sent held_message
 unfolding held_message
-waits_behind = record { answer = inl refl; end = refl; control = refl; heard = counts_so worked_policies (once_held 3) (sends_message ping_message) is_sent; others = others_so worked_policies (once_held 3) (sends_message ping_message) is_sent; lacking = λ lacks. cc }
+waits_behind = record { answer = inl refl; end = refl; control = refl; heard = counts_so worked_policies (once_held 3) (sends_message ping_message) is_sent; openings = tt; others = others_so worked_policies (once_held 3) (sends_message ping_message) is_sent; lacking = λ lacks. cc }
 
 holds_it : IsStep worked_policies held_message (asks_at Client 0) gives_nothing message_held
 unfolding message_held
-holds_it = record { answer = inl refl; end = refl; control = refl; heard = counts_so worked_policies held_message (asks_at Client 0) gives_nothing; others = refl; lacking = tt }
+holds_it = record { answer = inl refl; end = refl; control = refl; heard = counts_so worked_policies held_message (asks_at Client 0) gives_nothing; openings = tt; others = refl; lacking = tt }
 
 waits_seen : full_view ≡ view_of held_message
 unfolding held_message

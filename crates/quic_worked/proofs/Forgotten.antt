@@ -1,5 +1,5 @@
--- A client that forgets a datagram which never came doesn't wait for what is in flight, leaves bytes that are nowhere, and no
--- run leads to it.
+-- A client that forgets a datagram which never came doesn't wait for what is in flight, leaves
+-- bytes that are nowhere, and no run leads to it.
 use Rattle.std.proofs.Common.{take, map, ◌≡◌, [], ◌∷◌, true, refl, ap, ◌∙◌, ◌⊎◌, inl, inr, arith}
 use Rattle.quic_wire_core.specs.declared.stream_id.Side.TheVariants.{Client, Server}
 use Rattle.quic_machine.specs.declared.answers.State.TheVariants as states
@@ -11,11 +11,12 @@ use Rattle.quic_headline.specs.Runs.{HasArrived}
 use Rattle.quic_headline.specs.Duties.{Offset, Waits, IsCarried, DutiesAt}
 use Rattle.quic_headline.specs.Observer.{took}
 use Rattle.quic_headline.specs.InFlight.{in_flight, but_for_record, TracksAt}
-use Rattle.quic_worked.specs.Worked.{sending_events, sending_answers, worked_views, carrying, acknowledging, started, once_opened, once_written, once_ended, once_sent, once_taken, worked_policies}
+use Rattle.quic_worked.specs.Worked.{sending_events, sending_answers, worked_views, carrying, acknowledging, started, once_opened, once_written, once_ended, once_sent, once_taken, worked_policies, ids_again}
 use Rattle.quic_worked.specs.Acknowledged.{client_acked}
 use Rattle.quic_worked.specs.Broken.{NeverLeads, sending_run, answered_run, forgotten}
 use Rattle.quic_machine.specs.RunLaws.{one_run}
 use Rattle.quic_worked.proofs.WorkedRun.{opens, writes, finishes, gives, sent_seen}
+use Rattle.quic_retransmits.specs.Retransmits.{nothing_waits}
 
 -- ---- what is in flight, at each place
 
@@ -24,7 +25,7 @@ pub flies_not : (read : ReadCall) → in_flight (answered_run read) Client 3 ≡
 flies_not read = refl
 
 -- until it is acknowledged, it is
-pub flies : (read : ReadCall) → in_flight (answered_run read) Client 7 ≡ (0, carrying 34 0 5 true) ∷ []
+pub flies : (read : ReadCall) → in_flight (answered_run read) Client 7 ≡ (0, carrying ids_again 146 0 5 true) ∷ []
 unfolding once_taken
 flies read = refl
 
@@ -41,7 +42,7 @@ flies_silent read = refl
 -- ---- the client that forgets it
 
 -- it is in flight once it was given
-flies_first : (read : ReadCall) → in_flight (sending_run read) Client 4 ≡ (0, carrying 34 0 5 true) ∷ []
+flies_first : (read : ReadCall) → in_flight (sending_run read) Client 4 ≡ (0, carrying ids_again 146 0 5 true) ∷ []
 unfolding once_taken
 flies_first read = refl
 
@@ -52,7 +53,7 @@ still_open = refl
 
 -- waits for nothing
 pub forgets : (read : ReadCall) → TracksAt (sending_run read) 4 forgotten → ⊥
-forgets read h = let none : ◌≡◌ {A = Table TrackedPacket} [] ((0, carrying 34 0 5 true) ∷ []) = (h Client still_open).same ∙ ap (λ (ps : Table TrackedPacket). map but_for_record ps) (flies_first read) in cc
+forgets read h = let none : ◌≡◌ {A = Table TrackedPacket} [] ((0, carrying nothing_waits 146 0 5 true) ∷ []) = (h Client still_open).same ∙ ap (λ (ps : Table TrackedPacket). map but_for_record ps) (flies_first read) in cc
 
 -- nothing waits to go
 waits_not : Waits forgotten.client (Offset 0 0) → ⊥
@@ -77,7 +78,7 @@ sends = (
   (once_written, writes, refl, (once_ended, finishes, refl, (once_sent, gives, sent_seen, refl))),
 )
 
-tracked : once_sent.client.tracking.packets ≡ (0, carrying 34 0 5 true) ∷ []
+tracked : once_sent.client.tracking.packets ≡ (0, carrying ids_again 146 0 5 true) ∷ []
 unfolding once_sent
 tracked = refl
 
@@ -85,5 +86,5 @@ tracked = refl
 pub never_forgets : NeverLeads sending_events sending_answers forgotten
 never_forgets views f =
     let same = one_run worked_policies sending_answers started sending_events views (take 4 worked_views) forgotten once_sent refl f sends in
-    let none : ◌≡◌ {A = Table TrackedPacket} [] ((0, carrying 34 0 5 true) ∷ []) = ap (λ (w : World). w.client.tracking.packets) same.1 ∙ tracked in
+    let none : ◌≡◌ {A = Table TrackedPacket} [] ((0, carrying ids_again 146 0 5 true) ∷ []) = ap (λ (w : World). w.client.tracking.packets) same.1 ∙ tracked in
     cc

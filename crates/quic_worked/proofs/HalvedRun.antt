@@ -23,7 +23,7 @@ use Rattle.quic_headline.specs.Observer.{Watch, Lens, asks_of, news, has_opened,
 use Rattle.quic_headline.specs.Observer as observer
 use Rattle.quic_headline.specs.Headline.{IsHonest, IsRun}
 use Rattle.quic_headline.specs.Telling.{Tellings, Judging, judging, first_behind, told_if, MayProbe, lost_at, but_for_probe, bytes_asking, acked_flight, TellsLosses, TellsAck, TellsNamed, TellsSettled, TellsPackets, TellsCall, TellsCalls, ControllersAreTold}
-use Rattle.quic_worked.specs.Worked.{worked_policies, asks_datagram, gives_bytes, told_in, server_id}
+use Rattle.quic_worked.specs.Worked.{worked_policies, asks_datagram, gives_bytes, told_in, server_id, id_frames}
 use Rattle.quic_headline.specs.AppLimited.{CountsAt}
 use Rattle.quic_headline.proofs.AppLimited.Clause.{controllers_are_told}
 use Rattle.quic_worked.specs.Acknowledged.{client_acked, third_ack}
@@ -51,6 +51,8 @@ halving_started = record {
   server = are_started.server;
   client_gave = refl;
   server_gave = refl;
+  client_heard = refl;
+  server_heard = refl;
 }
 
 halving_own : (side : Side) → AreOwn side [] halving_run.events halving_run.answers halving_run.views
@@ -71,15 +73,15 @@ untold_is_honest = record { start = halving_started; keys = are_keys; ids = own_
 
 step_0 : IsStep worked_policies halving asks_ping answers.Ping (once_halving 1)
 unfolding once_halving
-step_0 = record { answer = refl; end = refl; control = refl; heard = counts_so worked_policies halving asks_ping answers.Ping; others = refl; lacking = tt }
+step_0 = record { answer = refl; end = refl; control = refl; heard = counts_so worked_policies halving asks_ping answers.Ping; openings = tt; others = refl; lacking = tt }
 
 seen_0 : (seen_with None None) ≡ view_of (once_halving 1)
 unfolding once_halving
 seen_0 = refl
 
-step_1 : IsStep worked_policies (once_halving 1) asks_datagram (gives_bytes 29) (once_halving 2)
+step_1 : IsStep worked_policies (once_halving 1) asks_datagram (gives_bytes 139) (once_halving 2)
 unfolding once_halving
-step_1 = record { answer = inl refl; end = refl; control = refl; heard = counts_so worked_policies (once_halving 1) asks_datagram (gives_bytes 29); others = refl; lacking = tt }
+step_1 = record { answer = inl refl; end = refl; control = refl; heard = counts_so worked_policies (once_halving 1) asks_datagram (gives_bytes 139); openings = tt; others = refl; lacking = tt }
 
 seen_1 : (seen_with (Some 1024000000) None) ≡ view_of (once_halving 2)
 unfolding once_halving
@@ -87,7 +89,7 @@ seen_1 = refl
 
 step_2 : IsStep worked_policies (once_halving 2) asks_ping answers.Ping (once_halving 3)
 unfolding once_halving
-step_2 = record { answer = refl; end = refl; control = refl; heard = counts_so worked_policies (once_halving 2) asks_ping answers.Ping; others = refl; lacking = tt }
+step_2 = record { answer = refl; end = refl; control = refl; heard = counts_so worked_policies (once_halving 2) asks_ping answers.Ping; openings = tt; others = refl; lacking = tt }
 
 seen_2 : (seen_with (Some 1024000000) None) ≡ view_of (once_halving 3)
 unfolding once_halving
@@ -95,7 +97,7 @@ seen_2 = refl
 
 step_3 : IsStep worked_policies (once_halving 3) asks_datagram (gives_bytes 29) (once_halving 4)
 unfolding once_halving
-step_3 = record { answer = inl refl; end = refl; control = refl; heard = counts_so worked_policies (once_halving 3) asks_datagram (gives_bytes 29); others = refl; lacking = tt }
+step_3 = record { answer = inl refl; end = refl; control = refl; heard = counts_so worked_policies (once_halving 3) asks_datagram (gives_bytes 29); openings = tt; others = refl; lacking = tt }
 
 seen_3 : (seen_with (Some 1024000000) None) ≡ view_of (once_halving 4)
 unfolding once_halving
@@ -103,7 +105,7 @@ seen_3 = refl
 
 step_4 : IsStep worked_policies (once_halving 4) asks_ping answers.Ping (once_halving 5)
 unfolding once_halving
-step_4 = record { answer = refl; end = refl; control = refl; heard = counts_so worked_policies (once_halving 4) asks_ping answers.Ping; others = refl; lacking = tt }
+step_4 = record { answer = refl; end = refl; control = refl; heard = counts_so worked_policies (once_halving 4) asks_ping answers.Ping; openings = tt; others = refl; lacking = tt }
 
 seen_4 : (seen_with (Some 1024000000) None) ≡ view_of (once_halving 5)
 unfolding once_halving
@@ -111,7 +113,7 @@ seen_4 = refl
 
 step_5 : IsStep worked_policies (once_halving 5) asks_datagram (gives_bytes 29) (once_halving 6)
 unfolding once_halving
-step_5 = record { answer = inl refl; end = refl; control = refl; heard = counts_so worked_policies (once_halving 5) asks_datagram (gives_bytes 29); others = refl; lacking = tt }
+step_5 = record { answer = inl refl; end = refl; control = refl; heard = counts_so worked_policies (once_halving 5) asks_datagram (gives_bytes 29); openings = tt; others = refl; lacking = tt }
 
 seen_5 : (seen_with (Some 1024000000) None) ≡ view_of (once_halving 6)
 unfolding once_halving
@@ -119,7 +121,7 @@ seen_5 = refl
 
 step_6 : IsStep worked_policies (once_halving 6) asks_ping answers.Ping (once_halving 7)
 unfolding once_halving
-step_6 = record { answer = refl; end = refl; control = refl; heard = counts_so worked_policies (once_halving 6) asks_ping answers.Ping; others = refl; lacking = tt }
+step_6 = record { answer = refl; end = refl; control = refl; heard = counts_so worked_policies (once_halving 6) asks_ping answers.Ping; openings = tt; others = refl; lacking = tt }
 
 seen_6 : (seen_with (Some 1024000000) None) ≡ view_of (once_halving 7)
 unfolding once_halving
@@ -127,7 +129,7 @@ seen_6 = refl
 
 step_7 : IsStep worked_policies (once_halving 7) asks_datagram (gives_bytes 29) (once_halving 8)
 unfolding once_halving
-step_7 = record { answer = inl refl; end = refl; control = refl; heard = counts_so worked_policies (once_halving 7) asks_datagram (gives_bytes 29); others = refl; lacking = tt }
+step_7 = record { answer = inl refl; end = refl; control = refl; heard = counts_so worked_policies (once_halving 7) asks_datagram (gives_bytes 29); openings = tt; others = refl; lacking = tt }
 
 seen_7 : (seen_with (Some 1024000000) None) ≡ view_of (once_halving 8)
 unfolding once_halving
@@ -135,7 +137,7 @@ seen_7 = refl
 
 step_8 : IsStep worked_policies (once_halving 8) (delivers_at 3) (answers.Deliver receives.Taken) (once_halving 9)
 unfolding once_halving
-step_8 = record { answer = inl refl; end = refl; control = refl; heard = counts_so worked_policies (once_halving 8) (delivers_at 3) (answers.Deliver receives.Taken); others = refl; lacking = tt }
+step_8 = record { answer = inl refl; end = refl; control = refl; heard = counts_so worked_policies (once_halving 8) (delivers_at 3) (answers.Deliver receives.Taken); openings = tt; others = refl; lacking = tt }
 
 seen_8 : (seen_with (Some 1024000000) None) ≡ view_of (once_halving 9)
 unfolding once_halving
@@ -143,7 +145,7 @@ seen_8 = refl
 
 step_9 : IsStep worked_policies (once_halving 9) asks_server (gives_bytes 31) (once_halving 10)
 unfolding once_halving
-step_9 = record { answer = inl refl; end = refl; control = refl; heard = counts_so worked_policies (once_halving 9) asks_server (gives_bytes 31); others = refl; lacking = tt }
+step_9 = record { answer = inl refl; end = refl; control = refl; heard = counts_so worked_policies (once_halving 9) asks_server (gives_bytes 31); openings = tt; others = refl; lacking = tt }
 
 seen_9 : (seen_with (Some 1024000000) None) ≡ view_of (once_halving 10)
 unfolding once_halving
@@ -151,7 +153,7 @@ seen_9 = refl
 
 step_10 : IsStep worked_policies (once_halving 10) (comes_at Client 100000000) (answers.Deliver receives.Taken) (once_halving 11)
 unfolding once_halving
-step_10 = record { answer = inl refl; end = refl; control = refl; heard = counts_so worked_policies (once_halving 10) (comes_at Client 100000000) (answers.Deliver receives.Taken); others = refl; lacking = tt }
+step_10 = record { answer = inl refl; end = refl; control = refl; heard = counts_so worked_policies (once_halving 10) (comes_at Client 100000000) (answers.Deliver receives.Taken); openings = tt; others = refl; lacking = tt }
 
 seen_10 : halved_view (Some 112500000) ≡ view_of (once_halving 11)
 unfolding once_halving
@@ -159,7 +161,7 @@ seen_10 = refl
 
 step_11 : IsStep worked_policies (once_halving 11) (serves Client 112500000) (answers.Timeout (Ok tt)) (once_halving 12)
 unfolding once_halving
-step_11 = record { answer = inl refl; end = refl; control = refl; heard = counts_so worked_policies (once_halving 11) (serves Client 112500000) (answers.Timeout (Ok tt)); others = refl; lacking = tt }
+step_11 = record { answer = inl refl; end = refl; control = refl; heard = counts_so worked_policies (once_halving 11) (serves Client 112500000) (answers.Timeout (Ok tt)); openings = tt; others = refl; lacking = tt }
 
 seen_11 : halved_view None ≡ view_of (once_halving 12)
 unfolding once_halving
@@ -184,7 +186,7 @@ unfolding once_halving
 told_so = refl
 
 pub halving_is_told : ControllersAreTold halving_run
-halving_is_told = controllers_are_told halving_run (once_halving 12) halving_is_honest halving_is_run
+halving_is_told = controllers_are_told halving_run (once_halving 12) halving_is_honest halving_is_run (refl, refl)
 
 -- ---- a controller that is told of no loss
 
@@ -211,11 +213,11 @@ told_one true now sent persistent lost some = refl
 told_one false now sent persistent lost some = cc
 
 -- what the last of some calls tells is told among the rest
-last_told : (l : Lens) (c : TransportSettings) (may : ℕ → Bool → Type 0) (n : ℕ) (first : Option ℕ) (w : Watch) (ts : List of_runs.Told) (t : of_runs.Told) (told : Tellings) → TellsCalls l c may n first w (ts ++ t ∷ []) told
-    → (known : Option ℕ) × (limited : Bool) × (now : Tellings) × TellsCall l c known limited (folded (watch_told l) ts w) t now × (list_any is_congestion now ≡ true → list_any is_congestion told ≡ true)
-last_told l c may n first w [] t told m = (first, m.0, m.1, m.4, λ some. subst (λ (us : Tellings). list_any is_congestion us ≡ true) (sym m.6) (any_left m.1 m.2 some))
-last_told l c may n first w (u ∷ ts) t told m =
-    let rest = last_told l c may (suc n) (first_behind first (watch_told l u w)) (watch_told l u w) ts t m.2 m.5 in
+last_told : (l : Lens) (c : TransportSettings) (valid : Bool) (may : ℕ → Bool → Type 0) (n : ℕ) (first : Option ℕ) (w : Watch) (ts : List of_runs.Told) (t : of_runs.Told) (told : Tellings) → TellsCalls l c valid may n first w (ts ++ t ∷ []) told
+    → (known : Option ℕ) × (limited : Bool) × (now : Tellings) × TellsCall l c valid known limited (folded (watch_told l) ts w) t now × (list_any is_congestion now ≡ true → list_any is_congestion told ≡ true)
+last_told l c valid may n first w [] t told m = (first, m.0, m.1, m.4, λ some. subst (λ (us : Tellings). list_any is_congestion us ≡ true) (sym m.6) (any_left m.1 m.2 some))
+last_told l c valid may n first w (u ∷ ts) t told m =
+    let rest = last_told l c valid may (suc n) (first_behind first (watch_told l u w)) (watch_told l u w) ts t m.2 m.5 in
     (rest.0, rest.1, rest.2, rest.3, λ some. subst (λ (us : Tellings). list_any is_congestion us ≡ true) (sym m.6) (any_right m.1 m.2 (rest.4 some)))
 
 -- the acknowledgement that comes, and what is known before it
@@ -254,6 +256,10 @@ clock_is = refl
 abbrev pinged : ℕ → observer.Sent
 pinged n = record { id = server_id; number = n; reference = 0; frames = ping ∷ padding ∷ padding ∷ []; moment = 0; size = 29 }
 
+-- and the first one, which told its ids
+abbrev first_pinged : observer.Sent
+first_pinged = record { id = server_id; number = 0; reference = 0; frames = ping ∷ id_frames; moment = 0; size = 139 }
+
 abbrev others : List observer.Sent
 others = filter (λ (s : observer.Sent). not (names third_ack s.number)) seen.flight.flying
 
@@ -264,28 +270,28 @@ acked_is = refl
 abbrev behind : observer.Flight
 behind = acked_flight lens.terms 100000000 third_ack (pinged 3 ∷ []) others seen.flight
 
-lost_is : lost_at lens.terms 100000000 behind ≡ pinged 0 ∷ []
+lost_is : lost_at lens.terms 100000000 behind ≡ first_pinged ∷ []
 unfolding client_acked
 lost_is = refl
 
 -- it is too small for a probe
-no_probe : MayProbe settings.min_mtu (pinged 0) → ⊥
-no_probe p = let least : 1200 ≤ 29 = p.sized in omega (arith, least)
+no_probe : MayProbe settings.min_mtu first_pinged → ⊥
+no_probe p = let least : 1200 ≤ 139 = p.sized in omega (arith, least)
 
 one_asks : (probe : Option ℕ) → ((s : observer.Sent) → In s (lost_at lens.terms 100000000 behind) → is_number s.number probe ≡ true → MayProbe settings.min_mtu s) → list_any asks_of (but_for_probe probe (lost_at lens.terms 100000000 behind)) ≡ true
 one_asks probe pings = ap (λ (ss : List observer.Sent). list_any asks_of (but_for_probe probe ss)) lost_is ∙ go (is_number 0 probe) refl
   where
-    among : In (pinged 0) (lost_at lens.terms 100000000 behind)
-    among = subst (λ (ss : List observer.Sent). In (pinged 0) ss) (sym lost_is) (inl refl)
+    among : In first_pinged (lost_at lens.terms 100000000 behind)
+    among = subst (λ (ss : List observer.Sent). In first_pinged ss) (sym lost_is) (inl refl)
 
-    go : (b : Bool) → is_number 0 probe ≡ b → list_any asks_of (but_for_probe probe (pinged 0 ∷ [])) ≡ true
-    go true is = absurd (no_probe (pings (pinged 0) among is))
-    go false is = ap (λ (b : Bool). list_any asks_of (cond (not b) (pinged 0 ∷ []) [])) is
+    go : (b : Bool) → is_number 0 probe ≡ b → list_any asks_of (but_for_probe probe (first_pinged ∷ [])) ≡ true
+    go true is = absurd (no_probe (pings first_pinged among is))
+    go false is = ap (λ (b : Bool). list_any asks_of (cond (not b) (first_pinged ∷ []) [])) is
 
 module _ (first : Option ℕ) (limited : Bool) where
   -- by what losses are judged there, where this number went next as a round trip was first measured
   abbrev j : Judging
-  j = judging lens settings first limited seen
+  j = judging lens settings true first limited seen
 
   losses_congest : (told : Tellings) → TellsLosses j 100000000 true behind told → list_any is_congestion told ≡ true
   losses_congest told x =
@@ -308,7 +314,7 @@ module _ (first : Option ℕ) (limited : Bool) where
       subst (λ (us : Tellings). list_any is_congestion us ≡ true) (sym m.4)
       (any_right m.0 m.1 (subst (λ (us : Tellings). list_any is_congestion us ≡ true) (sym frames.4) (any_left frames.0 frames.1 (settled_congests frames.0 settled))))
 
-  call_congests : (now : Tellings) → TellsCall lens settings first limited seen comes now → list_any is_congestion now ≡ true
+  call_congests : (now : Tellings) → TellsCall lens settings true first limited seen comes now → list_any is_congestion now ≡ true
   call_congests now x = ap (λ (us : Tellings). list_any is_congestion us) x.is ∙ any_left (x.taken ++ x.refused ++ x.late) _ (any_left (x.taken ++ x.refused) x.late (any_left x.taken x.refused (packets_congest x.taken takes)))
     where
       clock : x.clock ≡ 100000000
@@ -326,7 +332,7 @@ module _ (first : Option ℕ) (limited : Bool) where
 pub untold_not : ControllersAreTold untold_run → ⊥
 untold_not h =
     let all = h Client 10 (seen_with (Some 112500000) None) refl refl in
-    let last = last_told lens settings (CountsAt untold_run Client) 0 None (watch_from (end_at Client halving) untold_run.from_client) (until untold_run Client 10) comes all.0 (subst (λ (ts : List of_runs.Told). TellsCalls lens settings (CountsAt untold_run Client) 0 None (watch_from (end_at Client halving) untold_run.from_client) ts all.0) comes_last all.1) in
+    let last = last_told lens settings true (CountsAt untold_run Client) 0 None (watch_from (end_at Client halving) untold_run.from_client) (until untold_run Client 10) comes all.0 (subst (λ (ts : List of_runs.Told). TellsCalls lens settings true (CountsAt untold_run Client) 0 None (watch_from (end_at Client halving) untold_run.from_client) ts all.0) comes_last all.1) in
     let shows : ◌≡◌ {A = ℕ} 12000 (if list_any is_congestion all.0 then 6000 else 12000) = all.2 in
     let halves : ◌≡◌ {A = ℕ} 12000 6000 = shows ∙ ap (λ (b : Bool). if b then 6000 else 12000) (last.4 (call_congests last.0 last.1 last.2 last.3)) in
     absurd (omega (arith, halves))

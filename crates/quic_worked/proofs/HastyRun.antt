@@ -22,59 +22,60 @@ use Rattle.quic_worked.specs.Timed.{seen_with, timed_run}
 use Rattle.quic_worked.specs.Measured.{measured_run}
 use Rattle.quic_worked.specs.Held.{gives_nothing}
 use Rattle.quic_worked.specs.Broken.{IsNoRun}
-use Rattle.quic_worked.specs.Hasty.{once_hasty, hasty_run, ping_packet, many_wait, gap_events, gap_answers, gap_waits, comes_marked, once_marked, marked_run, mark_waits, late_waits}
+use Rattle.quic_worked.specs.Hasty.{once_hasty, hasty_run, ping_packet, many_wait, gap_events, gap_answers, gap_waits, comes_marked, once_marked, marked_run, mark_waits, late_waits, first_packet}
 use Rattle.quic_worked.proofs.Codes.{no_codes}
 use Rattle.quic_worked.proofs.OwnIds.{AreOwn, own_ids}
 use Rattle.quic_worked.proofs.BrokenRuns.{IsRefused, stops, behind}
 use Rattle.quic_worked.proofs.WorkedHonest.{are_started}
 use Rattle.quic_worked.proofs.WorkedKeys.{are_keys}
-use Rattle.quic_worked.proofs.Steps.{counts_so, counts_ran}
+use Rattle.quic_worked.proofs.Steps.{counts_so}
+use Rattle.quic_worked.proofs.Validated.{unless_limited}
 
 -- ---- the machine's run
 
 pub step_0 : IsStep worked_policies started asks_ping answers.Ping (once_hasty 1)
 unfolding once_hasty
-step_0 = record { answer = refl; end = refl; control = refl; heard = counts_so worked_policies started asks_ping answers.Ping; others = refl; lacking = tt }
+step_0 = record { answer = refl; end = refl; control = refl; heard = counts_so worked_policies started asks_ping answers.Ping; openings = tt; others = refl; lacking = tt }
 
-seen_0 : seen_with None None ≡ view_of (once_hasty 1)
+pub seen_0 : seen_with None None ≡ view_of (once_hasty 1)
 unfolding once_hasty
 seen_0 = refl
 
-pub step_1 : IsStep worked_policies (once_hasty 1) asks_datagram (gives_bytes 29) (once_hasty 2)
+pub step_1 : IsStep worked_policies (once_hasty 1) asks_datagram (gives_bytes 139) (once_hasty 2)
 unfolding once_hasty
-step_1 = record { answer = inl refl; end = refl; control = refl; heard = counts_so worked_policies (once_hasty 1) asks_datagram (gives_bytes 29); others = refl; lacking = tt }
+step_1 = record { answer = inl refl; end = refl; control = refl; heard = counts_so worked_policies (once_hasty 1) asks_datagram (gives_bytes 139); openings = tt; others = refl; lacking = tt }
 
-seen_1 : seen_with (Some 1024000000) None ≡ view_of (once_hasty 2)
+pub seen_1 : seen_with (Some 1024000000) None ≡ view_of (once_hasty 2)
 unfolding once_hasty
 seen_1 = refl
 
 pub step_2 : IsStep worked_policies (once_hasty 2) asks_ping answers.Ping (once_hasty 3)
 unfolding once_hasty
-step_2 = record { answer = refl; end = refl; control = refl; heard = counts_so worked_policies (once_hasty 2) asks_ping answers.Ping; others = refl; lacking = tt }
+step_2 = record { answer = refl; end = refl; control = refl; heard = counts_so worked_policies (once_hasty 2) asks_ping answers.Ping; openings = tt; others = refl; lacking = tt }
 
-seen_2 : seen_with (Some 1024000000) None ≡ view_of (once_hasty 3)
+pub seen_2 : seen_with (Some 1024000000) None ≡ view_of (once_hasty 3)
 unfolding once_hasty
 seen_2 = refl
 
 pub step_3 : IsStep worked_policies (once_hasty 3) asks_datagram (gives_bytes 29) (once_hasty 4)
 unfolding once_hasty
-step_3 = record { answer = inl refl; end = refl; control = refl; heard = counts_so worked_policies (once_hasty 3) asks_datagram (gives_bytes 29); others = refl; lacking = tt }
+step_3 = record { answer = inl refl; end = refl; control = refl; heard = counts_so worked_policies (once_hasty 3) asks_datagram (gives_bytes 29); openings = tt; others = refl; lacking = tt }
 
-seen_3 : seen_with (Some 1024000000) None ≡ view_of (once_hasty 4)
+pub seen_3 : seen_with (Some 1024000000) None ≡ view_of (once_hasty 4)
 unfolding once_hasty
 seen_3 = refl
 
 pub step_4 : IsStep worked_policies (once_hasty 4) (delivers_at 0) (answers.Deliver receives.Taken) (once_hasty 5)
 unfolding once_hasty
-step_4 = record { answer = inl refl; end = refl; control = refl; heard = counts_so worked_policies (once_hasty 4) (delivers_at 0) (answers.Deliver receives.Taken); others = refl; lacking = tt }
+step_4 = record { answer = inl refl; end = refl; control = refl; heard = counts_so worked_policies (once_hasty 4) (delivers_at 0) (answers.Deliver receives.Taken); openings = tt; others = refl; lacking = tt }
 
-seen_4 : seen_with (Some 1024000000) (Some 25000000) ≡ view_of (once_hasty 5)
+pub seen_4 : seen_with (Some 1024000000) (Some 25000000) ≡ view_of (once_hasty 5)
 unfolding once_hasty
 seen_4 = refl
 
 pub step_5 : IsStep worked_policies (once_hasty 5) (delivers_at 1) (answers.Deliver receives.Taken) (once_hasty 6)
 unfolding once_hasty
-step_5 = record { answer = inl refl; end = refl; control = refl; heard = counts_so worked_policies (once_hasty 5) (delivers_at 1) (answers.Deliver receives.Taken); others = refl; lacking = tt }
+step_5 = record { answer = inl refl; end = refl; control = refl; heard = counts_so worked_policies (once_hasty 5) (delivers_at 1) (answers.Deliver receives.Taken); openings = tt; others = refl; lacking = tt }
 
 seen_5 : seen_with (Some 1024000000) (Some 25000000) ≡ view_of (once_hasty 6)
 unfolding once_hasty
@@ -82,7 +83,7 @@ seen_5 = refl
 
 pub step_6 : IsStep worked_policies (once_hasty 6) asks_server (gives_bytes 31) (once_hasty 7)
 unfolding once_hasty
-step_6 = record { answer = inl refl; end = refl; control = refl; heard = counts_so worked_policies (once_hasty 6) asks_server (gives_bytes 31); others = refl; lacking = tt }
+step_6 = record { answer = inl refl; end = refl; control = refl; heard = counts_so worked_policies (once_hasty 6) asks_server (gives_bytes 31); openings = tt; others = refl; lacking = tt }
 
 seen_6 : seen_with (Some 1024000000) None ≡ view_of (once_hasty 7)
 unfolding once_hasty
@@ -119,7 +120,7 @@ pub due_now : is_due hasty_run Server 6 ≡ true
 unfolding client_acked
 due_now = refl
 
-pub both_wait : unanswered hasty_run Server 6 ≡ ping_packet 1 ∷ ping_packet 0 ∷ []
+pub both_wait : unanswered hasty_run Server 6 ≡ ping_packet 1 ∷ first_packet ∷ []
 unfolding client_acked
 both_wait = refl
 
@@ -137,25 +138,25 @@ never_due = refl
 
 -- ---- one that bears the mark of congestion
 
-marked_0 : IsStep worked_policies started asks_ping answers.Ping (once_marked 1)
+pub marked_0 : IsStep worked_policies started asks_ping answers.Ping (once_marked 1)
 unfolding once_marked
-marked_0 = record { answer = refl; end = refl; control = refl; heard = counts_so worked_policies started asks_ping answers.Ping; others = refl; lacking = tt }
+marked_0 = record { answer = refl; end = refl; control = refl; heard = counts_so worked_policies started asks_ping answers.Ping; openings = tt; others = refl; lacking = tt }
 
 marked_seen_0 : seen_with None None ≡ view_of (once_marked 1)
 unfolding once_marked
 marked_seen_0 = refl
 
-marked_1 : IsStep worked_policies (once_marked 1) asks_datagram (gives_bytes 29) (once_marked 2)
+pub marked_1 : IsStep worked_policies (once_marked 1) asks_datagram (gives_bytes 139) (once_marked 2)
 unfolding once_marked
-marked_1 = record { answer = inl refl; end = refl; control = refl; heard = counts_so worked_policies (once_marked 1) asks_datagram (gives_bytes 29); others = refl; lacking = tt }
+marked_1 = record { answer = inl refl; end = refl; control = refl; heard = counts_so worked_policies (once_marked 1) asks_datagram (gives_bytes 139); openings = tt; others = refl; lacking = tt }
 
 marked_seen_1 : seen_with (Some 1024000000) None ≡ view_of (once_marked 2)
 unfolding once_marked
 marked_seen_1 = refl
 
-marked_2 : IsStep worked_policies (once_marked 2) comes_marked (answers.Deliver receives.Taken) (once_marked 3)
+pub marked_2 : IsStep worked_policies (once_marked 2) comes_marked (answers.Deliver receives.Taken) (once_marked 3)
 unfolding once_marked
-marked_2 = record { answer = inl refl; end = refl; control = refl; heard = counts_so worked_policies (once_marked 2) comes_marked (answers.Deliver receives.Taken); others = refl; lacking = tt }
+marked_2 = record { answer = inl refl; end = refl; control = refl; heard = counts_so worked_policies (once_marked 2) comes_marked (answers.Deliver receives.Taken); openings = tt; others = refl; lacking = tt }
 
 marked_seen_2 : seen_with (Some 1024000000) None ≡ view_of (once_marked 3)
 unfolding once_marked
@@ -163,7 +164,7 @@ marked_seen_2 = refl
 
 marked_3 : IsStep worked_policies (once_marked 3) asks_server (gives_bytes 34) (once_marked 4)
 unfolding once_marked
-marked_3 = record { answer = inl refl; end = refl; control = refl; heard = counts_so worked_policies (once_marked 3) asks_server (gives_bytes 34); others = refl; lacking = tt }
+marked_3 = record { answer = inl refl; end = refl; control = refl; heard = counts_so worked_policies (once_marked 3) asks_server (gives_bytes 34); openings = tt; others = refl; lacking = tt }
 
 marked_seen_3 : seen_with (Some 1024000000) None ≡ view_of (once_marked 4)
 unfolding once_marked
@@ -235,7 +236,7 @@ many_due : is_due many_wait Server 6 ≡ true
 unfolding client_acked
 many_due = refl
 
-many_owed : unanswered many_wait Server 6 ≡ ping_packet 1 ∷ ping_packet 0 ∷ []
+many_owed : unanswered many_wait Server 6 ≡ ping_packet 1 ∷ first_packet ∷ []
 unfolding client_acked
 many_owed = refl
 
@@ -249,7 +250,7 @@ many_none = refl
 
 pub many_not : AcksAreDue many_wait → ⊥
 many_not h = both_ways (acknowledges (went (watch many_wait Server 6) (watch many_wait Server 7)))
-    (h Server 6 0 gives_nothing (seen_with (Some 1024000000) None) (ping_packet 1) refl (record { event = refl; answer = refl }) refl refl many_due (is_owed many_wait 6 (ping_packet 1) (ping_packet 0 ∷ []) many_owed many_sent)) many_none
+    (unless_limited many_wait Server 7 (seen_with (Some 1024000000) None) (acknowledges (went (watch many_wait Server 6) (watch many_wait Server 7)) ≡ true) refl (h Server 6 0 gives_nothing (seen_with (Some 1024000000) None) (ping_packet 1) refl (record { event = refl; answer = refl }) refl refl many_due (is_owed many_wait 6 (ping_packet 1) (first_packet ∷ []) many_owed many_sent))) many_none
 
 gap_due : is_due gap_waits Server 7 ≡ true
 unfolding client_acked
@@ -269,13 +270,13 @@ gap_none = refl
 
 pub gap_not : AcksAreDue gap_waits → ⊥
 gap_not h = both_ways (acknowledges (went (watch gap_waits Server 7) (watch gap_waits Server 8)))
-    (h Server 7 0 gives_nothing (seen_with (Some 1024000000) None) (ping_packet 2) refl (record { event = refl; answer = refl }) refl refl gap_due (is_owed gap_waits 7 (ping_packet 2) [] gap_owed gap_sent)) gap_none
+    (unless_limited gap_waits Server 8 (seen_with (Some 1024000000) None) (acknowledges (went (watch gap_waits Server 7) (watch gap_waits Server 8)) ≡ true) refl (h Server 7 0 gives_nothing (seen_with (Some 1024000000) None) (ping_packet 2) refl (record { event = refl; answer = refl }) refl refl gap_due (is_owed gap_waits 7 (ping_packet 2) [] gap_owed gap_sent))) gap_none
 
 mark_due : is_due mark_waits Server 3 ≡ true
 unfolding client_acked
 mark_due = refl
 
-mark_owed : unanswered mark_waits Server 3 ≡ ping_packet 0 ∷ []
+mark_owed : unanswered mark_waits Server 3 ≡ first_packet ∷ []
 unfolding client_acked
 mark_owed = refl
 
@@ -289,13 +290,13 @@ mark_none = refl
 
 pub mark_not : AcksAreDue mark_waits → ⊥
 mark_not h = both_ways (acknowledges (went (watch mark_waits Server 3) (watch mark_waits Server 4)))
-    (h Server 3 0 gives_nothing (seen_with (Some 1024000000) None) (ping_packet 0) refl (record { event = refl; answer = refl }) refl refl mark_due (is_owed mark_waits 3 (ping_packet 0) [] mark_owed mark_sent)) mark_none
+    (unless_limited mark_waits Server 4 (seen_with (Some 1024000000) None) (acknowledges (went (watch mark_waits Server 3) (watch mark_waits Server 4)) ≡ true) refl (h Server 3 0 gives_nothing (seen_with (Some 1024000000) None) first_packet refl (record { event = refl; answer = refl }) refl refl mark_due (is_owed mark_waits 3 first_packet [] mark_owed mark_sent))) mark_none
 
 late_due : is_due late_waits Server 4 ≡ true
 unfolding client_acked
 late_due = refl
 
-late_owed : unanswered late_waits Server 4 ≡ ping_packet 0 ∷ []
+late_owed : unanswered late_waits Server 4 ≡ first_packet ∷ []
 unfolding client_acked
 late_owed = refl
 
@@ -309,7 +310,7 @@ late_none = refl
 
 pub late_not : AcksAreDue late_waits → ⊥
 late_not h = both_ways (acknowledges (went (watch late_waits Server 4) (watch late_waits Server 5)))
-    (h Server 4 25000000 gives_nothing (seen_with (Some 1024000000) None) (ping_packet 0) refl (record { event = refl; answer = refl }) refl refl late_due (is_owed late_waits 4 (ping_packet 0) [] late_owed late_sent)) late_none
+    (unless_limited late_waits Server 5 (seen_with (Some 1024000000) None) (acknowledges (went (watch late_waits Server 4) (watch late_waits Server 5)) ≡ true) refl (h Server 4 25000000 gives_nothing (seen_with (Some 1024000000) None) first_packet refl (record { event = refl; answer = refl }) refl refl late_due (is_owed late_waits 4 first_packet [] late_owed late_sent))) late_none
 
 -- ---- they are honest
 
@@ -358,15 +359,15 @@ once_gapped n = ran worked_policies started (take n gap_events) (take n gap_answ
 
 third_ping : IsStep worked_policies (once_hasty 4) asks_ping answers.Ping (once_gapped 5)
 unfolding once_hasty once_gapped
-third_ping = record { answer = refl; end = refl; control = refl; heard = counts_so worked_policies (once_hasty 4) asks_ping answers.Ping; others = refl; lacking = tt }
+third_ping = record { answer = refl; end = refl; control = refl; heard = counts_so worked_policies (once_hasty 4) asks_ping answers.Ping; openings = tt; others = refl; lacking = tt }
 
 third_given : IsStep worked_policies (once_gapped 5) asks_datagram (gives_bytes 29) (once_gapped 6)
 unfolding once_gapped
-third_given = record { answer = inl refl; end = refl; control = refl; heard = counts_so worked_policies (once_gapped 5) asks_datagram (gives_bytes 29); others = refl; lacking = tt }
+third_given = record { answer = inl refl; end = refl; control = refl; heard = counts_so worked_policies (once_gapped 5) asks_datagram (gives_bytes 29); openings = tt; others = refl; lacking = tt }
 
 third_taken : IsStep worked_policies (once_gapped 6) (delivers_at 2) (answers.Deliver receives.Taken) (once_gapped 7)
 unfolding once_gapped
-third_taken = record { answer = inl refl; end = refl; control = refl; heard = counts_so worked_policies (once_gapped 6) (delivers_at 2) (answers.Deliver receives.Taken); others = refl; lacking = tt }
+third_taken = record { answer = inl refl; end = refl; control = refl; heard = counts_so worked_policies (once_gapped 6) (delivers_at 2) (answers.Deliver receives.Taken); openings = tt; others = refl; lacking = tt }
 
 gap_no : IsRefused (once_gapped 7) asks_server gives_nothing
 unfolding once_gapped
@@ -395,11 +396,11 @@ once_late = ran worked_policies once_alone (server_waits ∷ []) (answers.Timeou
 
 alone_taken : IsStep worked_policies (once_hasty 2) (delivers_at 0) (answers.Deliver receives.Taken) once_alone
 unfolding once_alone
-alone_taken = record { answer = inl refl; end = refl; control = refl; heard = counts_so worked_policies (once_hasty 2) (delivers_at 0) (answers.Deliver receives.Taken); others = refl; lacking = tt }
+alone_taken = record { answer = inl refl; end = refl; control = refl; heard = counts_so worked_policies (once_hasty 2) (delivers_at 0) (answers.Deliver receives.Taken); openings = tt; others = refl; lacking = tt }
 
 time_passed : IsStep worked_policies once_alone server_waits (answers.Timeout (Ok tt)) once_late
 unfolding once_late
-time_passed = record { answer = inl refl; end = refl; control = refl; heard = counts_ran worked_policies once_alone server_waits (answers.Timeout (Ok tt)); others = refl; lacking = tt }
+time_passed = record { answer = inl refl; end = refl; control = refl; heard = counts_so worked_policies once_alone server_waits (answers.Timeout (Ok tt)); openings = tt; others = refl; lacking = tt }
 
 late_no : IsRefused once_late server_polled gives_nothing
 unfolding once_late

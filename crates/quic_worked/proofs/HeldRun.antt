@@ -15,8 +15,8 @@ use Rattle.quic_machine.specs.Machine.{IsStep, Follows, view_of}
 use Rattle.quic_headline.specs.Runs.{Run, In}
 use Rattle.quic_headline.specs.Observer.{Sent as SentAs, HoldsOffset, watch, sents_until, acked_until}
 use Rattle.quic_headline.specs.Headline.{IsHonest, IsRun}
-use Rattle.quic_headline.specs.Polls.{GaveNothing, GaveAsking, IsFull, IsPaced, IsByteToGo, PollsSendWhatWaits, AskingGoesWhereLet, ProbesPass, WindowIsOfHistory, seen_at, flying, bytes_flying}
-use Rattle.quic_worked.specs.Worked.{worked_policies, told_in, client_id, server_id, client_gives, once_written, once_sent, opens_stream, asks_datagram, gives_bytes, view_with, open_view}
+use Rattle.quic_headline.specs.Polls.{GaveNothing, GaveAsking, IsFull, IsPaced, IsByteToGo, PollsSendWhatWaits, AskingGoesWhereLet, ProbesPass, WindowIsOfHistory, seen_at, flying, bytes_flying, IsHeldBack}
+use Rattle.quic_worked.specs.Worked.{worked_policies, told_in, client_id, server_id, client_gives, once_written, once_sent, opens_stream, asks_datagram, gives_bytes, view_with, open_view, behind_ids, server_open}
 use Rattle.quic_worked.specs.Broken.{IsNoRun}
 use Rattle.quic_worked.specs.Reordered.{writes_bytes}
 use Rattle.quic_worked.specs.Timed.{serves, asks_at}
@@ -29,6 +29,8 @@ use Rattle.quic_worked.proofs.WorkedKeys.{are_keys}
 use Rattle.quic_worked.proofs.WorkedHonest.{making}
 use Rattle.quic_worked.proofs.WorkedRun.{parameters_say, opens as opens_first, writes as writes_first}
 use Rattle.quic_worked.proofs.Steps.{counts_so}
+use Rattle.quic_machine.specs.declared.run.View.{View}
+use Rattle.quic_worked.proofs.Validated.{unless_limited}
 
 -- ---- the premises
 
@@ -38,10 +40,12 @@ held_started = record {
   server_making = record (making server_id) { windows = narrow_windows };
   client_is = record { range = record { receive_window = lit< tt; stream_receive_window = lit< tt; bounds = record { bidi = lit≤ tt; uni = lit≤ tt; divides = lit< tt; initial = lit≤ tt; least = lit≤ tt }; search = tt }; sizes = lit≤ tt; says = parameters_say; id = refl };
   server_is = record { range = record { receive_window = lit< tt; stream_receive_window = lit< tt; bounds = record { bidi = lit≤ tt; uni = lit≤ tt; divides = lit< tt; initial = lit≤ tt; least = lit≤ tt }; search = tt }; sizes = lit≤ tt; says = parameters_say; id = refl };
-  client = subst (λ read. IsMade Client plain_settings narrow_windows read client_id server_id 0 true 63 held_start.client) (sym parameters_say) refl;
-  server = subst (λ read. IsMade Server plain_settings narrow_windows read server_id client_id 0 true 63 held_start.server) (sym parameters_say) refl;
+  client = subst (λ read. IsMade Client plain_settings narrow_windows read client_id server_id 0 true (λ n. 63) held_start.client) (sym parameters_say) refl;
+  server = subst (λ read. IsMade Server plain_settings narrow_windows read server_id client_id 0 true (λ n. 63) held_start.server) (sym parameters_say) refl;
   client_gave = refl;
   server_gave = refl;
+  client_heard = refl;
+  server_heard = refl;
 }
 
 own : (side : Side) → AreOwn side [] held_run.events held_run.answers held_run.views
@@ -55,35 +59,35 @@ held_is_honest = record { start = held_started; keys = are_keys; ids = own_ids h
 
 pub opens : IsStep worked_policies held_start opens_stream (answers.Open (Some 0)) (once_held 1)
 unfolding once_held
-opens = record { answer = refl; end = refl; control = refl; heard = counts_so worked_policies held_start opens_stream (answers.Open (Some 0)); others = refl; lacking = tt }
+opens = record { answer = refl; end = refl; control = refl; heard = counts_so worked_policies held_start opens_stream (answers.Open (Some 0)); openings = tt; others = refl; lacking = tt }
 
 pub writes : IsStep worked_policies (once_held 1) (writes_bytes (replicate 4000 0x61)) (answers.Write (Ok 4000)) (once_held 2)
 unfolding once_held
-writes = record { answer = inl refl; end = refl; control = refl; heard = counts_so worked_policies (once_held 1) (writes_bytes (replicate 4000 0x61)) (answers.Write (Ok 4000)); others = refl; lacking = λ lacks. cc }
+writes = record { answer = inl refl; end = refl; control = refl; heard = counts_so worked_policies (once_held 1) (writes_bytes (replicate 4000 0x61)) (answers.Write (Ok 4000)); openings = tt; others = refl; lacking = λ lacks. cc }
 
 pub gives : IsStep worked_policies (once_held 2) (asks_at Client 0) (gives_bytes 1200) (once_held 3)
 unfolding once_held
-gives = record { answer = inl refl; end = refl; control = refl; heard = counts_so worked_policies (once_held 2) (asks_at Client 0) (gives_bytes 1200); others = refl; lacking = tt }
+gives = record { answer = inl refl; end = refl; control = refl; heard = counts_so worked_policies (once_held 2) (asks_at Client 0) (gives_bytes 1200); openings = tt; others = refl; lacking = tt }
 
 holds : IsStep worked_policies (once_held 3) (asks_at Client 0) gives_nothing (once_held 4)
 unfolding once_held
-holds = record { answer = inl refl; end = refl; control = refl; heard = counts_so worked_policies (once_held 3) (asks_at Client 0) gives_nothing; others = refl; lacking = tt }
+holds = record { answer = inl refl; end = refl; control = refl; heard = counts_so worked_policies (once_held 3) (asks_at Client 0) gives_nothing; openings = tt; others = refl; lacking = tt }
 
 expires : IsStep worked_policies (once_held 4) (serves Client 1024000000) (answers.Timeout (Ok tt)) (once_held 5)
 unfolding once_held
-expires = record { answer = inl refl; end = refl; control = refl; heard = counts_so worked_policies (once_held 4) (serves Client 1024000000) (answers.Timeout (Ok tt)); others = refl; lacking = tt }
+expires = record { answer = inl refl; end = refl; control = refl; heard = counts_so worked_policies (once_held 4) (serves Client 1024000000) (answers.Timeout (Ok tt)); openings = tt; others = refl; lacking = tt }
 
 probes : IsStep worked_policies (once_held 5) (asks_at Client 1024000000) (gives_bytes 1200) (once_held 6)
 unfolding once_held
-probes = record { answer = inl refl; end = refl; control = refl; heard = counts_so worked_policies (once_held 5) (asks_at Client 1024000000) (gives_bytes 1200); others = refl; lacking = tt }
+probes = record { answer = inl refl; end = refl; control = refl; heard = counts_so worked_policies (once_held 5) (asks_at Client 1024000000) (gives_bytes 1200); openings = tt; others = refl; lacking = tt }
 
 probes_again : IsStep worked_policies (once_held 6) (asks_at Client 1024000000) (gives_bytes 1200) (once_held 7)
 unfolding once_held
-probes_again = record { answer = inl refl; end = refl; control = refl; heard = counts_so worked_policies (once_held 6) (asks_at Client 1024000000) (gives_bytes 1200); others = refl; lacking = tt }
+probes_again = record { answer = inl refl; end = refl; control = refl; heard = counts_so worked_policies (once_held 6) (asks_at Client 1024000000) (gives_bytes 1200); openings = tt; others = refl; lacking = tt }
 
 holds_again : IsStep worked_policies (once_held 7) (asks_at Client 1024000000) gives_nothing (once_held 8)
 unfolding once_held
-holds_again = record { answer = inl refl; end = refl; control = refl; heard = counts_so worked_policies (once_held 7) (asks_at Client 1024000000) gives_nothing; others = refl; lacking = tt }
+holds_again = record { answer = inl refl; end = refl; control = refl; heard = counts_so worked_policies (once_held 7) (asks_at Client 1024000000) gives_nothing; openings = tt; others = refl; lacking = tt }
 
 pub unset_seen : held_view (view_with None None) ≡ view_of (once_held 1)
 unfolding once_held
@@ -170,10 +174,10 @@ told_three = refl
 
 -- the frame of the datagram in flight, and the datagram as it was sent
 abbrev first_frame : StreamValue
-first_frame = record { id = 0; offset = 0; fin = false; bytes = replicate 1172 0x61 }
+first_frame = record { id = 0; offset = 0; fin = false; bytes = replicate 1060 0x61 }
 
 abbrev first_sent : SentAs
-first_sent = record { id = server_id; number = 0; reference = 0; frames = stream first_frame ∷ []; moment = 0; size = 1200 }
+first_sent = record { id = server_id; number = 0; reference = 0; frames = behind_ids (stream first_frame ∷ []); moment = 0; size = 1200 }
 
 it_flies : flying held_run Client 4 ≡ first_sent ∷ []
 unfolding once_held
@@ -186,28 +190,36 @@ none_acked = refl
 same_frame : (f g : StreamValue) → ◌≡◌ {A = FrameValue} (stream f) (stream g) → f ≡ g
 same_frame f g e = cc
 
--- a datagram with one STREAM frame alone holds no offset behind it
-not_behind : (s : SentAs) (f : StreamValue) (id offset : ℕ) → s.frames ≡ stream f ∷ [] → f.offset + length f.bytes ≤ offset → HoldsOffset (s ∷ []) id offset → ⊥
+-- a datagram with ids and one STREAM frame holds no offset behind it
+not_behind : (s : SentAs) (f : StreamValue) (id offset : ℕ) → s.frames ≡ behind_ids (stream f ∷ []) → f.offset + length f.bytes ≤ offset → HoldsOffset (s ∷ []) id offset → ⊥
 not_behind s f id offset only ends h = elim (h.among) [ inl is ↦ here is | inr i ↦ absurd i ]
   where
-    carried : h.sent ≡ s → In (stream h.frame) (stream f ∷ [])
+    carried : h.sent ≡ s → In (stream h.frame) (behind_ids (stream f ∷ []))
     carried is = subst (λ (fs : List FrameValue). In (stream h.frame) fs) (ap (λ (x : SentAs). x.frames) is ∙ only) h.carried
 
     past : h.frame ≡ f → ⊥
     past is = let below : offset < f.offset + length f.bytes = subst (λ (g : StreamValue). offset < g.offset + length g.bytes) is h.below in omega (arith, below, ends)
 
     here : h.sent ≡ s → ⊥
-    here is = elim (carried is) [ inl e ↦ past (same_frame h.frame f e) | inr i ↦ absurd i ]
+    here is = go (carried is)
+      where
+        go : In (stream h.frame) (behind_ids (stream f ∷ [])) → ⊥
+        go (inl e) = cc
+        go (inr (inl e)) = cc
+        go (inr (inr (inl e))) = cc
+        go (inr (inr (inr (inl e)))) = cc
+        go (inr (inr (inr (inr (inl e))))) = past (same_frame h.frame f e)
+        go (inr (inr (inr (inr (inr none))))) = none
 
 pub none_given : GaveNothing held_run Client 3 0 full_view
 none_given = record { poll = record { event = refl; answer = refl }; shown = refl; opened = refl }
 
-pub byte_waits : IsByteToGo held_run Client 4 0 1172
+pub byte_waits : IsByteToGo held_run Client 4 0 1060
 byte_waits = record {
   written = lit< tt;
   kept = refl;
-  not_flying = λ h. not_behind first_sent first_frame 0 1172 refl (lit≤ tt) (subst (λ (ss : List SentAs). HoldsOffset ss 0 1172) it_flies h);
-  not_acked = λ h. (subst (λ (ss : List SentAs). HoldsOffset ss 0 1172) none_acked h).among;
+  not_flying = λ h. not_behind first_sent first_frame 0 1060 refl (lit≤ tt) (subst (λ (ss : List SentAs). HoldsOffset ss 0 1060) it_flies h);
+  not_acked = λ h. (subst (λ (ss : List SentAs). HoldsOffset ss 0 1060) none_acked h).among;
 }
 
 so_many : bytes_flying held_run Client 4 ≡ 1200
@@ -226,7 +238,7 @@ full_asks r i now gave none full other h = elim (h Client i now gave none) [ inl
 
 -- the datagram as it was sent
 abbrev next_sent : SentAs
-next_sent = record { id = server_id; number = 1; reference = 0; frames = stream (record { id = 0; offset = 1172; fin = false; bytes = replicate 1170 0x61 }) ∷ []; moment = 0; size = 1200 }
+next_sent = record { id = server_id; number = 1; reference = 0; frames = stream (record { id = 0; offset = 1060; fin = false; bytes = replicate 1170 0x61 }) ∷ []; moment = 0; size = 1200 }
 
 next_went : sents_until overfull_run Client 4 ≡ sents_until overfull_run Client 3 ++ next_sent ∷ []
 unfolding once_held
@@ -267,15 +279,19 @@ first_waits : IsByteToGo silent_run Client 3 0 0
 first_waits = record { written = lit< tt; kept = refl; not_flying = λ h. h.among; not_acked = λ h. h.among }
 
 -- its window has room, and it has no timer
-not_full : IsFull silent_run Client 3 (record { client = open_view; server = open_view }) → ⊥
+not_full : IsFull silent_run Client 3 (record { client = open_view; server = server_open }) → ⊥
 not_full f = let most : 12000 ≤ 1200 = f in omega (arith, most)
 
-not_paced : IsPaced silent_run Client 3 (record { client = open_view; server = open_view }) → ⊥
+not_paced : IsPaced silent_run Client 3 (record { client = open_view; server = server_open }) → ⊥
 not_paced p = let shown : ◌≡◌ {A = Option (Option ℕ)} (Some None) (Some (Some p.moment)) = p.shown in cc
 
 pub silent_sends : PollsSendWhatWaits silent_run → ⊥
 silent_sends h =
-    elim (h Client 2 0 0 (record { client = open_view; server = open_view }) refl (record { poll = record { event = refl; answer = refl }; shown = refl; opened = refl }) (inl (0, first_waits))) [ inl f ↦ not_full f | inr p ↦ not_paced p ]
+    let v : View = record { client = open_view; server = server_open } in
+    elim (unless_limited silent_run Client 3 v (IsHeldBack silent_run Client 3 v) refl (h Client 2 0 0 v refl (record { poll = record { event = refl; answer = refl }; shown = refl; opened = refl }) (inl (0, first_waits)))) [
+      | inl f ↦ not_full f
+      | inr p ↦ not_paced p
+    ]
 
 silent_no : IsRefused once_written asks_datagram gives_nothing
 unfolding once_sent
@@ -323,7 +339,10 @@ none_goes gave = let said : ◌≡◌ {A = Option Answer} (Some gives_nothing) (
 
 pub unprobed_passes : ProbesPass unprobed_run → ⊥
 unprobed_passes h =
-    none_goes (h Client 5 1024000000 gives_nothing (held_view (view_with (Some 2048000000) None)) refl (record { event = refl; answer = refl }) refl refl (subst (λ (n : ℕ). 0 < n) (sym two_wait) (lit< tt))).0
+    let v : View = held_view (view_with (Some 2048000000) None) in
+    none_goes
+    (unless_limited unprobed_run Client 6 v (GaveAsking unprobed_run Client 5 1024000000 × ((watch unprobed_run Client 6).flight.probes + 1 ≡ (watch unprobed_run Client 5).flight.probes)) refl
+    (h Client 5 1024000000 gives_nothing v refl (record { event = refl; answer = refl }) refl refl (subst (λ (n : ℕ). 0 < n) (sym two_wait) (lit< tt)))).0
 
 unprobed_no : IsRefused (once_held 5) (asks_at Client 1024000000) gives_nothing
 unfolding once_held
@@ -356,9 +375,9 @@ third_sent = record {
   id = server_id;
   number = 3;
   reference = 0;
-  frames = ping ∷ stream (record { id = 0; offset = 3510; fin = false; bytes = replicate 490 0x61 }) ∷ [];
+  frames = ping ∷ stream (record { id = 0; offset = 3176; fin = false; bytes = replicate 824 0x61 }) ∷ [];
   moment = 1024000000;
-  size = 521;
+  size = 855;
 }
 
 third_went : sents_until third_probe_run Client 8 ≡ sents_until third_probe_run Client 7 ++ third_sent ∷ []
@@ -368,7 +387,7 @@ third_went = refl
 abbrev third_gave : GaveAsking third_probe_run Client 7 1024000000
 third_gave = record {
   one = record {
-    transmit = record { size = 521; ecn = Some Ect0 };
+    transmit = record { size = 855; ecn = Some Ect0 };
     poll = record { event = refl; answer = refl };
     served = refl;
     sent = third_sent;
@@ -385,7 +404,7 @@ not_padded (suc more) is = cc
 pub third_asks : AskingGoesWhereLet third_probe_run → ⊥
 third_asks = full_asks third_probe_run 7 1024000000 third_gave none_waits (subst (λ (n : ℕ). 2400 ≤ n + 1200) (sym three_fly) (lit≤ tt)) not_padded
 
-third_no : IsRefused (once_held 7) (asks_at Client 1024000000) (gives_bytes 521)
+third_no : IsRefused (once_held 7) (asks_at Client 1024000000) (gives_bytes 855)
 unfolding once_held
 third_no (inl e) = cc
 third_no (inr e) = cc
@@ -411,7 +430,7 @@ resized_size h =
     omega (arith, shows)
 
 pub grown_size : SizesMove grown_run → ⊥
-grown_size h = elim (h Client 0 (record { client = open_view; server = open_view }) resized_view refl refl refl refl refl) [
+grown_size h = elim (h Client 0 (record { client = open_view; server = server_open }) resized_view refl refl refl refl refl) [
   | inl same ↦ (let never : ◌≡◌ {A = ℕ} 1452 1200 = same in omega (arith, never))
   | inr moved ↦ elim moved [ inl grew ↦ grew.1.flew | inr fell ↦ (let never : 1452 < 1200 = fell.0 in omega (arith, never)) ]
 ]

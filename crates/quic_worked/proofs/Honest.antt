@@ -6,7 +6,7 @@ use Rattle.quic_headline.specs.Headline.{IsHonest}
 use Rattle.quic_worked.specs.Worked.{run_with}
 use Rattle.quic_worked.specs.Broken.{asked_run, tells_finished}
 use Rattle.quic_worked.specs.Machines.{unaccepted, taken_again, all_dropped, refused_named, cut_frame, hidden_end, skipped_byte, long_opens, used_twice, told_early, taken_early, nothing_given, accepted_twice, accepted_last, other_stream}
-use Rattle.quic_worked.specs.Losses.{wide_name, falling, all_named, changed_again}
+use Rattle.quic_worked.specs.Losses.{wide_name, narrow_name, falling, all_named, changed_again}
 use Rattle.quic_worked.proofs.OwnIds.{honest}
 
 pub h_taken_again : (read : ReadCall) → read.id ≡ 0 → IsHonest (run_with read taken_again)
@@ -44,6 +44,9 @@ h_nothing_given read = honest (nothing_given read) (record { start = refl; keys 
 
 pub h_wide_name : (read : ReadCall) → IsHonest (wide_name read)
 h_wide_name read = honest (wide_name read) (record { start = refl; keys = refl; client = (tt, (inl refl, (inl refl, (tt, (tt, (tt, (tt, tt))))))); server = (tt, (tt, (tt, (tt, (tt, (tt, (tt, tt))))))) })
+
+pub h_narrow_name : (read : ReadCall) → IsHonest (narrow_name read)
+h_narrow_name read = honest (narrow_name read) (record { start = refl; keys = refl; client = (tt, (inl refl, (inl refl, (tt, (tt, (tt, (tt, tt))))))); server = (tt, (tt, (tt, (tt, (tt, (tt, (tt, tt))))))) })
 
 pub h_silent : (read : ReadCall) → IsHonest (asked_run read (answers.Event None ∷ []))
 h_silent read = honest (asked_run read (answers.Event None ∷ [])) (record { start = refl; keys = refl; client = (tt, (inl refl, (inl refl, (tt, (tt, (tt, (tt, (tt, (tt, tt))))))))); server = (tt, (tt, (tt, (tt, (tt, (tt, (tt, (tt, (tt, tt))))))))) })

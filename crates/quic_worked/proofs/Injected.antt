@@ -30,10 +30,10 @@ use Rattle.quic_worked.proofs.Steps.{counts_so}
 -- ---- the machine answers so
 
 opens_there : IsStep worked_policies started (injects Server hello_datagram) answers.Opens started
-opens_there = record { answer = refl; end = refl; control = refl; heard = counts_so worked_policies started (injects Server hello_datagram) answers.Opens; others = refl; lacking = tt }
+opens_there = record { answer = refl; end = refl; control = refl; heard = counts_so worked_policies started (injects Server hello_datagram) answers.Opens; openings = tt; others = refl; lacking = tt }
 
 drops_here : IsStep worked_policies started (injects Client hello_datagram) (answers.Inject (receives.Dropped drops.UnknownId)) once_injected
-drops_here = record { answer = refl; end = refl; control = refl; heard = counts_so worked_policies started (injects Client hello_datagram) (answers.Inject (receives.Dropped drops.UnknownId)); others = refl; lacking = tt }
+drops_here = record { answer = refl; end = refl; control = refl; heard = counts_so worked_policies started (injects Client hello_datagram) (answers.Inject (receives.Dropped drops.UnknownId)); openings = tt; others = refl; lacking = tt }
 
 pub injected_is_run : IsRun injected_run once_injected
 injected_is_run = record {

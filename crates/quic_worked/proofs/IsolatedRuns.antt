@@ -1,47 +1,60 @@
--- A run is one again without what doesn't open and what came before; and a machine on which that leaves something breaks the clause.
-use Rattle.std.proofs.Common.{◌≡◌, ℕ, zero, suc, Bool, true, false, [], ◌∷◌, ◌++◌, Some, None, refl, sym, inl, inr, subst, arith}
+-- A run is one again without what doesn't open and what came before; and a machine on which that
+-- leaves something breaks the clause.
+use Rattle.std.proofs.Common.{◌≡◌, ℕ, zero, suc, Bool, true, false, [], ◌∷◌, ◌++◌, Some, None, refl, sym, inl, inr, subst, arith, List}
+use Rattle.std.specs.Prelude.{slice_get}
+use Rattle.std.specs.List.{list_any}
+use Rattle.std.proofs.lemmas.Bool.{or_parts}
+use Rattle.quic_wire_core.specs.declared.stream_id.Side.{Side}
+use Rattle.quic_wire_core.specs.declared.stream_id.Side.TheVariants.{Client, Server}
 use Rattle.quic_machine.specs.declared.answers.Received.TheVariants as receives
 use Rattle.quic_machine.specs.declared.answers.DropReason.TheVariants as drops
 use Rattle.quic_machine.specs.declared.run.Call.{Call}
+use Rattle.quic_machine.specs.declared.run.Answer.{Answer}
 use Rattle.quic_machine.specs.declared.run.Answer.TheVariants as answers
-use Rattle.quic_machine.specs.InjectionCases.{injected_leaves}
-use Rattle.quic_machine.specs.Machine.{World, IsStep}
-use Rattle.quic_headline.specs.Headline.{IsRun}
+use Rattle.quic_machine.specs.Machine.{World, IsStep, says_last}
+use Rattle.quic_headline.specs.Headline.{IsHonest, IsRun}
 use Rattle.quic_headline.specs.Isolated.{is_idle, erased, OnlyIdle, SameButCounts, Isolated, answered_idle, IsolatedByAnswers, listed_idle, IsolatedByLists}
+use Rattle.quic_headline.proofs.Isolated.Injected.{injected_stays}
 use Rattle.quic_headline.proofs.Isolated.Erasing.{chosen_idle}
-use Rattle.quic_worked.specs.Worked.{worked_policies, started, once_opened, once_written, once_ended, once_sent, once_taken, hello_datagram, delivers, sending_events, sending_answers}
+use Rattle.quic_worked.specs.Worked.{worked_policies, started, once_opened, once_written, once_ended, once_sent, once_taken, hello_datagram, asks_datagram, gives_bytes, delivers, sending_events, sending_answers}
 use Rattle.quic_worked.specs.Broken.{NeverAnswers, IsNoRun}
-use Rattle.quic_worked.specs.Isolated.{forged_datagram, forges, refused, asks_wait, noisy_run, quiet_run, noted_early, ticked_early, came_in, noisy_left, quiet_left}
+use Rattle.quic_worked.specs.Ended.{idle_start, once_idle}
+use Rattle.quic_worked.specs.Faults.{injects_late}
+use Rattle.quic_worked.specs.Isolated.{forged_datagram, forges, refused, asks_wait, noisy_run, quiet_run, noted_early, ticked_early, came_in, noisy_left, quiet_left, asks_idle, too_short, late_dropped, idle_anew}
 use Rattle.quic_worked.proofs.Codes.{no_codes}
 use Rattle.quic_worked.proofs.WorkedHonest.{call_of}
 use Rattle.quic_worked.proofs.WorkedRun as worked
 use Rattle.quic_worked.proofs.WorkedRun.{opens, writes, finishes, gives, takes}
 use Rattle.quic_worked.proofs.BrokenRuns.{IsRefused, stops, behind, behind_sent}
-use Rattle.quic_worked.proofs.Steps.{counts_so}
+use Rattle.quic_worked.proofs.OwnIds.{AreOwn, own_ids}
+use Rattle.quic_worked.proofs.WorkedKeys.{are_keys}
+use Rattle.quic_worked.proofs.EndedRuns.{idle_started, tells_ids}
+use Rattle.quic_worked.proofs.Steps.{counts_so, others_so}
 
 -- ---- the run
 
--- what the key refuses leaves both ends as they are, before the datagram came and behind it: the server counts it
+-- what the key refuses leaves both ends as they are, before the datagram came and behind it: the
+-- server counts it
 refused_first : (now : ℕ) → IsStep worked_policies once_sent (forges now) refused (came_in 1 1 once_sent)
 unfolding once_sent
-refused_first now = record { answer = refl; end = sym (injected_leaves worked_policies.server once_sent.server (record { now = now; ecn = None; bytes = forged_datagram })); control = refl; heard = counts_so worked_policies once_sent (forges now) refused; others = refl; lacking = tt }
+refused_first now = record { answer = refl; end = sym (injected_stays worked_policies.server once_sent.server (record { now = now; ecn = None; bytes = forged_datagram })); control = refl; heard = counts_so worked_policies once_sent (forges now) refused; openings = refl; others = refl; lacking = tt }
 
 refused_again : (now : ℕ) → IsStep worked_policies (came_in 3 1 once_taken) (forges now) refused noisy_left
 unfolding once_taken
-refused_again now = record { answer = refl; end = sym (injected_leaves worked_policies.server once_taken.server (record { now = now; ecn = None; bytes = forged_datagram })); control = refl; heard = counts_so worked_policies (came_in 3 1 once_taken) (forges now) refused; others = refl; lacking = tt }
+refused_again now = record { answer = refl; end = sym (injected_stays worked_policies.server once_taken.server (record { now = now; ecn = None; bytes = forged_datagram })); control = refl; heard = counts_so worked_policies (came_in 3 1 once_taken) (forges now) refused; openings = refl; others = refl; lacking = tt }
 
 -- the datagram comes behind what was refused, and comes again
 takes_behind : IsStep worked_policies (came_in 1 1 once_sent) delivers (answers.Deliver receives.Taken) (came_in 2 1 once_taken)
 unfolding once_taken
-takes_behind = record { answer = inl refl; end = refl; control = refl; heard = counts_so worked_policies (came_in 1 1 once_sent) delivers (answers.Deliver receives.Taken); others = refl; lacking = tt }
+takes_behind = record { answer = inl refl; end = refl; control = refl; heard = counts_so worked_policies (came_in 1 1 once_sent) delivers (answers.Deliver receives.Taken); openings = tt; others = refl; lacking = tt }
 
 drops_behind : IsStep worked_policies (came_in 2 1 once_taken) delivers (answers.Deliver (receives.Dropped drops.Duplicate)) (came_in 3 1 once_taken)
 unfolding once_taken
-drops_behind = record { answer = inl refl; end = refl; control = refl; heard = counts_so worked_policies (came_in 2 1 once_taken) delivers (answers.Deliver (receives.Dropped drops.Duplicate)); others = refl; lacking = tt }
+drops_behind = record { answer = inl refl; end = refl; control = refl; heard = counts_so worked_policies (came_in 2 1 once_taken) delivers (answers.Deliver (receives.Dropped drops.Duplicate)); openings = tt; others = refl; lacking = tt }
 
 waits : (count failures : ℕ) → IsStep worked_policies (came_in count failures once_taken) asks_wait (answers.Timer (Some 25000000)) (came_in count failures once_taken)
 unfolding once_taken
-waits count failures = record { answer = refl; end = refl; control = refl; heard = counts_so worked_policies (came_in count failures once_taken) asks_wait (answers.Timer (Some 25000000)); others = refl; lacking = tt }
+waits count failures = record { answer = refl; end = refl; control = refl; heard = counts_so worked_policies (came_in count failures once_taken) asks_wait (answers.Timer (Some 25000000)); openings = tt; others = refl; lacking = tt }
 
 -- so many bytes are what it counts of the datagram alone
 pub counted_once : once_taken ≡ quiet_left
@@ -111,7 +124,7 @@ quiet_is_run = record {
 pub noise_same : SameButCounts noisy_left quiet_left
 noise_same = refl
 
-pub noise_sent : noisy_left.client_heard ≡ record { received = 0; sent = 34; failures = 0 }
+pub noise_sent : noisy_left.client_heard ≡ record { received = 0; sent = 146; failures = 0 }
 unfolding once_taken
 noise_sent = refl
 
@@ -141,6 +154,12 @@ abbrev fifth : ℕ → Bool
 fifth (suc (suc (suc (suc zero)))) = true
 fifth i = false
 
+-- where no answer of a list says that the last packet came that may not open, none of them does
+none_last : (answers : List Answer) → list_any says_last answers ≡ false → (i : ℕ) (a : Answer) → slice_get answers i ≡ Some a → says_last a ≡ false
+none_last [] none i a at = cc
+none_last (b ∷ bs) none zero a at = let same : b ≡ a = cc in subst (λ (c : Answer). says_last c ≡ false) same (or_parts (says_last b) (list_any says_last bs) none).0
+none_last (b ∷ bs) none (suc i) a at = none_last bs (or_parts (says_last b) (list_any says_last bs) none).1 i a at
+
 -- it is idle
 fifth_idle : OnlyIdle noted_early fifth
 fifth_idle side zero call a chosen at = cc
@@ -151,11 +170,11 @@ fifth_idle side (suc (suc (suc (suc zero)))) call a chosen at = let same = call_
 fifth_idle side (suc (suc (suc (suc (suc i))))) call a chosen at = let clash : ◌≡◌ {A = Bool} false true = chosen in absurd cc
 
 pub noted_isolated : (end : World) → Isolated noted_early end → ⊥
-noted_isolated end any = let less = any fifth fifth_idle in never_noted.never (erased fifth noted_early).views less.0 less.2.follows
+noted_isolated end any = let less = any (refl, refl) fifth fifth_idle (none_last noted_early.answers refl) in never_noted.never (erased fifth noted_early).views less.0 less.2.follows
 
 -- by the lists the injection brings nothing, and the datagram is new
 pub noted_by_lists : IsolatedByLists noted_early → ⊥
-noted_by_lists less = let on = less 6 refl in never_noted.never (erased (listed_idle noted_early) noted_early).views on.world on.follows
+noted_by_lists less = let on = less (refl, refl) 6 refl (none_last noted_early.answers refl) in never_noted.never (erased (listed_idle noted_early) noted_early).views on.world on.follows
 
 pub no_noted : IsNoRun noted_early
 no_noted = behind_sent (behind refl (refused_first 0) (stops _ _ _ _ _ duplicate_no))
@@ -165,10 +184,47 @@ never_ticked : NeverAnswers started (sending_events ++ delivers ∷ asks_wait �
 never_ticked = behind_sent (behind refl takes (stops _ _ _ _ _ wait_no))
 
 pub ticked_by_answers : (end : World) → IsolatedByAnswers ticked_early end → ⊥
-ticked_by_answers end less = never_ticked.never (erased (answered_idle ticked_early) ticked_early).views less.0 less.2.follows
+ticked_by_answers end less = let on = less (refl, refl) (none_last ticked_early.answers refl) in never_ticked.never (erased (answered_idle ticked_early) ticked_early).views on.0 on.2.follows
 
 pub ticked_isolated : (end : World) → Isolated ticked_early end → ⊥
-ticked_isolated end any = ticked_by_answers end (any (answered_idle ticked_early) (chosen_idle ticked_early))
+ticked_isolated end any = ticked_by_answers end (λ validated below. any validated (answered_idle ticked_early) (chosen_idle ticked_early) below)
 
 pub no_ticked : IsNoRun ticked_early
 no_ticked = behind_sent (behind refl (refused_first 1000000000) (behind refl takes_behind (stops _ _ _ _ _ wait_no)))
+
+-- ---- an idle timer that begins anew
+
+drops_short : IsStep worked_policies (once_idle 1) injects_late too_short late_dropped
+unfolding once_idle
+drops_short = record { answer = refl; end = refl; control = refl; heard = counts_so worked_policies (once_idle 1) injects_late too_short; openings = tt; others = others_so worked_policies (once_idle 1) injects_late too_short; lacking = tt }
+
+-- the timer doesn't expire five seconds later, with those bytes or without them
+anew_no : IsRefused late_dropped asks_idle (answers.Timer (Some 35000000000))
+unfolding once_idle
+anew_no e = let clash : ◌≡◌ {A = ℕ} 35000000000 30000000000 = cc in omega (arith, clash)
+
+idle_no : IsRefused (once_idle 1) asks_idle (answers.Timer (Some 35000000000))
+unfolding once_idle
+idle_no e = let clash : ◌≡◌ {A = ℕ} 35000000000 30000000000 = cc in omega (arith, clash)
+
+never_anew : NeverAnswers idle_start (asks_datagram ∷ asks_idle ∷ []) (gives_bytes 138 ∷ answers.Timer (Some 35000000000) ∷ [])
+never_anew = behind refl tells_ids (stops _ _ _ _ _ idle_no)
+
+pub anew_by_answers : (end : World) → IsolatedByAnswers idle_anew end → ⊥
+anew_by_answers end less = let on = less (refl, refl) (none_last idle_anew.answers refl) in never_anew.never (erased (answered_idle idle_anew) idle_anew).views on.0 on.2.follows
+
+pub anew_isolated : (end : World) → Isolated idle_anew end → ⊥
+anew_isolated end any = anew_by_answers end (λ validated below. any validated (answered_idle idle_anew) (chosen_idle idle_anew) below)
+
+pub anew_by_lists : IsolatedByLists idle_anew → ⊥
+anew_by_lists less = let on = less (refl, refl) 3 refl (none_last idle_anew.answers refl) in never_anew.never (erased (listed_idle idle_anew) idle_anew).views on.world on.follows
+
+anew_own : (side : Side) → AreOwn side [] idle_anew.events idle_anew.answers idle_anew.views
+anew_own Client = (tt, (tt, (tt, tt)))
+anew_own Server = (tt, (tt, (tt, tt)))
+
+pub anew_is_honest : IsHonest idle_anew
+anew_is_honest = record { start = idle_started; keys = are_keys; ids = own_ids idle_anew anew_own }
+
+pub no_anew : IsNoRun idle_anew
+no_anew = behind refl tells_ids (behind refl drops_short (stops _ _ _ _ _ anew_no))

@@ -36,6 +36,7 @@ mod HeldRun
 mod PacedRun
 mod FaultRuns
 mod FaultTimes
+mod LongDatagram
 mod LimitedRun
 mod UsedUpRun
 mod SilentEnd
@@ -43,6 +44,7 @@ mod AskedTimers
 mod MessageRuns
 mod RestedRun
 mod HastyRun
+mod CountedRuns
 mod IsolatedRuns
 mod BlockedRun
 mod UndoneRun
@@ -53,3 +55,13 @@ pub mod RepeatedRuns
 pub mod BegunRuns
 mod ResetRun
 mod WritableRun
+mod TimedEnds
+mod EndedRuns
+mod ExpiringRuns
+mod EndingRuns
+mod EndingMachines
+mod RenamedRuns
+mod KnownRuns
+mod UnvalidatedRun
+mod AnsweredRun
+pub mod Validated

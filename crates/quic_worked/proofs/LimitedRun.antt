@@ -1,7 +1,11 @@
--- The run in which each limit binds a write in turn, event by event; it meets the premises, and its writes take what is left. And machines whose writes don't.
-use Rattle.std.proofs.Common.{◌≡◌, ℕ, [], ◌∷◌, Some, Result, Ok, Err, true, false, refl, inl, inr, sym, ◌∙◌, subst, lit<, lit≤}
+-- The run in which each limit binds a write in turn, event by event; it meets the premises, and its
+-- writes take what is left. And machines whose writes don't.
+use Rattle.std.proofs.Common.{◌≡◌, ℕ, [], ◌∷◌, Some, Result, Ok, Err, true, false, refl, inl, inr, sym, ap, ◌∙◌, subst, lit<, lit≤, arith}
 use Rattle.quic_wire_core.specs.declared.stream_id.Side.{Side}
 use Rattle.quic_wire_core.specs.declared.stream_id.Side.TheVariants.{Client, Server}
+use Rattle.quic_wire_core.specs.declared.stream_id.Dir.{Dir}
+use Rattle.quic_wire_core.specs.declared.stream_id.Dir.TheVariants.{Bi, Uni}
+use Rattle.quic_streams_parts.specs.Dirs.{of}
 use Rattle.quic_sets.specs.Offsets.{with_offsets}
 use Rattle.quic_sets.specs.Pieces.{with_range, joining}
 use Rattle.quic_parameters.specs.ParametersRead.{parameters_at, judged, values_met, met_in, met_within, met_after, whole_at, entry_at}
@@ -12,18 +16,19 @@ use Rattle.quic_machine.specs.declared.answers.Received.TheVariants as receives
 use Rattle.quic_machine.specs.declared.run.ReadCall.{ReadCall}
 use Rattle.quic_machine.specs.declared.run.Answer.TheVariants as answers
 use Rattle.quic_machine.specs.declared.run.View.{View}
-use Rattle.quic_machine.specs.End.{IsMade}
+use Rattle.quic_machine.specs.End.{End, IsMade, MadeFrom}
 use Rattle.quic_machine.specs.Start.{AreStarted}
 use Rattle.quic_machine.specs.Machine.{IsStep, Follows, view_of}
 use Rattle.quic_headline.specs.Headline.{IsHonest, IsRun}
 use Rattle.quic_headline.specs.Observer.{took}
-use Rattle.quic_headline.specs.Amounts.{was_stopped, taken_of, left_for, WritesTakeWhatLimitsAllow}
+use Rattle.quic_headline.specs.Amounts.{was_stopped, taken_of, left_for, WritesTakeWhatLimitsAllow, data_limit}
+use Rattle.quic_headline.specs.PeerLimits.{count_limit, KeepsTo}
 use Rattle.quic_worked.specs.Worked.{with_server, steady, worked_policies, worked_parameters, client_id, server_id, once_opened, opens_stream, writes_hello, asks_datagram, delivers, accepts_stream, reads_stream, gives_bytes, sent_view, waiting_view, open_view}
 use Rattle.quic_worked.specs.Acknowledged.{client_datagram, from_server}
 use Rattle.quic_worked.specs.Paired.{writes_on, asks_server, client_hears}
 use Rattle.quic_worked.specs.Broken.{IsNoRun}
 use Rattle.quic_worked.specs.Credit.{eight_bounds, ReadsEight}
-use Rattle.quic_worked.specs.Limited.{keeps_seven, takes_eight, narrow_parameters, limited_start, sixteen, limited_events, hello_nexts, limited_answers, limited_payload, raised_payload, limited_opened, limited_both, limited_first, limited_second, limited_blocked, limited_sent, limited_taken, limited_accepted, limited_read, limited_given, limited_heard, limited_third, limited_fourth, limited_end, limited_views, limited_run, few_taken, past_window, never_freed, LeavesAt}
+use Rattle.quic_worked.specs.Limited.{keeps_seven, takes_eight, narrow_parameters, limited_start, sixteen, limited_events, hello_nexts, limited_answers, limited_payload, raised_payload, limited_opened, limited_both, limited_first, limited_second, limited_blocked, limited_sent, limited_taken, limited_accepted, limited_read, limited_given, limited_heard, limited_third, limited_fourth, limited_end, limited_views, limited_run, few_taken, past_window, never_freed, LeavesAt, own_client}
 use Rattle.quic_worked.proofs.WorkedRun.{ReadsSo, reads_at, parameters_say, opens as opens_first}
 use Rattle.quic_worked.proofs.WorkedKeys.{are_keys}
 use Rattle.quic_worked.proofs.WorkedHonest.{are_started}
@@ -40,14 +45,16 @@ narrow_say = refl
 
 unfoldable pub limited_started : AreStarted limited_start
 limited_started = record {
-  client_making = record { settings = keeps_seven; windows = steady; parameters = worked_parameters; id = client_id; moment = 0; validated = true; word = 63 };
-  server_making = record { settings = takes_eight; windows = steady; parameters = narrow_parameters; id = server_id; moment = 0; validated = true; word = 63 };
+  client_making = record { settings = keeps_seven; windows = steady; parameters = worked_parameters; id = client_id; moment = 0; validated = true; words = λ n. 63 };
+  server_making = record { settings = takes_eight; windows = steady; parameters = narrow_parameters; id = server_id; moment = 0; validated = true; words = λ n. 63 };
   client_is = record { range = record { receive_window = lit< tt; stream_receive_window = lit< tt; bounds = record { bidi = lit≤ tt; uni = lit≤ tt; divides = lit< tt; initial = lit≤ tt; least = lit≤ tt }; search = tt }; sizes = lit≤ tt; says = parameters_say; id = refl };
   server_is = record { range = record { receive_window = lit< tt; stream_receive_window = lit< tt; bounds = record { bidi = lit≤ tt; uni = lit≤ tt; divides = lit< tt; initial = lit≤ tt; least = lit≤ tt }; search = tt }; sizes = lit≤ tt; says = narrow_say; id = refl };
-  client = subst (λ read. IsMade Client keeps_seven steady read client_id server_id 0 true 63 limited_start.client) (sym narrow_say) refl;
-  server = subst (λ read. IsMade Server takes_eight steady read server_id client_id 0 true 63 limited_start.server) (sym parameters_say) refl;
+  client = subst (λ read. IsMade Client keeps_seven steady read client_id server_id 0 true (λ n. 63) limited_start.client) (sym narrow_say) refl;
+  server = subst (λ read. IsMade Server takes_eight steady read server_id client_id 0 true (λ n. 63) limited_start.server) (sym parameters_say) refl;
   client_gave = refl;
   server_gave = refl;
+  client_heard = refl;
+  server_heard = refl;
 }
 
 -- ---- the events
@@ -68,33 +75,33 @@ abbrev pub one_heard : View
 one_heard = record { client = waiting_view; server = sent_view }
 
 pub opens : IsStep worked_policies limited_start opens_stream (answers.Open (Some 0)) limited_opened
-opens = record { answer = refl; end = refl; control = refl; heard = counts_so worked_policies limited_start opens_stream (answers.Open (Some 0)); others = refl; lacking = tt }
+opens = record { answer = refl; end = refl; control = refl; heard = counts_so worked_policies limited_start opens_stream (answers.Open (Some 0)); openings = tt; others = refl; lacking = tt }
 
 pub opens_both : IsStep worked_policies limited_opened opens_stream (answers.Open (Some 4)) limited_both
-opens_both = record { answer = refl; end = refl; control = refl; heard = counts_so worked_policies limited_opened opens_stream (answers.Open (Some 4)); others = refl; lacking = tt }
+opens_both = record { answer = refl; end = refl; control = refl; heard = counts_so worked_policies limited_opened opens_stream (answers.Open (Some 4)); openings = tt; others = refl; lacking = tt }
 
 pub writes_first : IsStep worked_policies limited_both (writes_on 0 sixteen) (answers.Write (Ok 5)) limited_first
-writes_first = record { answer = inl refl; end = refl; control = refl; heard = counts_so worked_policies limited_both (writes_on 0 sixteen) (answers.Write (Ok 5)); others = refl; lacking = λ lacks. cc }
+writes_first = record { answer = inl refl; end = refl; control = refl; heard = counts_so worked_policies limited_both (writes_on 0 sixteen) (answers.Write (Ok 5)); openings = tt; others = refl; lacking = λ lacks. cc }
 
 pub writes_second : IsStep worked_policies limited_first (writes_on 4 sixteen) (answers.Write (Ok 2)) limited_second
 unfolding with_offsets with_range joining
-writes_second = record { answer = inl refl; end = refl; control = refl; heard = counts_so worked_policies limited_first (writes_on 4 sixteen) (answers.Write (Ok 2)); others = refl; lacking = λ lacks. cc }
+writes_second = record { answer = inl refl; end = refl; control = refl; heard = counts_so worked_policies limited_first (writes_on 4 sixteen) (answers.Write (Ok 2)); openings = tt; others = refl; lacking = λ lacks. cc }
 
 pub blocks : IsStep worked_policies limited_second (writes_on 4 sixteen) (answers.Write (Err write_errors.Blocked)) limited_blocked
 unfolding with_offsets with_range joining
-blocks = record { answer = inl refl; end = refl; control = refl; heard = counts_so worked_policies limited_second (writes_on 4 sixteen) (answers.Write (Err write_errors.Blocked)); others = refl; lacking = λ lacks. cc }
+blocks = record { answer = inl refl; end = refl; control = refl; heard = counts_so worked_policies limited_second (writes_on 4 sixteen) (answers.Write (Err write_errors.Blocked)); openings = tt; others = refl; lacking = λ lacks. cc }
 
-pub gives : IsStep worked_policies limited_blocked asks_datagram (gives_bytes 39) limited_sent
+pub gives : IsStep worked_policies limited_blocked asks_datagram (gives_bytes 151) limited_sent
 unfolding limited_sent
-gives = record { answer = inl refl; end = refl; control = refl; heard = counts_so worked_policies limited_blocked asks_datagram (gives_bytes 39); others = refl; lacking = tt }
+gives = record { answer = inl refl; end = refl; control = refl; heard = counts_so worked_policies limited_blocked asks_datagram (gives_bytes 151); openings = tt; others = refl; lacking = tt }
 
 pub takes : IsStep worked_policies limited_sent delivers (answers.Deliver receives.Taken) limited_taken
 unfolding limited_taken
-takes = record { answer = inl refl; end = refl; control = refl; heard = counts_so worked_policies limited_sent delivers (answers.Deliver receives.Taken); others = refl; lacking = tt }
+takes = record { answer = inl refl; end = refl; control = refl; heard = counts_so worked_policies limited_sent delivers (answers.Deliver receives.Taken); openings = tt; others = refl; lacking = tt }
 
 pub accepts : IsStep worked_policies limited_taken accepts_stream (answers.Accept (Some 0)) limited_accepted
 unfolding limited_taken
-accepts = record { answer = refl; end = refl; control = refl; heard = counts_so worked_policies limited_taken accepts_stream (answers.Accept (Some 0)); others = refl; lacking = tt }
+accepts = record { answer = refl; end = refl; control = refl; heard = counts_so worked_policies limited_taken accepts_stream (answers.Accept (Some 0)); openings = tt; others = refl; lacking = tt }
 
 reads_so : ReadsSo limited_accepted 0 true eight_bounds hello_nexts limited_read.server
 unfolding limited_taken
@@ -106,25 +113,25 @@ reads_only = refl
 pub reads : (read : ReadCall) → ReadsEight read → IsStep worked_policies limited_accepted (reads_stream read) (answers.Read (Ok hello_nexts)) limited_read
 reads = reads_at limited_accepted limited_read 0 true eight_bounds hello_nexts reads_so reads_only
 
-pub raises : IsStep worked_policies limited_read asks_server (gives_bytes 36) limited_given
+pub raises : IsStep worked_policies limited_read asks_server (gives_bytes 148) limited_given
 unfolding limited_given
-raises = record { answer = inl refl; end = refl; control = refl; heard = counts_so worked_policies limited_read asks_server (gives_bytes 36); others = refl; lacking = tt }
+raises = record { answer = inl refl; end = refl; control = refl; heard = counts_so worked_policies limited_read asks_server (gives_bytes 148); openings = tt; others = refl; lacking = tt }
 
 pub hears : IsStep worked_policies limited_given client_hears (answers.Deliver receives.Taken) limited_heard
 unfolding limited_heard
-hears = record { answer = inl refl; end = refl; control = refl; heard = counts_so worked_policies limited_given client_hears (answers.Deliver receives.Taken); others = refl; lacking = tt }
+hears = record { answer = inl refl; end = refl; control = refl; heard = counts_so worked_policies limited_given client_hears (answers.Deliver receives.Taken); openings = tt; others = refl; lacking = tt }
 
 writes_third : IsStep worked_policies limited_heard (writes_on 0 sixteen) (answers.Write (Ok 5)) limited_third
 unfolding limited_heard
-writes_third = record { answer = inl refl; end = refl; control = refl; heard = counts_so worked_policies limited_heard (writes_on 0 sixteen) (answers.Write (Ok 5)); others = refl; lacking = λ lacks. cc }
+writes_third = record { answer = inl refl; end = refl; control = refl; heard = counts_so worked_policies limited_heard (writes_on 0 sixteen) (answers.Write (Ok 5)); openings = tt; others = refl; lacking = λ lacks. cc }
 
 writes_fourth : IsStep worked_policies limited_third (writes_on 4 sixteen) (answers.Write (Ok 1)) limited_fourth
 unfolding limited_heard
-writes_fourth = record { answer = inl refl; end = refl; control = refl; heard = counts_so worked_policies limited_third (writes_on 4 sixteen) (answers.Write (Ok 1)); others = refl; lacking = λ lacks. cc }
+writes_fourth = record { answer = inl refl; end = refl; control = refl; heard = counts_so worked_policies limited_third (writes_on 4 sixteen) (answers.Write (Ok 1)); openings = tt; others = refl; lacking = λ lacks. cc }
 
 blocks_again : IsStep worked_policies limited_fourth (writes_on 4 sixteen) (answers.Write (Err write_errors.Blocked)) limited_end
 unfolding limited_heard
-blocks_again = record { answer = inl refl; end = refl; control = refl; heard = counts_so worked_policies limited_fourth (writes_on 4 sixteen) (answers.Write (Err write_errors.Blocked)); others = refl; lacking = λ lacks. cc }
+blocks_again = record { answer = inl refl; end = refl; control = refl; heard = counts_so worked_policies limited_fourth (writes_on 4 sixteen) (answers.Write (Err write_errors.Blocked)); openings = tt; others = refl; lacking = λ lacks. cc }
 
 pub sent_seen : one_sent ≡ view_of limited_sent
 unfolding limited_sent
@@ -165,7 +172,7 @@ end_seen = refl
 follows : (read : ReadCall) → ReadsEight read → Follows worked_policies limited_start (limited_events read) limited_answers limited_views limited_end
 follows read by =
     let late : Follows worked_policies limited_read (asks_server ∷ client_hears ∷ writes_on 0 sixteen ∷ writes_on 4 sixteen ∷ writes_on 4 sixteen ∷ [])
-    (gives_bytes 36 ∷ answers.Deliver receives.Taken ∷ answers.Write (Ok 5) ∷ answers.Write (Ok 1) ∷ answers.Write (Err write_errors.Blocked) ∷ []) (both_sent ∷ one_heard ∷ one_heard ∷ one_heard ∷ one_heard ∷ []) limited_end =
+    (gives_bytes 148 ∷ answers.Deliver receives.Taken ∷ answers.Write (Ok 5) ∷ answers.Write (Ok 1) ∷ answers.Write (Err write_errors.Blocked) ∷ []) (both_sent ∷ one_heard ∷ one_heard ∷ one_heard ∷ one_heard ∷ []) limited_end =
     (limited_given, raises, given_seen, (limited_heard, hears, heard_seen, (limited_third, writes_third, third_seen, (limited_fourth, writes_fourth, fourth_seen, (limited_end, blocks_again, end_seen, refl))))) in (
       limited_opened,
       opens,
@@ -335,3 +342,30 @@ freed_own read is Server = (tt, (tt, (tt, (tt, (tt, (tt, (tt, (tt, (inl is, (tt,
 
 pub never_freed_is_honest : (read : ReadCall) → read.id ≡ 0 → IsHonest (never_freed read)
 never_freed_is_honest read is = record { start = limited_started; keys = are_keys; ids = own_ids (never_freed read) (freed_own read is) }
+
+-- ---- whose parameters count
+
+first_counts : (dir : Dir) → of dir limited_start.client.streams.opening.own_limit ≡ count_limit (parameters_of takes_eight) dir []
+first_counts Bi = refl
+first_counts Uni = refl
+
+pub keeps_told : KeepsTo (parameters_of takes_eight) Client [] limited_start.client
+keeps_told = record { told = refl; all_data = refl; stream = λ id h there. absurd cc; count = first_counts; size = lit≤ tt }
+
+pub told_thirteen : (read : ReadCall) → data_limit (parameters_of takes_eight) (took (limited_run read) Client 11) ≡ 13
+unfolding limited_heard
+told_thirteen read = refl
+
+pub keeps_thirteen : limited_heard.client.streams.sending.limit ≡ 13
+unfolding limited_heard
+keeps_thirteen = refl
+
+-- the peer takes eight bytes in all
+pub keeps_own : KeepsTo (parameters_of takes_eight) Client [] own_client → ⊥
+keeps_own k = let clash : ◌≡◌ {A = ℕ} 4611686018427387903 8 = k.all_data in omega (arith, clash)
+
+pub never_own : MadeFrom Client keeps_seven steady narrow_parameters client_id server_id 0 true (λ n. 63) own_client → ⊥
+never_own made =
+    let is : own_client ≡ limited_start.client = subst (λ read. IsMade Client keeps_seven steady read client_id server_id 0 true (λ n. 63) own_client) narrow_say made in
+    let clash : ◌≡◌ {A = ℕ} 4611686018427387903 8 = ap (λ (e : End). e.streams.sending.limit) is in
+    omega (arith, clash)

@@ -27,39 +27,39 @@ use Rattle.quic_worked.proofs.Steps.{counts_so}
 -- ---- the events
 
 pub pings : (w : World) → IsStep worked_policies w asks_ping answers.Ping (after_ping w)
-pings w = record { answer = refl; end = refl; control = refl; heard = counts_so worked_policies w asks_ping answers.Ping; others = refl; lacking = tt }
+pings w = record { answer = refl; end = refl; control = refl; heard = counts_so worked_policies w asks_ping answers.Ping; openings = tt; others = refl; lacking = tt }
 
 pub gives_first : IsStep worked_policies (after_ping once_sent) asks_datagram (gives_bytes 29) pinged_once
 unfolding pinged_once
-gives_first = record { answer = inl refl; end = refl; control = refl; heard = counts_so worked_policies (after_ping once_sent) asks_datagram (gives_bytes 29); others = refl; lacking = tt }
+gives_first = record { answer = inl refl; end = refl; control = refl; heard = counts_so worked_policies (after_ping once_sent) asks_datagram (gives_bytes 29); openings = tt; others = refl; lacking = tt }
 
 gives_second : IsStep worked_policies (after_ping pinged_once) asks_datagram (gives_bytes 29) pinged_twice
 unfolding pinged_twice
-gives_second = record { answer = inl refl; end = refl; control = refl; heard = counts_so worked_policies (after_ping pinged_once) asks_datagram (gives_bytes 29); others = refl; lacking = tt }
+gives_second = record { answer = inl refl; end = refl; control = refl; heard = counts_so worked_policies (after_ping pinged_once) asks_datagram (gives_bytes 29); openings = tt; others = refl; lacking = tt }
 
 gives_third : IsStep worked_policies (after_ping pinged_twice) asks_datagram (gives_bytes 29) pinged_thrice
 unfolding pinged_thrice
-gives_third = record { answer = inl refl; end = refl; control = refl; heard = counts_so worked_policies (after_ping pinged_twice) asks_datagram (gives_bytes 29); others = refl; lacking = tt }
+gives_third = record { answer = inl refl; end = refl; control = refl; heard = counts_so worked_policies (after_ping pinged_twice) asks_datagram (gives_bytes 29); openings = tt; others = refl; lacking = tt }
 
 gives_fourth : IsStep worked_policies (after_ping pinged_thrice) asks_datagram (gives_bytes 29) all_given
 unfolding all_given
-gives_fourth = record { answer = inl refl; end = refl; control = refl; heard = counts_so worked_policies (after_ping pinged_thrice) asks_datagram (gives_bytes 29); others = refl; lacking = tt }
+gives_fourth = record { answer = inl refl; end = refl; control = refl; heard = counts_so worked_policies (after_ping pinged_thrice) asks_datagram (gives_bytes 29); openings = tt; others = refl; lacking = tt }
 
 takes_last : IsStep worked_policies all_given (delivers_at 4) (answers.Deliver receives.Taken) last_taken
 unfolding last_taken
-takes_last = record { answer = inl refl; end = refl; control = refl; heard = counts_so worked_policies all_given (delivers_at 4) (answers.Deliver receives.Taken); others = refl; lacking = tt }
+takes_last = record { answer = inl refl; end = refl; control = refl; heard = counts_so worked_policies all_given (delivers_at 4) (answers.Deliver receives.Taken); openings = tt; others = refl; lacking = tt }
 
 waits_last : IsStep worked_policies last_taken server_waits (answers.Timeout (Ok tt)) last_due
 unfolding last_taken
-waits_last = record { answer = inl refl; end = refl; control = refl; heard = counts_so worked_policies last_taken server_waits (answers.Timeout (Ok tt)); others = refl; lacking = tt }
+waits_last = record { answer = inl refl; end = refl; control = refl; heard = counts_so worked_policies last_taken server_waits (answers.Timeout (Ok tt)); openings = tt; others = refl; lacking = tt }
 
 names_last : IsStep worked_policies last_due server_polled (gives_bytes 32) last_named
 unfolding last_named
-names_last = record { answer = inl refl; end = refl; control = refl; heard = counts_so worked_policies last_due server_polled (gives_bytes 32); others = refl; lacking = tt }
+names_last = record { answer = inl refl; end = refl; control = refl; heard = counts_so worked_policies last_due server_polled (gives_bytes 32); openings = tt; others = refl; lacking = tt }
 
 takes_name : IsStep worked_policies last_named client_delivered (answers.Deliver receives.Taken) once_lost
 unfolding once_lost
-takes_name = record { answer = inl refl; end = refl; control = refl; heard = counts_so worked_policies last_named client_delivered (answers.Deliver receives.Taken); others = refl; lacking = tt }
+takes_name = record { answer = inl refl; end = refl; control = refl; heard = counts_so worked_policies last_named client_delivered (answers.Deliver receives.Taken); openings = tt; others = refl; lacking = tt }
 
 -- those behind the client's datagram
 abbrev pub losing_behind : List RunEvent

@@ -1,4 +1,5 @@
--- The run in which datagrams are lost by number and by time, event by event, what an observer reckons of it, and machines that go wrong there.
+-- The run in which datagrams are lost by number and by time, event by event, what an observer
+-- reckons of it, and machines that go wrong there.
 use Rattle.std.proofs.Common.{◌≡◌, ℕ, zero, suc, Bool, true, false, List, [], ◌∷◌, Option, Some, None, Ok, refl, inl, sym, ap, ◌∙◌, arith, length, map}
 use Rattle.std.specs.Prelude.{slice_get}
 use Rattle.quic_wire_core.specs.declared.stream_id.Side.TheVariants.{Client, Server}
@@ -14,7 +15,6 @@ use Rattle.quic_machine.specs.Machine.{World, IsStep, Follows, view_of}
 use Rattle.quic_machine.specs.RunLaws.{one_run}
 use Rattle.quic_headline.specs.InFlight.{in_flight, TracksAt}
 use Rattle.quic_headline.specs.Headline.{IsRun, LossTimerFollows, LossTimersFollow}
-use Rattle.quic_headline.proofs.Timers.Starts.{loss_timers_run}
 use Rattle.quic_headline.specs.Moments.{LossMoments}
 use Rattle.quic_worked.specs.Worked.{worked_policies, started, asks_datagram, gives_bytes}
 use Rattle.quic_worked.specs.Acknowledged.{client_acked}
@@ -26,7 +26,6 @@ use Rattle.quic_worked.specs.Timed.{serves, comes_at, seen_with, due_at, NeverSh
 use Rattle.quic_worked.specs.Measured.{measured_events, measured_answers, once_measured, measured_run, never_late, late_kept, timer_cleared, cleared}
 use Rattle.quic_worked.proofs.Codes.{no_codes}
 use Rattle.quic_worked.proofs.Waited.{as_many}
-use Rattle.quic_worked.proofs.WorkedHonest.{are_started}
 use Rattle.quic_worked.proofs.WrongRuns.{ends_here, step_on, NotTo}
 use Rattle.quic_worked.proofs.TimedRun.{shows, moment_in, moment_of}
 use Rattle.quic_worked.proofs.Steps.{counts_so}
@@ -35,15 +34,15 @@ use Rattle.quic_worked.proofs.Steps.{counts_so}
 
 step_0 : IsStep worked_policies started asks_ping answers.Ping (once_measured 1)
 unfolding once_measured
-step_0 = record { answer = refl; end = refl; control = refl; heard = counts_so worked_policies started asks_ping answers.Ping; others = refl; lacking = tt }
+step_0 = record { answer = refl; end = refl; control = refl; heard = counts_so worked_policies started asks_ping answers.Ping; openings = tt; others = refl; lacking = tt }
 
 seen_0 : (seen_with None None) ≡ view_of (once_measured 1)
 unfolding once_measured
 seen_0 = refl
 
-step_1 : IsStep worked_policies (once_measured 1) asks_datagram (gives_bytes 29) (once_measured 2)
+step_1 : IsStep worked_policies (once_measured 1) asks_datagram (gives_bytes 139) (once_measured 2)
 unfolding once_measured
-step_1 = record { answer = inl refl; end = refl; control = refl; heard = counts_so worked_policies (once_measured 1) asks_datagram (gives_bytes 29); others = refl; lacking = tt }
+step_1 = record { answer = inl refl; end = refl; control = refl; heard = counts_so worked_policies (once_measured 1) asks_datagram (gives_bytes 139); openings = tt; others = refl; lacking = tt }
 
 seen_1 : (seen_with (Some 1024000000) None) ≡ view_of (once_measured 2)
 unfolding once_measured
@@ -51,7 +50,7 @@ seen_1 = refl
 
 step_2 : IsStep worked_policies (once_measured 2) asks_ping answers.Ping (once_measured 3)
 unfolding once_measured
-step_2 = record { answer = refl; end = refl; control = refl; heard = counts_so worked_policies (once_measured 2) asks_ping answers.Ping; others = refl; lacking = tt }
+step_2 = record { answer = refl; end = refl; control = refl; heard = counts_so worked_policies (once_measured 2) asks_ping answers.Ping; openings = tt; others = refl; lacking = tt }
 
 seen_2 : (seen_with (Some 1024000000) None) ≡ view_of (once_measured 3)
 unfolding once_measured
@@ -59,7 +58,7 @@ seen_2 = refl
 
 step_3 : IsStep worked_policies (once_measured 3) asks_datagram (gives_bytes 29) (once_measured 4)
 unfolding once_measured
-step_3 = record { answer = inl refl; end = refl; control = refl; heard = counts_so worked_policies (once_measured 3) asks_datagram (gives_bytes 29); others = refl; lacking = tt }
+step_3 = record { answer = inl refl; end = refl; control = refl; heard = counts_so worked_policies (once_measured 3) asks_datagram (gives_bytes 29); openings = tt; others = refl; lacking = tt }
 
 seen_3 : (seen_with (Some 1024000000) None) ≡ view_of (once_measured 4)
 unfolding once_measured
@@ -67,7 +66,7 @@ seen_3 = refl
 
 step_4 : IsStep worked_policies (once_measured 4) asks_ping answers.Ping (once_measured 5)
 unfolding once_measured
-step_4 = record { answer = refl; end = refl; control = refl; heard = counts_so worked_policies (once_measured 4) asks_ping answers.Ping; others = refl; lacking = tt }
+step_4 = record { answer = refl; end = refl; control = refl; heard = counts_so worked_policies (once_measured 4) asks_ping answers.Ping; openings = tt; others = refl; lacking = tt }
 
 seen_4 : (seen_with (Some 1024000000) None) ≡ view_of (once_measured 5)
 unfolding once_measured
@@ -75,7 +74,7 @@ seen_4 = refl
 
 step_5 : IsStep worked_policies (once_measured 5) asks_datagram (gives_bytes 29) (once_measured 6)
 unfolding once_measured
-step_5 = record { answer = inl refl; end = refl; control = refl; heard = counts_so worked_policies (once_measured 5) asks_datagram (gives_bytes 29); others = refl; lacking = tt }
+step_5 = record { answer = inl refl; end = refl; control = refl; heard = counts_so worked_policies (once_measured 5) asks_datagram (gives_bytes 29); openings = tt; others = refl; lacking = tt }
 
 seen_5 : (seen_with (Some 1024000000) None) ≡ view_of (once_measured 6)
 unfolding once_measured
@@ -83,7 +82,7 @@ seen_5 = refl
 
 step_6 : IsStep worked_policies (once_measured 6) asks_ping answers.Ping (once_measured 7)
 unfolding once_measured
-step_6 = record { answer = refl; end = refl; control = refl; heard = counts_so worked_policies (once_measured 6) asks_ping answers.Ping; others = refl; lacking = tt }
+step_6 = record { answer = refl; end = refl; control = refl; heard = counts_so worked_policies (once_measured 6) asks_ping answers.Ping; openings = tt; others = refl; lacking = tt }
 
 seen_6 : (seen_with (Some 1024000000) None) ≡ view_of (once_measured 7)
 unfolding once_measured
@@ -91,7 +90,7 @@ seen_6 = refl
 
 step_7 : IsStep worked_policies (once_measured 7) asks_datagram (gives_bytes 29) (once_measured 8)
 unfolding once_measured
-step_7 = record { answer = inl refl; end = refl; control = refl; heard = counts_so worked_policies (once_measured 7) asks_datagram (gives_bytes 29); others = refl; lacking = tt }
+step_7 = record { answer = inl refl; end = refl; control = refl; heard = counts_so worked_policies (once_measured 7) asks_datagram (gives_bytes 29); openings = tt; others = refl; lacking = tt }
 
 seen_7 : (seen_with (Some 1024000000) None) ≡ view_of (once_measured 8)
 unfolding once_measured
@@ -99,7 +98,7 @@ seen_7 = refl
 
 step_8 : IsStep worked_policies (once_measured 8) (delivers_at 3) (answers.Deliver receives.Taken) (once_measured 9)
 unfolding once_measured
-step_8 = record { answer = inl refl; end = refl; control = refl; heard = counts_so worked_policies (once_measured 8) (delivers_at 3) (answers.Deliver receives.Taken); others = refl; lacking = tt }
+step_8 = record { answer = inl refl; end = refl; control = refl; heard = counts_so worked_policies (once_measured 8) (delivers_at 3) (answers.Deliver receives.Taken); openings = tt; others = refl; lacking = tt }
 
 seen_8 : (seen_with (Some 1024000000) None) ≡ view_of (once_measured 9)
 unfolding once_measured
@@ -107,7 +106,7 @@ seen_8 = refl
 
 step_9 : IsStep worked_policies (once_measured 9) asks_server (gives_bytes 31) (once_measured 10)
 unfolding once_measured
-step_9 = record { answer = inl refl; end = refl; control = refl; heard = counts_so worked_policies (once_measured 9) asks_server (gives_bytes 31); others = refl; lacking = tt }
+step_9 = record { answer = inl refl; end = refl; control = refl; heard = counts_so worked_policies (once_measured 9) asks_server (gives_bytes 31); openings = tt; others = refl; lacking = tt }
 
 seen_9 : (seen_with (Some 1024000000) None) ≡ view_of (once_measured 10)
 unfolding once_measured
@@ -115,7 +114,7 @@ seen_9 = refl
 
 step_10 : IsStep worked_policies (once_measured 10) (comes_at Client 100000000) (answers.Deliver receives.Taken) (once_measured 11)
 unfolding once_measured
-step_10 = record { answer = inl refl; end = refl; control = refl; heard = counts_so worked_policies (once_measured 10) (comes_at Client 100000000) (answers.Deliver receives.Taken); others = refl; lacking = tt }
+step_10 = record { answer = inl refl; end = refl; control = refl; heard = counts_so worked_policies (once_measured 10) (comes_at Client 100000000) (answers.Deliver receives.Taken); openings = tt; others = refl; lacking = tt }
 
 seen_10 : (seen_with (Some 112500000) None) ≡ view_of (once_measured 11)
 unfolding once_measured
@@ -123,7 +122,7 @@ seen_10 = refl
 
 step_11 : IsStep worked_policies (once_measured 11) (serves Client 112500000) (answers.Timeout (Ok tt)) (once_measured 12)
 unfolding once_measured
-step_11 = record { answer = inl refl; end = refl; control = refl; heard = counts_so worked_policies (once_measured 11) (serves Client 112500000) (answers.Timeout (Ok tt)); others = refl; lacking = tt }
+step_11 = record { answer = inl refl; end = refl; control = refl; heard = counts_so worked_policies (once_measured 11) (serves Client 112500000) (answers.Timeout (Ok tt)); openings = tt; others = refl; lacking = tt }
 
 seen_11 : (seen_with None None) ≡ view_of (once_measured 12)
 unfolding once_measured
@@ -359,6 +358,3 @@ waits i = let clash : ◌≡◌ {A = Bool} false true = i refl in cc
 
 pub cleared_follows : LossTimersFollow cleared → ⊥
 cleared_follows i = waits i.0
-
-pub cleared_leads : (events : List RunEvent) (told : List Answer) → NeverLeads events told cleared
-cleared_leads events told views f = cleared_follows (loss_timers_run worked_policies started cleared events told views are_started f)

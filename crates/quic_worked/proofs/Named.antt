@@ -4,7 +4,7 @@ use Rattle.std.proofs.Common.{◌≡◌, ◌≤◌, ℕ, List, [], ◌∷◌, No
 use Rattle.std.proofs.lemmas.Bool.{leb-true, and_parts}
 use Rattle.quic_wire_core.specs.declared.stream_id.Side.TheVariants.{Server}
 use Rattle.quic_wire.specs.FrameTypes.{kind_of}
-use Rattle.quic_wire.specs.Reading.{block_at, sized_at, offset_at, data_at, stream_at, body_at}
+use Rattle.quic_wire.specs.Reading.{body_at}
 use Rattle.quic_wire.specs.AckReading.{ack_at, ranges_at, range_at, some_ecn_at}
 use Rattle.quic_wire.specs.Value.{FrameValue, AckValue, ack}
 use Rattle.quic_wire.specs.Items.{frame_at, items_within, items}
@@ -16,6 +16,7 @@ use Rattle.quic_worked.specs.Acknowledged.{ack_payload, from_server}
 use Rattle.quic_worked.specs.Broken.{IsNoRun, answered_run, early_name}
 use Rattle.quic_worked.proofs.WorkedRun.{hello_packet}
 use Rattle.quic_worked.proofs.BrokenRuns.{stops}
+use Rattle.quic_worked.specs.Worked.{once_taken}
 
 -- ACK of number 0
 abbrev pub ack_of_hello : AckValue
@@ -36,7 +37,7 @@ pub named_there : (read : ReadCall) → IsNamedIn (frames_given (answered_run re
 named_there read = subst (λ (fs : List FrameValue). IsNamedIn fs 0) (sym (names_hello read)) is_named
 
 took_hello : (read : ReadCall) → took (answered_run read) Server 7 ≡ hello_packet ∷ []
-unfolding items items_within frame_at body_at kind_of stream_at offset_at data_at sized_at block_at
+unfolding once_taken
 took_hello read = refl
 
 first_true : (b : Bool) → (b || false) ≡ true → b ≡ true

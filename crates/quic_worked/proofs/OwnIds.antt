@@ -9,12 +9,12 @@ use Rattle.quic_machine.specs.declared.run.RunEvent.{RunEvent}
 use Rattle.quic_machine.specs.declared.run.Call.{Call}
 use Rattle.quic_machine.specs.declared.run.Answer.{Answer}
 use Rattle.quic_machine.specs.declared.run.View.{View}
-use Rattle.quic_machine.specs.Machine.{end_at}
+use Rattle.quic_machine.specs.Machine.{World, end_at}
 use Rattle.quic_machine.specs.Start.{AreStarted, AreKeys}
 use Rattle.quic_headline.specs.Runs.{Run, Told, In, same_side, state_in, told_at, and_id, id_by, ids_of}
 use Rattle.quic_headline.specs.Headline.{used, IsHonest, UsesOwnIds}
-use Rattle.quic_worked.specs.Worked.{started, worked_policies}
-use Rattle.quic_worked.proofs.WorkedHonest.{are_started}
+use Rattle.quic_worked.specs.Worked.{started, worked_policies, both_steady}
+use Rattle.quic_worked.proofs.WorkedHonest.{are_started, steady_started}
 use Rattle.quic_worked.proofs.WorkedKeys.{are_keys}
 
 -- the id that a call uses, if it uses one, is among these
@@ -75,14 +75,17 @@ own_at (suc i) side state ids (e ∷ es) (x ∷ told) (v ∷ vs) id call a h q p
     told_more (same_side e.side side) id ids (record { call = e.call; answer = x; state = state }) (told_at side (state_in v side) es (take i told) vs)
     (own_at i side (state_in v side) (and_given (same_side e.side side) ids e.call x) es told vs id call a h.1 q p u)
 
--- so both ends do
-pub record BothOwn (r : Run) : Type 0 where
-  pub start : started ≡ r.start
+-- so both ends do, where the run begins so
+pub record BothOwnFrom (w : World) (r : Run) : Type 0 where
+  pub start : w ≡ r.start
   pub keys : worked_policies ≡ r.keys
   pub client : AreOwn Client [] r.events r.answers r.views
   pub server : AreOwn Server [] r.events r.answers r.views
 
-of_side : (r : Run) → BothOwn r → (side : Side) → AreOwn side [] r.events r.answers r.views
+abbrev pub BothOwn : Run → Type 0
+BothOwn r = BothOwnFrom started r
+
+of_side : {w : World} → (r : Run) → BothOwnFrom w r → (side : Side) → AreOwn side [] r.events r.answers r.views
 of_side r own Client = own.client
 of_side r own Server = own.server
 
@@ -90,5 +93,12 @@ of_side r own Server = own.server
 pub own_ids : (r : Run) → ((side : Side) → AreOwn side [] r.events r.answers r.views) → UsesOwnIds r
 own_ids r own side i id call a at u = own_at i side (end_at side r.start).closing.state [] r.events r.answers r.views id call a (own side) at.event at.answer u
 
+honest_from : (w : World) → AreStarted w → (r : Run) → BothOwnFrom w r → IsHonest r
+honest_from w made r own = record { start = subst AreStarted own.start made; keys = subst AreKeys own.keys are_keys; ids = own_ids r (of_side r own) }
+
 pub honest : (r : Run) → BothOwn r → IsHonest r
-honest r own = record { start = subst AreStarted own.start are_started; keys = subst AreKeys own.keys are_keys; ids = own_ids r (of_side r own) }
+honest r own = honest_from started are_started r own
+
+-- and from two ends of which the server's window has room too
+pub honest_steady : (r : Run) → BothOwnFrom both_steady r → IsHonest r
+honest_steady r own = honest_from both_steady steady_started r own

@@ -10,11 +10,11 @@ use Rattle.quic_headline.specs.Runs.{Run}
 use Rattle.quic_headline.specs.Observer.{Sent, watch, sents_until}
 use Rattle.quic_headline.specs.Headline.{IsRun}
 use Rattle.quic_headline.specs.Polls.{GaveNothing, GaveAsking, IsByteToGo, IsPaced, PacingBehind, pacer_names, pacing_at, IsSizeProbe}
-use Rattle.quic_worked.specs.Worked.{worked_policies, hello, opens_stream, writes_hello, gives_bytes, open_view, view_with, once_written, once_sent, once_taken, server_id, sent_view}
+use Rattle.quic_worked.specs.Worked.{worked_policies, hello, opens_stream, writes_hello, gives_bytes, open_view, view_with, once_written, once_sent, once_taken, server_id, sent_view, behind_ids, server_open}
 use Rattle.quic_worked.specs.Timed.{asks_at, serves, seen_with}
 use Rattle.quic_worked.specs.Held.{gives_nothing, once_held, held_run}
 use Rattle.quic_worked.specs.Paced.{full_again, paced_start, once_paced, paced_view, paced_run, needlessly_paced, unheld_run, first_expiry, scarce_start, once_scarce, uncharged_run}
-use Rattle.quic_headline.specs.Spread.{pacer_at, named_at, PacerIsOfHistory}
+use Rattle.quic_headline.specs.Spread.{pacer_at, named_at, PacerIsOfHistory, SearchesApart}
 use Rattle.quic_headline.proofs.Spread.Clause.{pacer_is_of_history}
 use Rattle.quic_worked.specs.Broken.{IsNoRun}
 use Rattle.quic_worked.proofs.BrokenRuns.{IsRefused, stops, behind}
@@ -26,25 +26,25 @@ use Rattle.quic_worked.proofs.Steps.{counts_so}
 
 opens : IsStep worked_policies paced_start opens_stream (answers.Open (Some 0)) (once_paced 1)
 unfolding once_paced
-opens = record { answer = refl; end = refl; control = refl; heard = counts_so worked_policies paced_start opens_stream (answers.Open (Some 0)); others = refl; lacking = tt }
+opens = record { answer = refl; end = refl; control = refl; heard = counts_so worked_policies paced_start opens_stream (answers.Open (Some 0)); openings = tt; others = refl; lacking = tt }
 
 writes : IsStep worked_policies (once_paced 1) writes_hello (answers.Write (Ok 5)) (once_paced 2)
 unfolding once_paced
-writes = record { answer = inl refl; end = refl; control = refl; heard = counts_so worked_policies (once_paced 1) writes_hello (answers.Write (Ok 5)); others = refl; lacking = λ lacks. cc }
+writes = record { answer = inl refl; end = refl; control = refl; heard = counts_so worked_policies (once_paced 1) writes_hello (answers.Write (Ok 5)); openings = tt; others = refl; lacking = λ lacks. cc }
 
 holds : IsStep worked_policies (once_paced 2) (asks_at Client 0) gives_nothing (once_paced 3)
 unfolding once_paced
-holds = record { answer = inl refl; end = refl; control = refl; heard = counts_so worked_policies (once_paced 2) (asks_at Client 0) gives_nothing; others = refl; lacking = tt }
+holds = record { answer = inl refl; end = refl; control = refl; heard = counts_so worked_policies (once_paced 2) (asks_at Client 0) gives_nothing; openings = tt; others = refl; lacking = tt }
 
-gives : IsStep worked_policies (once_paced 3) (asks_at Client full_again) (gives_bytes 34) (once_paced 4)
+gives : IsStep worked_policies (once_paced 3) (asks_at Client full_again) (gives_bytes 146) (once_paced 4)
 unfolding once_paced
-gives = record { answer = inl refl; end = refl; control = refl; heard = counts_so worked_policies (once_paced 3) (asks_at Client full_again) (gives_bytes 34); others = refl; lacking = tt }
+gives = record { answer = inl refl; end = refl; control = refl; heard = counts_so worked_policies (once_paced 3) (asks_at Client full_again) (gives_bytes 146); openings = tt; others = refl; lacking = tt }
 
-opened_seen : record { client = open_view; server = open_view } ≡ view_of (once_paced 1)
+opened_seen : record { client = open_view; server = server_open } ≡ view_of (once_paced 1)
 unfolding once_paced
 opened_seen = refl
 
-written_seen : record { client = open_view; server = open_view } ≡ view_of (once_paced 2)
+written_seen : record { client = open_view; server = server_open } ≡ view_of (once_paced 2)
 unfolding once_paced
 written_seen = refl
 
@@ -52,7 +52,7 @@ held_seen : paced_view ≡ view_of (once_paced 3)
 unfolding once_paced
 held_seen = refl
 
-given_seen : record { client = view_with (Some 1290400000) None; server = open_view } ≡ view_of (once_paced 4)
+given_seen : record { client = view_with (Some 1290400000) None; server = server_open } ≡ view_of (once_paced 4)
 unfolding once_paced
 given_seen = refl
 
@@ -107,9 +107,9 @@ word_sent = record {
   id = server_id;
   number = 0;
   reference = 0;
-  frames = stream (record { id = 0; offset = 0; fin = false; bytes = hello }) ∷ [];
+  frames = behind_ids (stream (record { id = 0; offset = 0; fin = false; bytes = hello }) ∷ []);
   moment = full_again;
-  size = 34;
+  size = 146;
 }
 
 word_went : sents_until paced_run Client 4 ≡ sents_until paced_run Client 3 ++ word_sent ∷ []
@@ -119,7 +119,7 @@ word_went = refl
 pub goes_then : GaveAsking paced_run Client 3 full_again
 goes_then = record {
   one = record {
-    transmit = record { size = 34; ecn = Some Ect0 };
+    transmit = record { size = 146; ecn = Some Ect0 };
     poll = record { event = refl; answer = refl };
     served = refl;
     sent = word_sent;
@@ -130,7 +130,7 @@ goes_then = record {
 
 -- ---- what goes wrong
 
-pub gives_no : (next : World) → IsStep worked_policies (once_paced 2) (asks_at Client 0) (gives_bytes 34) next → ⊥
+pub gives_no : (next : World) → IsStep worked_policies (once_paced 2) (asks_at Client 0) (gives_bytes 146) next → ⊥
 unfolding once_paced
 gives_no next step = elim (step.answer) [ inl e ↦ cc | inr e ↦ cc ]
 
@@ -164,7 +164,7 @@ pub lists_name_none : named_at paced_run Client 3 full_again ≡ None
 unfolding once_taken
 lists_name_none = refl
 
-pub left_tokens : (pacer_at paced_run Client 4).tokens ≡ 11966
+pub left_tokens : (pacer_at paced_run Client 4).tokens ≡ 11854
 unfolding once_taken
 left_tokens = refl
 
@@ -177,7 +177,7 @@ unfolding once_held
 probe_tokens = refl
 
 pub held_paces : PacerIsOfHistory held_run
-held_paces = pacer_is_of_history held_run (once_held 8) held_is_honest held_is_run
+held_paces = pacer_is_of_history held_run (once_held 8) held_is_honest held_is_run (refl, refl)
 
 -- ---- a pacer that is never asked
 
@@ -194,7 +194,7 @@ unfolding once_taken
 soon_went = refl
 
 abbrev soon_gave : GaveAsking unheld_run Client 2 0
-soon_gave = record { one = record { transmit = record { size = 34; ecn = Some Ect0 }; poll = record { event = refl; answer = refl }; served = refl; sent = soon_sent; went = soon_went }; asks = refl }
+soon_gave = record { one = record { transmit = record { size = 146; ecn = Some Ect0 }; poll = record { event = refl; answer = refl }; served = refl; sent = soon_sent; went = soon_went }; asks = refl }
 
 soon_probes : (watch unheld_run Client 2).flight.probes ≡ 0
 soon_probes = refl
@@ -204,10 +204,14 @@ not_let : (r : Run) (i now moment : ℕ) (gave : GaveAsking r Client i now) → 
 not_let r i now moment gave names other (inl none) = (let clash : ◌≡◌ {A = Option ℕ} None (Some moment) = sym none ∙ names in cc)
 not_let r i now moment gave names other (inr probe) = other probe.zeros probe.alone
 
-pub unheld_paces : PacerIsOfHistory unheld_run → ⊥
-unheld_paces h = not_let unheld_run 2 0 full_again soon_gave unheld_names (λ zeros is. cc) ((h Client 2 (calls.Poll 0) (gives_bytes 34) (record { client = sent_view; server = open_view }) refl (record { event = refl; answer = refl }) refl refl).lets soon_gave soon_probes)
+-- its client looks for no greater size of datagrams
+unheld_apart : SearchesApart unheld_run Client
+unheld_apart = tt
 
-unheld_refused : IsRefused (once_paced 2) (asks_at Client 0) (gives_bytes 34)
+pub unheld_paces : PacerIsOfHistory unheld_run → ⊥
+unheld_paces h = not_let unheld_run 2 0 full_again soon_gave unheld_names (λ zeros is. cc) ((h Client 2 (calls.Poll 0) (gives_bytes 146) (record { client = sent_view; server = server_open }) refl (record { event = refl; answer = refl }) refl refl unheld_apart).lets soon_gave soon_probes)
+
+unheld_refused : IsRefused (once_paced 2) (asks_at Client 0) (gives_bytes 146)
 unfolding once_paced
 unheld_refused (inl e) = cc
 unheld_refused (inr e) = cc
@@ -225,13 +229,13 @@ pub tokens_before : (pacer_at uncharged_run Client 4).tokens ≡ 1200
 unfolding once_scarce
 tokens_before = refl
 
-pub tokens_behind : (pacer_at uncharged_run Client 7).tokens ≡ 1142
+pub tokens_behind : (pacer_at uncharged_run Client 7).tokens ≡ 924
 unfolding once_scarce
 tokens_behind = refl
 
 -- when its pacer is full: 10858 tokens more
 abbrev later : ℕ
-later = 1265047600
+later = 1269887200
 
 again_named : named_at uncharged_run Client 7 first_expiry ≡ Some later
 unfolding once_scarce
@@ -252,36 +256,40 @@ again_probes : (watch uncharged_run Client 7).flight.probes ≡ 0
 unfolding once_scarce
 again_probes = refl
 
+-- nor does its client
+uncharged_apart : SearchesApart uncharged_run Client
+uncharged_apart = tt
+
 pub uncharged_paces : PacerIsOfHistory uncharged_run → ⊥
-uncharged_paces h = not_let uncharged_run 7 first_expiry later again_gave again_named (λ zeros is. cc) ((h Client 7 (calls.Poll first_expiry) (gives_bytes 35) (seen_with (Some 3072000000) None) refl (record { event = refl; answer = refl }) refl refl).lets again_gave again_probes)
+uncharged_paces h = not_let uncharged_run 7 first_expiry later again_gave again_named (λ zeros is. cc) ((h Client 7 (calls.Poll first_expiry) (gives_bytes 35) (seen_with (Some 3072000000) None) refl (record { event = refl; answer = refl }) refl refl uncharged_apart).lets again_gave again_probes)
 
 scarce_opens : IsStep worked_policies scarce_start opens_stream (answers.Open (Some 0)) (once_scarce 1)
 unfolding once_scarce
-scarce_opens = record { answer = refl; end = refl; control = refl; heard = counts_so worked_policies scarce_start opens_stream (answers.Open (Some 0)); others = refl; lacking = tt }
+scarce_opens = record { answer = refl; end = refl; control = refl; heard = counts_so worked_policies scarce_start opens_stream (answers.Open (Some 0)); openings = tt; others = refl; lacking = tt }
 
 scarce_writes : IsStep worked_policies (once_scarce 1) writes_hello (answers.Write (Ok 5)) (once_scarce 2)
 unfolding once_scarce
-scarce_writes = record { answer = inl refl; end = refl; control = refl; heard = counts_so worked_policies (once_scarce 1) writes_hello (answers.Write (Ok 5)); others = refl; lacking = λ lacks. cc }
+scarce_writes = record { answer = inl refl; end = refl; control = refl; heard = counts_so worked_policies (once_scarce 1) writes_hello (answers.Write (Ok 5)); openings = tt; others = refl; lacking = λ lacks. cc }
 
-scarce_gives : IsStep worked_policies (once_scarce 2) (asks_at Client 0) (gives_bytes 34) (once_scarce 3)
+scarce_gives : IsStep worked_policies (once_scarce 2) (asks_at Client 0) (gives_bytes 146) (once_scarce 3)
 unfolding once_scarce
-scarce_gives = record { answer = inl refl; end = refl; control = refl; heard = counts_so worked_policies (once_scarce 2) (asks_at Client 0) (gives_bytes 34); others = refl; lacking = tt }
+scarce_gives = record { answer = inl refl; end = refl; control = refl; heard = counts_so worked_policies (once_scarce 2) (asks_at Client 0) (gives_bytes 146); openings = tt; others = refl; lacking = tt }
 
 scarce_expires : IsStep worked_policies (once_scarce 3) (serves Client first_expiry) (answers.Timeout (Ok tt)) (once_scarce 4)
 unfolding once_scarce
-scarce_expires = record { answer = inl refl; end = refl; control = refl; heard = counts_so worked_policies (once_scarce 3) (serves Client first_expiry) (answers.Timeout (Ok tt)); others = refl; lacking = tt }
+scarce_expires = record { answer = inl refl; end = refl; control = refl; heard = counts_so worked_policies (once_scarce 3) (serves Client first_expiry) (answers.Timeout (Ok tt)); openings = tt; others = refl; lacking = tt }
 
-scarce_probes : IsStep worked_policies (once_scarce 4) (asks_at Client first_expiry) (gives_bytes 29) (once_scarce 5)
+scarce_probes : IsStep worked_policies (once_scarce 4) (asks_at Client first_expiry) (gives_bytes 138) (once_scarce 5)
 unfolding once_scarce
-scarce_probes = record { answer = inl refl; end = refl; control = refl; heard = counts_so worked_policies (once_scarce 4) (asks_at Client first_expiry) (gives_bytes 29); others = refl; lacking = tt }
+scarce_probes = record { answer = inl refl; end = refl; control = refl; heard = counts_so worked_policies (once_scarce 4) (asks_at Client first_expiry) (gives_bytes 138); openings = tt; others = refl; lacking = tt }
 
-scarce_probes_again : IsStep worked_policies (once_scarce 5) (asks_at Client first_expiry) (gives_bytes 29) (once_scarce 6)
+scarce_probes_again : IsStep worked_policies (once_scarce 5) (asks_at Client first_expiry) (gives_bytes 138) (once_scarce 6)
 unfolding once_scarce
-scarce_probes_again = record { answer = inl refl; end = refl; control = refl; heard = counts_so worked_policies (once_scarce 5) (asks_at Client first_expiry) (gives_bytes 29); others = refl; lacking = tt }
+scarce_probes_again = record { answer = inl refl; end = refl; control = refl; heard = counts_so worked_policies (once_scarce 5) (asks_at Client first_expiry) (gives_bytes 138); openings = tt; others = refl; lacking = tt }
 
 scarce_writes_again : IsStep worked_policies (once_scarce 6) writes_hello (answers.Write (Ok 5)) (once_scarce 7)
 unfolding once_scarce
-scarce_writes_again = record { answer = inl refl; end = refl; control = refl; heard = counts_so worked_policies (once_scarce 6) writes_hello (answers.Write (Ok 5)); others = refl; lacking = λ lacks. cc }
+scarce_writes_again = record { answer = inl refl; end = refl; control = refl; heard = counts_so worked_policies (once_scarce 6) writes_hello (answers.Write (Ok 5)); openings = tt; others = refl; lacking = λ lacks. cc }
 
 uncharged_refused : IsRefused (once_scarce 7) (asks_at Client first_expiry) (gives_bytes 35)
 unfolding once_scarce

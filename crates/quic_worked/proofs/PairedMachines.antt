@@ -1,4 +1,5 @@
--- Machines that go wrong where one of two streams is reset: each breaks a clause, and the reference machine makes none of their runs.
+-- Machines that go wrong where one of two streams is reset: each breaks a clause, and the reference
+-- machine makes none of their runs.
 use Rattle.std.proofs.Common.{◌≡◌, ◌⊎◌, ℕ, List, [], ◌∷◌, ◌++◌, Option, Some, None, Ok, Err, Bool, true, false, refl, inl, inr, sym, ap, ◌∙◌, subst, arith, length, map}
 use Rattle.std.specs.Prelude.{slice_index, ◌==◌, if◌then◌else◌}
 use Rattle.quic_wire_core.specs.declared.stream_id.Side.TheVariants.{Client, Server}
@@ -26,19 +27,19 @@ use Rattle.quic_headline.specs.Headline.{Slices, AcceptsAll, FinishedMeansArrive
 use Rattle.quic_headline.specs.Resets.{ResetsAreTold}
 use Rattle.quic_headline.specs.Ids.{IdsAreNew, AcceptedWereOpened}
 use Rattle.quic_headline.proofs.Places.Theorems.{resets_are_told, ids_are_new, accepted_were_opened}
-use Rattle.quic_worked.specs.Worked.{NextAnswers, started, opens_stream, accepts_stream, reads_stream}
+use Rattle.quic_worked.specs.Worked.{NextAnswers, opens_stream, accepts_stream, reads_stream, both_steady}
 use Rattle.quic_worked.specs.Reordered.{abc, def}
-use Rattle.quic_worked.specs.Broken.{NeverAnswers, IsNoRun, NeverLeads, tells_finished}
+use Rattle.quic_worked.specs.Broken.{NeverAnswers, IsNoRun, NeverLeadsFrom, tells_finished}
 use Rattle.quic_worked.specs.Paired.{client_asks, asks_reset, ReadsSecond, second_bounds, giving_events, giving_answers, tells_stopped, paired_frames, first_open, pair_sent, pair_taken, first_accepted, both_accepted, reset_told, reset_refused, stop_taken, paired_run, told_of_reset, other_code, opened_twice, accepted_early, accepted_twice, reset_of_second, pair_giving, reset_forgotten, reset_changed, reset_unaccepted, second_unaccepted, other_bytes}
-use Rattle.quic_worked.proofs.OwnIds.{honest}
+use Rattle.quic_worked.proofs.OwnIds.{honest_steady}
 use Rattle.quic_worked.proofs.BrokenRuns.{IsRefused, stops, behind, read_of, not_next}
-use Rattle.quic_worked.proofs.WrongRuns.{ends_here, step_on, NotTo}
+use Rattle.quic_worked.proofs.WrongRuns.{ends_here, step_on, NotToFrom}
 use Rattle.quic_worked.proofs.PairedRun as paired
 
 -- ---- the premises
 
 pub is_honest : (read : ReadCall) → read.id ≡ 4 → IsHonest (paired_run read)
-is_honest read e = honest (paired_run read) (record {
+is_honest read e = honest_steady (paired_run read) (record {
   start = refl;
   keys = refl;
   client = (tt, (tt, (inl refl, (inr (inl refl), (inl refl, (tt, (tt, (tt, (tt, (tt, (tt, (tt, (tt, (tt, (tt, (tt, (inr (inl refl), (inl refl, tt))))))))))))))))));
@@ -46,39 +47,39 @@ is_honest read e = honest (paired_run read) (record {
 })
 
 pub h_told_of_reset : (read : ReadCall) → read.id ≡ 4 → IsHonest (told_of_reset read)
-h_told_of_reset read e = honest (told_of_reset read) (record { start = refl; keys = refl; client = (tt, (tt, (inl refl, (inr (inl refl), (inl refl, (tt, (tt, (tt, (tt, (tt, (tt, (tt, (tt, (tt, (tt, tt))))))))))))))); server = (tt, (tt, (tt, (tt, (tt, (tt, (tt, (tt, (tt, (inl refl, (inr (inl e), (inr (inl refl), (tt, (tt, (tt, tt))))))))))))))) })
+h_told_of_reset read e = honest_steady (told_of_reset read) (record { start = refl; keys = refl; client = (tt, (tt, (inl refl, (inr (inl refl), (inl refl, (tt, (tt, (tt, (tt, (tt, (tt, (tt, (tt, (tt, (tt, tt))))))))))))))); server = (tt, (tt, (tt, (tt, (tt, (tt, (tt, (tt, (tt, (inl refl, (inr (inl e), (inr (inl refl), (tt, (tt, (tt, tt))))))))))))))) })
 
 pub h_pair_giving : (read : ReadCall) → IsHonest (pair_giving read)
-h_pair_giving read = honest (pair_giving read) (record { start = refl; keys = refl; client = (tt, (tt, (inl refl, (inr (inl refl), (inl refl, (tt, tt)))))); server = (tt, (tt, (tt, (tt, (tt, (tt, tt)))))) })
+h_pair_giving read = honest_steady (pair_giving read) (record { start = refl; keys = refl; client = (tt, (tt, (inl refl, (inr (inl refl), (inl refl, (tt, tt)))))); server = (tt, (tt, (tt, (tt, (tt, (tt, tt)))))) })
 
 pub h_reset_unaccepted : (read : ReadCall) → IsHonest (reset_unaccepted read)
-h_reset_unaccepted read = honest (reset_unaccepted read) (record { start = refl; keys = refl; client = (tt, (tt, (inl refl, (inr (inl refl), (inl refl, (tt, (tt, (tt, tt)))))))); server = (tt, (tt, (tt, (tt, (tt, (tt, (tt, (tt, tt)))))))) })
+h_reset_unaccepted read = honest_steady (reset_unaccepted read) (record { start = refl; keys = refl; client = (tt, (tt, (inl refl, (inr (inl refl), (inl refl, (tt, (tt, (tt, tt)))))))); server = (tt, (tt, (tt, (tt, (tt, (tt, (tt, (tt, tt)))))))) })
 
 pub h_second_unaccepted : (read : ReadCall) → IsHonest (second_unaccepted read)
-h_second_unaccepted read = honest (second_unaccepted read) (record { start = refl; keys = refl; client = (tt, (tt, (inl refl, (inr (inl refl), (inl refl, (tt, (tt, (tt, (tt, tt))))))))); server = (tt, (tt, (tt, (tt, (tt, (tt, (tt, (tt, (tt, tt))))))))) })
+h_second_unaccepted read = honest_steady (second_unaccepted read) (record { start = refl; keys = refl; client = (tt, (tt, (inl refl, (inr (inl refl), (inl refl, (tt, (tt, (tt, (tt, tt))))))))); server = (tt, (tt, (tt, (tt, (tt, (tt, (tt, (tt, (tt, tt))))))))) })
 
 pub h_other_bytes : (read : ReadCall) → read.id ≡ 4 → IsHonest (other_bytes read)
-h_other_bytes read e = honest (other_bytes read) (record { start = refl; keys = refl; client = (tt, (tt, (inl refl, (inr (inl refl), (inl refl, (tt, (tt, (tt, (tt, (tt, (tt, tt))))))))))); server = (tt, (tt, (tt, (tt, (tt, (tt, (tt, (tt, (tt, (inl refl, (inr (inl e), tt))))))))))) })
+h_other_bytes read e = honest_steady (other_bytes read) (record { start = refl; keys = refl; client = (tt, (tt, (inl refl, (inr (inl refl), (inl refl, (tt, (tt, (tt, (tt, (tt, (tt, tt))))))))))); server = (tt, (tt, (tt, (tt, (tt, (tt, (tt, (tt, (tt, (inl refl, (inr (inl e), tt))))))))))) })
 
 pub h_other_code : (read : ReadCall) → IsHonest (other_code read)
-h_other_code read = honest (other_code read) (record { start = refl; keys = refl; client = (tt, (tt, (inl refl, (inr (inl refl), (inl refl, (tt, (tt, (tt, (tt, (tt, tt)))))))))); server = (tt, (tt, (tt, (tt, (tt, (tt, (tt, (tt, (tt, (inl refl, tt)))))))))) })
+h_other_code read = honest_steady (other_code read) (record { start = refl; keys = refl; client = (tt, (tt, (inl refl, (inr (inl refl), (inl refl, (tt, (tt, (tt, (tt, (tt, tt)))))))))); server = (tt, (tt, (tt, (tt, (tt, (tt, (tt, (tt, (tt, (inl refl, tt)))))))))) })
 
 pub h_opened_twice : (read : ReadCall) → IsHonest (opened_twice read)
-h_opened_twice read = honest (opened_twice read) (record { start = refl; keys = refl; client = (tt, (tt, tt)); server = (tt, (tt, tt)) })
+h_opened_twice read = honest_steady (opened_twice read) (record { start = refl; keys = refl; client = (tt, (tt, tt)); server = (tt, (tt, tt)) })
 
 pub h_accepted_early : IsHonest accepted_early
-h_accepted_early = honest accepted_early (record { start = refl; keys = refl; client = (tt, tt); server = (tt, tt) })
+h_accepted_early = honest_steady accepted_early (record { start = refl; keys = refl; client = (tt, tt); server = (tt, tt) })
 
 pub h_accepted_twice : (read : ReadCall) → IsHonest (accepted_twice read)
-h_accepted_twice read = honest (accepted_twice read) (record { start = refl; keys = refl; client = (tt, (tt, (inl refl, (inr (inl refl), (inl refl, (tt, (tt, (tt, (tt, tt))))))))); server = (tt, (tt, (tt, (tt, (tt, (tt, (tt, (tt, (tt, tt))))))))) })
+h_accepted_twice read = honest_steady (accepted_twice read) (record { start = refl; keys = refl; client = (tt, (tt, (inl refl, (inr (inl refl), (inl refl, (tt, (tt, (tt, (tt, tt))))))))); server = (tt, (tt, (tt, (tt, (tt, (tt, (tt, (tt, (tt, tt))))))))) })
 
 pub h_reset_of_second : (read : ReadCall) → read.id ≡ 4 → IsHonest (reset_of_second read)
-h_reset_of_second read e = honest (reset_of_second read) (record { start = refl; keys = refl; client = (tt, (tt, (inl refl, (inr (inl refl), (inl refl, (tt, (tt, (tt, (tt, (tt, (tt, tt))))))))))); server = (tt, (tt, (tt, (tt, (tt, (tt, (tt, (tt, (tt, (inl refl, (inr (inl e), tt))))))))))) })
+h_reset_of_second read e = honest_steady (reset_of_second read) (record { start = refl; keys = refl; client = (tt, (tt, (inl refl, (inr (inl refl), (inl refl, (tt, (tt, (tt, (tt, (tt, (tt, tt))))))))))); server = (tt, (tt, (tt, (tt, (tt, (tt, (tt, (tt, (tt, (inl refl, (inr (inl e), tt))))))))))) })
 
 -- ---- where the run goes
 
 -- behind the client's datagram
-behind_given : {events : List RunEvent} {told : List Answer} → NeverAnswers pair_sent events told → NeverAnswers started (giving_events ++ events) (giving_answers ++ told)
+behind_given : {events : List RunEvent} {told : List Answer} → NeverAnswers pair_sent events told → NeverAnswers both_steady (giving_events ++ events) (giving_answers ++ told)
 behind_given not_so = behind refl paired.opens_first (behind refl paired.opens_both (behind refl paired.writes_first (behind refl paired.writes_both (behind refl paired.resets (behind refl paired.gives not_so)))))
 
 -- ---- a stream that was reset is told to be finished
@@ -127,10 +128,10 @@ keeps_it = refl
 other_end : reset_forgotten ≡ pair_sent → ⊥
 other_end e = let clash : false ≡ true = sym lacks_it ∙ ap (λ (w : World). has_it w.client.tracking.packets) e ∙ keeps_it in cc
 
-not_forgotten : NotTo reset_forgotten giving_events giving_answers
+not_forgotten : NotToFrom both_steady reset_forgotten giving_events giving_answers
 not_forgotten = step_on refl paired.opens_first (step_on refl paired.opens_both (step_on refl paired.writes_first (step_on refl paired.writes_both (step_on refl paired.resets (step_on refl paired.gives (ends_here other_end))))))
 
-pub never_forgotten : NeverLeads giving_events giving_answers reset_forgotten
+pub never_forgotten : NeverLeadsFrom both_steady giving_events giving_answers reset_forgotten
 never_forgotten views f = not_forgotten.never views reset_forgotten f refl
 
 -- ---- another reset is kept
@@ -189,10 +190,10 @@ changed_tracks read h =
 changed_end : reset_changed ≡ pair_sent → ⊥
 changed_end e = not_four changed_reset (inl (ap (λ (w : World). first_reset w.client.tracking.packets) e ∙ right_reset))
 
-not_changed : NotTo reset_changed giving_events giving_answers
+not_changed : NotToFrom both_steady reset_changed giving_events giving_answers
 not_changed = step_on refl paired.opens_first (step_on refl paired.opens_both (step_on refl paired.writes_first (step_on refl paired.writes_both (step_on refl paired.resets (step_on refl paired.gives (ends_here changed_end))))))
 
-pub never_changed : NeverLeads giving_events giving_answers reset_changed
+pub never_changed : NeverLeadsFrom both_steady giving_events giving_answers reset_changed
 never_changed views f = not_changed.never views reset_changed f refl
 
 -- ---- streams that aren't accepted
@@ -205,7 +206,7 @@ first_named : WasNamed (pair_packet ∷ []) 0
 first_named = record { packet = pair_packet; was_taken = inl refl; frame = reset_stream (record { id = 0; code = 7; final_size = 3 }); carried = inl refl; opens = refl }
 
 second_named : WasNamed (pair_packet ∷ []) 4
-second_named = record { packet = pair_packet; was_taken = inl refl; frame = stream (record { id = 4; offset = 0; fin = false; bytes = def }); carried = inr (inl refl); opens = refl }
+second_named = record { packet = pair_packet; was_taken = inl refl; frame = stream (record { id = 4; offset = 0; fin = false; bytes = def }); carried = inr (inr (inr (inr (inr (inl refl))))); opens = refl }
 
 first_took : (read : ReadCall) → took (reset_unaccepted read) Server 7 ≡ pair_packet ∷ []
 unfolding pair_taken
@@ -354,7 +355,7 @@ opens_before read by = accepted_were_opened (paired_run read) reset_refused (is_
 pub accepts_early : AcceptedWereOpened accepted_early → ⊥
 accepts_early h = (h Server 0 0 Bi refl (record { event = refl; answer = refl })).named.was_taken
 
-early_no : IsRefused started accepts_stream (answers.Accept (Some 0))
+early_no : IsRefused both_steady accepts_stream (answers.Accept (Some 0))
 early_no is = let clash : answers.Accept (Some 0) ≡ answers.Accept None = is in cc
 
 pub no_early : IsNoRun accepted_early

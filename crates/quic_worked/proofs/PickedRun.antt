@@ -17,8 +17,8 @@ use Rattle.quic_machine.specs.Machine.{IsStep, Follows, view_of}
 use Rattle.quic_headline.specs.Runs.{Packet, Next, until, nexts, chunks_of, reads, offsets_of, only_in_order, HasArrived}
 use Rattle.quic_headline.specs.Observer.{took}
 use Rattle.quic_headline.specs.Headline.{NoneToGive, Once, BlockedOnlyWithoutBytes, IsHonest, IsRun}
-use Rattle.quic_worked.specs.Worked.{with_server, NextAnswers, worked_policies, started, once_taken, reads_stream, sent_view, waiting_view}
-use Rattle.quic_worked.specs.Reordered.{abc, def, abc_datagram, def_datagram, second_taken, second_accepted, delivers_at, blocked_nexts, reordered_events, reordered_views, stream_packet}
+use Rattle.quic_worked.specs.Worked.{with_server, NextAnswers, worked_policies, started, once_taken, reads_stream, sent_view, server_waiting}
+use Rattle.quic_worked.specs.Reordered.{abc, def, abc_datagram, def_datagram, second_taken, second_accepted, delivers_at, blocked_nexts, reordered_events, reordered_views, def_packet}
 use Rattle.quic_worked.specs.Broken.{NeverAnswers, IsNoRun}
 use Rattle.quic_worked.specs.Picked.{picked_bounds, Picks, picks_at, picked_with, picked_as, picked_run, picked_once, picked_taken, picked_twice, again_nexts, picked_again, never_picked}
 use Rattle.quic_worked.proofs.WorkedRun.{ReadsSo, reads_at}
@@ -43,7 +43,7 @@ reads_first = reads_at second_accepted picked_once 0 false picked_bounds (picks_
 
 takes_abc : IsStep worked_policies picked_once (delivers_at 0) (answers.Deliver receives.Taken) picked_taken
 unfolding picked_taken
-takes_abc = record { answer = inl refl; end = refl; control = refl; heard = counts_so worked_policies picked_once (delivers_at 0) (answers.Deliver receives.Taken); others = refl; lacking = tt }
+takes_abc = record { answer = inl refl; end = refl; control = refl; heard = counts_so worked_policies picked_once (delivers_at 0) (answers.Deliver receives.Taken); openings = tt; others = refl; lacking = tt }
 
 -- then what lacked
 second_so : ReadsSo picked_taken 0 false picked_bounds (picks_at 0 abc) picked_twice.server
@@ -59,7 +59,7 @@ reads_second = reads_at picked_taken picked_twice 0 false picked_bounds (picks_a
 -- ---- what is seen
 
 abbrev both_wait : View
-both_wait = record { client = sent_view; server = waiting_view }
+both_wait = record { client = sent_view; server = server_waiting }
 
 sees_first : both_wait ≡ view_of picked_once
 unfolding second_taken
@@ -135,10 +135,6 @@ no_again first second one two =
     never_until_accepted (behind refl (reads_first first one) (behind refl takes_abc (stops _ _ _ _ _ (λ h. again_no (read_of picked_taken.server.streams 0 false picked_bounds (answers.Read (Ok again_nexts)) second two h)))))
 
 -- ---- what came isn't given
-
--- the packet that came first
-abbrev def_packet : Packet
-def_packet = stream_packet 1 3 def
 
 abbrev def_frame : StreamValue
 def_frame = record { id = 0; offset = 3; fin = false; bytes = def }

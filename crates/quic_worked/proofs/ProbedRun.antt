@@ -1,4 +1,5 @@
--- The run in which a probe takes what has to be sent again of a datagram, event by event, and machines that go wrong there.
+-- The run in which a probe takes what has to be sent again of a datagram, event by event, and
+-- machines that go wrong there.
 use Rattle.std.proofs.Common.{◌≡◌, ◌⊎◌, ℕ, zero, suc, Bool, true, false, ◌++◌, Some, None, Ok, refl, inl, inr, sym, ap, ◌∙◌, subst, arith, length}
 use Rattle.std.specs.List.{list_any}
 use Rattle.quic_wire_core.specs.declared.stream_id.Side.TheVariants.{Client, Server}
@@ -15,38 +16,38 @@ use Rattle.quic_headline.specs.InFlight.{in_flight, WaitsFor, TracksAt}
 use Rattle.quic_headline.specs.Duties.{Reset, Waits, IsCarried, DutiesAt, has_reset}
 use Rattle.quic_headline.specs.Moments.{LossMoments}
 use Rattle.quic_headline.specs.Headline.{IsHonest, IsRun}
-use Rattle.quic_worked.specs.Worked.{worked_policies, gives_bytes}
+use Rattle.quic_worked.specs.Worked.{worked_policies, gives_bytes, both_steady}
 use Rattle.quic_worked.specs.Acknowledged.{client_acked}
-use Rattle.quic_worked.specs.Broken.{NeverLeads}
+use Rattle.quic_worked.specs.Broken.{NeverLeadsFrom}
 use Rattle.quic_worked.specs.Paired.{giving_events, giving_answers, first_open, both_open, first_written, both_written, first_reset, pair_sent}
 use Rattle.quic_worked.specs.Timed.{serves, asks_at, seen_with, due_at}
-use Rattle.quic_worked.specs.Probed.{later_events, later_answers, once_probed, probed_run, the_reset, both_with, record_dropped, datagram_dropped}
+use Rattle.quic_worked.specs.Probed.{shown_with, later_events, later_answers, once_probed, probed_run, the_reset, both_with, record_dropped, datagram_dropped}
 use Rattle.quic_worked.proofs.Codes.{AllSmall, small_codes}
 use Rattle.quic_worked.proofs.Waited.{as_many}
-use Rattle.quic_worked.proofs.OwnIds.{honest}
-use Rattle.quic_worked.proofs.WrongRuns.{ends_here, step_on, NotTo}
+use Rattle.quic_worked.proofs.OwnIds.{honest_steady}
+use Rattle.quic_worked.proofs.WrongRuns.{ends_here, step_on, NotToFrom}
 use Rattle.quic_worked.proofs.PairedRun as paired
 use Rattle.quic_worked.proofs.TimedRun.{shows}
 use Rattle.quic_worked.proofs.Steps.{counts_so}
 
 pub probed_is_honest : IsHonest probed_run
-probed_is_honest = honest probed_run (record { start = refl; keys = refl; client = (tt, (tt, (inl refl, (inr (inl refl), (inl refl, (tt, (tt, (tt, tt)))))))); server = (tt, (tt, (tt, (tt, (tt, (tt, (tt, (tt, tt)))))))) })
+probed_is_honest = honest_steady probed_run (record { start = refl; keys = refl; client = (tt, (tt, (inl refl, (inr (inl refl), (inl refl, (tt, (tt, (tt, tt)))))))); server = (tt, (tt, (tt, (tt, (tt, (tt, (tt, (tt, tt)))))))) })
 
 -- ---- the machine's run
 
 expires : IsStep worked_policies pair_sent (serves Client 1024000000) (answers.Timeout (Ok tt)) (once_probed 1)
 unfolding once_probed
-expires = record { answer = inl refl; end = refl; control = refl; heard = counts_so worked_policies pair_sent (serves Client 1024000000) (answers.Timeout (Ok tt)); others = refl; lacking = tt }
+expires = record { answer = inl refl; end = refl; control = refl; heard = counts_so worked_policies pair_sent (serves Client 1024000000) (answers.Timeout (Ok tt)); openings = tt; others = refl; lacking = tt }
 
-probes : IsStep worked_policies (once_probed 1) (asks_at Client 1024000000) (gives_bytes 30) (once_probed 2)
+probes : IsStep worked_policies (once_probed 1) (asks_at Client 1024000000) (gives_bytes 142) (once_probed 2)
 unfolding once_probed
-probes = record { answer = inl refl; end = refl; control = refl; heard = counts_so worked_policies (once_probed 1) (asks_at Client 1024000000) (gives_bytes 30); others = refl; lacking = tt }
+probes = record { answer = inl refl; end = refl; control = refl; heard = counts_so worked_policies (once_probed 1) (asks_at Client 1024000000) (gives_bytes 142); openings = tt; others = refl; lacking = tt }
 
-expired_seen : seen_with (Some 2048000000) None ≡ view_of (once_probed 1)
+expired_seen : shown_with (Some 2048000000) ≡ view_of (once_probed 1)
 unfolding once_probed
 expired_seen = refl
 
-probed_seen : seen_with (Some 3072000000) None ≡ view_of (once_probed 2)
+probed_seen : shown_with (Some 3072000000) ≡ view_of (once_probed 2)
 unfolding once_probed
 probed_seen = refl
 
@@ -232,10 +233,10 @@ probe_has = refl
 dropped_here : record_dropped ≡ once_probed 2 → ⊥
 dropped_here e = let clash : false ≡ true = sym none_has ∙ ap (λ (w : World). one_has w.client.tracking.packets) e ∙ probe_has in cc
 
-not_dropped : NotTo record_dropped (giving_events ++ later_events) (giving_answers ++ later_answers)
+not_dropped : NotToFrom both_steady record_dropped (giving_events ++ later_events) (giving_answers ++ later_answers)
 not_dropped = step_on refl paired.opens_first (step_on refl paired.opens_both (step_on refl paired.writes_first (step_on refl paired.writes_both (step_on refl paired.resets (step_on refl paired.gives (step_on refl expires (step_on refl probes (ends_here dropped_here))))))))
 
-pub dropped_leads : NeverLeads (giving_events ++ later_events) (giving_answers ++ later_answers) record_dropped
+pub dropped_leads : NeverLeadsFrom both_steady (giving_events ++ later_events) (giving_answers ++ later_answers) record_dropped
 dropped_leads views f = not_dropped.never views record_dropped f refl
 
 -- ---- its datagram is dropped
@@ -257,8 +258,8 @@ datagram_tracks h = one_two (sym one_waits ∙ as_many (h Client is_open) ∙ ap
 datagram_here : datagram_dropped ≡ once_probed 2 → ⊥
 datagram_here e = one_two (sym one_waits ∙ ap (λ (w : World). length w.client.tracking.packets) e ∙ ap (λ (ps : Table TrackedPacket). length ps) both_wait)
 
-not_without : NotTo datagram_dropped (giving_events ++ later_events) (giving_answers ++ later_answers)
+not_without : NotToFrom both_steady datagram_dropped (giving_events ++ later_events) (giving_answers ++ later_answers)
 not_without = step_on refl paired.opens_first (step_on refl paired.opens_both (step_on refl paired.writes_first (step_on refl paired.writes_both (step_on refl paired.resets (step_on refl paired.gives (step_on refl expires (step_on refl probes (ends_here datagram_here))))))))
 
-pub datagram_leads : NeverLeads (giving_events ++ later_events) (giving_answers ++ later_answers) datagram_dropped
+pub datagram_leads : NeverLeadsFrom both_steady (giving_events ++ later_events) (giving_answers ++ later_answers) datagram_dropped
 datagram_leads views f = not_without.never views datagram_dropped f refl

@@ -1,4 +1,5 @@
--- The run in which a limit is lost and goes again, event by event; where the limit is at each place; and what machines leave that forget it.
+-- The run in which a limit is lost and goes again, event by event; where the limit is at each
+-- place; and what machines leave that forget it.
 use Rattle.std.proofs.Common.{◌≡◌, ℕ, map, List, [], ◌∷◌, ◌++◌, take, Ok, true, false, refl, inl, inr, sym, ap, ◌∙◌, subst, arith, ◌⊎◌}
 use Rattle.quic_wire_core.specs.declared.stream_id.Side.TheVariants.{Client, Server}
 use Rattle.quic_wire_core.specs.declared.stream_id.Dir.TheVariants.{Uni}
@@ -30,47 +31,47 @@ use Rattle.quic_worked.proofs.Steps.{counts_so}
 -- ---- the events
 
 pub pings : (w : World) → IsStep worked_policies w server_pings answers.Ping (after_server_ping w)
-pings w = record { answer = refl; end = refl; control = refl; heard = counts_so worked_policies w server_pings answers.Ping; others = refl; lacking = tt }
+pings w = record { answer = refl; end = refl; control = refl; heard = counts_so worked_policies w server_pings answers.Ping; openings = tt; others = refl; lacking = tt }
 
 pub gives_first : IsStep worked_policies (after_server_ping credit_given) asks_server (gives_bytes 32) first_ping
 unfolding first_ping
-gives_first = record { answer = inl refl; end = refl; control = refl; heard = counts_so worked_policies (after_server_ping credit_given) asks_server (gives_bytes 32); others = refl; lacking = tt }
+gives_first = record { answer = inl refl; end = refl; control = refl; heard = counts_so worked_policies (after_server_ping credit_given) asks_server (gives_bytes 32); openings = tt; others = refl; lacking = tt }
 
 pub gives_second : IsStep worked_policies (after_server_ping first_ping) asks_server (gives_bytes 32) second_ping
 unfolding second_ping
-gives_second = record { answer = inl refl; end = refl; control = refl; heard = counts_so worked_policies (after_server_ping first_ping) asks_server (gives_bytes 32); others = refl; lacking = tt }
+gives_second = record { answer = inl refl; end = refl; control = refl; heard = counts_so worked_policies (after_server_ping first_ping) asks_server (gives_bytes 32); openings = tt; others = refl; lacking = tt }
 
 pub gives_third : IsStep worked_policies (after_server_ping second_ping) asks_server (gives_bytes 32) third_ping
 unfolding third_ping
-gives_third = record { answer = inl refl; end = refl; control = refl; heard = counts_so worked_policies (after_server_ping second_ping) asks_server (gives_bytes 32); others = refl; lacking = tt }
+gives_third = record { answer = inl refl; end = refl; control = refl; heard = counts_so worked_policies (after_server_ping second_ping) asks_server (gives_bytes 32); openings = tt; others = refl; lacking = tt }
 
 pub comes_third : IsStep worked_policies third_ping (comes_to_client 3) (answers.Deliver receives.Taken) third_came
 unfolding third_came
-comes_third = record { answer = inl refl; end = refl; control = refl; heard = counts_so worked_policies third_ping (comes_to_client 3) (answers.Deliver receives.Taken); others = refl; lacking = tt }
+comes_third = record { answer = inl refl; end = refl; control = refl; heard = counts_so worked_policies third_ping (comes_to_client 3) (answers.Deliver receives.Taken); openings = tt; others = refl; lacking = tt }
 
 pub waits_third : IsStep worked_policies third_came client_waits (answers.Timeout (Ok tt)) third_due
 unfolding third_came
-waits_third = record { answer = inl refl; end = refl; control = refl; heard = counts_so worked_policies third_came client_waits (answers.Timeout (Ok tt)); others = refl; lacking = tt }
+waits_third = record { answer = inl refl; end = refl; control = refl; heard = counts_so worked_policies third_came client_waits (answers.Timeout (Ok tt)); openings = tt; others = refl; lacking = tt }
 
 names_third : IsStep worked_policies third_due client_polled (gives_unmarked 32) third_named
 unfolding third_named
-names_third = record { answer = inl refl; end = refl; control = refl; heard = counts_so worked_policies third_due client_polled (gives_unmarked 32); others = refl; lacking = tt }
+names_third = record { answer = inl refl; end = refl; control = refl; heard = counts_so worked_policies third_due client_polled (gives_unmarked 32); openings = tt; others = refl; lacking = tt }
 
 loses : IsStep worked_policies third_named ack_comes (answers.Deliver receives.Taken) limit_lost
 unfolding limit_lost
-loses = record { answer = inl refl; end = refl; control = refl; heard = counts_so worked_policies third_named ack_comes (answers.Deliver receives.Taken); others = refl; lacking = tt }
+loses = record { answer = inl refl; end = refl; control = refl; heard = counts_so worked_policies third_named ack_comes (answers.Deliver receives.Taken); openings = tt; others = refl; lacking = tt }
 
-gives_again : IsStep worked_policies limit_lost server_polled (gives_unmarked 33) limit_again
+gives_again : IsStep worked_policies limit_lost server_polled (gives_unmarked 145) limit_again
 unfolding limit_again
-gives_again = record { answer = inl refl; end = refl; control = refl; heard = counts_so worked_policies limit_lost server_polled (gives_unmarked 33); others = refl; lacking = tt }
+gives_again = record { answer = inl refl; end = refl; control = refl; heard = counts_so worked_policies limit_lost server_polled (gives_unmarked 145); openings = tt; others = refl; lacking = tt }
 
 comes_again : IsStep worked_policies limit_again (comes_to_client 4) (answers.Deliver receives.Taken) limit_came
 unfolding limit_came
-comes_again = record { answer = inl refl; end = refl; control = refl; heard = counts_so worked_policies limit_again (comes_to_client 4) (answers.Deliver receives.Taken); others = refl; lacking = tt }
+comes_again = record { answer = inl refl; end = refl; control = refl; heard = counts_so worked_policies limit_again (comes_to_client 4) (answers.Deliver receives.Taken); openings = tt; others = refl; lacking = tt }
 
 writes_on_more : IsStep worked_policies limit_came (writes_on 0 eight) (answers.Write (Ok 8)) limit_used
 unfolding limit_came
-writes_on_more = record { answer = inl refl; end = refl; control = refl; heard = counts_so worked_policies limit_came (writes_on 0 eight) (answers.Write (Ok 8)); others = refl; lacking = λ lacks. cc }
+writes_on_more = record { answer = inl refl; end = refl; control = refl; heard = counts_so worked_policies limit_came (writes_on 0 eight) (answers.Write (Ok 8)); openings = tt; others = refl; lacking = λ lacks. cc }
 
 follows : (read : ReadCall) → ReadsEight read → Follows worked_policies narrow_bytes (raised_events read) raised_told raised_views limit_used
 follows read by = (

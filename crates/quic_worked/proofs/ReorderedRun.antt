@@ -9,7 +9,7 @@ use Rattle.quic_machine.specs.declared.run.Answer.{Answer}
 use Rattle.quic_machine.specs.declared.run.Answer.TheVariants as answers
 use Rattle.quic_machine.specs.declared.run.View.{View}
 use Rattle.quic_machine.specs.Machine.{World, IsStep, Follows, view_of}
-use Rattle.quic_worked.specs.Worked.{with_server, ReadsBy, once_taken, worked_policies, started, ran, opens_stream, asks_datagram, accepts_stream, gives_bytes, open_view, sent_view, waiting_view}
+use Rattle.quic_worked.specs.Worked.{with_server, ReadsBy, once_taken, worked_policies, started, ran, opens_stream, asks_datagram, accepts_stream, gives_bytes, sent_view, server_open, server_waiting}
 use Rattle.quic_headline.specs.Observer.{took}
 use Rattle.quic_headline.specs.Headline.{IsRun}
 use Rattle.quic_worked.proofs.Steps.{others_so, counts_so, same_server, counts_ran}
@@ -30,34 +30,34 @@ abbrev pub first_written : World
 first_written = ran worked_policies opened (writes_bytes abc ∷ []) (answers.Write (Ok 3) ∷ [])
 
 pub opens : IsStep worked_policies started opens_stream (answers.Open (Some 0)) opened
-opens = record { answer = refl; end = refl; control = refl; heard = counts_so worked_policies started opens_stream (answers.Open (Some 0)); others = refl; lacking = tt }
+opens = record { answer = refl; end = refl; control = refl; heard = counts_so worked_policies started opens_stream (answers.Open (Some 0)); openings = tt; others = refl; lacking = tt }
 
 pub writes_abc : IsStep worked_policies opened (writes_bytes abc) (answers.Write (Ok 3)) first_written
-writes_abc = record { answer = inl refl; end = refl; control = refl; heard = counts_so worked_policies opened (writes_bytes abc) (answers.Write (Ok 3)); others = refl; lacking = λ lacks. cc }
+writes_abc = record { answer = inl refl; end = refl; control = refl; heard = counts_so worked_policies opened (writes_bytes abc) (answers.Write (Ok 3)); openings = tt; others = refl; lacking = λ lacks. cc }
 
-pub gives_abc : IsStep worked_policies first_written asks_datagram (gives_bytes 32) first_sent
+pub gives_abc : IsStep worked_policies first_written asks_datagram (gives_bytes 144) first_sent
 unfolding first_sent
-gives_abc = record { answer = inl refl; end = refl; control = refl; heard = counts_so worked_policies first_written asks_datagram (gives_bytes 32); others = refl; lacking = tt }
+gives_abc = record { answer = inl refl; end = refl; control = refl; heard = counts_so worked_policies first_written asks_datagram (gives_bytes 144); openings = tt; others = refl; lacking = tt }
 
 pub writes_def : IsStep worked_policies first_sent (writes_bytes def) (answers.Write (Ok 3)) second_written
 unfolding first_sent
-writes_def = record { answer = inl refl; end = refl; control = refl; heard = counts_ran worked_policies first_sent (writes_bytes def) (answers.Write (Ok 3)); others = others_so worked_policies first_sent (writes_bytes def) (answers.Write (Ok 3)); lacking = λ lacks. cc }
+writes_def = record { answer = inl refl; end = refl; control = refl; heard = counts_ran worked_policies first_sent (writes_bytes def) (answers.Write (Ok 3)); openings = tt; others = others_so worked_policies first_sent (writes_bytes def) (answers.Write (Ok 3)); lacking = λ lacks. cc }
 
 pub gives_def : IsStep worked_policies second_written asks_datagram (gives_bytes 33) both_sent
 unfolding both_sent
-gives_def = record { answer = inl refl; end = refl; control = refl; heard = counts_so worked_policies second_written asks_datagram (gives_bytes 33); others = refl; lacking = tt }
+gives_def = record { answer = inl refl; end = refl; control = refl; heard = counts_so worked_policies second_written asks_datagram (gives_bytes 33); openings = tt; others = refl; lacking = tt }
 
 pub takes_def : IsStep worked_policies both_sent (delivers_at 1) (answers.Deliver receives.Taken) second_taken
 unfolding second_taken
-takes_def = record { answer = inl refl; end = refl; control = refl; heard = counts_so worked_policies both_sent (delivers_at 1) (answers.Deliver receives.Taken); others = refl; lacking = tt }
+takes_def = record { answer = inl refl; end = refl; control = refl; heard = counts_so worked_policies both_sent (delivers_at 1) (answers.Deliver receives.Taken); openings = tt; others = refl; lacking = tt }
 
 pub accepts : IsStep worked_policies second_taken accepts_stream (answers.Accept (Some 0)) second_accepted
 unfolding second_taken
-accepts = record { answer = refl; end = refl; control = refl; heard = counts_ran worked_policies second_taken accepts_stream (answers.Accept (Some 0)); others = others_so worked_policies second_taken accepts_stream (answers.Accept (Some 0)); lacking = tt }
+accepts = record { answer = refl; end = refl; control = refl; heard = counts_ran worked_policies second_taken accepts_stream (answers.Accept (Some 0)); openings = tt; others = others_so worked_policies second_taken accepts_stream (answers.Accept (Some 0)); lacking = tt }
 
 takes_abc : IsStep worked_policies second_accepted (delivers_at 0) (answers.Deliver receives.Taken) both_taken
 unfolding both_taken
-takes_abc = record { answer = inl refl; end = refl; control = refl; heard = counts_so worked_policies second_accepted (delivers_at 0) (answers.Deliver receives.Taken); others = refl; lacking = tt }
+takes_abc = record { answer = inl refl; end = refl; control = refl; heard = counts_so worked_policies second_accepted (delivers_at 0) (answers.Deliver receives.Taken); openings = tt; others = refl; lacking = tt }
 
 -- ---- the reads
 
@@ -86,11 +86,11 @@ reads_only = refl
 
 -- the client waits for an acknowledgement, and the server for nothing yet
 abbrev pub one_waits : View
-one_waits = record { client = sent_view; server = open_view }
+one_waits = record { client = sent_view; server = server_open }
 
 -- or the server waits to give one
 abbrev pub both_wait : View
-both_wait = record { client = sent_view; server = waiting_view }
+both_wait = record { client = sent_view; server = server_waiting }
 
 pub sees_first : one_waits ≡ view_of first_sent
 unfolding first_sent

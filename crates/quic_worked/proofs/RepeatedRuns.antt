@@ -1,30 +1,36 @@
--- What is wanted of an end in worked runs, and machines that give a datagram in which nothing waited.
-use Rattle.std.proofs.Common.{◌≡◌, ◌≤◌, true, false, [], ◌∷◌, ◌++◌, Some, refl, inl, inr, arith}
+-- What is wanted of an end in worked runs, and machines that give a datagram in which nothing
+-- waited.
+use Rattle.std.proofs.Common.{◌≡◌, ◌≤◌, true, false, List, [], ◌∷◌, ◌++◌, Some, None, refl, inl, inr, ap, ◌∙◌, arith}
+use Rattle.std.specs.List.{list_any}
 use Rattle.std.proofs.lemmas.Bool.{both_ways}
 use Rattle.quic_wire_core.specs.declared.stream_id.Side.{Side}
 use Rattle.quic_wire_core.specs.declared.stream_id.Side.TheVariants.{Client, Server}
 use Rattle.quic_wire_core.specs.declared.shared.EcnCodepoint.TheVariants.{Ect0}
-use Rattle.quic_wire.specs.Value.{ping, max_data}
+use Rattle.quic_wire.specs.Value.{ping, max_data, padding, path_challenge, path_response, FrameValue}
 use Rattle.quic_machine.specs.declared.run.ReadCall.{ReadCall}
-use Rattle.quic_headline.specs.Observer.{watch, sents_until}
+use Rattle.quic_headline.specs.Observer.{Sent, is_close, closes_of, watch, sents_until}
 use Rattle.quic_headline.specs.Headline.{IsHonest}
 use Rattle.quic_headline.specs.InFlight.{is_max_data}
 use Rattle.quic_headline.specs.Polls.{GaveOne}
-use Rattle.quic_headline.specs.Waited.{wants, calls_for_ack, stands, as_size_probe, as_loss_probe, as_ack, as_frames, EachWaited}
-use Rattle.quic_worked.specs.Worked.{asks_datagram, gives_bytes}
+use Rattle.quic_headline.specs.Waited.{wants, calls_for_ack, stands, is_path_challenge, is_path_response, as_size_probe, as_loss_probe, as_ack, as_frames, as_close, IsCloseAlone, EachWaited}
+use Rattle.quic_worked.specs.Worked.{asks_datagram, gives_bytes, gives_unmarked, id_word}
 use Rattle.quic_worked.specs.Acknowledged.{client_acked}
 use Rattle.quic_worked.specs.Paired.{asks_server}
 use Rattle.quic_worked.specs.Broken.{IsNoRun}
 use Rattle.quic_worked.specs.Credit.{ReadsEight}
 use Rattle.quic_worked.specs.Hasty.{hasty_run, once_hasty}
 use Rattle.quic_worked.specs.Limited.{limited_run, limited_given, limited_heard}
-use Rattle.quic_worked.specs.Repeated.{ping_again, second_ping, ack_again, second_ack, limit_again, second_limit}
+use Rattle.quic_worked.specs.Repeated.{ping_again, second_ping, ack_again, second_ack, limit_again, second_limit, challenge_again, second_challenge, response_again, last_response}
+use Rattle.quic_worked.specs.Unvalidated.{far_run, once_answered, answered_run}
 use Rattle.quic_worked.proofs.OwnIds.{AreOwn, own_ids}
 use Rattle.quic_worked.proofs.BrokenRuns.{IsRefused, stops, behind}
 use Rattle.quic_worked.proofs.WorkedHonest.{are_started}
 use Rattle.quic_worked.proofs.WorkedKeys.{are_keys}
 use Rattle.quic_worked.proofs.HastyRun.{step_0, step_1, step_2, step_3, step_4, step_5, step_6}
 use Rattle.quic_worked.proofs.LimitedRun.{limited_started, opens, opens_both, writes_first, writes_second, blocks, gives, takes, accepts, reads, raises}
+use Rattle.quic_worked.proofs.UnvalidatedRun as far
+use Rattle.quic_worked.proofs.AnsweredRun.{hears, responds, none_asked_anew}
+use Rattle.std.specs.Prelude.{Bool, ◌||◌, replicate}
 
 -- ---- what is wanted
 
@@ -55,13 +61,35 @@ pub limit_said : (read : ReadCall) → stands is_max_data (wants (limited_run re
 unfolding limited_heard
 limit_said read = refl
 
+pub not_challenged : stands is_path_challenge (wants far_run Server 4).since ≡ false
+unfolding client_acked
+not_challenged = refl
+
+pub then_challenged : stands is_path_challenge (wants far_run Server 5).since ≡ true
+unfolding client_acked
+then_challenged = refl
+
+pub not_answered : stands is_path_response (wants answered_run Client 6).since ≡ false
+unfolding client_acked
+not_answered = refl
+
+pub then_answered : stands is_path_response (wants answered_run Client 7).since ≡ true
+unfolding client_acked
+then_answered = refl
+
+-- ---- closes
+
+-- what has a close alone closes
+pub alone_closes : (s : Sent) → IsCloseAlone s → closes_of s ≡ true
+alone_closes s c = ap (list_any is_close) c.alone ∙ ap (λ (b : Bool). b || list_any is_close (replicate c.zeros padding)) c.is
+
 -- ---- PING again
 
 pinged_twice : sents_until ping_again Client 3 ≡ sents_until ping_again Client 2 ++ second_ping ∷ []
 unfolding client_acked
 pinged_twice = refl
 
-ping_unasked : (wants ping_again Client 2).pinged ≡ false
+ping_unasked : ((wants ping_again Client 2).pinged || (wants ping_again Client 2).probed) ≡ false
 unfolding client_acked
 ping_unasked = refl
 
@@ -78,7 +106,8 @@ ping_shows h = elim (h Client 2 0 gave_ping) [
   | as_size_probe probe ↦ (let above : 1200 ≤ 29 = probe.above in absurd (omega (arith, above)))
   | as_loss_probe waits ↦ (let none = no_probe_of_client in absurd (omega (arith, waits, none)))
   | as_ack none frames wanted ↦ (let clash : true ≡ false = none in cc)
-  | as_frames asks each ↦ both_ways (wants ping_again Client 2).pinged ping_unasked (each ping (inl refl))
+  | as_frames asks each ↦ both_ways ((wants ping_again Client 2).pinged || (wants ping_again Client 2).probed) ping_unasked (each ping (inl refl))
+  | as_close closes ↦ (let clash : false ≡ true = alone_closes second_ping closes in cc)
 ]
 
 ping_own : (side : Side) → AreOwn side [] ping_again.events ping_again.answers ping_again.views
@@ -120,6 +149,7 @@ ack_shows h = elim (h Server 7 0 gave_ack) [
   | as_loss_probe waits ↦ (let none = no_probe_of_server in absurd (omega (arith, waits, none)))
   | as_ack none frames wanted ↦ both_ways (calls_for_ack (wants ack_again Server 7)) ack_unwanted wanted
   | as_frames asks each ↦ (let clash : false ≡ true = asks in cc)
+  | as_close closes ↦ (let clash : false ≡ true = alone_closes second_ack closes in cc)
 ]
 
 ack_own : (side : Side) → AreOwn side [] ack_again.events ack_again.answers ack_again.views
@@ -161,6 +191,7 @@ limit_shows read h = elim (h Server 10 0 (gave_limit read)) [
   | as_loss_probe waits ↦ (let none = no_probe_of_limit read in absurd (omega (arith, waits, none)))
   | as_ack none frames wanted ↦ (let clash : true ≡ false = none in cc)
   | as_frames asks each ↦ both_ways (stands is_max_data (wants (limit_again read) Server 10).since) (each (max_data 13) (inl refl)) (limit_was_said read)
+  | as_close closes ↦ (let clash : false ≡ true = alone_closes second_limit closes in cc)
 ]
 
 limit_own : (read : ReadCall) → read.id ≡ 0 → (side : Side) → AreOwn side [] (limit_again read).events (limit_again read).answers (limit_again read).views
@@ -178,3 +209,88 @@ limit_no (inr e) = cc
 pub limit_is_none : (read : ReadCall) → ReadsEight read → IsNoRun (limit_again read)
 limit_is_none read by =
     behind refl opens (behind refl opens_both (behind refl writes_first (behind refl writes_second (behind refl blocks (behind refl gives (behind refl takes (behind refl accepts (behind refl (reads read by) (behind refl raises (stops _ _ _ _ _ limit_no))))))))))
+
+-- ---- PATH_CHALLENGE again
+
+challenged_twice : sents_until challenge_again Server 6 ≡ sents_until challenge_again Server 5 ++ second_challenge ∷ []
+unfolding client_acked
+challenged_twice = refl
+
+challenge_was_said : stands is_path_challenge (wants challenge_again Server 5).since ≡ true
+unfolding client_acked
+challenge_was_said = refl
+
+no_probe_of_challenge : (watch challenge_again Server 5).flight.probes ≡ 0
+unfolding client_acked
+no_probe_of_challenge = refl
+
+gave_challenge : GaveOne challenge_again Server 5 0
+gave_challenge = record { transmit = record { size = 1200; ecn = Some Ect0 }; poll = record { event = refl; answer = refl }; served = refl; sent = second_challenge; went = challenged_twice }
+
+pub challenge_shows : EachWaited challenge_again → ⊥
+unfolding gave_challenge
+challenge_shows h = elim (h Server 5 0 gave_challenge) [
+  | as_size_probe probe ↦ (let clash : false ≡ true = probe.validated in cc)
+  | as_loss_probe waits ↦ (let none = no_probe_of_challenge in absurd (omega (arith, waits, none)))
+  | as_ack none frames wanted ↦ (let clash : true ≡ false = none in cc)
+  | as_frames asks each ↦ both_ways (stands is_path_challenge (wants challenge_again Server 5).since) (each (path_challenge id_word) (inl refl)) challenge_was_said
+  | as_close closes ↦ (let clash : false ≡ true = alone_closes second_challenge closes in cc)
+]
+
+challenge_own : (side : Side) → AreOwn side [] challenge_again.events challenge_again.answers challenge_again.views
+challenge_own Client = (tt, (inl refl, (tt, (tt, (tt, (tt, tt))))))
+challenge_own Server = (tt, (tt, (tt, (tt, (tt, (tt, tt))))))
+
+pub challenge_is_honest : IsHonest challenge_again
+challenge_is_honest = record { start = far.far_started; keys = are_keys; ids = own_ids challenge_again challenge_own }
+
+pub challenge_is_none : IsNoRun challenge_again
+challenge_is_none = behind refl far.opens (behind refl far.writes (behind refl far.gives (behind refl far.takes (behind refl far.asks_back (stops _ _ _ _ _ none_asked_anew)))))
+
+-- ---- PATH_RESPONSE again
+
+-- whether PING is the first of frames
+abbrev leads_with_ping : List FrameValue → Bool
+leads_with_ping [] = false
+leads_with_ping (ping ∷ fs) = true
+leads_with_ping (f ∷ fs) = false
+
+answered_twice : sents_until response_again Client 8 ≡ sents_until response_again Client 7 ++ last_response ∷ []
+unfolding client_acked
+answered_twice = refl
+
+response_was_said : stands is_path_response (wants response_again Client 7).since ≡ true
+unfolding client_acked
+response_was_said = refl
+
+no_probe_of_response : (watch response_again Client 7).flight.probes ≡ 0
+unfolding client_acked
+no_probe_of_response = refl
+
+gave_response : GaveOne response_again Client 7 0
+gave_response = record { transmit = record { size = 1200; ecn = None }; poll = record { event = refl; answer = refl }; served = refl; sent = last_response; went = answered_twice }
+
+pub response_shows : EachWaited response_again → ⊥
+unfolding gave_response
+response_shows h = elim (h Client 7 0 gave_response) [
+  | as_size_probe probe ↦ (let clash : false ≡ true = ap leads_with_ping probe.alone in cc)
+  | as_loss_probe waits ↦ (let none = no_probe_of_response in absurd (omega (arith, waits, none)))
+  | as_ack none frames wanted ↦ (let clash : true ≡ false = none in cc)
+  | as_frames asks each ↦ both_ways (stands is_path_response (wants response_again Client 7).since) (each (path_response id_word) (inl refl)) response_was_said
+  | as_close closes ↦ (let clash : false ≡ true = alone_closes last_response closes in cc)
+]
+
+response_own : (side : Side) → AreOwn side [] response_again.events response_again.answers response_again.views
+response_own Client = (tt, (inl refl, (tt, (tt, (tt, (tt, (tt, (tt, tt))))))))
+response_own Server = (tt, (tt, (tt, (tt, (tt, (tt, (tt, (tt, tt))))))))
+
+pub response_is_honest : IsHonest response_again
+response_is_honest = record { start = far.far_started; keys = are_keys; ids = own_ids response_again response_own }
+
+response_no : IsRefused (once_answered 2) asks_datagram (gives_unmarked 1200)
+unfolding once_answered
+response_no (inl e) = cc
+response_no (inr e) = cc
+
+pub response_is_none : IsNoRun response_again
+response_is_none = behind refl far.opens (behind refl far.writes (behind refl far.gives (behind refl far.takes (behind refl far.asks_back (behind refl hears (behind refl responds (stops _ _ _ _ _ response_no)))))))

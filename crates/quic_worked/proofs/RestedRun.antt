@@ -1,4 +1,5 @@
--- The run in which both ends come to rest, event by event, and those of machines that rest too early or not at all.
+-- The run in which both ends come to rest, event by event, and those of machines that rest too
+-- early or not at all.
 use Rattle.std.proofs.Common.{◌≡◌, ℕ, ◌^◌, ◌<◌, List, [], ◌∷◌, ◌++◌, replicate, take, true, Option, Some, None, Ok, refl, ◌⊎◌, inl, inr, sym, ap, ◌∙◌, subst, lit<, lit≤, arith}
 use Rattle.std.specs.Prelude.{slice_get}
 use Rattle.std.proofs.lemmas.List.Elements.{All-head, All-tail}
@@ -22,21 +23,21 @@ use Rattle.quic_headline.specs.Observer.{Sent as SentAs, took, sents_until}
 use Rattle.quic_headline.specs.Moments.{loss_timer, ack_timer, AllNamed, LossTimerQuiet}
 use Rattle.quic_headline.specs.Polls.{pacing_timer, IsPaced}
 use Rattle.quic_headline.specs.Headline.{IsHonest, IsRun}
-use Rattle.quic_headline.specs.Spread.{named_at, PacerIsOfHistory}
+use Rattle.quic_headline.specs.Spread.{named_at, PacerIsOfHistory, SearchesApart}
 use Rattle.quic_headline.specs.Rest.{ShowsStill, Rests, HaveRoom, unanswered, IsUnacknowledged, DeliveredAtRest, NothingOwedAtRest}
-use Rattle.quic_worked.specs.Worked.{ran, worked_policies, client_id, server_id, opens_stream, writes_hello, finishes_stream, asks_datagram, gives_bytes, hello_frame}
+use Rattle.quic_worked.specs.Worked.{ran, worked_policies, client_id, server_id, opens_stream, writes_hello, finishes_stream, asks_datagram, gives_bytes, hello_frame, id_frames, behind_ids, gives_unmarked}
 use Rattle.quic_worked.specs.Acknowledged.{client_acked}
 use Rattle.quic_worked.specs.Broken.{IsNoRun}
 use Rattle.quic_worked.specs.Timed.{serves, asks_at, comes_at, NeverShows}
 use Rattle.quic_worked.specs.Held.{gives_nothing}
-use Rattle.quic_worked.specs.Rested.{roomy_window, roomy_control, roomy_windows, rested_start, rested_events, rested_answers, once_rested, rest_view, still_view, given_view, taken_view, rested_run, hello_packet, kept_run, forgotten_run, heard_events, heard_answers, unanswered_run, timed_on, paced_view, paced_run}
+use Rattle.quic_worked.specs.Rested.{roomy_window, roomy_control, roomy_windows, rested_start, rested_events, rested_answers, once_rested, rest_view, still_view, given_view, taken_view, rested_run, hello_packet, kept_run, forgotten_run, unanswered_run, timed_on, paced_view, paced_run, second_comes, told_view}
 use Rattle.quic_worked.proofs.Codes.{no_codes}
 use Rattle.quic_worked.proofs.OwnIds.{AreOwn, own_ids}
 use Rattle.quic_worked.proofs.BrokenRuns.{IsRefused, stops, behind}
 use Rattle.quic_worked.proofs.WorkedKeys.{are_keys}
 use Rattle.quic_worked.proofs.WorkedHonest.{in_range, making}
 use Rattle.quic_worked.proofs.WorkedRun.{parameters_say}
-use Rattle.quic_worked.proofs.Steps.{counts_so}
+use Rattle.quic_worked.proofs.Steps.{counts_so, others_so}
 
 -- ---- the premises
 
@@ -46,15 +47,17 @@ rested_started = record {
   server_making = record (making server_id) { windows = roomy_windows };
   client_is = record { range = in_range; sizes = lit≤ tt; says = parameters_say; id = refl };
   server_is = record { range = in_range; sizes = lit≤ tt; says = parameters_say; id = refl };
-  client = subst (λ read. IsMade Client plain_settings roomy_windows read client_id server_id 0 true 63 rested_start.client) (sym parameters_say) refl;
-  server = subst (λ read. IsMade Server plain_settings roomy_windows read server_id client_id 0 true 63 rested_start.server) (sym parameters_say) refl;
+  client = subst (λ read. IsMade Client plain_settings roomy_windows read client_id server_id 0 true (λ n. 63) rested_start.client) (sym parameters_say) refl;
+  server = subst (λ read. IsMade Server plain_settings roomy_windows read server_id client_id 0 true (λ n. 63) rested_start.server) (sym parameters_say) refl;
   client_gave = refl;
   server_gave = refl;
+  client_heard = refl;
+  server_heard = refl;
 }
 
 own : (side : Side) → AreOwn side [] rested_run.events rested_run.answers rested_run.views
-own Client = (tt, (inl refl, (inl refl, (tt, (tt, (tt, (tt, (tt, (tt, (tt, tt))))))))))
-own Server = (tt, (tt, (tt, (tt, (tt, (tt, (tt, (tt, (tt, (tt, tt))))))))))
+own Client = (tt, (inl refl, (inl refl, (tt, (tt, (tt, (tt, (tt, (tt, (tt, (tt, (tt, (tt, tt)))))))))))))
+own Server = (tt, (tt, (tt, (tt, (tt, (tt, (tt, (tt, (tt, (tt, (tt, (tt, (tt, tt)))))))))))))
 
 pub rested_is_honest : IsHonest rested_run
 rested_is_honest = record { start = rested_started; keys = are_keys; ids = own_ids rested_run own }
@@ -87,46 +90,58 @@ have_room = record { controlled = record { client = roomy; server = roomy }; cli
 
 opens : IsStep worked_policies rested_start opens_stream (answers.Open (Some 0)) (once_rested 1)
 unfolding once_rested
-opens = record { answer = refl; end = refl; control = refl; heard = counts_so worked_policies rested_start opens_stream (answers.Open (Some 0)); others = refl; lacking = tt }
+opens = record { answer = refl; end = refl; control = refl; heard = counts_so worked_policies rested_start opens_stream (answers.Open (Some 0)); openings = tt; others = refl; lacking = tt }
 
 writes : IsStep worked_policies (once_rested 1) writes_hello (answers.Write (Ok 5)) (once_rested 2)
 unfolding once_rested
-writes = record { answer = inl refl; end = refl; control = refl; heard = counts_so worked_policies (once_rested 1) writes_hello (answers.Write (Ok 5)); others = refl; lacking = λ lacks. cc }
+writes = record { answer = inl refl; end = refl; control = refl; heard = counts_so worked_policies (once_rested 1) writes_hello (answers.Write (Ok 5)); openings = tt; others = refl; lacking = λ lacks. cc }
 
 finishes : IsStep worked_policies (once_rested 2) finishes_stream (answers.Finish (Ok tt)) (once_rested 3)
 unfolding once_rested
-finishes = record { answer = inl refl; end = refl; control = refl; heard = counts_so worked_policies (once_rested 2) finishes_stream (answers.Finish (Ok tt)); others = refl; lacking = λ lacks. cc }
+finishes = record { answer = inl refl; end = refl; control = refl; heard = counts_so worked_policies (once_rested 2) finishes_stream (answers.Finish (Ok tt)); openings = tt; others = refl; lacking = λ lacks. cc }
 
-gives : IsStep worked_policies (once_rested 3) asks_datagram (gives_bytes 34) (once_rested 4)
+gives : IsStep worked_policies (once_rested 3) asks_datagram (gives_bytes 146) (once_rested 4)
 unfolding once_rested
-gives = record { answer = inl refl; end = refl; control = refl; heard = counts_so worked_policies (once_rested 3) asks_datagram (gives_bytes 34); others = refl; lacking = tt }
+gives = record { answer = inl refl; end = refl; control = refl; heard = counts_so worked_policies (once_rested 3) asks_datagram (gives_bytes 146); openings = tt; others = refl; lacking = tt }
 
 takes : IsStep worked_policies (once_rested 4) (comes_at Server 10000000) (answers.Deliver receives.Taken) (once_rested 5)
 unfolding once_rested
-takes = record { answer = inl refl; end = refl; control = refl; heard = counts_so worked_policies (once_rested 4) (comes_at Server 10000000) (answers.Deliver receives.Taken); others = refl; lacking = tt }
+takes = record { answer = inl refl; end = refl; control = refl; heard = counts_so worked_policies (once_rested 4) (comes_at Server 10000000) (answers.Deliver receives.Taken); openings = tt; others = refl; lacking = tt }
 
 is_due : IsStep worked_policies (once_rested 5) (serves Server 35000000) (answers.Timeout (Ok tt)) (once_rested 6)
 unfolding once_rested
-is_due = record { answer = inl refl; end = refl; control = refl; heard = counts_so worked_policies (once_rested 5) (serves Server 35000000) (answers.Timeout (Ok tt)); others = refl; lacking = tt }
+is_due = record { answer = inl refl; end = refl; control = refl; heard = counts_so worked_policies (once_rested 5) (serves Server 35000000) (answers.Timeout (Ok tt)); openings = tt; others = refl; lacking = tt }
 
 pub still_roomy : roomy_control ≡ roomy_control
 still_roomy = refl
 
-answers_it : IsStep worked_policies (once_rested 6) (asks_at Server 35000000) (gives_bytes 32) (once_rested 7)
+answers_it : IsStep worked_policies (once_rested 6) (asks_at Server 35000000) (gives_bytes 144) (once_rested 7)
 unfolding once_rested
-answers_it = record { answer = inl refl; end = refl; control = still_roomy; heard = counts_so worked_policies (once_rested 6) (asks_at Server 35000000) (gives_bytes 32); others = refl; lacking = tt }
+answers_it = record { answer = inl refl; end = refl; control = still_roomy; heard = counts_so worked_policies (once_rested 6) (asks_at Server 35000000) (gives_bytes 144); openings = tt; others = refl; lacking = tt }
 
 is_answered : IsStep worked_policies (once_rested 7) (comes_at Client 40000000) (answers.Deliver receives.Taken) (once_rested 8)
 unfolding once_rested
-is_answered = record { answer = inl refl; end = refl; control = refl; heard = counts_so worked_policies (once_rested 7) (comes_at Client 40000000) (answers.Deliver receives.Taken); others = refl; lacking = tt }
+is_answered = record { answer = inl refl; end = refl; control = still_roomy; heard = counts_so worked_policies (once_rested 7) (comes_at Client 40000000) (answers.Deliver receives.Taken); openings = tt; others = refl; lacking = tt }
 
-client_rests : IsStep worked_policies (once_rested 8) (asks_at Client 40000000) gives_nothing (once_rested 9)
+client_due : IsStep worked_policies (once_rested 8) (serves Client 65000000) (answers.Timeout (Ok tt)) (once_rested 9)
 unfolding once_rested
-client_rests = record { answer = inl refl; end = refl; control = refl; heard = counts_so worked_policies (once_rested 8) (asks_at Client 40000000) gives_nothing; others = refl; lacking = tt }
+client_due = record { answer = inl refl; end = refl; control = still_roomy; heard = counts_so worked_policies (once_rested 8) (serves Client 65000000) (answers.Timeout (Ok tt)); openings = tt; others = refl; lacking = tt }
 
-server_rests : IsStep worked_policies (once_rested 9) (asks_at Server 40000000) gives_nothing (once_rested 10)
+client_answers : IsStep worked_policies (once_rested 9) (asks_at Client 65000000) (gives_unmarked 32) (once_rested 10)
 unfolding once_rested
-server_rests = record { answer = inl refl; end = refl; control = still_roomy; heard = counts_so worked_policies (once_rested 9) (asks_at Server 40000000) gives_nothing; others = refl; lacking = tt }
+client_answers = record { answer = inl refl; end = refl; control = still_roomy; heard = counts_so worked_policies (once_rested 9) (asks_at Client 65000000) (gives_unmarked 32); openings = tt; others = refl; lacking = tt }
+
+all_answered : IsStep worked_policies (once_rested 10) (second_comes 70000000) (answers.Deliver receives.Taken) (once_rested 11)
+unfolding once_rested
+all_answered = record { answer = inl refl; end = refl; control = still_roomy; heard = counts_so worked_policies (once_rested 10) (second_comes 70000000) (answers.Deliver receives.Taken); openings = tt; others = refl; lacking = tt }
+
+client_rests : IsStep worked_policies (once_rested 11) (asks_at Client 70000000) gives_nothing (once_rested 12)
+unfolding once_rested
+client_rests = record { answer = inl refl; end = refl; control = still_roomy; heard = counts_so worked_policies (once_rested 11) (asks_at Client 70000000) gives_nothing; openings = tt; others = refl; lacking = tt }
+
+server_rests : IsStep worked_policies (once_rested 12) (asks_at Server 70000000) gives_nothing (once_rested 13)
+unfolding once_rested
+server_rests = record { answer = inl refl; end = refl; control = still_roomy; heard = counts_so worked_policies (once_rested 12) (asks_at Server 70000000) gives_nothing; openings = tt; others = refl; lacking = tt }
 
 opened_seen : still_view ≡ view_of (once_rested 1)
 unfolding once_rested
@@ -152,39 +167,51 @@ due_seen : given_view ≡ view_of (once_rested 6)
 unfolding once_rested
 due_seen = refl
 
-answer_seen : given_view ≡ view_of (once_rested 7)
+answer_seen : told_view (Some 1024000000) None ≡ view_of (once_rested 7)
 unfolding once_rested
 answer_seen = refl
 
-answered_seen : still_view ≡ view_of (once_rested 8)
+answered_seen : told_view None (Some 65000000) ≡ view_of (once_rested 8)
 unfolding once_rested
 answered_seen = refl
 
-client_seen : still_view ≡ view_of (once_rested 9)
+client_due_seen : told_view None None ≡ view_of (once_rested 9)
+unfolding once_rested
+client_due_seen = refl
+
+client_answer_seen : told_view None None ≡ view_of (once_rested 10)
+unfolding once_rested
+client_answer_seen = refl
+
+all_seen : still_view ≡ view_of (once_rested 11)
+unfolding once_rested
+all_seen = refl
+
+client_seen : still_view ≡ view_of (once_rested 12)
 unfolding once_rested
 client_seen = refl
 
-server_seen : still_view ≡ view_of (once_rested 10)
+server_seen : still_view ≡ view_of (once_rested 13)
 unfolding once_rested
 server_seen = refl
 
 -- what the machine does behind it
 pub until_rested : (events : List RunEvent) (told : List Answer) (views : List View) (end : World)
-    → Follows worked_policies (once_rested 10) events told views end → Follows worked_policies rested_start (rested_events ++ events) (rested_answers ++ told) (rested_run.views ++ views) end
-until_rested events told views end rest = (once_rested 1, opens, opened_seen, (once_rested 2, writes, written_seen, (once_rested 3, finishes, ended_seen, (once_rested 4, gives, given_seen, (once_rested 5, takes, taken_seen, (once_rested 6, is_due, due_seen, (once_rested 7, answers_it, answer_seen, (once_rested 8, is_answered, answered_seen, (once_rested 9, client_rests, client_seen, (once_rested 10, server_rests, server_seen, rest))))))))))
+    → Follows worked_policies (once_rested 13) events told views end → Follows worked_policies rested_start (rested_events ++ events) (rested_answers ++ told) (rested_run.views ++ views) end
+until_rested events told views end rest = (once_rested 1, opens, opened_seen, (once_rested 2, writes, written_seen, (once_rested 3, finishes, ended_seen, (once_rested 4, gives, given_seen, (once_rested 5, takes, taken_seen, (once_rested 6, is_due, due_seen, (once_rested 7, answers_it, answer_seen, (once_rested 8, is_answered, answered_seen, (once_rested 9, client_due, client_due_seen, (once_rested 10, client_answers, client_answer_seen, (once_rested 11, all_answered, all_seen, (once_rested 12, client_rests, client_seen, (once_rested 13, server_rests, server_seen, rest)))))))))))))
 
-follows : Follows rested_run.keys rested_run.start rested_run.events rested_run.answers rested_run.views (once_rested 10)
-follows = until_rested [] [] [] (once_rested 10) refl
+follows : Follows rested_run.keys rested_run.start rested_run.events rested_run.answers rested_run.views (once_rested 13)
+follows = until_rested [] [] [] (once_rested 13) refl
 
-gave_hello : rested_run.from_client ≡ (once_rested 10).from_client
+gave_hello : rested_run.from_client ≡ (once_rested 13).from_client
 unfolding once_rested
 gave_hello = refl
 
-gave_ack : rested_run.from_server ≡ (once_rested 10).from_server
+gave_ack : rested_run.from_server ≡ (once_rested 13).from_server
 unfolding once_rested
 gave_ack = refl
 
-pub rested_is_run : IsRun rested_run (once_rested 10)
+pub rested_is_run : IsRun rested_run (once_rested 13)
 rested_is_run = record { codes = no_codes rested_run.events refl; follows = follows; from_client = gave_hello; from_server = gave_ack }
 
 -- ---- both rest
@@ -194,35 +221,43 @@ still : (side : Side) → ShowsStill still_view side
 still Client = record { no_loss_timer = refl; no_ack_timer = refl; no_pacing_timer = refl }
 still Server = record { no_loss_timer = refl; no_ack_timer = refl; no_pacing_timer = refl }
 
-pub client_at_rest : Rests rested_run Client 10
-client_at_rest = record { front = take 5 (until rested_run Client 10); now = 40000000; last = refl; view = still_view; shown = refl; is_open = refl; validated = refl; still = still Client }
+pub client_at_rest : Rests rested_run Client 13
+client_at_rest = record { front = take 7 (until rested_run Client 13); now = 70000000; last = refl; view = still_view; shown = refl; is_open = refl; validated = refl; still = still Client }
 
-pub client_before : Rests rested_run Client 9
-client_before = record { front = take 5 (until rested_run Client 9); now = 40000000; last = refl; view = still_view; shown = refl; is_open = refl; validated = refl; still = still Client }
+pub client_before : Rests rested_run Client 12
+client_before = record { front = take 7 (until rested_run Client 12); now = 70000000; last = refl; view = still_view; shown = refl; is_open = refl; validated = refl; still = still Client }
 
-pub server_at_rest : Rests rested_run Server 10
-server_at_rest = record { front = take 3 (until rested_run Server 10); now = 40000000; last = refl; view = still_view; shown = refl; is_open = refl; validated = refl; still = still Server }
+pub server_at_rest : Rests rested_run Server 13
+server_at_rest = record { front = take 4 (until rested_run Server 13); now = 70000000; last = refl; view = still_view; shown = refl; is_open = refl; validated = refl; still = still Server }
 
 -- ---- what arrived
 
-took_hello : took rested_run Server 10 ≡ hello_packet ∷ []
+-- the packet that acknowledges the server's ids
+abbrev pub acks_ids : Packet
+acks_ids = record { number = 1; frames = ack (record { largest = 0; delay = 3125; ranges = (0, 0) ∷ []; ecn = None }) ∷ [] }
+
+-- it came behind the word
+abbrev pub both_packets : List Packet
+both_packets = acks_ids ∷ hello_packet ∷ []
+
+took_hello : took rested_run Server 13 ≡ both_packets
 unfolding client_acked
 took_hello = refl
 
 -- each offset of the word
-pub word_arrived : (offset : ℕ) → offset < 5 → HasArrived (hello_packet ∷ []) 0 offset
-word_arrived offset below = record { frame = hello_frame; taken = record { packet = hello_packet; was_taken = inl refl; carried = inl refl }; of_stream = refl; from = omega arith; below = below }
+pub word_arrived : (offset : ℕ) → offset < 5 → HasArrived both_packets 0 offset
+word_arrived offset below = record { frame = hello_frame; taken = record { packet = hello_packet; was_taken = inr (inl refl); carried = inr (inr (inr (inr (inl refl)))) }; of_stream = refl; from = omega arith; below = below }
 
-pub first_arrived : HasArrived (took rested_run Server 10) 0 0
+pub first_arrived : HasArrived (took rested_run Server 13) 0 0
 first_arrived = subst (λ (ps : List Packet). HasArrived ps 0 0) (sym took_hello) (word_arrived 0 (lit< tt))
 
-pub last_arrived : HasArrived (took rested_run Server 10) 0 4
+pub last_arrived : HasArrived (took rested_run Server 13) 0 4
 last_arrived = subst (λ (ps : List Packet). HasArrived ps 0 4) (sym took_hello) (word_arrived 4 (lit< tt))
 
-pub end_in_hello : EndHasArrived (hello_packet ∷ []) 0 5
-end_in_hello = record { frame = hello_frame; taken = record { packet = hello_packet; was_taken = inl refl; carried = inl refl }; of_stream = refl; fin = refl; behind = refl }
+pub end_in_hello : EndHasArrived both_packets 0 5
+end_in_hello = record { frame = hello_frame; taken = record { packet = hello_packet; was_taken = inr (inl refl); carried = inr (inr (inr (inr (inl refl)))) }; of_stream = refl; fin = refl; behind = refl }
 
-pub end_arrived : EndHasArrived (took rested_run Server 10) 0 5
+pub end_arrived : EndHasArrived (took rested_run Server 13) 0 5
 end_arrived = subst (λ (ps : List Packet). EndHasArrived ps 0 5) (sym took_hello) end_in_hello
 
 -- ---- what is owed
@@ -231,11 +266,11 @@ pub owes_one : unanswered rested_run Server 6 ≡ hello_packet ∷ []
 unfolding client_acked
 owes_one = refl
 
-pub owes_no_more : unanswered rested_run Server 10 ≡ []
+pub owes_no_more : unanswered rested_run Server 13 ≡ []
 unfolding client_acked
 owes_no_more = refl
 
-pub owes_never : unanswered rested_run Client 10 ≡ []
+pub owes_never : unanswered rested_run Client 13 ≡ []
 unfolding client_acked
 owes_never = refl
 
@@ -281,11 +316,11 @@ unfolding once_rested
 once_expired = ran worked_policies (once_rested 4) (serves Client 1024000000 ∷ []) (answers.Timeout (Ok tt) ∷ [])
 
 -- what it has counted before and behind that: its datagram
-sent_before : (once_rested 4).client_heard ≡ record { received = 0; sent = 34; failures = 0 }
+sent_before : (once_rested 4).client_heard ≡ record { received = 0; sent = 146; failures = 0 }
 unfolding once_rested
 sent_before = refl
 
-sent_behind : once_expired.client_heard ≡ record { received = 0; sent = 34; failures = 0 }
+sent_behind : once_expired.client_heard ≡ record { received = 0; sent = 146; failures = 0 }
 unfolding once_expired
 sent_behind = refl
 
@@ -294,7 +329,7 @@ sent_still = sent_behind ∙ sym sent_before
 
 expires : IsStep worked_policies (once_rested 4) (serves Client 1024000000) (answers.Timeout (Ok tt)) once_expired
 unfolding once_expired
-expires = record { answer = inl refl; end = refl; control = refl; heard = sent_still; others = refl; lacking = tt }
+expires = record { answer = inl refl; end = refl; control = refl; heard = sent_still; openings = tt; others = others_so worked_policies (once_rested 4) (serves Client 1024000000) (answers.Timeout (Ok tt)); lacking = tt }
 
 forgotten_no : IsRefused once_expired (asks_at Client 1024000000) gives_nothing
 unfolding once_expired
@@ -333,52 +368,33 @@ unanswered_own Server = (tt, (tt, (tt, (tt, (tt, (tt, tt))))))
 pub unanswered_is_honest : IsHonest unanswered_run
 unanswered_is_honest = record { start = rested_started; keys = are_keys; ids = own_ids unanswered_run unanswered_own }
 
--- the machine gives nothing there either, and its timer is set
-unfoldable once_heard : World
+-- the machine gives its ids there, and the acknowledgement along with them
+heard_no : IsRefused (once_rested 5) (asks_at Server 10000000) gives_nothing
 unfolding once_rested
-once_heard = ran worked_policies (once_rested 5) (asks_at Server 10000000 ∷ []) (gives_nothing ∷ [])
+heard_no (inl e) = cc
+heard_no (inr e) = cc
 
-waits : IsStep worked_policies (once_rested 5) (asks_at Server 10000000) gives_nothing once_heard
-unfolding once_heard
-waits = record { answer = inl refl; end = refl; control = refl; heard = counts_so worked_policies (once_rested 5) (asks_at Server 10000000) gives_nothing; others = refl; lacking = tt }
+unanswered_is_none : IsNoRun unanswered_run
+unanswered_is_none = behind refl opens (behind refl writes (behind refl finishes (behind refl gives (behind refl takes (stops _ _ _ _ _ heard_no)))))
 
-heard_seen : taken_view ≡ view_of once_heard
-unfolding once_heard
-heard_seen = refl
-
-heard_views : List View
-heard_views = replicate 3 still_view ++ given_view ∷ taken_view ∷ taken_view ∷ []
-
-heard : Follows worked_policies rested_start heard_events heard_answers heard_views once_heard
-unfolding heard_views
-heard = (once_rested 1, opens, opened_seen, (once_rested 2, writes, written_seen, (once_rested 3, finishes, ended_seen, (once_rested 4, gives, given_seen, (once_rested 5, takes, taken_seen, (once_heard, waits, heard_seen, refl))))))
+pub never_unanswered : NeverShows unanswered_run
+never_unanswered end f = unanswered_is_none.never unanswered_run.views end f
 
 -- the moment of a timer that is set
 moment_in : Option (Option ℕ) → ℕ
 moment_in (Some (Some moment)) = moment
 moment_in other = 0
 
--- that of the server's timer of acknowledgements, and of the client's loss timer, in a view that is there
-ack_moment : Option View → ℕ
-ack_moment None = 0
-ack_moment (Some v) = moment_in (ack_timer v Server)
-
+-- that of the client's loss timer, in a view that is there
 loss_moment : Option View → ℕ
 loss_moment None = 0
 loss_moment (Some v) = moment_in (loss_timer v Client)
-
-pub never_unanswered : NeverShows unanswered_run
-unfolding heard_views ack_moment moment_in
-never_unanswered end f =
-    let same = one_run worked_policies heard_answers rested_start heard_events unanswered_run.views heard_views end once_heard refl f heard in
-    let moments : ◌≡◌ {A = ℕ} 0 35000000 = ap (λ (vs : List View). ack_moment (slice_get vs 4)) same.0 in
-    absurd (omega arith)
 
 -- ---- an end that doesn't rest
 
 -- the client's datagram, as it was sent
 abbrev hello_sent : SentAs
-hello_sent = record { id = server_id; number = 0; reference = 0; frames = stream hello_frame ∷ []; moment = 0; size = 34 }
+hello_sent = record { id = server_id; number = 0; reference = 0; frames = behind_ids (stream hello_frame ∷ []); moment = 0; size = 146 }
 
 sent_one : sents_until timed_on Client 8 ≡ hello_sent ∷ []
 unfolding client_acked
@@ -386,7 +402,7 @@ sent_one = refl
 
 -- the server's datagram, as it came
 abbrev acked_packet : Packet
-acked_packet = record { number = 0; frames = ack (record { largest = 0; delay = 3125; ranges = (0, 0) ∷ []; ecn = None }) ∷ [] }
+acked_packet = record { number = 0; frames = ack (record { largest = 0; delay = 3125; ranges = (0, 0) ∷ []; ecn = None }) ∷ id_frames }
 
 took_ack : took timed_on Client 8 ≡ acked_packet ∷ []
 unfolding client_acked
@@ -407,9 +423,9 @@ set_and_not : (moment : ℕ) → ◌≡◌ {A = Option (Option ℕ)} (Some (Some
 set_and_not moment is = cc
 
 pub timed_quiet : LossTimerQuiet timed_on → ⊥
-timed_quiet h = set_and_not 1024000000 (h Client 7 (rest_view (Some 1024000000) None) refl refl refl all_named)
+timed_quiet h = set_and_not 1024000000 (h Client 7 (told_view (Some 1024000000) (Some 65000000)) refl refl refl all_named)
 
-pub timed_rests : Rests timed_on Client 10 → ⊥
+pub timed_rests : Rests timed_on Client 13 → ⊥
 timed_rests at = (let shown : rest_view (Some 1024000000) None ≡ at.view = cc in set_and_not 1024000000 (ap (λ (v : View). loss_timer v Client) shown ∙ at.still.no_loss_timer))
 
 pub shows_paced : IsPaced paced_run Client 3 paced_view
@@ -426,12 +442,17 @@ set_otherwise : (o : Option ℕ) (moment : ℕ) → o ≡ None → (◌≡◌ {A
 set_otherwise o moment none (inl is) = set_and_not moment is
 set_otherwise o moment none (inr is) = set_and_not moment (is ∙ ap (λ (x : Option ℕ). Some x) none)
 
+-- its client looks for no greater size of datagrams
+paced_apart : SearchesApart paced_run Client
+unfolding client_acked
+paced_apart = tt
+
 pub paced_paces : PacerIsOfHistory paced_run → ⊥
-paced_paces h = set_otherwise (named_at paced_run Client 2 0) 1000000 paced_names (h Client 2 (calls.Poll 0) gives_nothing paced_view refl (record { event = refl; answer = refl }) refl refl).sets
+paced_paces h = set_otherwise (named_at paced_run Client 2 0) 1000000 paced_names (h Client 2 (calls.Poll 0) gives_nothing paced_view refl (record { event = refl; answer = refl }) refl refl paced_apart).sets
 
 timed_own : (side : Side) → AreOwn side [] timed_on.events timed_on.answers timed_on.views
-timed_own Client = (tt, (inl refl, (inl refl, (tt, (tt, (tt, (tt, (tt, (tt, (tt, tt))))))))))
-timed_own Server = (tt, (tt, (tt, (tt, (tt, (tt, (tt, (tt, (tt, (tt, tt))))))))))
+timed_own Client = (tt, (inl refl, (inl refl, (tt, (tt, (tt, (tt, (tt, (tt, (tt, (tt, (tt, (tt, tt)))))))))))))
+timed_own Server = (tt, (tt, (tt, (tt, (tt, (tt, (tt, (tt, (tt, (tt, (tt, (tt, (tt, tt)))))))))))))
 
 pub timed_is_honest : IsHonest timed_on
 timed_is_honest = record { start = rested_started; keys = are_keys; ids = own_ids timed_on timed_own }
@@ -446,7 +467,7 @@ paced_is_honest = record { start = rested_started; keys = are_keys; ids = own_id
 pub never_timed : NeverShows timed_on
 unfolding loss_moment moment_in
 never_timed end f =
-    let same = one_run rested_run.keys rested_run.answers rested_run.start rested_run.events timed_on.views rested_run.views end (once_rested 10) refl f follows in
+    let same = one_run rested_run.keys rested_run.answers rested_run.start rested_run.events timed_on.views rested_run.views end (once_rested 13) refl f follows in
     let moments : ◌≡◌ {A = ℕ} 1024000000 0 = ap (λ (vs : List View). loss_moment (slice_get vs 7)) same.0 in
     absurd (omega arith)
 

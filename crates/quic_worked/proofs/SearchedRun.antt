@@ -1,10 +1,10 @@
 -- The run in which a larger size of datagrams is found, event by event, and what is told of it.
-use Rattle.std.proofs.Common.{◌≡◌, ◌+◌, ◌<◌, ◌≤◌, ℕ, List, [], ◌∷◌, ◌++◌, drop, true, false, Some, None, Ok, refl, inl, sym, subst, lit<, lit≤}
+use Rattle.std.proofs.Common.{◌≡◌, ◌+◌, ◌<◌, ◌≤◌, ℕ, List, [], ◌∷◌, ◌++◌, drop, true, false, Some, None, Ok, refl, inl, sym, subst, lit<, lit≤, inr}
 use Rattle.quic_wire_core.specs.declared.stream_id.Side.{Side}
 use Rattle.quic_wire_core.specs.declared.stream_id.Side.TheVariants.{Client, Server}
 use Rattle.quic_wire_core.specs.declared.shared.EcnCodepoint.TheVariants.{Ect0}
 use Rattle.quic_wire.specs.Value.{ack}
-use Rattle.quic_config.specs.Transport.{IsInRange, default_settings}
+use Rattle.quic_config.specs.Transport.{IsInRange}
 use Rattle.quic_congestion.specs.Congestion as congestion
 use Rattle.quic_congestion.specs.Search.{open_probe, search_bound, poll_names}
 use Rattle.quic_machine.specs.declared.answers.Received.TheVariants as receives
@@ -19,104 +19,116 @@ use Rattle.quic_headline.specs.Headline.{IsHonest, IsRun}
 use Rattle.quic_headline.specs.Polls.{flying, bytes_flying, search_at, GaveOne, GaveAsking, IsSizeProbe, told_by_step, IsHistory, IsSearched, seen_at}
 use Rattle.quic_headline.specs.Sizes.{WasProbed}
 use Rattle.quic_headline.proofs.Steps.Made.{one_behind}
-use Rattle.quic_worked.specs.Worked.{steady, worked_policies, client_id, server_id, gives_bytes}
+use Rattle.quic_worked.specs.Worked.{steady, worked_policies, client_id, server_id, gives_bytes, shut, id_frames}
 use Rattle.quic_worked.specs.Timed.{serves, asks_at, comes_at, seen_with}
 use Rattle.quic_worked.specs.Searched.{searched_start, once_searched, size_sent, told_of_size, found_view, searched_run}
 use Rattle.quic_worked.proofs.Codes.{no_codes}
-use Rattle.quic_worked.proofs.Steps.{counts_so, still_steady}
+use Rattle.quic_worked.proofs.Steps.{counts_so, still_steady, still_shut}
 use Rattle.quic_worked.proofs.OwnIds.{AreOwn, own_ids}
 use Rattle.quic_worked.proofs.WorkedKeys.{are_keys}
 use Rattle.quic_worked.proofs.WorkedHonest.{in_range, making}
 use Rattle.quic_worked.proofs.WorkedRun.{parameters_say, server_is_made}
+use Rattle.quic_worked.specs.Messages.{comes_to_server}
+use Rattle.quic_worked.specs.Settings.{search_settings}
 
 -- ---- the premises
 
-searching_range : IsInRange default_settings
+searching_range : IsInRange search_settings
 searching_range = record { receive_window = lit< tt; stream_receive_window = lit< tt; bounds = record { bidi = lit≤ tt; uni = lit≤ tt; divides = lit< tt; initial = lit≤ tt; least = lit≤ tt }; search = lit≤ tt }
 
 -- the client's parameters say nothing of its search
 abbrev searched_started : AreStarted searched_start
 searched_started = record {
-  client_making = record (making client_id) { settings = default_settings };
-  server_making = making server_id;
+  client_making = record (making client_id) { settings = search_settings };
+  server_making = record (making server_id) { windows = shut };
   client_is = record { range = searching_range; sizes = lit≤ tt; says = parameters_say; id = refl };
   server_is = record { range = in_range; sizes = lit≤ tt; says = parameters_say; id = refl };
-  client = subst (λ read. IsMade Client default_settings steady read client_id server_id 0 true 63 searched_start.client) (sym parameters_say) refl;
+  client = subst (λ read. IsMade Client search_settings steady read client_id server_id 0 true (λ n. 63) searched_start.client) (sym parameters_say) refl;
   server = server_is_made;
   client_gave = refl;
   server_gave = refl;
+  client_heard = refl;
+  server_heard = refl;
 }
 
 own : (side : Side) → AreOwn side [] searched_run.events searched_run.answers searched_run.views
-own Client = (tt, (tt, (tt, (tt, (tt, tt)))))
-own Server = (tt, (tt, (tt, (tt, (tt, tt)))))
+own Client = (tt, (tt, (tt, (tt, (tt, (tt, tt))))))
+own Server = (tt, (tt, (tt, (tt, (tt, (tt, tt))))))
 
 pub searched_is_honest : IsHonest searched_run
 searched_is_honest = record { start = searched_started; keys = are_keys; ids = own_ids searched_run own }
 
 -- ---- the machine's run
 
-probes : IsStep worked_policies searched_start (asks_at Client 0) (gives_bytes 1326) (once_searched 1)
+tells_ids : IsStep worked_policies searched_start (asks_at Client 0) (gives_bytes 138) (once_searched 1)
 unfolding once_searched
-probes = record { answer = inl refl; end = refl; control = still_steady; heard = counts_so worked_policies searched_start (asks_at Client 0) (gives_bytes 1326); others = refl; lacking = tt }
+tells_ids = record { answer = inl refl; end = refl; control = still_steady; heard = counts_so worked_policies searched_start (asks_at Client 0) (gives_bytes 138); openings = tt; others = refl; lacking = tt }
 
-takes : IsStep worked_policies (once_searched 1) (comes_at Server 10000000) (answers.Deliver receives.Taken) (once_searched 2)
+probes : IsStep worked_policies (once_searched 1) (asks_at Client 0) (gives_bytes 1326) (once_searched 2)
 unfolding once_searched
-takes = record { answer = inl refl; end = refl; control = still_steady; heard = counts_so worked_policies (once_searched 1) (comes_at Server 10000000) (answers.Deliver receives.Taken); others = refl; lacking = tt }
+probes = record { answer = inl refl; end = refl; control = still_steady; heard = counts_so worked_policies (once_searched 1) (asks_at Client 0) (gives_bytes 1326); openings = tt; others = refl; lacking = tt }
 
-is_due : IsStep worked_policies (once_searched 2) (serves Server 35000000) (answers.Timeout (Ok tt)) (once_searched 3)
+takes : IsStep worked_policies (once_searched 2) (comes_to_server 10000000 1) (answers.Deliver receives.Taken) (once_searched 3)
 unfolding once_searched
-is_due = record { answer = inl refl; end = refl; control = still_steady; heard = counts_so worked_policies (once_searched 2) (serves Server 35000000) (answers.Timeout (Ok tt)); others = refl; lacking = tt }
+takes = record { answer = inl refl; end = refl; control = still_shut; heard = counts_so worked_policies (once_searched 2) (comes_to_server 10000000 1) (answers.Deliver receives.Taken); openings = tt; others = refl; lacking = tt }
 
-answers_it : IsStep worked_policies (once_searched 3) (asks_at Server 35000000) (gives_bytes 32) (once_searched 4)
+is_due : IsStep worked_policies (once_searched 3) (serves Server 35000000) (answers.Timeout (Ok tt)) (once_searched 4)
 unfolding once_searched
-answers_it = record { answer = inl refl; end = refl; control = still_steady; heard = counts_so worked_policies (once_searched 3) (asks_at Server 35000000) (gives_bytes 32); others = refl; lacking = tt }
+is_due = record { answer = inl refl; end = refl; control = still_shut; heard = counts_so worked_policies (once_searched 3) (serves Server 35000000) (answers.Timeout (Ok tt)); openings = tt; others = refl; lacking = tt }
 
-finds : IsStep worked_policies (once_searched 4) (comes_at Client 40000000) (answers.Deliver receives.Taken) (once_searched 5)
+answers_it : IsStep worked_policies (once_searched 4) (asks_at Server 35000000) (gives_bytes 32) (once_searched 5)
 unfolding once_searched
-finds = record { answer = inl refl; end = refl; control = still_steady; heard = counts_so worked_policies (once_searched 4) (comes_at Client 40000000) (answers.Deliver receives.Taken); others = refl; lacking = tt }
+answers_it = record { answer = inl refl; end = refl; control = still_shut; heard = counts_so worked_policies (once_searched 4) (asks_at Server 35000000) (gives_bytes 32); openings = tt; others = refl; lacking = tt }
 
-probed_seen : seen_with (Some 1024000000) None ≡ view_of (once_searched 1)
+finds : IsStep worked_policies (once_searched 5) (comes_at Client 40000000) (answers.Deliver receives.Taken) (once_searched 6)
+unfolding once_searched
+finds = record { answer = inl refl; end = refl; control = still_steady; heard = counts_so worked_policies (once_searched 5) (comes_at Client 40000000) (answers.Deliver receives.Taken); openings = tt; others = refl; lacking = tt }
+
+told_seen : seen_with (Some 1024000000) None ≡ view_of (once_searched 1)
+unfolding once_searched
+told_seen = refl
+
+probed_seen : seen_with (Some 1024000000) None ≡ view_of (once_searched 2)
 unfolding once_searched
 probed_seen = refl
 
-taken_seen : seen_with (Some 1024000000) (Some 35000000) ≡ view_of (once_searched 2)
+taken_seen : seen_with (Some 1024000000) (Some 35000000) ≡ view_of (once_searched 3)
 unfolding once_searched
 taken_seen = refl
 
-due_seen : seen_with (Some 1024000000) None ≡ view_of (once_searched 3)
+due_seen : seen_with (Some 1024000000) None ≡ view_of (once_searched 4)
 unfolding once_searched
 due_seen = refl
 
-answer_seen : seen_with (Some 1024000000) None ≡ view_of (once_searched 4)
+answer_seen : seen_with (Some 1024000000) None ≡ view_of (once_searched 5)
 unfolding once_searched
 answer_seen = refl
 
-found_seen : found_view ≡ view_of (once_searched 5)
+found_seen : found_view ≡ view_of (once_searched 6)
 unfolding once_searched
 found_seen = refl
 
-follows : Follows searched_run.keys searched_run.start searched_run.events searched_run.answers searched_run.views (once_searched 5)
-follows = (once_searched 1, probes, probed_seen, (once_searched 2, takes, taken_seen, (once_searched 3, is_due, due_seen, (once_searched 4, answers_it, answer_seen, (once_searched 5, finds, found_seen, refl)))))
+follows : Follows searched_run.keys searched_run.start searched_run.events searched_run.answers searched_run.views (once_searched 6)
+follows = (once_searched 1, tells_ids, told_seen, (once_searched 2, probes, probed_seen, (once_searched 3, takes, taken_seen, (once_searched 4, is_due, due_seen, (once_searched 5, answers_it, answer_seen, (once_searched 6, finds, found_seen, refl))))))
 
-gave_probe : searched_run.from_client ≡ (once_searched 5).from_client
+gave_probe : searched_run.from_client ≡ (once_searched 6).from_client
 unfolding once_searched
 gave_probe = refl
 
-gave_ack : searched_run.from_server ≡ (once_searched 5).from_server
+gave_ack : searched_run.from_server ≡ (once_searched 6).from_server
 unfolding once_searched
 gave_ack = refl
 
-pub searched_is_run : IsRun searched_run (once_searched 5)
+pub searched_is_run : IsRun searched_run (once_searched 6)
 searched_is_run = record { codes = no_codes searched_run.events refl; follows = follows; from_client = gave_probe; from_server = gave_ack }
 
 -- ---- the probe
 
-probe_went : sents_until searched_run Client 1 ≡ sents_until searched_run Client 0 ++ size_sent ∷ []
+probe_went : sents_until searched_run Client 2 ≡ sents_until searched_run Client 1 ++ size_sent ∷ []
 unfolding once_searched
 probe_went = refl
 
-abbrev gave_asking : GaveAsking searched_run Client 0 0
+abbrev gave_asking : GaveAsking searched_run Client 1 0
 gave_asking = record {
   one = record {
     transmit = record { size = 1326; ecn = Some Ect0 };
@@ -128,30 +140,35 @@ gave_asking = record {
   asks = refl;
 }
 
-named : poll_names (watch searched_run Client 1).clock (search_at Client searched_start) ≡ Some 1326
+named : poll_names (watch searched_run Client 2).clock (search_at Client (once_searched 1)) ≡ Some 1326
 unfolding once_searched
 named = refl
 
-none_open : open_probe (search_at Client searched_start) ≡ None
+none_open : open_probe (search_at Client (once_searched 1)) ≡ None
+unfolding once_searched
 none_open = refl
 
-opened : open_probe (search_at Client (once_searched 1)) ≡ Some 0
+opened : open_probe (search_at Client (once_searched 2)) ≡ Some 1
 unfolding once_searched
 opened = refl
 
-is_bound : search_bound (search_at Client searched_start) ≡ Some 1452
+is_bound : search_bound (search_at Client (once_searched 1)) ≡ Some 1452
+unfolding once_searched
 is_bound = refl
 
-idle : waits searched_start.client ≡ false
+idle : waits (once_searched 1).client ≡ false
+unfolding once_searched
 idle = refl
 
-none_fly : bytes_flying searched_run Client 0 ≡ 0
-none_fly = refl
+ids_fly : bytes_flying searched_run Client 1 ≡ 138
+unfolding once_searched
+ids_fly = refl
 
-room : (size : ℕ) → 0 + size < 12000 → bytes_flying searched_run Client 0 + size < 12000
-room size fits = subst (λ (n : ℕ). n + size < 12000) (sym none_fly) fits
+room : (size : ℕ) → 138 + size < 12000 → bytes_flying searched_run Client 1 + size < 12000
+room size fits = subst (λ (n : ℕ). n + size < 12000) (sym ids_fly) fits
 
-is_searched : IsSearched searched_run Client 0 searched_start (once_searched 1) size_sent
+is_searched : IsSearched searched_run Client 1 (once_searched 1) (once_searched 2) size_sent
+unfolding once_searched
 is_searched = record {
   named = named;
   none_open = none_open;
@@ -164,9 +181,12 @@ is_searched = record {
 }
 
 leads_first : LeadsTo searched_run 1 (once_searched 1)
-leads_first = (once_searched 1, probes, probed_seen, refl)
+leads_first = (once_searched 1, tells_ids, told_seen, refl)
 
-is_probe : IsSizeProbe searched_run Client 0 size_sent
+leads_second : LeadsTo searched_run 2 (once_searched 2)
+leads_second = (once_searched 1, tells_ids, told_seen, (once_searched 2, probes, probed_seen, refl))
+
+is_probe : IsSizeProbe searched_run Client 1 size_sent
 is_probe = record {
   zeros = 1299;
   alone = refl;
@@ -174,14 +194,15 @@ is_probe = record {
   validated = refl;
   room = room 1326 (lit< tt);
   searched = λ w next here behind.
-      subst (λ (x : World). IsSearched searched_run Client 0 x next size_sent) (one_behind searched_run 0 searched_start w refl refl here)
-      (subst (λ (x : World). IsSearched searched_run Client 0 searched_start x size_sent) (one_behind searched_run 1 (once_searched 1) next refl leads_first behind) is_searched);
+      subst (λ (x : World). IsSearched searched_run Client 1 x next size_sent) (one_behind searched_run 1 (once_searched 1) w refl leads_first here)
+      (subst (λ (x : World). IsSearched searched_run Client 1 (once_searched 1) x size_sent) (one_behind searched_run 2 (once_searched 2) next refl leads_second behind) is_searched);
 }
 
-pub probe_goes : (gave : GaveAsking searched_run Client 0 0) × IsSizeProbe searched_run Client 0 gave.one.sent
+pub probe_goes : (gave : GaveAsking searched_run Client 1 0) × IsSizeProbe searched_run Client 1 gave.one.sent
 probe_goes = (gave_asking, is_probe)
 
-pub none_queued : (watch searched_run Client 0).flight.probes ≡ 0
+pub none_queued : (watch searched_run Client 1).flight.probes ≡ 0
+unfolding once_searched
 none_queued = refl
 
 -- ---- the server's datagram has no more bytes than the current size
@@ -192,16 +213,16 @@ ack_sent = record {
   id = client_id;
   number = 0;
   reference = 0;
-  frames = ack (record { largest = 0; delay = 3125; ranges = (0, 0) ∷ []; ecn = None }) ∷ [];
+  frames = ack (record { largest = 1; delay = 3125; ranges = (1, 1) ∷ []; ecn = None }) ∷ [];
   moment = 35000000;
   size = 32;
 }
 
-ack_went : sents_until searched_run Server 4 ≡ sents_until searched_run Server 3 ++ ack_sent ∷ []
+ack_went : sents_until searched_run Server 5 ≡ sents_until searched_run Server 4 ++ ack_sent ∷ []
 unfolding once_searched
 ack_went = refl
 
-pub ack_is_small : (gave : GaveOne searched_run Server 3 35000000) × (gave.sent.size ≤ (seen_at searched_run Server 3).current_mtu)
+pub ack_is_small : (gave : GaveOne searched_run Server 4 35000000) × (gave.sent.size ≤ (seen_at searched_run Server 4).current_mtu)
 ack_is_small = (
   record {
     transmit = record { size = 32; ecn = Some Ect0 };
@@ -215,18 +236,22 @@ ack_is_small = (
 
 -- ---- the size grows
 
-it_flies : flying searched_run Client 4 ≡ size_sent ∷ []
-unfolding once_searched
-it_flies = refl
+-- what told the ids, as it was sent
+abbrev ids_sent : Sent
+ids_sent = record { id = server_id; number = 0; reference = 0; frames = id_frames; moment = 0; size = 138 }
 
-it_is_acked : acked_until searched_run Client 5 ≡ size_sent ∷ []
+they_fly : flying searched_run Client 5 ≡ ids_sent ∷ size_sent ∷ []
+unfolding once_searched
+they_fly = refl
+
+it_is_acked : acked_until searched_run Client 6 ≡ size_sent ∷ []
 unfolding once_searched
 it_is_acked = refl
 
-pub was_probed : WasProbed searched_run Client 4 1326
+pub was_probed : WasProbed searched_run Client 5 1326
 was_probed = record {
   sent = size_sent;
-  flew = subst (λ (ss : List Sent). In size_sent ss) (sym it_flies) (inl refl);
+  flew = subst (λ (ss : List Sent). In size_sent ss) (sym they_fly) (inr (inl refl));
   came = subst (λ (ss : List Sent). In size_sent ss) (sym it_is_acked) (inl refl);
   zeros = 1299;
   alone = refl;
@@ -235,25 +260,35 @@ was_probed = record {
 
 -- ---- the controller is told so
 
-told_of_probe : told_of_size ≡ told_by_step Client worked_policies searched_start (asks_at Client 0) ++ drop 1 told_of_size
+told_of_ids : told_of_size ≡ told_by_step Client worked_policies searched_start (asks_at Client 0) ++ drop 1 told_of_size
+told_of_ids = refl
+
+told_of_probe : drop 1 told_of_size ≡ told_by_step Client worked_policies (once_searched 1) (asks_at Client 0) ++ drop 2 told_of_size
+unfolding once_searched
 told_of_probe = refl
 
-told_of_ack : drop 1 told_of_size ≡ told_by_step Client worked_policies (once_searched 4) (comes_at Client 40000000) ++ []
+told_of_ack : drop 2 told_of_size ≡ told_by_step Client worked_policies (once_searched 5) (comes_at Client 40000000) ++ []
 unfolding once_searched
 told_of_ack = refl
 
-pub history : IsHistory searched_run Client 5 (once_searched 5) told_of_size
+pub history : IsHistory searched_run Client 6 (once_searched 6) told_of_size
 history = (
   once_searched 1,
   drop 1 told_of_size,
-  probes,
-  told_of_probe,
+  tells_ids,
+  told_of_ids,
   (
     once_searched 2,
-    drop 1 told_of_size,
-    takes,
-    refl,
-    (once_searched 3, drop 1 told_of_size, is_due, refl, (once_searched 4, drop 1 told_of_size, answers_it, refl, (once_searched 5, [], finds, told_of_ack, (refl, refl)))),
+    drop 2 told_of_size,
+    probes,
+    told_of_probe,
+    (
+      once_searched 3,
+      drop 2 told_of_size,
+      takes,
+      refl,
+      (once_searched 4, drop 2 told_of_size, is_due, refl, (once_searched 5, drop 2 told_of_size, answers_it, refl, (once_searched 6, [], finds, told_of_ack, (refl, refl)))),
+    ),
   ),
 )
 

@@ -9,7 +9,7 @@ use Rattle.quic_machine.specs.End.{End}
 use Rattle.quic_machine.specs.Machine.{end_left}
 use Rattle.quic_headline.specs.Reasons.{ClosedHasAReason}
 use Rattle.quic_headline.proofs.Causes.Reasons.{views_explain}
-use Rattle.quic_worked.specs.Worked.{worked_policies, started, open_view}
+use Rattle.quic_worked.specs.Worked.{worked_policies, started, server_open}
 use Rattle.quic_worked.specs.Closed.{silent_view, drains_silently, last_run, last_closed}
 use Rattle.quic_worked.specs.Timed.{NeverShows}
 use Rattle.quic_worked.proofs.UsedUpRun.{last_is_run}
@@ -18,16 +18,16 @@ pub last_explains : ClosedHasAReason last_run
 last_explains = views_explain last_run.keys last_run.start last_closed last_run.events last_run.answers last_run.views last_is_run.follows (tt, tt)
 
 pub drains_wrongly : ClosedHasAReason drains_silently → ⊥
-drains_wrongly h = h Client 0 (record { client = silent_view; server = open_view }) refl
+drains_wrongly h = h Client 0 (record { client = silent_view; server = server_open }) refl
 
 -- a poll of a new end leaves it open
-stays_open : (end_left worked_policies.client started.client_control started.client [] (calls.Poll 0) (answers.Poll (Ok None))).closing.state ≡ states.Open
+stays_open : (end_left worked_policies.client started.client_control started.client_heard started.client [] (calls.Poll 0) (answers.Poll (Ok None))).closing.state ≡ states.Open
 stays_open = refl
 
 pub never_silent : NeverShows drains_silently
 never_silent end f =
     let shown : states.Drained ≡ f.0.client.closing.state = ap (λ (v : View). v.client.state) f.2 in
-    let polls : f.0.client ≡ end_left worked_policies.client started.client_control started.client [] (calls.Poll 0) (answers.Poll (Ok None)) = f.1.end in
+    let polls : f.0.client ≡ end_left worked_policies.client started.client_control started.client_heard started.client [] (calls.Poll 0) (answers.Poll (Ok None)) = f.1.end in
     let left : f.0.client.closing.state ≡ states.Open = ap (λ (e : End). e.closing.state) polls ∙ stays_open in
     let clash : states.Drained ≡ states.Open = shown ∙ left in
     cc

@@ -14,13 +14,13 @@ use Rattle.quic_machine.specs.End.{IsMade}
 use Rattle.quic_machine.specs.Machine.{IsStep, Follows, view_of}
 use Rattle.quic_headline.specs.Causes.{Shows, NoBlame}
 use Rattle.quic_headline.specs.Headline.{IsHonest, IsRun}
-use Rattle.quic_worked.specs.Worked.{steady, worked_policies, client_id, server_id, delivers, asks_datagram, gives_bytes, open_view, sent_view, waiting_view}
+use Rattle.quic_worked.specs.Worked.{steady, shut, worked_policies, client_id, server_id, delivers, asks_datagram, gives_bytes, open_view, sent_view, server_open, server_waiting}
 use Rattle.quic_worked.specs.Broken.{IsNoRun}
 use Rattle.quic_worked.specs.Closed.{closed_view}
 use Rattle.quic_worked.specs.Acknowledged.{client_takes}
-use Rattle.quic_worked.specs.Losses.{wide_payload, asks_ping, ping_events, ping_answers, server_waits, server_polled, client_delivered}
+use Rattle.quic_worked.specs.Losses.{wide_payload, asks_ping, ping_events, first_ping_answers, server_waits, server_polled, client_delivered}
 use Rattle.quic_worked.specs.Machines.{NeverGives}
-use Rattle.quic_worked.specs.Measured.{leaving_out, once_skipped, skipping_run, left_out_sent, left_out_given}
+use Rattle.quic_worked.specs.Measured.{zero_first, leaving_out, once_skipped, skipping_run, left_out_sent, left_out_given}
 use Rattle.quic_worked.proofs.Codes.{no_codes}
 use Rattle.quic_worked.proofs.OwnIds.{AreOwn, own_ids}
 use Rattle.quic_worked.proofs.WorkedKeys.{are_keys}
@@ -34,14 +34,16 @@ use Rattle.quic_worked.proofs.Steps.{counts_so}
 
 pub skipping_started : AreStarted leaving_out
 skipping_started = record {
-  client_making = record (making client_id) { word = 0 };
-  server_making = making server_id;
+  client_making = record (making client_id) { words = zero_first };
+  server_making = record (making server_id) { windows = shut };
   client_is = record { range = record { receive_window = lit< tt; stream_receive_window = lit< tt; bounds = record { bidi = lit≤ tt; uni = lit≤ tt; divides = lit< tt; initial = lit≤ tt; least = lit≤ tt }; search = tt }; sizes = lit≤ tt; says = parameters_say; id = refl };
   server_is = record { range = record { receive_window = lit< tt; stream_receive_window = lit< tt; bounds = record { bidi = lit≤ tt; uni = lit≤ tt; divides = lit< tt; initial = lit≤ tt; least = lit≤ tt }; search = tt }; sizes = lit≤ tt; says = parameters_say; id = refl };
-  client = subst (λ read. IsMade Client plain_settings steady read client_id server_id 0 true 0 leaving_out.client) (sym parameters_say) refl;
+  client = subst (λ read. IsMade Client plain_settings steady read client_id server_id 0 true zero_first leaving_out.client) (sym parameters_say) refl;
   server = server_is_made;
   client_gave = refl;
   server_gave = refl;
+  client_heard = refl;
+  server_heard = refl;
 }
 
 own : (side : Side) → AreOwn side [] skipping_run.events skipping_run.answers skipping_run.views
@@ -62,49 +64,49 @@ given_is_honest = record { start = skipping_started; keys = are_keys; ids = own_
 
 step_0 : IsStep worked_policies leaving_out asks_ping answers.Ping (once_skipped 1)
 unfolding once_skipped
-step_0 = record { answer = refl; end = refl; control = refl; heard = counts_so worked_policies leaving_out asks_ping answers.Ping; others = refl; lacking = tt }
+step_0 = record { answer = refl; end = refl; control = refl; heard = counts_so worked_policies leaving_out asks_ping answers.Ping; openings = tt; others = refl; lacking = tt }
 
-seen_0 : ◌≡◌ {A = View} (record { client = open_view; server = open_view }) (view_of (once_skipped 1))
+seen_0 : ◌≡◌ {A = View} (record { client = open_view; server = server_open }) (view_of (once_skipped 1))
 unfolding once_skipped
 seen_0 = refl
 
-step_1 : IsStep worked_policies (once_skipped 1) asks_datagram (gives_bytes 29) (once_skipped 2)
+step_1 : IsStep worked_policies (once_skipped 1) asks_datagram (gives_bytes 139) (once_skipped 2)
 unfolding once_skipped
-step_1 = record { answer = inl refl; end = refl; control = refl; heard = counts_so worked_policies (once_skipped 1) asks_datagram (gives_bytes 29); others = refl; lacking = tt }
+step_1 = record { answer = inl refl; end = refl; control = refl; heard = counts_so worked_policies (once_skipped 1) asks_datagram (gives_bytes 139); openings = tt; others = refl; lacking = tt }
 
-seen_1 : ◌≡◌ {A = View} (record { client = sent_view; server = open_view }) (view_of (once_skipped 2))
+seen_1 : ◌≡◌ {A = View} (record { client = sent_view; server = server_open }) (view_of (once_skipped 2))
 unfolding once_skipped
 seen_1 = refl
 
 step_2 : IsStep worked_policies (once_skipped 2) delivers (answers.Deliver receives.Taken) (once_skipped 3)
 unfolding once_skipped
-step_2 = record { answer = inl refl; end = refl; control = refl; heard = counts_so worked_policies (once_skipped 2) delivers (answers.Deliver receives.Taken); others = refl; lacking = tt }
+step_2 = record { answer = inl refl; end = refl; control = refl; heard = counts_so worked_policies (once_skipped 2) delivers (answers.Deliver receives.Taken); openings = tt; others = refl; lacking = tt }
 
-seen_2 : ◌≡◌ {A = View} (record { client = sent_view; server = waiting_view }) (view_of (once_skipped 3))
+seen_2 : ◌≡◌ {A = View} (record { client = sent_view; server = server_waiting }) (view_of (once_skipped 3))
 unfolding once_skipped
 seen_2 = refl
 
 step_3 : IsStep worked_policies (once_skipped 3) server_waits (answers.Timeout (Ok tt)) (once_skipped 4)
 unfolding once_skipped
-step_3 = record { answer = inl refl; end = refl; control = refl; heard = counts_so worked_policies (once_skipped 3) server_waits (answers.Timeout (Ok tt)); others = refl; lacking = tt }
+step_3 = record { answer = inl refl; end = refl; control = refl; heard = counts_so worked_policies (once_skipped 3) server_waits (answers.Timeout (Ok tt)); openings = tt; others = refl; lacking = tt }
 
-seen_3 : ◌≡◌ {A = View} (record { client = sent_view; server = open_view }) (view_of (once_skipped 4))
+seen_3 : ◌≡◌ {A = View} (record { client = sent_view; server = server_open }) (view_of (once_skipped 4))
 unfolding once_skipped
 seen_3 = refl
 
 step_4 : IsStep worked_policies (once_skipped 4) server_polled (gives_bytes 32) (once_skipped 5)
 unfolding once_skipped
-step_4 = record { answer = inl refl; end = refl; control = refl; heard = counts_so worked_policies (once_skipped 4) server_polled (gives_bytes 32); others = refl; lacking = tt }
+step_4 = record { answer = inl refl; end = refl; control = refl; heard = counts_so worked_policies (once_skipped 4) server_polled (gives_bytes 32); openings = tt; others = refl; lacking = tt }
 
-seen_4 : ◌≡◌ {A = View} (record { client = sent_view; server = open_view }) (view_of (once_skipped 5))
+seen_4 : ◌≡◌ {A = View} (record { client = sent_view; server = server_open }) (view_of (once_skipped 5))
 unfolding once_skipped
 seen_4 = refl
 
 step_5 : IsStep worked_policies (once_skipped 5) client_delivered (answers.Deliver receives.Taken) (once_skipped 6)
 unfolding once_skipped
-step_5 = record { answer = inl refl; end = refl; control = refl; heard = counts_so worked_policies (once_skipped 5) client_delivered (answers.Deliver receives.Taken); others = refl; lacking = tt }
+step_5 = record { answer = inl refl; end = refl; control = refl; heard = counts_so worked_policies (once_skipped 5) client_delivered (answers.Deliver receives.Taken); openings = tt; others = refl; lacking = tt }
 
-seen_5 : ◌≡◌ {A = View} (record { client = open_view; server = open_view }) (view_of (once_skipped 6))
+seen_5 : ◌≡◌ {A = View} (record { client = open_view; server = server_open }) (view_of (once_skipped 6))
 unfolding once_skipped
 seen_5 = refl
 
@@ -139,7 +141,7 @@ both_named = refl
 
 -- the client's view behind the acknowledgement
 blame_shows : Shows left_out_given Client 5 (Some (reasons.Transport (plain_error 10)))
-blame_shows = record { served = refl; view = record { client = closed_view (reasons.Transport (plain_error 10)); server = open_view }; there = refl; is = refl }
+blame_shows = record { served = refl; view = record { client = closed_view (reasons.Transport (plain_error 10)); server = server_open }; there = refl; is = refl }
 
 pub left_out_blames : NoBlame left_out_given → ⊥
 left_out_blames h = h Client 5 (Some (reasons.Transport (plain_error 10))) blame_shows
@@ -155,7 +157,7 @@ no_blame = behind refl step_0 (behind refl step_1 (behind refl step_2 (behind re
 -- the last byte of the number in the tag of the first datagram
 abbrev first_byte : List (List ℕ) → ℕ
 first_byte [] = 9
-first_byte (d ∷ ds) = slice_index d 20
+first_byte (d ∷ ds) = slice_index d 130
 
 right_byte : first_byte (once_skipped 2).from_client ≡ 1
 unfolding once_skipped
@@ -164,7 +166,7 @@ right_byte = refl
 sent_other : left_out_sent.from_client ≡ (once_skipped 2).from_client → ⊥
 sent_other e = let clash : ◌≡◌ {A = ℕ} 0 1 = ap first_byte e ∙ right_byte in omega (arith, clash)
 
-not_sent : NeverEnds (λ w. left_out_sent.from_client ≡ w.from_client) leaving_out ping_events ping_answers
+not_sent : NeverEnds (λ w. left_out_sent.from_client ≡ w.from_client) leaving_out ping_events first_ping_answers
 not_sent = step_on refl step_0 (step_on refl step_1 (ends_here sent_other))
 
 pub never_sent : NeverGives left_out_sent

@@ -9,11 +9,15 @@ use Rattle.quic_machine.specs.declared.run.Call.{Call}
 use Rattle.quic_machine.specs.declared.run.Answer.{Answer}
 use Rattle.quic_machine.specs.End.{End}
 use Rattle.quic_machine.specs.Machine.{World, Policies, changed, given_by, heard_at, heard_by, end_at, control_at, policy_at, end_met, gives}
-use Rattle.quic_worked.specs.Worked.{after_event, ran, steady_control, with_server}
+use Rattle.quic_worked.specs.Worked.{after_event, ran, steady_control, with_server, shut_control}
 
 -- a controller that shows one window whatever it is told, before a step and behind it
 pub still_steady : steady_control ≡ steady_control
 still_steady = refl
+
+-- nor does one whose window is shut
+pub still_shut : shut_control ≡ shut_control
+still_shut = refl
 
 -- two ends, of which the server is as it was
 pub same_server : (w : World) → w ≡ with_server w w.server

@@ -1,5 +1,5 @@
 -- The run in which timers expire, event by event, and what an observer reckons of it.
-use Rattle.std.proofs.Common.{◌≡◌, ℕ, zero, suc, ◌+◌, ◌-◌, ◌^◌, min, List, [], ◌∷◌, Option, Some, None, Ok, refl, inl, inr, sym, ap, ◌∙◌, subst, arith}
+use Rattle.std.proofs.Common.{◌≡◌, ℕ, zero, suc, ◌+◌, ◌-◌, ◌^◌, min, List, [], ◌∷◌, Option, Some, None, Ok, refl, inl, sym, ap, ◌∙◌, subst, arith}
 use Rattle.std.specs.Prelude.{slice_get}
 use Rattle.quic_wire_core.specs.declared.stream_id.Side.{Side}
 use Rattle.quic_wire_core.specs.declared.stream_id.Side.TheVariants.{Client, Server}
@@ -8,13 +8,12 @@ use Rattle.quic_machine.specs.declared.run.Answer.TheVariants as answers
 use Rattle.quic_machine.specs.declared.run.View.{View}
 use Rattle.quic_machine.specs.Machine.{IsStep, Follows, view_of}
 use Rattle.quic_machine.specs.RunLaws.{one_run}
-use Rattle.quic_headline.specs.Runs.{In}
 use Rattle.quic_headline.specs.Headline.{IsRun}
-use Rattle.quic_headline.specs.Moments.{loss_timer, LossMoments, ack_timer, debt, IsDueFor, AckMoments}
+use Rattle.quic_headline.specs.Moments.{loss_timer, LossMoments, ack_timer, debt, first_arrival, IsDueFor, AckMoments}
 use Rattle.quic_worked.specs.Worked.{worked_policies, once_opened, once_written, once_ended, once_sent, gives_bytes}
 use Rattle.quic_worked.specs.Acknowledged.{client_acked}
 use Rattle.quic_worked.specs.Timed.{serves, asks_at, comes_at, once_later, seen_with, timed_run, never_backs_off, never_resets, never_measures, waits_twice, due_at, NeverShows}
-use Rattle.quic_worked.proofs.Steps.{counts_so, still_steady}
+use Rattle.quic_worked.proofs.Steps.{counts_so, still_shut}
 use Rattle.quic_worked.proofs.WorkedRun.{opens, writes, finishes, gives, sent_seen}
 use Rattle.quic_worked.proofs.Codes.{no_codes}
 
@@ -22,27 +21,27 @@ use Rattle.quic_worked.proofs.Codes.{no_codes}
 
 expires : IsStep worked_policies once_sent (serves Client 1024000000) (answers.Timeout (Ok tt)) (once_later 1)
 unfolding once_later
-expires = record { answer = inl refl; end = refl; control = refl; heard = counts_so worked_policies once_sent (serves Client 1024000000) (answers.Timeout (Ok tt)); others = refl; lacking = tt }
+expires = record { answer = inl refl; end = refl; control = refl; heard = counts_so worked_policies once_sent (serves Client 1024000000) (answers.Timeout (Ok tt)); openings = tt; others = refl; lacking = tt }
 
-probes : IsStep worked_policies (once_later 1) (asks_at Client 1024000000) (gives_bytes 29) (once_later 2)
+probes : IsStep worked_policies (once_later 1) (asks_at Client 1024000000) (gives_bytes 138) (once_later 2)
 unfolding once_later
-probes = record { answer = inl refl; end = refl; control = refl; heard = counts_so worked_policies (once_later 1) (asks_at Client 1024000000) (gives_bytes 29); others = refl; lacking = tt }
+probes = record { answer = inl refl; end = refl; control = refl; heard = counts_so worked_policies (once_later 1) (asks_at Client 1024000000) (gives_bytes 138); openings = tt; others = refl; lacking = tt }
 
 takes : IsStep worked_policies (once_later 2) (comes_at Server 1030000000) (answers.Deliver receives.Taken) (once_later 3)
 unfolding once_later
-takes = record { answer = inl refl; end = refl; control = refl; heard = counts_so worked_policies (once_later 2) (comes_at Server 1030000000) (answers.Deliver receives.Taken); others = refl; lacking = tt }
+takes = record { answer = inl refl; end = refl; control = refl; heard = counts_so worked_policies (once_later 2) (comes_at Server 1030000000) (answers.Deliver receives.Taken); openings = tt; others = refl; lacking = tt }
 
 is_due : IsStep worked_policies (once_later 3) (serves Server 1055000000) (answers.Timeout (Ok tt)) (once_later 4)
 unfolding once_later
-is_due = record { answer = inl refl; end = refl; control = refl; heard = counts_so worked_policies (once_later 3) (serves Server 1055000000) (answers.Timeout (Ok tt)); others = refl; lacking = tt }
+is_due = record { answer = inl refl; end = refl; control = refl; heard = counts_so worked_policies (once_later 3) (serves Server 1055000000) (answers.Timeout (Ok tt)); openings = tt; others = refl; lacking = tt }
 
 answers_it : IsStep worked_policies (once_later 4) (asks_at Server 1055000000) (gives_bytes 32) (once_later 5)
 unfolding once_later
-answers_it = record { answer = inl refl; end = refl; control = still_steady; heard = counts_so worked_policies (once_later 4) (asks_at Server 1055000000) (gives_bytes 32); others = refl; lacking = tt }
+answers_it = record { answer = inl refl; end = refl; control = still_shut; heard = counts_so worked_policies (once_later 4) (asks_at Server 1055000000) (gives_bytes 32); openings = tt; others = refl; lacking = tt }
 
 is_answered : IsStep worked_policies (once_later 5) (comes_at Client 1060000000) (answers.Deliver receives.Taken) (once_later 6)
 unfolding once_later
-is_answered = record { answer = inl refl; end = refl; control = refl; heard = counts_so worked_policies (once_later 5) (comes_at Client 1060000000) (answers.Deliver receives.Taken); others = refl; lacking = tt }
+is_answered = record { answer = inl refl; end = refl; control = refl; heard = counts_so worked_policies (once_later 5) (comes_at Client 1060000000) (answers.Deliver receives.Taken); openings = tt; others = refl; lacking = tt }
 
 expired_seen : seen_with (Some 2048000000) None ≡ view_of (once_later 1)
 unfolding once_later
@@ -279,7 +278,7 @@ due_there : (v : View) (moment : ℕ) → Some (seen_with (Some 3072000000) (Som
 due_there v moment is set =
     let same : seen_with (Some 3072000000) (Some 1055000000) ≡ v = cc in
     let shown : ◌≡◌ {A = Option (Option ℕ)} (Some (Some 1055000000)) (Some (Some moment)) = ap (λ (x : View). ack_timer x Server) same ∙ set in
-    record { arrival = 1030000000; among = subst (λ (ms : List ℕ). In 1030000000 ms) (sym owes_one) (inl refl); due = sym (ap moment_in shown) }
+    record { arrival = 1030000000; first = ap first_arrival owes_one; due = sym (ap moment_in shown) }
 
 pub timed_acks : AckMoments timed_run
 timed_acks Client zero moment v served is opened set = absurd (unset Client _ v moment is refl set)
@@ -312,17 +311,16 @@ unfolding client_acked
 owes_as_well = refl
 
 not_due : IsDueFor (1030000000 ∷ []) 1080000000 → ⊥
-not_due i = go i.arrival i.among i.due
+not_due i = go i.arrival i.first i.due
   where
-    go : (arrival : ℕ) → In arrival (1030000000 ∷ []) → ◌≡◌ {A = ℕ} 1080000000 (min (arrival + 25000000) (2 ^ 64 - 1)) → ⊥
-    go arrival (inl is) due = omega (arith, is, due)
-    go arrival (inr none) due = none
+    go : (arrival : ℕ) → first_arrival (1030000000 ∷ []) ≡ Some arrival → ◌≡◌ {A = ℕ} 1080000000 (min (arrival + 25000000) (2 ^ 64 - 1)) → ⊥
+    go arrival first due = (let same : 1030000000 ≡ arrival = cc in omega (arith, same, due))
 
 pub waits_not_twice : AckMoments waits_twice → ⊥
 waits_not_twice h = not_due (subst (λ (ms : List ℕ). IsDueFor ms 1080000000) owes_as_well (h Server 6 1080000000 (seen_with (Some 3072000000) (Some 1080000000)) refl refl refl refl))
 
 -- the moment of the server's timer of acknowledgements, in a view that is there
-abbrev ack_moment_of : Option View → ℕ
+abbrev pub ack_moment_of : Option View → ℕ
 ack_moment_of None = 0
 ack_moment_of (Some v) = moment_in (ack_timer v Server)
 

@@ -1,6 +1,6 @@
 -- The runs in which an application is told that the peer opened a stream, and that one may be read,
 -- event by event; and machines that tell it nothing.
-use Rattle.std.proofs.Common.{◌≡◌, ◌<◌, ℕ, List, [], ◌∷◌, Bool, true, false, Some, None, Ok, refl, sym, ◌∙◌, inl, subst, lit<, lit≤}
+use Rattle.std.proofs.Common.{◌≡◌, ◌<◌, ℕ, List, [], ◌∷◌, Bool, true, false, Some, None, Ok, refl, sym, ◌∙◌, inl, subst, lit<, lit≤, inr}
 use Rattle.quic_wire_core.specs.declared.stream_id.Side.TheVariants.{Server}
 use Rattle.quic_wire_core.specs.declared.stream_id.Dir.TheVariants.{Bi}
 use Rattle.quic_wire.specs.Value.{stream}
@@ -14,13 +14,13 @@ use Rattle.quic_headline.specs.Observer.{took}
 use Rattle.quic_headline.specs.Headline.{IsHonest, IsRun}
 use Rattle.quic_headline.specs.Ids.{WasOpened}
 use Rattle.quic_headline.specs.Events.{mail, MessagesAreTold, heard_of, OpeningsAreTold, reading, ReadablesAreTold}
-use Rattle.quic_worked.specs.Worked.{with_server, worked_policies, once_opened, once_written, once_ended, once_sent, once_taken, hello_frame, accepts_stream, reads_stream, ReadsBy, two_chunks, sent_view, waiting_view}
+use Rattle.quic_worked.specs.Worked.{with_server, worked_policies, once_opened, once_written, once_ended, once_sent, once_taken, hello_frame, accepts_stream, reads_stream, ReadsBy, two_chunks, sent_view, server_waiting}
 use Rattle.quic_worked.specs.Broken.{IsNoRun}
 use Rattle.quic_worked.specs.Reordered.{delivers_at, first_sent, second_written, both_sent}
 use Rattle.quic_worked.specs.Messages.{server_asks, once_messaged, message_run}
 use Rattle.quic_worked.specs.Told.{tells_opened, opening_run, hello_packet, opening_told, opening_end, opening_untold, tells_readable, abc_nexts, readable_run, readable_untold, front_taken, front_told, front_accepted, front_read, rest_taken, rest_told, readable_end, message_untold}
 use Rattle.quic_worked.proofs.Codes.{no_codes}
-use Rattle.quic_worked.proofs.Steps.{others_so, still_steady, counts_so}
+use Rattle.quic_worked.proofs.Steps.{others_so, still_shut, counts_so}
 use Rattle.quic_worked.proofs.OwnIds.{honest}
 use Rattle.quic_worked.proofs.BrokenRuns.{IsRefused, stops, behind}
 use Rattle.quic_worked.proofs.WorkedRun.{ReadsSo, reads_at, opens, writes, finishes, gives, takes, sent_seen, taken_seen}
@@ -34,9 +34,9 @@ unfolding once_taken
 answer_opened = refl
 
 told : IsStep worked_policies once_taken server_asks tells_opened opening_told
-told = record { answer = answer_opened; end = refl; control = refl; heard = counts_so worked_policies once_taken server_asks tells_opened; others = refl; lacking = tt }
+told = record { answer = answer_opened; end = refl; control = refl; heard = counts_so worked_policies once_taken server_asks tells_opened; openings = tt; others = refl; lacking = tt }
 
-told_seen : record { client = sent_view; server = waiting_view } ≡ view_of opening_told
+told_seen : record { client = sent_view; server = server_waiting } ≡ view_of opening_told
 unfolding once_taken
 told_seen = refl
 
@@ -45,9 +45,9 @@ unfolding once_taken
 answer_nothing = refl
 
 nothing : IsStep worked_policies opening_told server_asks (answers.Event None) opening_end
-nothing = record { answer = answer_nothing; end = refl; control = refl; heard = counts_so worked_policies opening_told server_asks (answers.Event None); others = refl; lacking = tt }
+nothing = record { answer = answer_nothing; end = refl; control = refl; heard = counts_so worked_policies opening_told server_asks (answers.Event None); openings = tt; others = refl; lacking = tt }
 
-nothing_seen : record { client = sent_view; server = waiting_view } ≡ view_of opening_end
+nothing_seen : record { client = sent_view; server = server_waiting } ≡ view_of opening_end
 unfolding once_taken
 nothing_seen = refl
 
@@ -87,7 +87,7 @@ unfolding once_taken
 untold_heard = refl
 
 word_opens : WasOpened (hello_packet ∷ []) Server Bi 0
-word_opens = record { index = 0; is = refl; above = 0; from = lit≤ tt; named = record { packet = hello_packet; was_taken = inl refl; frame = stream hello_frame; carried = inl refl; opens = refl } }
+word_opens = record { index = 0; is = refl; above = 0; from = lit≤ tt; named = record { packet = hello_packet; was_taken = inl refl; frame = stream hello_frame; carried = inr (inr (inr (inr (inl refl)))); opens = refl } }
 
 none_opens : WasOpened [] Server Bi 0 → ⊥
 none_opens w = w.named.was_taken
@@ -109,18 +109,18 @@ no_opening_untold = behind refl opens (behind refl writes (behind refl finishes 
 
 takes_front : IsStep worked_policies both_sent (delivers_at 0) (answers.Deliver receives.Taken) front_taken
 unfolding front_taken
-takes_front = record { answer = inl refl; end = refl; control = still_steady; heard = counts_so worked_policies both_sent (delivers_at 0) (answers.Deliver receives.Taken); others = refl; lacking = tt }
+takes_front = record { answer = inl refl; end = refl; control = still_shut; heard = counts_so worked_policies both_sent (delivers_at 0) (answers.Deliver receives.Taken); openings = tt; others = refl; lacking = tt }
 
 front_opened : tells_opened ≡ answers.Event (end_tells front_taken.server)
 unfolding front_taken
 front_opened = refl
 
 tells_front : IsStep worked_policies front_taken server_asks tells_opened front_told
-tells_front = record { answer = front_opened; end = refl; control = refl; heard = counts_so worked_policies front_taken server_asks tells_opened; others = refl; lacking = tt }
+tells_front = record { answer = front_opened; end = refl; control = refl; heard = counts_so worked_policies front_taken server_asks tells_opened; openings = tt; others = refl; lacking = tt }
 
 accepts_front : IsStep worked_policies front_told accepts_stream (answers.Accept (Some 0)) front_accepted
 unfolding front_taken
-accepts_front = record { answer = refl; end = refl; control = refl; heard = counts_so worked_policies front_told accepts_stream (answers.Accept (Some 0)); others = others_so worked_policies front_told accepts_stream (answers.Accept (Some 0)); lacking = tt }
+accepts_front = record { answer = refl; end = refl; control = refl; heard = counts_so worked_policies front_told accepts_stream (answers.Accept (Some 0)); openings = tt; others = others_so worked_policies front_told accepts_stream (answers.Accept (Some 0)); lacking = tt }
 
 front_so : ReadsSo front_accepted 0 true two_chunks abc_nexts front_read.server
 unfolding front_taken
@@ -134,21 +134,21 @@ reads_front = reads_at front_accepted front_read 0 true two_chunks abc_nexts fro
 
 takes_rest : IsStep worked_policies front_read (delivers_at 1) (answers.Deliver receives.Taken) rest_taken
 unfolding rest_taken
-takes_rest = record { answer = inl refl; end = refl; control = still_steady; heard = counts_so worked_policies front_read (delivers_at 1) (answers.Deliver receives.Taken); others = refl; lacking = tt }
+takes_rest = record { answer = inl refl; end = refl; control = still_shut; heard = counts_so worked_policies front_read (delivers_at 1) (answers.Deliver receives.Taken); openings = tt; others = refl; lacking = tt }
 
 rest_readable : tells_readable ≡ answers.Event (end_tells rest_taken.server)
 unfolding rest_taken
 rest_readable = refl
 
 tells_rest : IsStep worked_policies rest_taken server_asks tells_readable rest_told
-tells_rest = record { answer = rest_readable; end = refl; control = refl; heard = counts_so worked_policies rest_taken server_asks tells_readable; others = refl; lacking = tt }
+tells_rest = record { answer = rest_readable; end = refl; control = refl; heard = counts_so worked_policies rest_taken server_asks tells_readable; openings = tt; others = refl; lacking = tt }
 
 no_more : answers.Event None ≡ answers.Event (end_tells rest_told.server)
 unfolding rest_taken
 no_more = refl
 
 tells_no_more : IsStep worked_policies rest_told server_asks (answers.Event None) readable_end
-tells_no_more = record { answer = no_more; end = refl; control = refl; heard = counts_so worked_policies rest_told server_asks (answers.Event None); others = refl; lacking = tt }
+tells_no_more = record { answer = no_more; end = refl; control = refl; heard = counts_so worked_policies rest_told server_asks (answers.Event None); openings = tt; others = refl; lacking = tt }
 
 front_seen : both_wait ≡ view_of front_taken
 unfolding front_taken

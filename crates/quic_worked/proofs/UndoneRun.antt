@@ -19,10 +19,9 @@ use Rattle.quic_headline.specs.Observer.{took}
 use Rattle.quic_headline.specs.Headline.{IsHonest}
 use Rattle.quic_headline.specs.Rest.{ShowsStill, Rests, HaveRoom}
 use Rattle.quic_headline.specs.Undone.{IsReceived, IsDone, HasUndone, NoneOpenedOnlyForUndone}
-use Rattle.quic_worked.specs.Worked.{ran, worked_policies, client_id, server_id, opens_stream, asks_datagram}
+use Rattle.quic_worked.specs.Worked.{ran, worked_policies, client_id, server_id, asks_datagram}
 use Rattle.quic_worked.specs.Exchange.{with_uni}
 use Rattle.quic_worked.specs.Broken.{IsNoRun}
-use Rattle.quic_worked.specs.Timed.{asks_at}
 use Rattle.quic_worked.specs.Held.{gives_nothing}
 use Rattle.quic_worked.specs.Credit.{opens_one_way, ends_one_way, accepts_one_way}
 use Rattle.quic_worked.specs.Rested.{roomy_windows, rested_start, still_view, rested_run}
@@ -38,7 +37,7 @@ use Rattle.quic_worked.proofs.Steps.{counts_so}
 -- ---- what is left
 
 -- the stream isn't done: it was neither read nor stopped
-not_received : (packets : List Packet) → IsReceived packets (until rested_run Server 10) 0 → ⊥
+not_received : (packets : List Packet) → IsReceived packets (until rested_run Server 13) 0 → ⊥
 not_received packets (inl end) = (let clash : false ≡ true = end in cc)
 not_received packets (inr (inl told)) = (let clash : false ≡ true = told in cc)
 not_received packets (inr (inr (inl told))) = (let clash : false ≡ true = told in cc)
@@ -48,13 +47,13 @@ alone : IsDistinct eqb (0 ∷ [])
 unfolding IsDistinct
 alone = (tt, tt)
 
-pub one_left : HasUndone (until rested_run Client 10) (took rested_run Server 10) (until rested_run Server 10) Bi 1
+pub one_left : HasUndone (until rested_run Client 13) (took rested_run Server 13) (until rested_run Server 13) Bi 1
 one_left = record {
   ids = 0 ∷ [];
   distinct = alone;
   opened = λ id i. elim i [ inl is ↦ inl is | inr none ↦ absurd none ];
   undone = λ id i d. elim i [
-    | inl is ↦ not_received (took rested_run Server 10) (subst (λ (q : ℕ). IsReceived (took rested_run Server 10) (until rested_run Server 10) q) is d.received)
+    | inl is ↦ not_received (took rested_run Server 13) (subst (λ (q : ℕ). IsReceived (took rested_run Server 13) (until rested_run Server 13) q) is d.received)
     | inr none ↦ absurd none
   ];
   many = lit≤ tt;
@@ -78,10 +77,12 @@ shut_started = record {
   server_making = record (making server_id) { windows = roomy_windows };
   client_is = record { range = in_range; sizes = lit≤ tt; says = parameters_say; id = refl };
   server_is = record { range = in_range; sizes = lit≤ tt; says = parameters_say; id = refl };
-  client = subst (λ read. IsMade Client plain_settings roomy_windows read client_id server_id 0 true 63 rested_start.client) (sym parameters_say) refl;
-  server = subst (λ read. IsMade Server plain_settings roomy_windows read server_id client_id 0 true 63 rested_start.server) (sym parameters_say) refl;
+  client = subst (λ read. IsMade Client plain_settings roomy_windows read client_id server_id 0 true (λ n. 63) rested_start.client) (sym parameters_say) refl;
+  server = subst (λ read. IsMade Server plain_settings roomy_windows read server_id client_id 0 true (λ n. 63) rested_start.server) (sym parameters_say) refl;
   client_gave = refl;
   server_gave = refl;
+  client_heard = refl;
+  server_heard = refl;
 }
 
 -- none of none is undone
@@ -99,23 +100,13 @@ shut_own Server = (tt, (tt, (tt, tt)))
 pub shut_is_honest : IsHonest shut_run
 shut_is_honest = record { start = shut_started; keys = are_keys; ids = own_ids shut_run shut_own }
 
-unfoldable once_shut : ℕ → World
-once_shut n = ran worked_policies rested_start (take n shut_run.events) (take n shut_run.answers)
-
-client_quiet : IsStep worked_policies rested_start asks_datagram gives_nothing (once_shut 1)
-unfolding once_shut
-client_quiet = record { answer = inl refl; end = refl; control = refl; heard = counts_so worked_policies rested_start asks_datagram gives_nothing; others = refl; lacking = tt }
-
-server_quiet : IsStep worked_policies (once_shut 1) (asks_at Server 0) gives_nothing (once_shut 2)
-unfolding once_shut
-server_quiet = record { answer = inl refl; end = refl; control = refl; heard = counts_so worked_policies (once_shut 1) (asks_at Server 0) gives_nothing; others = refl; lacking = tt }
-
-shut_no : IsRefused (once_shut 2) opens_stream (answers.Open None)
-unfolding once_shut
-shut_no e = cc
+-- the machine gives its ids
+client_no : IsRefused rested_start asks_datagram gives_nothing
+client_no (inl e) = cc
+client_no (inr e) = cc
 
 pub shut_is_none : IsNoRun shut_run
-shut_is_none = behind refl client_quiet (behind refl server_quiet (stops _ _ _ _ _ shut_no))
+shut_is_none = stops _ _ _ _ _ client_no
 
 -- ---- none can be opened, and the one that was is done
 
@@ -132,10 +123,12 @@ lone_started = record {
   server_making = record (making server_id) { settings = with_uni 1; windows = roomy_windows; parameters = lone_parameters };
   client_is = record { range = in_range; sizes = lit≤ tt; says = parameters_say; id = refl };
   server_is = record { range = lone_range; sizes = lit≤ tt; says = lone_says; id = refl };
-  client = subst (λ read. IsMade Client plain_settings roomy_windows read client_id server_id 0 true 63 lone_start.client) (sym lone_says) refl;
-  server = subst (λ read. IsMade Server (with_uni 1) roomy_windows read server_id client_id 0 true 63 lone_start.server) (sym parameters_say) refl;
+  client = subst (λ read. IsMade Client plain_settings roomy_windows read client_id server_id 0 true (λ n. 63) lone_start.client) (sym lone_says) refl;
+  server = subst (λ read. IsMade Server (with_uni 1) roomy_windows read server_id client_id 0 true (λ n. 63) lone_start.server) (sym parameters_say) refl;
   client_gave = refl;
   server_gave = refl;
+  client_heard = refl;
+  server_heard = refl;
 }
 
 lone_room : HaveRoom lone_start
@@ -182,11 +175,11 @@ once_lone n read = ran worked_policies lone_start (take n (kept_back_run read).e
 
 lone_opens : (read : ReadCall) → IsStep worked_policies lone_start opens_one_way (answers.Open (Some 2)) (once_lone 1 read)
 unfolding once_lone
-lone_opens read = record { answer = refl; end = refl; control = refl; heard = counts_so worked_policies lone_start opens_one_way (answers.Open (Some 2)); others = refl; lacking = tt }
+lone_opens read = record { answer = refl; end = refl; control = refl; heard = counts_so worked_policies lone_start opens_one_way (answers.Open (Some 2)); openings = tt; others = refl; lacking = tt }
 
 lone_ends : (read : ReadCall) → IsStep worked_policies (once_lone 1 read) ends_one_way (answers.Finish (Ok tt)) (once_lone 2 read)
 unfolding once_lone
-lone_ends read = record { answer = inl refl; end = refl; control = refl; heard = counts_so worked_policies (once_lone 1 read) ends_one_way (answers.Finish (Ok tt)); others = refl; lacking = λ lacks. cc }
+lone_ends read = record { answer = inl refl; end = refl; control = refl; heard = counts_so worked_policies (once_lone 1 read) ends_one_way (answers.Finish (Ok tt)); openings = tt; others = refl; lacking = λ lacks. cc }
 
 lone_no : (read : ReadCall) → IsRefused (once_lone 2 read) accepts_one_way (answers.Accept (Some 2))
 unfolding once_lone

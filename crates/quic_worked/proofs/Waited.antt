@@ -1,4 +1,5 @@
--- What an end that waits for the datagrams in flight has in common with them, whatever a probe took of what has to be sent again.
+-- What an end that waits for the datagrams in flight has in common with them, whatever a probe took
+-- of what has to be sent again.
 use Rattle.std.proofs.Common.{◌≡◌, ℕ, length, map, ap, sym, ◌∙◌}
 use Rattle.std.proofs.lemmas.List.{length-map}
 use Rattle.quic_streams_parts.specs.Table.{Table}

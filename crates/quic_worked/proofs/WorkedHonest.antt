@@ -9,28 +9,46 @@ use Rattle.quic_worked.specs.Settings.{plain_settings}
 use Rattle.quic_headline.specs.Runs.{In, until, ids_of}
 use Rattle.quic_machine.specs.Start.{Making, AreStarted}
 use Rattle.quic_headline.specs.Headline.{UsesOwnIds, used, IsHonest, IsRun}
-use Rattle.quic_worked.specs.Worked.{steady, ReadsBy, two_chunks, worked_parameters, client_id, server_id, started, once_read, opens_stream, writes_hello, finishes_stream, asks_datagram, delivers, accepts_stream, reads_stream, worked_run}
-use Rattle.quic_worked.proofs.WorkedRun.{parameters_say, client_is_made, server_is_made, follows, gave_hello, gave_none}
+use Rattle.quic_worked.specs.Worked.{steady, ReadsBy, two_chunks, worked_parameters, client_id, server_id, started, once_read, opens_stream, writes_hello, finishes_stream, asks_datagram, delivers, accepts_stream, reads_stream, worked_run, shut, both_steady}
+use Rattle.quic_worked.proofs.WorkedRun.{parameters_say, client_is_made, server_is_made, follows, gave_hello, gave_none, steady_is_made}
 use Rattle.quic_worked.proofs.WorkedKeys.{are_keys}
 use Rattle.quic_worked.proofs.Codes.{no_codes}
 
 -- an end with default settings and this id, at moment 0 on a validated path
 abbrev pub making : List ℕ → Making
-making id = record { settings = plain_settings; windows = steady; parameters = worked_parameters; id = id; moment = 0; validated = true; word = 63 }
+making id = record { settings = plain_settings; windows = steady; parameters = worked_parameters; id = id; moment = 0; validated = true; words = λ n. 63 }
 
 pub in_range : IsInRange plain_settings
 in_range = record { receive_window = lit< tt; stream_receive_window = lit< tt; bounds = record { bidi = lit≤ tt; uni = lit≤ tt; divides = lit< tt; initial = lit≤ tt; least = lit≤ tt }; search = tt }
 
+-- the window of the server is shut
 unfoldable pub are_started : AreStarted started
 are_started = record {
   client_making = making client_id;
-  server_making = making server_id;
+  server_making = record (making server_id) { windows = shut };
   client_is = record { range = in_range; sizes = lit≤ tt; says = parameters_say; id = refl };
   server_is = record { range = in_range; sizes = lit≤ tt; says = parameters_say; id = refl };
   client = client_is_made;
   server = server_is_made;
   client_gave = refl;
   server_gave = refl;
+  client_heard = refl;
+  server_heard = refl;
+}
+
+-- and where it has room
+unfoldable pub steady_started : AreStarted both_steady
+steady_started = record {
+  client_making = making client_id;
+  server_making = making server_id;
+  client_is = record { range = in_range; sizes = lit≤ tt; says = parameters_say; id = refl };
+  server_is = record { range = in_range; sizes = lit≤ tt; says = parameters_say; id = refl };
+  client = client_is_made;
+  server = steady_is_made;
+  client_gave = refl;
+  server_gave = refl;
+  client_heard = refl;
+  server_heard = refl;
 }
 
 -- what a place that uses an id must show

@@ -19,13 +19,13 @@ use Rattle.quic_worked.proofs.Unread.{NothingGrew, stays, lacks}
 -- ---- where it may
 
 pub writes : IsStep worked_policies once_opened writes_hello write_lacks once_opened
-writes = record { answer = inr refl; end = refl; control = refl; heard = counts_so worked_policies once_opened writes_hello write_lacks; others = refl; lacking = λ lacks. (refl, omega arith) }
+writes = record { answer = inr refl; end = refl; control = refl; heard = counts_so worked_policies once_opened writes_hello write_lacks; openings = tt; others = refl; lacking = λ lacks. (refl, omega arith) }
 
 pub notes : IsStep worked_policies once_full writes_hello write_lacks once_full
-notes = record { answer = inr refl; end = refl; control = refl; heard = counts_so worked_policies once_full writes_hello write_lacks; others = refl; lacking = λ lacks. (refl, refl) }
+notes = record { answer = inr refl; end = refl; control = refl; heard = counts_so worked_policies once_full writes_hello write_lacks; openings = tt; others = refl; lacking = λ lacks. (refl, refl) }
 
 pub finishes : IsStep worked_policies once_written finishes_stream finish_lacks once_written
-finishes = record { answer = inr refl; end = refl; control = refl; heard = counts_so worked_policies once_written finishes_stream finish_lacks; others = refl; lacking = λ lacks. refl }
+finishes = record { answer = inr refl; end = refl; control = refl; heard = counts_so worked_policies once_written finishes_stream finish_lacks; openings = tt; others = refl; lacking = λ lacks. refl }
 
 -- a read that is allowed, and whose limit has no place among those that wait
 begins_first : ReadLacks once_taken.server.streams once_taken.server.waiting.frames 0 true
@@ -43,7 +43,7 @@ took_only = same_server once_taken
 
 pub begins : (read : ReadCall) → ReadsBy two_chunks read → IsStep worked_policies once_taken (reads_stream read) read_lacks once_taken
 unfolding once_taken
-begins read by = record { answer = inr refl; end = refl; control = refl; heard = counts_so worked_policies once_taken (reads_stream read) read_lacks; others = took_only ∙ server_alone once_taken once_taken.server; lacking = λ lacks. begins_by read by.id by.ordered }
+begins read by = record { answer = inr refl; end = refl; control = refl; heard = counts_so worked_policies once_taken (reads_stream read) read_lacks; openings = tt; others = took_only ∙ server_alone once_taken once_taken.server; lacking = λ lacks. begins_by read by.id by.ordered }
 
 -- no limit grew there
 nothing_grew : NothingGrew once_taken.server.streams 0
@@ -61,12 +61,12 @@ reads = reads_at once_taken once_taken 0 true (2 ∷ []) (Err read_errors.Memory
 
 pub gives : IsStep worked_policies once_ended asks_datagram poll_lacks once_failed
 unfolding once_sent
-gives = record { answer = inr refl; end = (refl, refl, λ failed. cc, λ served. refl); control = tt; heard = tt; others = refl; lacking = inl tt }
+gives = record { answer = inr refl; end = (refl, refl, λ failed. cc, λ served. refl); control = tt; heard = tt; openings = tt; others = refl; lacking = inl tt }
 
 pub takes : IsStep worked_policies once_sent delivers (answers.Deliver receives.Failed)
     (with_server once_sent (failed_end once_sent.server))
 unfolding once_taken
-takes = record { answer = inr refl; end = (refl, refl, λ failed. cc, λ served. refl); control = tt; heard = tt; others = refl; lacking = tt }
+takes = record { answer = inr refl; end = (refl, refl, λ failed. cc, λ served. refl); control = tt; heard = tt; openings = tt; others = refl; lacking = tt }
 
 -- ---- where it may not
 

@@ -35,21 +35,21 @@ unfolding limited_heard
 used_up_again = refl
 
 tells_used_up : IsStep worked_policies limited_heard client_asks (tells_again 0) (once_asked 1)
-tells_used_up = record { answer = used_up_again; end = refl; control = refl; heard = counts_so worked_policies limited_heard client_asks (tells_again 0); others = refl; lacking = tt }
+tells_used_up = record { answer = used_up_again; end = refl; control = refl; heard = counts_so worked_policies limited_heard client_asks (tells_again 0); openings = tt; others = refl; lacking = tt }
 
 blocked_again : tells_again 4 ≡ answers.Event (end_tells (once_asked 1).client)
 unfolding limited_heard
 blocked_again = refl
 
 tells_blocked : IsStep worked_policies (once_asked 1) client_asks (tells_again 4) (once_asked 2)
-tells_blocked = record { answer = blocked_again; end = refl; control = refl; heard = counts_so worked_policies (once_asked 1) client_asks (tells_again 4); others = refl; lacking = tt }
+tells_blocked = record { answer = blocked_again; end = refl; control = refl; heard = counts_so worked_policies (once_asked 1) client_asks (tells_again 4); openings = tt; others = refl; lacking = tt }
 
 no_more : answers.Event None ≡ answers.Event (end_tells (once_asked 2).client)
 unfolding limited_heard
 no_more = refl
 
 tells_no_more : IsStep worked_policies (once_asked 2) client_asks (answers.Event None) (once_asked 3)
-tells_no_more = record { answer = no_more; end = refl; control = refl; heard = counts_so worked_policies (once_asked 2) client_asks (answers.Event None); others = refl; lacking = tt }
+tells_no_more = record { answer = no_more; end = refl; control = refl; heard = counts_so worked_policies (once_asked 2) client_asks (answers.Event None); openings = tt; others = refl; lacking = tt }
 
 first_seen : one_heard ≡ view_of (once_asked 1)
 unfolding limited_heard
@@ -67,7 +67,7 @@ third_seen = refl
 
 follows : (read : ReadCall) → ReadsEight read → Follows worked_policies limited_start (writable_run read).events (writable_run read).answers (writable_run read).views (once_asked 3)
 follows read by =
-    let late : Follows worked_policies limited_read (asks_server ∷ client_hears ∷ client_asks ∷ client_asks ∷ client_asks ∷ []) (gives_bytes 36 ∷ answers.Deliver receives.Taken ∷ tells_again 0 ∷ tells_again 4 ∷ answers.Event None ∷ []) (both_sent ∷ one_heard ∷ one_heard ∷ one_heard ∷ one_heard ∷ []) (once_asked 3) =
+    let late : Follows worked_policies limited_read (asks_server ∷ client_hears ∷ client_asks ∷ client_asks ∷ client_asks ∷ []) (gives_bytes 148 ∷ answers.Deliver receives.Taken ∷ tells_again 0 ∷ tells_again 4 ∷ answers.Event None ∷ []) (both_sent ∷ one_heard ∷ one_heard ∷ one_heard ∷ one_heard ∷ []) (once_asked 3) =
     (limited_given, raises, given_seen, (limited_heard, hears, heard_seen, (once_asked 1, tells_used_up, first_seen, (once_asked 2, tells_blocked, second_seen, (once_asked 3, tells_no_more, third_seen, refl))))) in (
       limited_opened,
       opens,
@@ -164,7 +164,7 @@ no_writable_untold read by =
 
 own_until_0 : IsStep worked_policies limited_start opens_stream (answers.Open (Some 0)) (own_until 1)
 unfolding own_until
-own_until_0 = record { answer = refl; end = refl; control = refl; heard = counts_so worked_policies limited_start opens_stream (answers.Open (Some 0)); others = refl; lacking = tt }
+own_until_0 = record { answer = refl; end = refl; control = refl; heard = counts_so worked_policies limited_start opens_stream (answers.Open (Some 0)); openings = tt; others = refl; lacking = tt }
 
 own_until_0_seen : both_open ≡ view_of (own_until 1)
 unfolding own_until
@@ -172,7 +172,7 @@ own_until_0_seen = refl
 
 own_until_1 : IsStep worked_policies (own_until 1) (writes_on 0 sixteen) (answers.Write (Ok 5)) (own_until 2)
 unfolding own_until
-own_until_1 = record { answer = inl refl; end = refl; control = refl; heard = counts_so worked_policies (own_until 1) (writes_on 0 sixteen) (answers.Write (Ok 5)); others = refl; lacking = λ lacks. cc }
+own_until_1 = record { answer = inl refl; end = refl; control = refl; heard = counts_so worked_policies (own_until 1) (writes_on 0 sixteen) (answers.Write (Ok 5)); openings = tt; others = refl; lacking = λ lacks. cc }
 
 own_until_1_seen : both_open ≡ view_of (own_until 2)
 unfolding own_until
@@ -180,15 +180,15 @@ own_until_1_seen = refl
 
 own_until_2 : IsStep worked_policies (own_until 2) (writes_on 0 sixteen) (answers.Write (Err write_errors.Blocked)) (own_until 3)
 unfolding own_until
-own_until_2 = record { answer = inl refl; end = refl; control = refl; heard = counts_so worked_policies (own_until 2) (writes_on 0 sixteen) (answers.Write (Err write_errors.Blocked)); others = refl; lacking = λ lacks. cc }
+own_until_2 = record { answer = inl refl; end = refl; control = refl; heard = counts_so worked_policies (own_until 2) (writes_on 0 sixteen) (answers.Write (Err write_errors.Blocked)); openings = tt; others = refl; lacking = λ lacks. cc }
 
 own_until_2_seen : both_open ≡ view_of (own_until 3)
 unfolding own_until
 own_until_2_seen = refl
 
-own_until_3 : IsStep worked_policies (own_until 3) asks_datagram (gives_bytes 37) (own_until 4)
+own_until_3 : IsStep worked_policies (own_until 3) asks_datagram (gives_bytes 149) (own_until 4)
 unfolding own_until
-own_until_3 = record { answer = inl refl; end = refl; control = refl; heard = counts_so worked_policies (own_until 3) asks_datagram (gives_bytes 37); others = refl; lacking = tt }
+own_until_3 = record { answer = inl refl; end = refl; control = refl; heard = counts_so worked_policies (own_until 3) asks_datagram (gives_bytes 149); openings = tt; others = refl; lacking = tt }
 
 own_until_3_seen : one_sent ≡ view_of (own_until 4)
 unfolding own_until
@@ -196,7 +196,7 @@ own_until_3_seen = refl
 
 own_until_4 : IsStep worked_policies (own_until 4) delivers (answers.Deliver receives.Taken) (own_until 5)
 unfolding own_until
-own_until_4 = record { answer = inl refl; end = refl; control = refl; heard = counts_so worked_policies (own_until 4) delivers (answers.Deliver receives.Taken); others = refl; lacking = tt }
+own_until_4 = record { answer = inl refl; end = refl; control = refl; heard = counts_so worked_policies (own_until 4) delivers (answers.Deliver receives.Taken); openings = tt; others = refl; lacking = tt }
 
 own_until_4_seen : one_taken ≡ view_of (own_until 5)
 unfolding own_until
@@ -204,15 +204,15 @@ own_until_4_seen = refl
 
 own_until_5 : IsStep worked_policies (own_until 5) accepts_stream (answers.Accept (Some 0)) (own_until 6)
 unfolding own_until
-own_until_5 = record { answer = refl; end = refl; control = refl; heard = counts_so worked_policies (own_until 5) accepts_stream (answers.Accept (Some 0)); others = refl; lacking = tt }
+own_until_5 = record { answer = refl; end = refl; control = refl; heard = counts_so worked_policies (own_until 5) accepts_stream (answers.Accept (Some 0)); openings = tt; others = refl; lacking = tt }
 
 own_until_5_seen : one_taken ≡ view_of (own_until 6)
 unfolding own_until
 own_until_5_seen = refl
 
-own_behind_0 : IsStep worked_policies own_read asks_server (gives_bytes 36) (own_behind 1)
+own_behind_0 : IsStep worked_policies own_read asks_server (gives_bytes 148) (own_behind 1)
 unfolding own_behind
-own_behind_0 = record { answer = inl refl; end = refl; control = refl; heard = counts_so worked_policies own_read asks_server (gives_bytes 36); others = refl; lacking = tt }
+own_behind_0 = record { answer = inl refl; end = refl; control = refl; heard = counts_so worked_policies own_read asks_server (gives_bytes 148); openings = tt; others = refl; lacking = tt }
 
 own_behind_0_seen : both_sent ≡ view_of (own_behind 1)
 unfolding own_behind
@@ -220,7 +220,7 @@ own_behind_0_seen = refl
 
 own_behind_1 : IsStep worked_policies (own_behind 1) client_hears (answers.Deliver receives.Taken) (own_behind 2)
 unfolding own_behind
-own_behind_1 = record { answer = inl refl; end = refl; control = refl; heard = counts_so worked_policies (own_behind 1) client_hears (answers.Deliver receives.Taken); others = refl; lacking = tt }
+own_behind_1 = record { answer = inl refl; end = refl; control = refl; heard = counts_so worked_policies (own_behind 1) client_hears (answers.Deliver receives.Taken); openings = tt; others = refl; lacking = tt }
 
 own_behind_1_seen : one_heard ≡ view_of (own_behind 2)
 unfolding own_behind
@@ -228,7 +228,7 @@ own_behind_1_seen = refl
 
 own_behind_2 : IsStep worked_policies (own_behind 2) client_asks (tells_again 0) (own_behind 3)
 unfolding own_behind
-own_behind_2 = record { answer = refl; end = refl; control = refl; heard = counts_so worked_policies (own_behind 2) client_asks (tells_again 0); others = refl; lacking = tt }
+own_behind_2 = record { answer = refl; end = refl; control = refl; heard = counts_so worked_policies (own_behind 2) client_asks (tells_again 0); openings = tt; others = refl; lacking = tt }
 
 own_behind_2_seen : one_heard ≡ view_of (own_behind 3)
 unfolding own_behind
@@ -236,7 +236,7 @@ own_behind_2_seen = refl
 
 own_behind_3 : IsStep worked_policies (own_behind 3) client_asks (answers.Event None) (own_behind 4)
 unfolding own_behind
-own_behind_3 = record { answer = refl; end = refl; control = refl; heard = counts_so worked_policies (own_behind 3) client_asks (answers.Event None); others = refl; lacking = tt }
+own_behind_3 = record { answer = refl; end = refl; control = refl; heard = counts_so worked_policies (own_behind 3) client_asks (answers.Event None); openings = tt; others = refl; lacking = tt }
 
 own_behind_3_seen : one_heard ≡ view_of (own_behind 4)
 unfolding own_behind

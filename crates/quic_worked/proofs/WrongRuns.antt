@@ -29,22 +29,21 @@ use Rattle.quic_headline.specs.Observer.{took}
 use Rattle.quic_headline.specs.Duties.{Offset, Waits, IsCarried, DutiesAt}
 use Rattle.quic_headline.specs.InFlight.{in_flight, but_for_record, TracksAt}
 use Rattle.quic_headline.specs.Headline.{OrderedPrefix, Once, EndAfterAll, BlockedOnlyWithoutBytes, AcceptsAll, FinishedMeansArrived, AcknowledgedWereTaken, NamesWereTaken, OpensExactly, NumbersRise, LossTimerFollows, LossTimersFollow, IsNamedIn, frames_given}
-use Rattle.quic_headline.proofs.Timers.Starts.{loss_timers_run}
 use Rattle.quic_worked.specs.Acknowledged.{client_acked, ack_payload, from_server}
-use Rattle.quic_worked.specs.Worked.{gives_chunk, hello, hello_frame, started, once_opened, once_written, once_sent, once_taken, once_accepted, worked_policies, ReadsBy, two_chunks, delivers, sending_events, sending_answers, opens_stream, asks_datagram, accepts_stream, gives_bytes, carrying, run_with}
+use Rattle.quic_worked.specs.Worked.{gives_chunk, hello, hello_frame, started, once_opened, once_written, once_sent, once_taken, once_accepted, worked_policies, ReadsBy, two_chunks, delivers, sending_events, sending_answers, opens_stream, asks_datagram, accepts_stream, gives_bytes, carrying, run_with, behind_ids, ids_again}
 use Rattle.quic_worked.specs.Reordered.{both_events, both_answers, both_sent}
 use Rattle.quic_worked.proofs.ReorderedRun as reordered
 use Rattle.quic_worked.proofs.ReorderedRun.{writes_abc, gives_abc, writes_def, gives_def}
 use Rattle.quic_worked.specs.Broken.{NeverAnswers, IsNoRun, NeverLeads, repeated_nexts, sending_run, asks_event, tells_finished}
 use Rattle.quic_worked.specs.Machines.{unaccepted, taken_again, cut_nexts, cut_frame, endless_nexts, hidden_end, skipping_nexts, skipped_byte, all_dropped, refused_named, long_opens, used_twice, kept_four, writing_run, late_timed, misrecorded, both_run, mistimed, told_early, taken_early, nothing_given, NeverGives, writes_second, second_events, second_answers, two_opened, two_written, two_sent, two_taken, first_accepted, both_accepted, accepted_twice, accepted_last, other_stream}
 use Rattle.quic_worked.proofs.Waited.{alike}
-use Rattle.quic_worked.proofs.WorkedHonest.{are_started}
 use Rattle.quic_worked.proofs.WorkedNumber.{only_number}
 use Rattle.quic_worked.proofs.WorkedRun.{opens, writes, finishes, gives, takes, drops_duplicate, hello_packet, frame_taken}
 use Rattle.quic_worked.proofs.BrokenClauses.{nexts_are, nexts_of, reads_in_order, hello_named, repeats}
 use Rattle.quic_worked.proofs.BrokenRuns.{IsRefused, stops, behind, behind_sent, read_of, not_next, never_reads, twice_no, accept_no, not_opened_no}
 use Rattle.quic_worked.proofs.Named.{ack_of_hello, is_named, early_frames}
 use Rattle.quic_worked.proofs.Steps.{counts_so}
+use Rattle.quic_retransmits.specs.Retransmits.{nothing_waits}
 
 -- ---- a duplicate is taken again
 
@@ -202,11 +201,12 @@ never_long = stops _ _ _ _ _ (λ opened. cc)
 -- ---- numbers
 
 pub twice_numbers : (read : ReadCall) → NumbersRise (used_twice read) → ⊥
+unfolding once_taken
 twice_numbers read h =
     let p = h Client 5 refl in
     repeats p.0 p.4.0 p.4.1 (only_number p.4.0 p.4.3)
 
-gives_again_no : IsRefused once_sent asks_datagram (gives_bytes 34)
+gives_again_no : IsRefused once_sent asks_datagram (gives_bytes 146)
 unfolding once_sent
 gives_again_no (inl e) = cc
 gives_again_no (inr e) = cc
@@ -223,9 +223,6 @@ runs_on i = let clash : ◌≡◌ {A = Bool} true false = i refl in cc
 
 pub late_follows : LossTimersFollow late_timed → ⊥
 late_follows i = runs_on i.0
-
-pub never_late : (events : List RunEvent) (told : List Answer) → NeverLeads events told late_timed
-never_late events told views f = late_follows (loss_timers_run worked_policies started late_timed events told views are_started f)
 
 -- ---- where events lead
 
@@ -254,8 +251,11 @@ step_on {Q} {w} {y} {event} {a} {events} {told} served step not_so =
     record { never = λ views end f q. goes_on Q w y event a events told served step not_so views end f q }
 
 -- so they don't lead to this one
+abbrev pub NotToFrom : World → World → List RunEvent → List Answer → Type 0
+NotToFrom start bad events told = NeverEnds (λ w. bad ≡ w) start events told
+
 abbrev pub NotTo : World → List RunEvent → List Answer → Type 0
-NotTo bad events told = NeverEnds (λ w. bad ≡ w) started events told
+NotTo bad events told = NotToFrom started bad events told
 
 -- ---- a buffer that keeps four bytes
 
@@ -284,7 +284,7 @@ never_four views f = not_four.never views kept_four f refl
 
 -- ---- a wrong record
 
-both_fly : in_flight both_run Client 5 ≡ (0, carrying 32 0 3 false) ∷ (1, carrying 33 3 6 false) ∷ []
+both_fly : in_flight both_run Client 5 ≡ (0, carrying ids_again 144 0 3 false) ∷ (1, carrying nothing_waits 33 3 6 false) ∷ []
 unfolding once_taken
 both_fly = refl
 
@@ -332,7 +332,7 @@ never_mis views f = not_mis.never views misrecorded f refl
 
 -- ---- a wrong moment
 
-first_flies : (read : ReadCall) → in_flight (sending_run read) Client 4 ≡ (0, carrying 34 0 5 true) ∷ []
+first_flies : (read : ReadCall) → in_flight (sending_run read) Client 4 ≡ (0, carrying ids_again 146 0 5 true) ∷ []
 unfolding once_taken
 first_flies read = refl
 
@@ -416,12 +416,12 @@ abbrev pub first_size : List (List ℕ) → ℕ
 first_size [] = 0
 first_size (d ∷ ds) = length d
 
-hello_size : first_size once_sent.from_client ≡ 34
+hello_size : first_size once_sent.from_client ≡ 146
 unfolding once_sent
 hello_size = refl
 
 no_size : ([] ∷ []) ≡ once_sent.from_client → ⊥
-no_size e = let clash : ◌≡◌ {A = ℕ} 0 34 = ap first_size e ∙ hello_size in omega (arith, clash)
+no_size e = let clash : ◌≡◌ {A = ℕ} 0 146 = ap first_size e ∙ hello_size in omega (arith, clash)
 
 not_nothing : NeverEnds (λ w. ([] ∷ []) ≡ w.from_client) started sending_events sending_answers
 not_nothing = behind_gives (ends_here no_size)
@@ -432,26 +432,26 @@ no_nothing read views end is = not_nothing.never views end is.follows is.from_cl
 -- ---- two streams
 
 opens_second : IsStep worked_policies once_opened opens_stream (answers.Open (Some 4)) two_opened
-opens_second = record { answer = refl; end = refl; control = refl; heard = counts_so worked_policies once_opened opens_stream (answers.Open (Some 4)); others = refl; lacking = tt }
+opens_second = record { answer = refl; end = refl; control = refl; heard = counts_so worked_policies once_opened opens_stream (answers.Open (Some 4)); openings = tt; others = refl; lacking = tt }
 
 writes_it : IsStep worked_policies two_opened writes_second (answers.Write (Ok 5)) two_written
-writes_it = record { answer = inl refl; end = refl; control = refl; heard = counts_so worked_policies two_opened writes_second (answers.Write (Ok 5)); others = refl; lacking = λ lacks. cc }
+writes_it = record { answer = inl refl; end = refl; control = refl; heard = counts_so worked_policies two_opened writes_second (answers.Write (Ok 5)); openings = tt; others = refl; lacking = λ lacks. cc }
 
-gives_second : IsStep worked_policies two_written asks_datagram (gives_bytes 34) two_sent
+gives_second : IsStep worked_policies two_written asks_datagram (gives_bytes 146) two_sent
 unfolding two_sent
-gives_second = record { answer = inl refl; end = refl; control = refl; heard = counts_so worked_policies two_written asks_datagram (gives_bytes 34); others = refl; lacking = tt }
+gives_second = record { answer = inl refl; end = refl; control = refl; heard = counts_so worked_policies two_written asks_datagram (gives_bytes 146); openings = tt; others = refl; lacking = tt }
 
 takes_second : IsStep worked_policies two_sent delivers (answers.Deliver receives.Taken) two_taken
 unfolding two_taken
-takes_second = record { answer = inl refl; end = refl; control = refl; heard = counts_so worked_policies two_sent delivers (answers.Deliver receives.Taken); others = refl; lacking = tt }
+takes_second = record { answer = inl refl; end = refl; control = refl; heard = counts_so worked_policies two_sent delivers (answers.Deliver receives.Taken); openings = tt; others = refl; lacking = tt }
 
 accepts_first : IsStep worked_policies two_taken accepts_stream (answers.Accept (Some 0)) first_accepted
 unfolding two_taken
-accepts_first = record { answer = refl; end = refl; control = refl; heard = counts_so worked_policies two_taken accepts_stream (answers.Accept (Some 0)); others = refl; lacking = tt }
+accepts_first = record { answer = refl; end = refl; control = refl; heard = counts_so worked_policies two_taken accepts_stream (answers.Accept (Some 0)); openings = tt; others = refl; lacking = tt }
 
 accepts_second : IsStep worked_policies first_accepted accepts_stream (answers.Accept (Some 4)) both_accepted
 unfolding two_taken
-accepts_second = record { answer = refl; end = refl; control = refl; heard = counts_so worked_policies first_accepted accepts_stream (answers.Accept (Some 4)); others = refl; lacking = tt }
+accepts_second = record { answer = refl; end = refl; control = refl; heard = counts_so worked_policies first_accepted accepts_stream (answers.Accept (Some 4)); openings = tt; others = refl; lacking = tt }
 
 -- behind the datagram that came
 never_second : {events : List RunEvent} {told : List Answer} → NeverAnswers two_taken events told → NeverAnswers started (second_events ++ events) (second_answers ++ told)
@@ -475,11 +475,11 @@ abbrev other_frame : StreamValue
 other_frame = record { id = 4; offset = 0; fin = false; bytes = hello }
 
 abbrev other_packet : Packet
-other_packet = record { number = 0; frames = stream other_frame ∷ [] }
+other_packet = record { number = 0; frames = behind_ids (stream other_frame ∷ []) }
 
 -- it opens stream 4
 other_named : WasNamed (other_packet ∷ []) 4
-other_named = record { packet = other_packet; was_taken = inl refl; frame = stream other_frame; carried = inl refl; opens = refl }
+other_named = record { packet = other_packet; was_taken = inl refl; frame = stream other_frame; carried = inr (inr (inr (inr (inl refl)))); opens = refl }
 
 twice_took : took accepted_twice Server 7 ≡ other_packet ∷ []
 unfolding once_taken

@@ -1,6 +1,6 @@
 -- How the worked run goes on: the server acknowledges the datagram once 25 ms have passed, and the
 -- client takes the acknowledgement; or the datagram is lost.
-use Rattle.std.specs.Prelude.{ℕ, List, [], ◌∷◌, length, None, Ok}
+use Rattle.std.specs.Prelude.{ℕ, List, [], ◌∷◌, length, None, Ok, false}
 use Rattle.quic_packet.specs.Datagram.{sent}
 use Rattle.quic_wire.specs.AckReading.{ack_at, ranges_at, range_at, some_ecn_at}
 use Rattle.quic_sets.specs.Offsets.{with_offsets}
@@ -53,11 +53,11 @@ client_datagram number reference payload =
 
 -- what the client makes at a moment of the server's first datagram, with this payload
 abbrev pub client_takes : End → ℕ → List ℕ → Outcome
-client_takes client now payload = received worked_policies.client client (arriving now None) (from_server 0 payload)
+client_takes client now payload = received worked_policies.client client (arriving now None false) (from_server 0 payload)
 
 -- what an injection of bytes at moment 0 is answered
 abbrev pub injected : Policy → End → List ℕ → Answer
-injected p e bytes = injected_if (would_open p e bytes) p e (record { now = 0; ecn = None; bytes = bytes })
+injected p e bytes = injected_if (would_open p e bytes) false p e (record { now = 0; ecn = None; bytes = bytes })
 
 -- ---- the acknowledgement
 

@@ -94,4 +94,4 @@ reset_late = record rested_run {
 
 -- what that leaves
 abbrev pub late_end : World
-late_end = after_event worked_policies (once_rested 10) (resets_with 7) reset_closed
+late_end = after_event worked_policies (once_rested 13) (resets_with 7) reset_closed

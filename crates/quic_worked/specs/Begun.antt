@@ -1,23 +1,30 @@
--- Ends at which something waits without a cause: MAX_DATA and bytes behind the poll that gave them, PING behind a timeout, and an ACK frame though no packet came. They are those of the run in which a
--- limit is lost and goes again, but for that.
-use Rattle.std.specs.Prelude.{true, None, Ok}
+-- Ends at which something waits without a cause: MAX_DATA and bytes behind the poll that gave them,
+-- PING behind a timeout, and an ACK frame though no packet came; and behind a call that asks for
+-- PING PATH_CHALLENGE, PATH_RESPONSE, NEW_CONNECTION_ID and RETIRE_CONNECTION_ID. They are those of
+-- the run in which a limit is lost and goes again, but for that.
+use Rattle.std.specs.Prelude.{true, [], ◌∷◌, Some, None, Ok}
 use Rattle.quic_machine.specs.declared.run.ReadCall.{ReadCall}
 use Rattle.quic_machine.specs.declared.run.Call.TheVariants as calls
 use Rattle.quic_machine.specs.declared.run.Answer.TheVariants as answers
 use Rattle.quic_machine.specs.declared.answers.Received.TheVariants as receives
-use Rattle.quic_machine.specs.End.{End, with_ping}
+use Rattle.quic_machine.specs.End.{End, with_signals, with_ping}
+use Rattle.quic_machine.specs.Parts.{Signals}
+use Rattle.quic_retransmits.specs.Retransmits.{Retransmits}
+use Rattle.quic_machine.specs.Timeouts.{timed_out}
 use Rattle.quic_machine.specs.Machine.{World}
 use Rattle.quic_wire_core.specs.declared.stream_id.Side.TheVariants.{Client, Server}
 use Rattle.quic_headline.specs.Begins.{Seen, seen_at}
-use Rattle.quic_worked.specs.Worked.{with_client, with_server, gives_bytes}
+use Rattle.quic_worked.specs.Worked.{with_client, with_server, worked_policies, delivery, gives_bytes, issued}
 use Rattle.quic_worked.specs.Credit.{eight_nexts, credit_written, credit_sent, credit_given}
+use Rattle.quic_worked.specs.Renamed.{renaming_run}
+use Rattle.quic_worked.specs.Unvalidated.{once_far, answered_run}
 use Rattle.quic_worked.specs.Raised.{raised_run, after_server_ping, third_due}
 
 -- ---- what is seen of calls of that run
 
 -- the client is polled, and gives the bytes that it wrote
 abbrev pub sending_seen : ReadCall → Seen
-sending_seen read = seen_at (raised_run read) Client 2 (calls.Poll 0) (gives_bytes 37)
+sending_seen read = seen_at (raised_run read) Client 2 (calls.Poll 0) (gives_bytes 149)
 
 -- the server reads all that came
 abbrev pub reading_seen : ReadCall → Seen
@@ -25,7 +32,7 @@ reading_seen read = seen_at (raised_run read) Server 5 (calls.Read read) (answer
 
 -- it is polled, and says that more may come
 abbrev pub raising_seen : ReadCall → Seen
-raising_seen read = seen_at (raised_run read) Server 6 (calls.Poll 0) (gives_bytes 33)
+raising_seen read = seen_at (raised_run read) Server 6 (calls.Poll 0) (gives_bytes 145)
 
 -- it is asked for PING
 abbrev pub pinging_seen : ReadCall → Seen
@@ -38,6 +45,22 @@ waiting_seen read = seen_at (raised_run read) Client 14 (calls.Timeout 25000000)
 -- its acknowledgement comes to the server, at which the datagram with the limit is lost
 abbrev pub losing_seen : ReadCall → Seen
 losing_seen read = seen_at (raised_run read) Server 16 (calls.Deliver (record { now = 25000000; ecn = None; index = 1 })) (answers.Deliver receives.Taken)
+
+-- the client takes the datagram in which the server asks it to answer
+abbrev pub challenged_seen : Seen
+challenged_seen = seen_at answered_run Client 5 (calls.Deliver delivery) (answers.Deliver receives.Taken)
+
+-- the client uses the next id of its peer
+abbrev pub using_seen : Seen
+using_seen = seen_at renaming_run Client 3 calls.UseNextId (answers.UseNextId (Ok tt))
+
+-- the server takes the datagram that says that its first id is retired
+abbrev pub retired_seen : Seen
+retired_seen = seen_at renaming_run Server 5 (calls.Deliver (record { now = 0; ecn = None; index = 1 })) (answers.Deliver receives.Taken)
+
+-- the server, whose peer didn't answer for 3072 ms
+abbrev pub unanswered_server : End
+unanswered_server = (timed_out worked_policies.server (once_far 5).server 3072000000).end
 
 -- ---- machines that make something wait at each call
 
@@ -56,3 +79,27 @@ ping_at_each_timeout = with_client third_due (with_ping third_due.client true)
 -- bytes wait again behind the poll that gave them
 abbrev pub bytes_at_each_poll : World
 bytes_at_each_poll = with_client credit_sent (record credit_sent.client { streams = credit_written.client.streams })
+
+-- the server behind the call that asks for PING, with these signals
+abbrev pub signalling : (Signals → Signals) → World
+signalling more = let w : World = after_server_ping credit_given in with_server w (let e : End = w.server in with_signals e (more e.waiting.signals))
+
+-- and with these frames that wait
+abbrev pub telling : (Retransmits → Retransmits) → World
+telling more = let w : World = after_server_ping credit_given in with_server w (let e : End = w.server in record e { waiting = record e.waiting { frames = more e.waiting.frames } })
+
+-- PATH_CHALLENGE waits
+abbrev pub challenge_at_each_call : World
+challenge_at_each_call = signalling (λ s. record s { challenge = Some 63 })
+
+-- PATH_RESPONSE does
+abbrev pub response_at_each_call : World
+response_at_each_call = signalling (λ s. record s { response = Some (record { packet = 0; token = 63 }) })
+
+-- the first of the server's ids is to be told again
+abbrev pub id_at_each_call : World
+id_at_each_call = telling (λ f. record f { new_cids = issued 1 ∷ [] })
+
+-- the first of the client's ids is retired
+abbrev pub retirement_at_each_call : World
+retirement_at_each_call = telling (λ f. record f { retire_cids = 0 ∷ [] })

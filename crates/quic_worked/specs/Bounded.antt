@@ -7,10 +7,12 @@ use Rattle.quic_headline.specs.Runs.{Run}
 use Rattle.quic_worked.specs.Acknowledged.{from_server, ack_at_once}
 use Rattle.quic_worked.specs.Credit.{count_events, count_answers, count_payload, views_of_credit, count_run}
 use Rattle.quic_worked.specs.Limited.{limited_events, limited_answers, limited_views, limited_run}
+use Rattle.quic_worked.specs.Worked.{told_ids}
 
--- MAX_DATA of as many bytes, MAX_STREAM_DATA of as many on the first stream, and an acknowledgement
+-- MAX_DATA of as many bytes, MAX_STREAM_DATA of as many on the first stream, the ids, and an
+-- acknowledgement
 abbrev pub lets_come : ℕ → ℕ → List ℕ
-lets_come all own = 0x10 ∷ all ∷ 0x11 ∷ 0x00 ∷ own ∷ ack_at_once
+lets_come all own = 0x10 ∷ all ∷ 0x11 ∷ 0x00 ∷ own ∷ told_ids ack_at_once
 
 -- the run up to the server's datagram, which lets as many come
 abbrev pub letting : ℕ → ℕ → ReadCall → Run
@@ -34,8 +36,7 @@ twice_on_one = letting 13 15
 -- what a server tells that takes one one-way stream
 abbrev pub one_way_parameters : List ℕ
 one_way_parameters =
-    (0x01 ∷ 0x04 ∷ 0x80 ∷ 0x00 ∷ 0x75 ∷ 0x30 ∷ [])
-    ++ (0x04 ∷ 0x08 ∷ 0xff ∷ 0xff ∷ 0xff ∷ 0xff ∷ 0xff ∷ 0xff ∷ 0xff ∷ 0xff ∷ [])
+    (0x04 ∷ 0x08 ∷ 0xff ∷ 0xff ∷ 0xff ∷ 0xff ∷ 0xff ∷ 0xff ∷ 0xff ∷ 0xff ∷ [])
     ++ (0x05 ∷ 0x04 ∷ 0x80 ∷ 0x13 ∷ 0x12 ∷ 0xd0 ∷ [])
     ++ (0x06 ∷ 0x04 ∷ 0x80 ∷ 0x13 ∷ 0x12 ∷ 0xd0 ∷ [])
     ++ (0x07 ∷ 0x04 ∷ 0x80 ∷ 0x13 ∷ 0x12 ∷ 0xd0 ∷ [])

@@ -24,7 +24,7 @@ use Rattle.quic_machine.specs.declared.run.View.{View}
 use Rattle.quic_machine.specs.Heard.{nothing_heard, heard_datagram}
 use Rattle.quic_machine.specs.Machine.{World, IsStep, Follows}
 use Rattle.quic_headline.specs.Runs.{Run}
-use Rattle.quic_worked.specs.Worked.{NextAnswers, within, end_after_write, once_opened, failed_end, worked_policies, hello, hello_datagram, started, with_client, with_server, asks_datagram, delivery, delivers, gives_chunk, all_nexts, gives_bytes, sending_events, sending_answers, once_ended, once_sent, open_view, worked_views, worked_run, client_counting}
+use Rattle.quic_worked.specs.Worked.{NextAnswers, within, end_after_write, once_opened, failed_end, worked_policies, hello, hello_datagram, started, with_client, with_server, asks_datagram, delivery, delivers, gives_chunk, all_nexts, gives_bytes, sending_events, sending_answers, once_ended, once_sent, open_view, worked_views, worked_run, client_counting, server_open}
 use Rattle.quic_worked.specs.Acknowledged.{client_acked, server_acked, from_server, ack_payload}
 use Rattle.quic_worked.specs.Reordered.{blocked_nexts}
 
@@ -43,10 +43,14 @@ IsNoRun r = NeverAnswers r.start r.events r.answers
 abbrev pub IsNever : World → RunEvent → Answer → Type 0
 IsNever w event a = (next : World) → IsStep worked_policies w event a next → ⊥
 
--- these events, answered so, never lead there
+-- these events, answered so, never lead there from such ends
+abbrev pub NeverLeadsFrom : World → List RunEvent → List Answer → World → Type 0
+NeverLeadsFrom start events told end =
+    (views : List View) → Follows worked_policies start events told views end → ⊥
+
+-- nor from those of the worked run
 abbrev pub NeverLeads : List RunEvent → List Answer → World → Type 0
-NeverLeads events told end =
-    (views : List View) → Follows worked_policies started events told views end → ⊥
+NeverLeads events told end = NeverLeadsFrom started events told end
 
 -- ---- calls that take no memory, and an end that had none
 
@@ -80,7 +84,7 @@ answers_with count done first second id nexts =
     answers.Open (Some 0)
     ∷ answers.Write count
     ∷ answers.Finish done
-    ∷ gives_bytes 34
+    ∷ gives_bytes 146
     ∷ answers.Deliver first
     ∷ answers.Deliver second
     ∷ answers.Accept id
@@ -158,7 +162,7 @@ repeated_number = record {
   keys = worked_policies;
   start = once_ended;
   events = asks_datagram ∷ asks_datagram ∷ [];
-  answers = gives_bytes 34 ∷ gives_bytes 34 ∷ [];
+  answers = gives_bytes 146 ∷ gives_bytes 146 ∷ [];
   views = take 2 worked_views;
   from_client = hello_datagram ∷ hello_datagram ∷ [];
   from_server = [];
@@ -236,7 +240,7 @@ answered_run read = record (worked_run read) {
       ∷ gives_bytes 32
       ∷ answers.Deliver receives.Taken
       ∷ [];
-  views = replicate 8 (record { client = open_view; server = open_view });
+  views = replicate 8 (record { client = open_view; server = server_open });
   from_server = from_server 0 ack_payload ∷ [];
 }
 
@@ -260,7 +264,7 @@ telling asks told = record {
   start = all_acked;
   events = asks;
   answers = told;
-  views = replicate (length told) (record { client = open_view; server = open_view });
+  views = replicate (length told) (record { client = open_view; server = server_open });
   from_client = [];
   from_server = [];
 }
@@ -273,12 +277,13 @@ told_twice = telling (asks_event ∷ asks_event ∷ []) (tells_finished ∷ tell
 abbrev pub never_told : Run
 never_told = telling (asks_event ∷ []) (answers.Event None ∷ [])
 
--- the run in which the client's datagram is acknowledged, and then the client is asked and answers so
+-- the run in which the client's datagram is acknowledged, and then the client is asked and answers
+-- so
 abbrev pub asked_run : ReadCall → List Answer → Run
 asked_run read told = record (answered_run read) {
   events = (answered_run read).events ++ replicate (length told) asks_event;
   answers = (answered_run read).answers ++ told;
-  views = replicate (8 + length told) (record { client = open_view; server = open_view });
+  views = replicate (8 + length told) (record { client = open_view; server = server_open });
 }
 
 -- ---- acknowledgements and injections
@@ -290,7 +295,7 @@ early_name = record {
   start = started;
   events = record { side = Server; call = calls.Poll 25000000 } ∷ [];
   answers = gives_bytes 32 ∷ [];
-  views = record { client = open_view; server = open_view } ∷ [];
+  views = record { client = open_view; server = server_open } ∷ [];
   from_client = [];
   from_server = from_server 0 ack_payload ∷ [];
 }
@@ -306,7 +311,7 @@ injecting events told = record {
   start = started;
   events = events;
   answers = told;
-  views = replicate (length told) (record { client = open_view; server = open_view });
+  views = replicate (length told) (record { client = open_view; server = server_open });
   from_client = [];
   from_server = [];
 }

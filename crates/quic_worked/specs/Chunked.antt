@@ -12,7 +12,7 @@ use Rattle.quic_machine.specs.declared.run.Answer.TheVariants as answers
 use Rattle.quic_machine.specs.End.{End, with_streams}
 use Rattle.quic_machine.specs.Machine.{World}
 use Rattle.quic_headline.specs.Runs.{Run}
-use Rattle.quic_worked.specs.Worked.{worked_policies, started, with_client, after_event, once_opened, once_sent, opens_stream, finishes_stream, asks_datagram, gives_bytes, hello_datagram, open_view, sent_view}
+use Rattle.quic_worked.specs.Worked.{worked_policies, started, with_client, after_event, once_opened, once_sent, opens_stream, finishes_stream, asks_datagram, gives_bytes, hello_datagram, open_view, sent_view, server_open}
 
 -- the client writes these buffers on its stream
 abbrev pub writes_buffers : Vec (List ℕ) Global → RunEvent
@@ -33,7 +33,7 @@ chunked_events buffers = opens_stream ∷ writes_buffers buffers ∷ finishes_st
 -- what is answered, where so many bytes and buffers were
 abbrev pub chunked_with : Written → List Answer
 chunked_with written =
-    answers.Open (Some 0) ∷ answers.WriteChunks (Ok written) ∷ answers.Finish (Ok tt) ∷ gives_bytes 34 ∷ []
+    answers.Open (Some 0) ∷ answers.WriteChunks (Ok written) ∷ answers.Finish (Ok tt) ∷ gives_bytes 146 ∷ []
 
 -- what a write of these buffers leaves
 abbrev pub after_buffers : End → List (List ℕ) → End
@@ -50,7 +50,7 @@ chunks_ended = after_event worked_policies chunks_written finishes_stream (answe
 -- and the datagram given
 unfoldable pub chunks_sent : World
 unfolding once_sent
-chunks_sent = after_event worked_policies chunks_ended asks_datagram (gives_bytes 34)
+chunks_sent = after_event worked_policies chunks_ended asks_datagram (gives_bytes 146)
 
 -- the run, where so many bytes and buffers were accepted: it gives the datagram of the worked run
 abbrev pub chunked_as : Written → Vec (List ℕ) Global → Run
@@ -59,7 +59,7 @@ chunked_as written buffers = record {
   start = started;
   events = chunked_events buffers;
   answers = chunked_with written;
-  views = replicate 3 (record { client = open_view; server = open_view }) ++ record { client = sent_view; server = open_view } ∷ [];
+  views = replicate 3 (record { client = open_view; server = server_open }) ++ record { client = sent_view; server = server_open } ∷ [];
   from_client = hello_datagram ∷ [];
   from_server = [];
 }

@@ -1,5 +1,6 @@
--- Runs in which an end closes that has no reason to: the worked run up to the first delivery, with another answer and another view.
-use Rattle.std.specs.Prelude.{◌-◌, ◌^◌, true, List, [], ◌∷◌, ◌++◌, take, replicate, Some, None, Ok}
+-- Runs in which an end closes that has no reason to: the worked run up to the first delivery, with
+-- another answer and another view.
+use Rattle.std.specs.Prelude.{◌-◌, ◌^◌, true, List, [], ◌∷◌, ◌++◌, take, replicate, Some, None, Ok, ℕ}
 use Rattle.quic_wire_core.specs.TransportError.{ErrorValue}
 use Rattle.quic_machine.specs.declared.answers.State.TheVariants as states
 use Rattle.quic_machine.specs.declared.answers.LostReason.{LostReason}
@@ -12,19 +13,25 @@ use Rattle.quic_machine.specs.declared.run.EndView.{EndView}
 use Rattle.quic_machine.specs.Receive.{plain_error}
 use Rattle.quic_machine.specs.Machine.{World}
 use Rattle.quic_headline.specs.Runs.{Run}
-use Rattle.quic_worked.specs.Worked.{steady_window, worked_policies, started, hello_datagram, sending_events, delivers, gives_bytes, open_view, sent_view, with_client, numbered_from, once_sent, hello_payload, from_client, asks_datagram, after_event, ran}
+use Rattle.quic_worked.specs.Worked.{steady_window, worked_policies, started, hello_datagram, sending_events, delivers, gives_bytes, open_view, sent_view, with_client, numbered_from, once_sent, from_client, asks_datagram, after_event, ran, shut_window, hello_whole, ids_payload, server_open}
 use Rattle.quic_worked.specs.Losses.{asks_ping}
 
--- what is seen of an end that closed for a reason: no timer is set any more
+-- what is seen of an end that closed for a reason at moment 0, before a round trip was measured: it
+-- is closing for three probe timeouts of 1024 ms, and no other timer is set any more (RFC 9000,
+-- section 10.2)
 abbrev pub closed_view : LostReason → EndView
 closed_view reason = record {
-  state = states.Drained;
+  state = states.Closing;
   reason = Some reason;
   validated = true;
-  timers = replicate 9 None;
+  timers = replicate 2 None ++ Some 3072000000 ∷ replicate 6 None;
   window = steady_window;
   current_mtu = 1200;
 }
+
+-- so of a server whose window is shut
+abbrev pub closed_server : LostReason → EndView
+closed_server reason = record (closed_view reason) { window = shut_window }
 
 -- the server is handed the client's datagram, answers with an error, and closes for a reason
 abbrev pub refusing : ErrorValue → LostReason → Run
@@ -36,13 +43,13 @@ refusing error reason = record {
       answers.Open (Some 0)
       ∷ answers.Write (Ok 5)
       ∷ answers.Finish (Ok tt)
-      ∷ gives_bytes 34
+      ∷ gives_bytes 146
       ∷ answers.Deliver (receives.Closed error)
       ∷ [];
   views =
-      replicate 3 (record { client = open_view; server = open_view })
-      ++ record { client = sent_view; server = open_view }
-      ∷ record { client = sent_view; server = closed_view reason }
+      replicate 3 (record { client = open_view; server = server_open })
+      ++ record { client = sent_view; server = server_open }
+      ∷ record { client = sent_view; server = closed_server reason }
       ∷ [];
   from_client = hello_datagram ∷ [];
   from_server = [];
@@ -57,7 +64,12 @@ below_limits = refusing (plain_error 3) (reasons.Transport (plain_error 3))
 abbrev pub early_pieces : Run
 early_pieces = refusing (plain_error 1) reasons.Pieces
 
--- a client that closes at its first poll for used-up numbers
+-- the close of an end whose numbers are used up: INTERNAL_ERROR, of no frame, with no text (RFC
+-- 9000, section 19.19)
+abbrev pub limit_payload : List ℕ
+limit_payload = 0x1c ∷ 0x01 ∷ 0x00 ∷ 0x00 ∷ []
+
+-- a client that closes at its first poll for used-up numbers, and gives its close
 abbrev pub early_limit : Run
 early_limit = record {
   keys = worked_policies;
@@ -67,13 +79,13 @@ early_limit = record {
       answers.Open (Some 0)
       ∷ answers.Write (Ok 5)
       ∷ answers.Finish (Ok tt)
-      ∷ answers.Poll (Ok None)
+      ∷ gives_bytes 30
       ∷ [];
   views =
-      replicate 3 (record { client = open_view; server = open_view })
-      ++ record { client = closed_view reasons.NumberLimit; server = open_view }
+      replicate 3 (record { client = open_view; server = server_open })
+      ++ record { client = closed_view reasons.NumberLimit; server = server_open }
       ∷ [];
-  from_client = [];
+  from_client = from_client 0 limit_payload ∷ [];
   from_server = [];
 }
 
@@ -90,24 +102,26 @@ drains_silently = record {
   start = started;
   events = asks_datagram ∷ [];
   answers = answers.Poll (Ok None) ∷ [];
-  views = record { client = silent_view; server = open_view } ∷ [];
+  views = record { client = silent_view; server = server_open } ∷ [];
   from_client = [];
   from_server = [];
 }
 
 -- ---- numbers that are used up
 
--- both ends, of which the client gives two numbers more at most: no new end is so, which has given none
+-- both ends, of which the client gives two numbers more at most: no new end is so, which has given
+-- none
 abbrev pub two_left : World
 two_left = with_client started (numbered_from (2 ^ 31 - 17) started.client)
 
--- the client writes the word, ends its stream, and is asked for a datagram; then a PING is asked for, and another datagram
+-- the client writes the word, ends its stream, and is asked for a datagram; then a PING is asked
+-- for, and another datagram
 abbrev pub last_events : List RunEvent
 last_events = sending_events ++ asks_ping ∷ asks_datagram ∷ []
 
--- for which no number is left: it gives nothing, and closes
+-- for which no number is left: it closes, and gives its close
 abbrev pub last_answers : List Answer
-last_answers = answers.Open (Some 0) ∷ answers.Write (Ok 5) ∷ answers.Finish (Ok tt) ∷ gives_bytes 37 ∷ answers.Ping ∷ answers.Poll (Ok None) ∷ []
+last_answers = answers.Open (Some 0) ∷ answers.Write (Ok 5) ∷ answers.Finish (Ok tt) ∷ gives_bytes 149 ∷ answers.Ping ∷ gives_bytes 33 ∷ []
 
 -- what the events leave
 abbrev pub last_ended : World
@@ -116,7 +130,7 @@ last_ended = ran worked_policies two_left (take 3 last_events) (take 3 last_answ
 -- the datagram is given
 unfoldable pub last_given : World
 unfolding once_sent
-last_given = after_event worked_policies last_ended asks_datagram (gives_bytes 37)
+last_given = after_event worked_policies last_ended asks_datagram (gives_bytes 149)
 
 -- a PING is asked for
 abbrev pub last_pinged : World
@@ -125,7 +139,7 @@ last_pinged = after_event worked_policies last_given asks_ping answers.Ping
 -- for which no number is left
 unfoldable pub last_closed : World
 unfolding last_given
-last_closed = after_event worked_policies last_pinged asks_datagram (answers.Poll (Ok None))
+last_closed = after_event worked_policies last_pinged asks_datagram (gives_bytes 33)
 
 -- the run
 abbrev pub last_run : Run
@@ -135,10 +149,48 @@ last_run = record {
   events = last_events;
   answers = last_answers;
   views =
-      replicate 3 (record { client = open_view; server = open_view })
-      ++ replicate 2 (record { client = sent_view; server = open_view })
-      ++ record { client = closed_view reasons.NumberLimit; server = open_view }
+      replicate 3 (record { client = open_view; server = server_open })
+      ++ replicate 2 (record { client = sent_view; server = server_open })
+      ++ record { client = closed_view reasons.NumberLimit; server = server_open }
       ∷ [];
-  from_client = from_client (2 ^ 31 - 17) hello_payload ∷ [];
+  from_client = from_client (2 ^ 31 - 17) hello_whole ∷ from_client (2 ^ 31 - 16) limit_payload ∷ [];
+  from_server = [];
+}
+
+-- ---- numbers of which one is left
+
+-- both ends, of which the client gives three numbers more at most
+abbrev pub three_left : World
+three_left = with_client started (numbered_from (2 ^ 31 - 18) started.client)
+
+-- the client is asked for a datagram; then a PING is asked for, and another datagram
+abbrev pub early_events : List RunEvent
+early_events = asks_datagram ∷ asks_ping ∷ asks_datagram ∷ []
+
+-- for which a number is left: it closes all the same, and gives its close
+abbrev pub early_answers : List Answer
+early_answers = gives_bytes 141 ∷ answers.Ping ∷ gives_bytes 33 ∷ []
+
+-- its ids are given first
+unfoldable pub ids_given : World
+unfolding once_sent
+ids_given = after_event worked_policies three_left asks_datagram (gives_bytes 141)
+
+-- a PING is asked for
+abbrev pub ids_pinged : World
+ids_pinged = after_event worked_policies ids_given asks_ping answers.Ping
+
+-- the run
+abbrev pub early_last : Run
+early_last = record {
+  keys = worked_policies;
+  start = three_left;
+  events = early_events;
+  answers = early_answers;
+  views =
+      replicate 2 (record { client = sent_view; server = server_open })
+      ++ record { client = closed_view reasons.NumberLimit; server = server_open }
+      ∷ [];
+  from_client = from_client (2 ^ 31 - 18) ids_payload ∷ from_client (2 ^ 31 - 17) limit_payload ∷ [];
   from_server = [];
 }

@@ -1,5 +1,7 @@
--- Runs in which the peer is let go further (RFC 9000, sections 4.1 and 4.6): a server that takes 8 bytes at a time, or one one-way stream. Once the bytes are
--- read it tells the client how many more may come, and once the stream is done, that it may open another. And machines that tell it wrongly.
+-- Runs in which the peer is let go further (RFC 9000, sections 4.1 and 4.6): a server that takes 8
+-- bytes at a time, or one one-way stream. Once the bytes are read it tells the client how many more
+-- may come, and once the stream is done, that it may open another. And machines that tell it
+-- wrongly.
 use Rattle.std.specs.Prelude.{ℕ, true, List, [], ◌∷◌, ◌++◌, replicate, take, Some, None, Ok}
 use Rattle.quic_wire_core.specs.declared.stream_id.Side.TheVariants.{Client, Server}
 use Rattle.quic_wire_core.specs.declared.stream_id.Dir.TheVariants.{Uni}
@@ -19,7 +21,7 @@ use Rattle.quic_machine.specs.Heard.{nothing_heard}
 use Rattle.quic_machine.specs.Machine.{World}
 use Rattle.quic_headline.specs.Runs.{Run}
 use Rattle.quic_worked.specs.Exchange.{with_window, with_uni}
-use Rattle.quic_worked.specs.Worked.{steady, steady_control, ReadsAs, NextAnswers, worked_policies, client_id, server_id, with_server, after_event, end_after_reads, once_sent, once_taken, hello, opens_stream, asks_datagram, delivers, accepts_stream, reads_stream, gives_chunk, all_nexts, two_chunks, gives_bytes, open_view, sent_view, waiting_view}
+use Rattle.quic_worked.specs.Worked.{steady, steady_control, ReadsAs, NextAnswers, worked_policies, client_id, server_id, with_server, after_event, end_after_reads, once_sent, once_taken, hello, opens_stream, asks_datagram, delivers, accepts_stream, reads_stream, gives_chunk, all_nexts, two_chunks, gives_bytes, open_view, sent_view, waiting_view, told_ids}
 use Rattle.quic_worked.specs.Acknowledged.{client_acked, client_datagram, from_server, ack_at_once}
 use Rattle.quic_worked.specs.Reordered.{abc}
 use Rattle.quic_worked.specs.Paired.{writes_on, asks_server, client_hears}
@@ -29,8 +31,8 @@ use Rattle.quic_worked.specs.Paired.{writes_on, asks_server, client_hears}
 -- both ends, where the server has these settings, before anything was given
 abbrev pub ends_of : Settings → World
 ends_of narrow = record {
-  client = new_end Client plain_settings steady (parameters_of narrow) client_id server_id 0 true 63;
-  server = new_end Server narrow steady (parameters_of plain_settings) server_id client_id 0 true 63;
+  client = new_end Client plain_settings steady (parameters_of narrow) client_id server_id 0 true (λ n. 63);
+  server = new_end Server narrow steady (parameters_of plain_settings) server_id client_id 0 true (λ n. 63);
   from_client = [];
   from_server = [];
   client_control = steady_control;
@@ -53,8 +55,8 @@ narrow_count = ends_of (with_uni 1)
 abbrev pub eight : List ℕ
 eight = hello ++ abc
 
--- the client writes more than may come, and gives what may; it comes, and is read; then the server is asked for a datagram, which comes too, and the
--- client writes on
+-- the client writes more than may come, and gives what may; it comes, and is read; then the server
+-- is asked for a datagram, which comes too, and the client writes on
 abbrev pub credit_front : List RunEvent
 credit_front = opens_stream ∷ writes_on 0 (eight ++ eight) ∷ asks_datagram ∷ delivers ∷ accepts_stream ∷ []
 
@@ -75,7 +77,7 @@ abbrev pub credit_until : List Answer
 credit_until =
     answers.Open (Some 0)
     ∷ answers.Write (Ok 8)
-    ∷ gives_bytes 37
+    ∷ gives_bytes 149
     ∷ answers.Deliver receives.Taken
     ∷ answers.Accept (Some 0)
     ∷ answers.Read (Ok eight_nexts)
@@ -83,15 +85,15 @@ credit_until =
 
 -- and from there on
 abbrev pub credit_answers : List Answer
-credit_answers = credit_until ++ gives_bytes 33 ∷ answers.Deliver receives.Taken ∷ answers.Write (Ok 8) ∷ []
+credit_answers = credit_until ++ gives_bytes 145 ∷ answers.Deliver receives.Taken ∷ answers.Write (Ok 8) ∷ []
 
--- STREAM with a length and the eight bytes
+-- the client's ids, and STREAM with a length and the eight bytes
 abbrev pub eight_payload : List ℕ
-eight_payload = (0x0a ∷ 0x00 ∷ 0x08 ∷ []) ++ eight
+eight_payload = told_ids ((0x0a ∷ 0x00 ∷ 0x08 ∷ []) ++ eight)
 
--- MAX_DATA of this many bytes (section 19.9), and an acknowledgement
+-- MAX_DATA of this many bytes (section 19.9), the server's ids, and an acknowledgement
 abbrev pub limit_payload : ℕ → List ℕ
-limit_payload limit = 0x10 ∷ limit ∷ ack_at_once
+limit_payload limit = 0x10 ∷ limit ∷ told_ids ack_at_once
 
 -- what the events leave
 abbrev pub credit_opened : World
@@ -104,7 +106,7 @@ credit_written = after_event worked_policies credit_opened (writes_on 0 (eight +
 -- they are given
 unfoldable pub credit_sent : World
 unfolding once_sent
-credit_sent = after_event worked_policies credit_written asks_datagram (gives_bytes 37)
+credit_sent = after_event worked_policies credit_written asks_datagram (gives_bytes 149)
 
 -- and taken
 unfoldable pub credit_taken : World
@@ -122,7 +124,7 @@ credit_read = with_server credit_accepted (end_after_reads credit_accepted.serve
 -- the server gives its datagram
 unfoldable pub credit_given : World
 unfolding credit_taken
-credit_given = after_event worked_policies credit_read asks_server (gives_bytes 33)
+credit_given = after_event worked_policies credit_read asks_server (gives_bytes 145)
 
 -- which is taken
 unfoldable pub credit_heard : World
@@ -147,8 +149,8 @@ ends_one_way = record { side = Client; call = calls.Finish 2 }
 abbrev pub accepts_one_way : RunEvent
 accepts_one_way = record { side = Server; call = calls.Accept Uni }
 
--- the client may open one alone, writes on it and ends it; it comes, and all is read; then the server is asked for a datagram, which comes too, and the
--- client opens another
+-- the client may open one alone, writes on it and ends it; it comes, and all is read; then the
+-- server is asked for a datagram, which comes too, and the client opens another
 abbrev pub count_front : List RunEvent
 count_front = opens_one_way ∷ opens_one_way ∷ writes_on 2 hello ∷ ends_one_way ∷ asks_datagram ∷ delivers ∷ accepts_one_way ∷ []
 
@@ -163,7 +165,7 @@ count_until =
     ∷ answers.Open None
     ∷ answers.Write (Ok 5)
     ∷ answers.Finish (Ok tt)
-    ∷ gives_bytes 34
+    ∷ gives_bytes 146
     ∷ answers.Deliver receives.Taken
     ∷ answers.Accept (Some 2)
     ∷ answers.Read (Ok all_nexts)
@@ -171,15 +173,16 @@ count_until =
 
 -- and from there on
 abbrev pub count_answers : List Answer
-count_answers = count_until ++ gives_bytes 33 ∷ answers.Deliver receives.Taken ∷ answers.Open (Some 6) ∷ []
+count_answers = count_until ++ gives_bytes 145 ∷ answers.Deliver receives.Taken ∷ answers.Open (Some 6) ∷ []
 
--- STREAM with a length and the end, stream 2, five bytes
+-- the client's ids, and STREAM with a length and the end, stream 2, five bytes
 abbrev pub one_way_payload : List ℕ
-one_way_payload = (0x0b ∷ 0x02 ∷ 0x05 ∷ []) ++ hello
+one_way_payload = told_ids ((0x0b ∷ 0x02 ∷ 0x05 ∷ []) ++ hello)
 
--- MAX_STREAMS of this many one-way streams (section 19.11), and an acknowledgement
+-- MAX_STREAMS of this many one-way streams (section 19.11), the server's ids, and an
+-- acknowledgement
 abbrev pub count_payload : ℕ → List ℕ
-count_payload count = 0x13 ∷ count ∷ ack_at_once
+count_payload count = 0x13 ∷ count ∷ told_ids ack_at_once
 
 -- what the events leave
 abbrev pub count_opened : World
@@ -200,7 +203,7 @@ count_ended = after_event worked_policies count_written ends_one_way (answers.Fi
 -- it is given
 unfoldable pub count_sent : World
 unfolding once_sent
-count_sent = after_event worked_policies count_ended asks_datagram (gives_bytes 34)
+count_sent = after_event worked_policies count_ended asks_datagram (gives_bytes 146)
 
 -- and taken
 unfoldable pub count_taken : World
@@ -218,7 +221,7 @@ count_read = with_server count_accepted (end_after_reads count_accepted.server 2
 -- the server gives its datagram
 unfoldable pub count_given : World
 unfolding count_taken
-count_given = after_event worked_policies count_read asks_server (gives_bytes 33)
+count_given = after_event worked_policies count_read asks_server (gives_bytes 145)
 
 -- which is taken
 unfoldable pub count_heard : World
@@ -231,7 +234,8 @@ count_used = after_event worked_policies count_heard opens_one_way (answers.Open
 
 -- ---- the runs
 
--- what is seen of both: so often before the client's datagram, behind it, once it came, behind the server's, and once that came
+-- what is seen of both: so often before the client's datagram, behind it, once it came, behind the
+-- server's, and once that came
 abbrev pub views_of_credit : ℕ → List View
 views_of_credit before =
     replicate before (record { client = open_view; server = open_view })

@@ -1,5 +1,6 @@
--- Exchanges of two ends, computed by the machine frame by frame: what one gives goes to the other without its bytes, or is lost. Each act is a call, and is
--- answered as the machine answers where memory serves.
+-- Exchanges of two ends, computed by the machine frame by frame: what one gives goes to the other
+-- without its bytes, or is lost. Each act is a call, and is answered as the machine answers where
+-- memory serves.
 use Rattle.std.specs.Prelude.{ℕ, ℤ, Bool, true, false, List, [], ◌∷◌, length, Option, Some, None, Result, Ok, Err}
 use Rattle.quic_wire_core.specs.declared.stream_id.Side.{Side}
 use Rattle.quic_wire_core.specs.declared.stream_id.Side.TheVariants.{Client, Server}
@@ -23,7 +24,8 @@ use Rattle.quic_machine.specs.declared.answers.Event.{Event}
 use Rattle.quic_machine.specs.declared.answers.Received.{Received}
 use Rattle.quic_machine.specs.declared.answers.Received.TheVariants.{Closed}
 use Rattle.quic_machine.specs.Machine.{policy_at}
-use Rattle.quic_machine.specs.End.{End, new_end, side_of, number_of, streams_at, with_streams}
+use Rattle.quic_machine.specs.End.{End, new_end, side_of, number_of, streams_at, with_streams, with_waiting}
+use Rattle.quic_machine.specs.Parts.{nothing_waits}
 use Rattle.quic_machine.specs.Calls.{after_reads, end_tells, end_after_event}
 use Rattle.quic_machine.specs.Receive.{Outcome, judged}
 use Rattle.quic_machine.specs.FrameCases.{passed, begun}
@@ -136,11 +138,16 @@ abbrev pub played : Ends → List Act → List Said
 played w [] = []
 played w (act ∷ acts) = let done = acted w act in done.said ∷ played done.ends acts
 
--- two ends with these settings, made at moment 0 on a validated path; of the numbers of each 63 is the first that is left out
+-- an end that has told its ids already: nothing waits
+abbrev pub having_told : End → End
+having_told e = with_waiting e nothing_waits
+
+-- two ends with these settings, made at moment 0 on a validated path, which have told their ids; of
+-- the numbers of each 63 is the first that is left out
 abbrev pub ends_with : Settings → Settings → Ends
 ends_with client server = record {
-  client = new_end Client client steady (parameters_of server) [] [] 0 true 63;
-  server = new_end Server server steady (parameters_of client) [] [] 0 true 63;
+  client = having_told (new_end Client client steady (parameters_of server) [] [] 0 true (λ n. 63));
+  server = having_told (new_end Server server steady (parameters_of client) [] [] 0 true (λ n. 63));
 }
 
 -- what one says of itself that lets come so many bytes on all streams

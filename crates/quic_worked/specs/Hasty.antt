@@ -14,10 +14,10 @@ use Rattle.quic_machine.specs.declared.run.Answer.TheVariants as answers
 use Rattle.quic_machine.specs.declared.run.View.{View}
 use Rattle.quic_machine.specs.Machine.{World}
 use Rattle.quic_headline.specs.Runs.{Run, Packet}
-use Rattle.quic_worked.specs.Worked.{ran, worked_policies, started, delivery, gives_bytes}
+use Rattle.quic_worked.specs.Worked.{ran, ran_so_far, worked_policies, started, delivery, gives_bytes, id_frames}
 use Rattle.quic_worked.specs.Acknowledged.{client_datagram, client_acked, from_server}
 use Rattle.quic_worked.specs.Reordered.{delivers_at}
-use Rattle.quic_worked.specs.Losses.{ping_events, ping_answers, ping_payload, server_waits, server_polled}
+use Rattle.quic_worked.specs.Losses.{ping_events, ping_answers, ping_payload, server_waits, server_polled, first_ping_answers, first_ping}
 use Rattle.quic_worked.specs.Paired.{asks_server}
 use Rattle.quic_worked.specs.Timed.{seen_with}
 use Rattle.quic_worked.specs.Held.{gives_nothing}
@@ -30,7 +30,7 @@ hasty_events = ping_events ++ ping_events ++ delivers_at 0 ∷ delivers_at 1 ∷
 
 -- what that is answered, with this to the server's poll
 abbrev pub answers_hasty : Answer → List Answer
-answers_hasty last = ping_answers ++ ping_answers ++ answers.Deliver receives.Taken ∷ answers.Deliver receives.Taken ∷ last ∷ []
+answers_hasty last = first_ping_answers ++ ping_answers ++ answers.Deliver receives.Taken ∷ answers.Deliver receives.Taken ∷ last ∷ []
 
 -- the server gives an ACK frame
 abbrev pub hasty_answers : List Answer
@@ -39,7 +39,7 @@ hasty_answers = answers_hasty (gives_bytes 31)
 -- what the first so many of these leave
 unfoldable pub once_hasty : ℕ → World
 unfolding client_acked
-once_hasty n = ran worked_policies started (take n hasty_events) (take n hasty_answers)
+once_hasty n = ran_so_far worked_policies started hasty_events hasty_answers n
 
 -- ACK of numbers 0 and 1, at once
 abbrev pub ack_of_both : List ℕ
@@ -56,7 +56,7 @@ hasty_views =
 
 -- the first so many datagrams of the client
 abbrev pub pings : ℕ → List (List ℕ)
-pings count = take count (client_datagram 0 0 ping_payload ∷ client_datagram 1 0 ping_payload ∷ client_datagram 2 0 ping_payload ∷ [])
+pings count = take count (client_datagram 0 0 first_ping ∷ client_datagram 1 0 ping_payload ∷ client_datagram 2 0 ping_payload ∷ [])
 
 -- the run
 abbrev pub hasty_run : Run
@@ -70,7 +70,11 @@ hasty_run = record {
   from_server = from_server 0 ack_of_both ∷ [];
 }
 
--- a packet of the client
+-- the first packet of the client, which tells its ids
+abbrev pub first_packet : Packet
+first_packet = record { number = 0; frames = ping ∷ id_frames }
+
+-- one behind it
 abbrev pub ping_packet : ℕ → Packet
 ping_packet number = record { number = number; frames = ping ∷ padding ∷ padding ∷ [] }
 
@@ -86,7 +90,7 @@ marked_events = ping_events ++ comes_marked ∷ asks_server ∷ []
 
 -- what that is answered, with this to the server's poll
 abbrev pub answers_marked : Answer → List Answer
-answers_marked last = ping_answers ++ answers.Deliver receives.Taken ∷ last ∷ []
+answers_marked last = first_ping_answers ++ answers.Deliver receives.Taken ∷ last ∷ []
 
 -- what the first so many of these leave, where the server gives an ACK frame
 unfoldable pub once_marked : ℕ → World
@@ -131,9 +135,11 @@ many_wait = silent_run 2 hasty_events (answers_hasty gives_nothing)
 abbrev pub gap_events : List RunEvent
 gap_events = ping_events ++ ping_events ++ ping_events ++ delivers_at 2 ∷ asks_server ∷ []
 
+-- the answers to these: the third datagram is taken, and the server gives nothing
 abbrev pub gap_answers : List Answer
-gap_answers = ping_answers ++ ping_answers ++ ping_answers ++ answers.Deliver receives.Taken ∷ gives_nothing ∷ []
+gap_answers = first_ping_answers ++ ping_answers ++ ping_answers ++ answers.Deliver receives.Taken ∷ gives_nothing ∷ []
 
+-- the run in which the gap brings no ACK frame
 abbrev pub gap_waits : Run
 gap_waits = silent_run 3 gap_events gap_answers
 
@@ -143,4 +149,4 @@ mark_waits = silent_run 1 marked_events (answers_marked gives_nothing)
 
 -- 25 ms pass, and the timer is nothing
 abbrev pub late_waits : Run
-late_waits = silent_run 1 (ping_events ++ delivers_at 0 ∷ server_waits ∷ server_polled ∷ []) (ping_answers ++ answers.Deliver receives.Taken ∷ answers.Timeout (Ok tt) ∷ gives_nothing ∷ [])
+late_waits = silent_run 1 (ping_events ++ delivers_at 0 ∷ server_waits ∷ server_polled ∷ []) (first_ping_answers ++ answers.Deliver receives.Taken ∷ answers.Timeout (Ok tt) ∷ gives_nothing ∷ [])

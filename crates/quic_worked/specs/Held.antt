@@ -1,6 +1,8 @@
--- A run in which a congestion window holds back what asks (RFC 9002, section 7): the window is 2400 bytes, twice the size of a datagram, and the client writes
--- 4000 bytes. Once a full datagram is in flight, there is no room for one more. The loss timer expires, and two probes pass (section 7.5); then it holds again. And machines that hold back
--- what the window lets go, that don't ask it, that hold a probe back, and that let a third one pass.
+-- A run in which a congestion window holds back what asks (RFC 9002, section 7): the window is 2400
+-- bytes, twice the size of a datagram, and the client writes 4000 bytes. Once a full datagram is in
+-- flight, there is no room for one more. The loss timer expires, and two probes pass (section 7.5);
+-- then it holds again. And machines that hold back what the window lets go, that don't ask it, that
+-- hold a probe back, and that let a third one pass.
 use Rattle.std.specs.Prelude.{ℕ, true, List, [], ◌∷◌, ◌++◌, replicate, take, Some, None, Ok}
 use Rattle.quic_wire_core.specs.declared.stream_id.Side.TheVariants.{Client, Server}
 use Rattle.quic_congestion.specs.Congestion.{Told}
@@ -17,7 +19,7 @@ use Rattle.quic_machine.specs.Control.{Control}
 use Rattle.quic_machine.specs.Heard.{nothing_heard}
 use Rattle.quic_machine.specs.Machine.{World}
 use Rattle.quic_headline.specs.Runs.{Run}
-use Rattle.quic_worked.specs.Worked.{ran, worked_policies, client_id, server_id, started, opens_stream, writes_hello, asks_datagram, gives_bytes, view_with, open_view, worked_views}
+use Rattle.quic_worked.specs.Worked.{ran, worked_policies, client_id, server_id, started, opens_stream, writes_hello, asks_datagram, gives_bytes, view_with, open_view, worked_views, told_ids, server_open}
 use Rattle.quic_worked.specs.Acknowledged.{client_acked, client_datagram}
 use Rattle.quic_worked.specs.Reordered.{writes_bytes}
 use Rattle.quic_worked.specs.Timed.{serves, asks_at}
@@ -39,8 +41,8 @@ narrow_windows = record { initial = narrow_window; present = narrow_window }
 -- both ends, before anything was given
 abbrev pub held_start : World
 held_start = record {
-  client = new_end Client plain_settings narrow_windows (parameters_of plain_settings) client_id server_id 0 true 63;
-  server = new_end Server plain_settings narrow_windows (parameters_of plain_settings) server_id client_id 0 true 63;
+  client = new_end Client plain_settings narrow_windows (parameters_of plain_settings) client_id server_id 0 true (λ n. 63);
+  server = new_end Server plain_settings narrow_windows (parameters_of plain_settings) server_id client_id 0 true (λ n. 63);
   from_client = [];
   from_server = [];
   client_control = narrow_control;
@@ -51,7 +53,8 @@ held_start = record {
 
 -- ---- events and answers
 
--- the client writes 4000 bytes, and is asked twice for a datagram at once; then its timer expires, and it is asked three times
+-- the client writes 4000 bytes, and is asked twice for a datagram at once; then its timer expires,
+-- and it is asked three times
 abbrev pub held_events : List RunEvent
 held_events =
     opens_stream
@@ -88,17 +91,18 @@ once_held n = ran worked_policies held_start (take n held_events) (take n held_a
 
 -- ---- the run
 
--- STREAM without a length, so that it goes up to the end of the datagram: on stream 0, from offset 0 on (RFC 9000, section 19.8)
+-- the client's ids, and STREAM without a length, so that it goes up to the end of the datagram: on
+-- stream 0, from offset 0 on (RFC 9000, section 19.8)
 abbrev pub first_payload : List ℕ
-first_payload = (0x08 ∷ 0x00 ∷ []) ++ replicate 1172 0x61
+first_payload = told_ids ((0x08 ∷ 0x00 ∷ []) ++ replicate 1060 0x61)
 
--- the probes: PING, and STREAM from offset 1172 on, and from 2341 on
+-- the probes: the ids once more, and STREAM from offset 1060 on, and from 2118 on
 abbrev pub second_payload : List ℕ
-second_payload = (0x01 ∷ 0x0c ∷ 0x00 ∷ 0x44 ∷ 0x94 ∷ []) ++ replicate 1169 0x61
+second_payload = told_ids ((0x0c ∷ 0x00 ∷ 0x44 ∷ 0x24 ∷ []) ++ replicate 1058 0x61)
 
 -- the second of them
 abbrev pub third_payload : List ℕ
-third_payload = (0x01 ∷ 0x0c ∷ 0x00 ∷ 0x49 ∷ 0x25 ∷ []) ++ replicate 1169 0x61
+third_payload = told_ids ((0x0c ∷ 0x00 ∷ 0x48 ∷ 0x46 ∷ []) ++ replicate 1058 0x61)
 
 -- what is seen of both, where the client's loss timer is set so
 abbrev pub held_view : EndView → View
@@ -144,15 +148,15 @@ silent_run = record {
 
 -- the client shows a window of one byte, whatever its controller shows
 abbrev pub shrunk_view : View
-shrunk_view = record { client = record open_view { window = 1 }; server = open_view }
+shrunk_view = record { client = record open_view { window = 1 }; server = server_open }
 
 -- so nothing seems to fit, and the same poll gives nothing
 abbrev pub shrunk_run : Run
 shrunk_run = record silent_run { views = replicate 3 shrunk_view }
 
--- STREAM from offset 1172 on
+-- STREAM from offset 1060 on
 abbrev pub next_payload : List ℕ
-next_payload = (0x0c ∷ 0x00 ∷ 0x44 ∷ 0x94 ∷ []) ++ replicate 1170 0x61
+next_payload = (0x0c ∷ 0x00 ∷ 0x44 ∷ 0x24 ∷ []) ++ replicate 1170 0x61
 
 -- the client gives a second datagram, though its window is full
 abbrev pub overfull_run : Run
@@ -172,20 +176,20 @@ unprobed_run = record held_run {
   from_client = client_datagram 0 0 first_payload ∷ [];
 }
 
--- a third probe has what is left: PING, and STREAM from offset 3510 on
+-- a third probe has what is left: PING, and STREAM from offset 3176 on
 abbrev pub fourth_payload : List ℕ
-fourth_payload = (0x01 ∷ 0x0c ∷ 0x00 ∷ 0x4d ∷ 0xb6 ∷ []) ++ replicate 490 0x61
+fourth_payload = (0x01 ∷ 0x0c ∷ 0x00 ∷ 0x4c ∷ 0x68 ∷ []) ++ replicate 824 0x61
 
 -- the client's timer expires once, and three probes go past a full window
 abbrev pub third_probe_run : Run
 third_probe_run = record held_run {
-  answers = take 7 held_answers ++ gives_bytes 521 ∷ [];
+  answers = take 7 held_answers ++ gives_bytes 855 ∷ [];
   from_client = held_run.from_client ++ client_datagram 3 0 fourth_payload ∷ [];
 }
 
 -- the client shows a larger size of datagrams, of which its controller was never told
 abbrev pub resized_view : View
-resized_view = record { client = record open_view { current_mtu = 1452 }; server = open_view }
+resized_view = record { client = record open_view { current_mtu = 1452 }; server = server_open }
 
 -- from its first answer on
 abbrev pub resized_run : Run
@@ -193,4 +197,4 @@ resized_run = record silent_run { views = replicate 3 resized_view }
 
 -- or from its second on, though no datagram was acknowledged, nor sent
 abbrev pub grown_run : Run
-grown_run = record silent_run { views = record { client = open_view; server = open_view } ∷ replicate 2 resized_view }
+grown_run = record silent_run { views = record { client = open_view; server = server_open } ∷ replicate 2 resized_view }

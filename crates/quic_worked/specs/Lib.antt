@@ -22,6 +22,7 @@ pub mod Messages
 pub mod Held
 pub mod Rested
 pub mod Hasty
+pub mod Counted
 pub mod Isolated
 pub mod Paced
 pub mod Faults
@@ -35,3 +36,10 @@ pub mod Repeated
 pub mod Begun
 pub mod Reset
 pub mod Writable
+pub mod Ended
+pub mod Renamed
+pub mod Known
+pub mod Unvalidated
+pub mod Expiring
+pub mod Ending
+pub mod Changed

@@ -1,5 +1,6 @@
--- A run in which each of three limits binds a write in turn (RFC 9000, section 4.1): a client that keeps 7 bytes at most, and a server that takes 8
--- bytes in all and 5 on each stream at first. Its answer raises limits and acknowledges what was kept. And machines that take less, or more.
+-- A run in which each of three limits binds a write in turn (RFC 9000, section 4.1): a client that
+-- keeps 7 bytes at most, and a server that takes 8 bytes in all and 5 on each stream at first. Its
+-- answer raises limits and acknowledges what was kept. And machines that take less, or more.
 use Rattle.std.specs.Prelude.{ℕ, ◌≡◌, true, List, [], ◌∷◌, ◌++◌, take, replicate, Some, Ok, Err}
 use Rattle.quic_wire_core.specs.declared.stream_id.Side.TheVariants.{Client, Server}
 use Rattle.quic_sets.specs.Offsets.{with_offsets}
@@ -14,13 +15,13 @@ use Rattle.quic_machine.specs.declared.run.ReadCall.{ReadCall}
 use Rattle.quic_machine.specs.declared.run.Answer.{Answer}
 use Rattle.quic_machine.specs.declared.run.Answer.TheVariants as answers
 use Rattle.quic_machine.specs.declared.run.View.{View}
-use Rattle.quic_machine.specs.End.{new_end}
+use Rattle.quic_machine.specs.End.{End, new_end}
 use Rattle.quic_machine.specs.Heard.{nothing_heard}
 use Rattle.quic_machine.specs.Machine.{World}
 use Rattle.quic_machine.specs.Start.{AreStarted}
 use Rattle.quic_headline.specs.Runs.{Run}
 use Rattle.quic_headline.specs.Amounts.{data_left, stream_left, window_left}
-use Rattle.quic_worked.specs.Worked.{steady, steady_control, NextAnswers, worked_policies, client_id, server_id, started, with_server, after_event, end_after_reads, once_sent, once_taken, hello, opens_stream, writes_hello, asks_datagram, delivers, accepts_stream, reads_stream, gives_chunk, gives_bytes, sent_view, waiting_view, worked_views}
+use Rattle.quic_worked.specs.Worked.{steady, steady_control, NextAnswers, worked_policies, client_id, server_id, started, with_server, after_event, end_after_reads, once_sent, once_taken, hello, opens_stream, writes_hello, asks_datagram, delivers, accepts_stream, reads_stream, gives_chunk, gives_bytes, sent_view, waiting_view, worked_views, told_ids}
 use Rattle.quic_worked.specs.Acknowledged.{client_acked, client_datagram, from_server, ack_at_once}
 use Rattle.quic_worked.specs.Paired.{writes_on, asks_server, client_hears}
 use Rattle.quic_worked.specs.Credit.{eight, eight_bounds, views_of_credit}
@@ -38,8 +39,7 @@ takes_eight = record plain_settings { receive_window = 8; stream_receive_window 
 -- what the server tells so
 abbrev pub narrow_parameters : List ℕ
 narrow_parameters =
-    (0x01 ∷ 0x04 ∷ 0x80 ∷ 0x00 ∷ 0x75 ∷ 0x30 ∷ [])
-    ++ (0x04 ∷ 0x01 ∷ 0x08 ∷ [])
+    (0x04 ∷ 0x01 ∷ 0x08 ∷ [])
     ++ (0x05 ∷ 0x01 ∷ 0x05 ∷ [])
     ++ (0x06 ∷ 0x01 ∷ 0x05 ∷ [])
     ++ (0x07 ∷ 0x01 ∷ 0x05 ∷ [])
@@ -52,8 +52,8 @@ narrow_parameters =
 -- both, before anything was given
 abbrev pub limited_start : World
 limited_start = record {
-  client = new_end Client keeps_seven steady (parameters_of takes_eight) client_id server_id 0 true 63;
-  server = new_end Server takes_eight steady (parameters_of keeps_seven) server_id client_id 0 true 63;
+  client = new_end Client keeps_seven steady (parameters_of takes_eight) client_id server_id 0 true (λ n. 63);
+  server = new_end Server takes_eight steady (parameters_of keeps_seven) server_id client_id 0 true (λ n. 63);
   from_client = [];
   from_server = [];
   client_control = steady_control;
@@ -68,8 +68,9 @@ limited_start = record {
 abbrev pub sixteen : List ℕ
 sixteen = eight ++ eight
 
--- the client opens two streams and writes on the first, and on the second until it is blocked; it gives what it took, which comes; the server reads
--- the first, and what it gives comes to the client, which writes on until it is blocked
+-- the client opens two streams and writes on the first, and on the second until it is blocked; it
+-- gives what it took, which comes; the server reads the first, and what it gives comes to the
+-- client, which writes on until it is blocked
 abbrev pub limited_front : List RunEvent
 limited_front = opens_stream ∷ opens_stream ∷ writes_on 0 sixteen ∷ writes_on 4 sixteen ∷ writes_on 4 sixteen ∷ asks_datagram ∷ delivers ∷ accepts_stream ∷ []
 
@@ -89,24 +90,29 @@ limited_answers =
     ∷ answers.Write (Ok 5)
     ∷ answers.Write (Ok 2)
     ∷ answers.Write (Err write_errors.Blocked)
-    ∷ gives_bytes 39
+    ∷ gives_bytes 151
     ∷ answers.Deliver receives.Taken
     ∷ answers.Accept (Some 0)
     ∷ answers.Read (Ok hello_nexts)
-    ∷ gives_bytes 36
+    ∷ gives_bytes 148
     ∷ answers.Deliver receives.Taken
     ∷ answers.Write (Ok 5)
     ∷ answers.Write (Ok 1)
     ∷ answers.Write (Err write_errors.Blocked)
     ∷ []
 
--- STREAM with a length and the word, and STREAM with a length and two bytes of the second stream
+-- the client's ids, STREAM with a length and the word, and STREAM with a length and two bytes of
+-- the second stream
 abbrev pub limited_payload : List ℕ
-limited_payload = (0x0a ∷ 0x00 ∷ 0x05 ∷ []) ++ hello ++ (0x0a ∷ 0x04 ∷ 0x02 ∷ 104 ∷ 101 ∷ [])
+limited_payload = told_ids ((0x0a ∷ 0x00 ∷ 0x05 ∷ []) ++ hello ++ (0x0a ∷ 0x04 ∷ 0x02 ∷ 104 ∷ 101 ∷ []))
 
--- MAX_DATA of 13 bytes, MAX_STREAM_DATA of 10 on the first stream (sections 19.9 and 19.10), and an acknowledgement
+-- MAX_DATA of 13 bytes, and MAX_STREAM_DATA of 10 on the first stream (sections 19.9 and 19.10)
+abbrev pub raised_limits : List ℕ
+raised_limits = 0x10 ∷ 0x0d ∷ 0x11 ∷ 0x00 ∷ 0x0a ∷ []
+
+-- these, the server's ids, and an acknowledgement
 abbrev pub raised_payload : List ℕ
-raised_payload = 0x10 ∷ 0x0d ∷ 0x11 ∷ 0x00 ∷ 0x0a ∷ ack_at_once
+raised_payload = raised_limits ++ told_ids ack_at_once
 
 -- ---- what they leave
 
@@ -133,7 +139,7 @@ limited_blocked = after_event worked_policies limited_second (writes_on 4 sixtee
 -- the datagram is given
 unfoldable pub limited_sent : World
 unfolding once_sent with_offsets with_range joining pieces
-limited_sent = after_event worked_policies limited_blocked asks_datagram (gives_bytes 39)
+limited_sent = after_event worked_policies limited_blocked asks_datagram (gives_bytes 151)
 
 -- and taken
 unfoldable pub limited_taken : World
@@ -151,7 +157,7 @@ limited_read = with_server limited_accepted (end_after_reads limited_accepted.se
 -- the server gives its datagram
 unfoldable pub limited_given : World
 unfolding limited_taken
-limited_given = after_event worked_policies limited_read asks_server (gives_bytes 36)
+limited_given = after_event worked_policies limited_read asks_server (gives_bytes 148)
 
 -- which is taken
 unfoldable pub limited_heard : World
@@ -223,8 +229,15 @@ never_freed read = record (limited_run read) {
 
 -- ---- what is left
 
--- so many bytes are left to the client before an event: of all data, of a stream, and of its send window
+-- so many bytes are left to the client before an event: of all data, of a stream, and of its send
+-- window
 pub record LeavesAt (read : ReadCall) (s : AreStarted limited_start) (i id of_all of_stream of_window : ℕ) : Type 0 where
   pub all : data_left (limited_run read) s Client i ≡ of_all
   pub own : stream_left (limited_run read) s Client i id ≡ of_stream
   pub window : window_left (limited_run read) s Client i ≡ of_window
+
+-- ---- whose parameters count
+
+-- the client, where what its own parameters tell counts for what its peer's tell
+abbrev pub own_client : End
+own_client = new_end Client keeps_seven steady (parameters_of keeps_seven) client_id server_id 0 true (λ n. 63)

@@ -1,6 +1,7 @@
--- A run in which a datagram is lost, and machines that go wrong there: the client gives its datagram and four with PING alone, of
--- which the last alone comes and is acknowledged. So the first two are lost, and two are in flight. Behind it stand runs in which one
--- datagram is acknowledged, and in which numbers fall.
+-- A run in which a datagram is lost, and machines that go wrong there: the client gives its
+-- datagram and four with PING alone, of which the last alone comes and is acknowledged. So the
+-- first two are lost, and two are in flight. Behind it stand runs in which one datagram is
+-- acknowledged, and in which numbers fall.
 use Rattle.std.specs.Prelude.{ℕ, List, [], ◌∷◌, ◌++◌, drop, replicate, take, Some, Ok}
 use Rattle.quic_wire_core.specs.declared.stream_id.Side.TheVariants.{Client, Server}
 use Rattle.quic_streams_parts.specs.Table.{Table}
@@ -15,7 +16,7 @@ use Rattle.quic_machine.specs.End.{End}
 use Rattle.quic_machine.specs.Machine.{World}
 use Rattle.quic_headline.specs.Runs.{Run}
 use Rattle.quic_worked.specs.Acknowledged.{client_acked, client_datagram, from_server, ack_payload}
-use Rattle.quic_worked.specs.Worked.{worked_policies, hello_datagram, started, with_client, once_sent, once_taken, after_event, ran, asks_datagram, delivery, accepts_stream, reads_stream, gives_chunk, gives_bytes, gives_unmarked, sending_events, sending_answers, open_view}
+use Rattle.quic_worked.specs.Worked.{worked_policies, hello_datagram, started, with_client, once_sent, once_taken, after_event, ran, asks_datagram, delivery, accepts_stream, reads_stream, gives_chunk, gives_bytes, gives_unmarked, sending_events, sending_answers, open_view, ids_payload, server_open, hello_payload}
 use Rattle.quic_worked.specs.Reordered.{delivers_at}
 use Rattle.quic_worked.specs.Broken.{hellp, answered_run, asks_event, tells_finished}
 
@@ -73,6 +74,10 @@ losing_answers =
     ∷ answers.Deliver receives.Taken
     ∷ []
 
+-- what that is answered where it is the first that goes, which tells the ids behind PING
+abbrev pub first_ping_answers : List Answer
+first_ping_answers = answers.Ping ∷ gives_bytes 139 ∷ []
+
 -- ---- what they leave
 
 -- one PING more went
@@ -108,7 +113,8 @@ unfoldable pub last_taken : World
 unfolding once_taken all_given
 last_taken = after_event worked_policies all_given (delivers_at 4) (answers.Deliver receives.Taken)
 
--- its acknowledgement is due at once, since numbers before it are missing (RFC 9000, section 13.2.1); 25 ms pass all the same
+-- its acknowledgement is due at once, since numbers before it are missing (RFC 9000, section
+-- 13.2.1); 25 ms pass all the same
 abbrev pub last_due : World
 last_due = after_event worked_policies last_taken server_waits (answers.Timeout (Ok tt))
 
@@ -128,6 +134,10 @@ once_lost = after_event worked_policies last_named client_delivered (answers.Del
 abbrev pub ping_payload : List ℕ
 ping_payload = 0x01 ∷ 0x00 ∷ 0x00 ∷ []
 
+-- PING, and the ids behind it
+abbrev pub first_ping : List ℕ
+first_ping = 0x01 ∷ ids_payload
+
 -- ACK of number 4 alone, after 25000 microseconds
 abbrev pub fourth_payload : List ℕ
 fourth_payload = 0x02 ∷ 0x04 ∷ 0x4c ∷ 0x35 ∷ 0x00 ∷ 0x00 ∷ []
@@ -139,7 +149,7 @@ losing_run more told = record {
   start = started;
   events = losing_events ++ more;
   answers = losing_answers ++ told;
-  views = replicate 20 (record { client = open_view; server = open_view });
+  views = replicate 20 (record { client = open_view; server = server_open });
   from_client =
       hello_datagram
       ∷ client_datagram 1 0 ping_payload
@@ -190,14 +200,14 @@ client_polled = record { side = Client; call = calls.Poll 25000000 }
 abbrev pub changed_again : ReadCall → Run
 changed_again read =
     losing_run (client_polled ∷ delivers_at 5 ∷ accepts_stream ∷ reads_stream read ∷ [])
-    (gives_unmarked 39 ∷ answers.Deliver receives.Taken ∷ answers.Accept (Some 0) ∷ answers.Read (Ok (gives_chunk hellp ∷ [])) ∷ [])
+    (gives_unmarked 151 ∷ answers.Deliver receives.Taken ∷ answers.Accept (Some 0) ∷ answers.Read (Ok (gives_chunk hellp ∷ [])) ∷ [])
 
 -- ---- what is lost goes again
 
 -- it gives what was lost
 unfoldable pub again_given : World
 unfolding once_lost
-again_given = after_event worked_policies once_lost client_polled (gives_unmarked 39)
+again_given = after_event worked_policies once_lost client_polled (gives_unmarked 151)
 
 -- which comes
 unfoldable pub again_taken : World
@@ -239,6 +249,14 @@ wide_name read = record (answered_run read) {
   answers = take 7 (answered_run read).answers;
   from_server = from_server 0 wide_payload ∷ [];
 }
+
+-- ACK of number 1 alone
+abbrev pub narrow_payload : List ℕ
+narrow_payload = 0x02 ∷ 0x01 ∷ 0x4c ∷ 0x35 ∷ 0x00 ∷ 0x00 ∷ []
+
+-- the server leaves the number that it took out of its acknowledgement
+abbrev pub narrow_name : ReadCall → Run
+narrow_name read = record (wide_name read) { from_server = from_server 0 narrow_payload ∷ [] }
 
 -- ---- an acknowledgement of the first of two datagrams
 
@@ -295,18 +313,22 @@ above_acked = with_client first_acked (waiting_for [] first_acked.client)
 abbrev pub falling_events : List RunEvent
 falling_events = ping_events ++ sending_events
 
+-- what the calls that send the word are answered behind it: the ids went before
+abbrev pub word_answers : List Answer
+word_answers = answers.Open (Some 0) ∷ answers.Write (Ok 5) ∷ answers.Finish (Ok tt) ∷ gives_bytes 34 ∷ []
+
 -- what that is answered
 abbrev pub falling_answers : List Answer
-falling_answers = ping_answers ++ sending_answers
+falling_answers = first_ping_answers ++ word_answers
 
 -- the PING is given
 unfoldable pub ping_given : World
 unfolding once_sent
-ping_given = pinged started
+ping_given = ran worked_policies started ping_events first_ping_answers
 
 -- behind so many of the calls that send the word
 abbrev pub ping_and : ℕ → World
-ping_and n = ran worked_policies ping_given (take n sending_events) (take n sending_answers)
+ping_and n = ran worked_policies ping_given (take n sending_events) (take n word_answers)
 
 -- the word is given too
 unfoldable pub word_given : World
@@ -318,6 +340,6 @@ abbrev pub falling : Run
 falling = record (losing_run [] []) {
   events = falling_events;
   answers = falling_answers;
-  from_client = client_datagram 1 0 ping_payload ∷ hello_datagram ∷ [];
+  from_client = client_datagram 1 0 first_ping ∷ client_datagram 0 0 hello_payload ∷ [];
   from_server = [];
 }

@@ -1,4 +1,5 @@
--- More machines with a bug, each by a run that it makes: other answers, other datagrams, or other ends.
+-- More machines with a bug, each by a run that it makes: other answers, other datagrams, or other
+-- ends.
 use Rattle.std.specs.Prelude.{List, [], ◌∷◌, ◌++◌, drop, replicate, take, Some, None, Ok, Err}
 use Rattle.quic_wire_core.specs.TransportError.{plain_error}
 use Rattle.quic_wire_core.specs.declared.stream_id.Side.TheVariants.{Client, Server}
@@ -17,7 +18,7 @@ use Rattle.quic_machine.specs.declared.run.View.{View}
 use Rattle.quic_headline.specs.Runs.{Run}
 use Rattle.quic_headline.specs.Headline.{IsRun}
 use Rattle.quic_worked.specs.Acknowledged.{client_acked, client_datagram, from_server, ack_payload}
-use Rattle.quic_worked.specs.Worked.{NextAnswers, after_event, once_opened, once_taken, worked_policies, hello, hello_datagram, started, with_client, client_gives, once_ended, once_sent, ran, asks_datagram, opens_stream, delivery, delivers, accepts_stream, reads_stream, gives_chunk, gives_bytes, sending_events, sending_answers, open_view, worked_views, worked_run}
+use Rattle.quic_worked.specs.Worked.{NextAnswers, after_event, once_opened, once_taken, worked_policies, hello, hello_datagram, started, with_client, client_gives, once_ended, once_sent, ran, asks_datagram, opens_stream, delivery, delivers, accepts_stream, reads_stream, gives_chunk, gives_bytes, sending_events, sending_answers, open_view, worked_views, worked_run, told_ids, server_open}
 use Rattle.quic_worked.specs.Reordered.{abc_datagram, def_datagram, both_events, both_answers, both_sent, reordered_views}
 use Rattle.quic_worked.specs.Broken.{never_accepted, answers_with, repeated_nexts, answered_run, sending_run, injects, injecting, asks_event, tells_finished}
 
@@ -84,7 +85,7 @@ long_opens = injecting (injects Server (replicate 1201 0) ∷ []) (answers.Opens
 abbrev pub used_twice : ReadCall → Run
 used_twice read = record (worked_run read) {
   events = sending_events ++ asks_datagram ∷ [];
-  answers = sending_answers ++ gives_bytes 34 ∷ [];
+  answers = sending_answers ++ gives_bytes 146 ∷ [];
   from_client = hello_datagram ∷ hello_datagram ∷ [];
 }
 
@@ -174,7 +175,7 @@ second_answers =
     answers.Open (Some 0)
     ∷ answers.Open (Some 4)
     ∷ answers.Write (Ok 5)
-    ∷ gives_bytes 34
+    ∷ gives_bytes 146
     ∷ answers.Deliver receives.Taken
     ∷ []
 
@@ -189,7 +190,7 @@ two_written = after_event worked_policies two_opened writes_second (answers.Writ
 -- the datagram is given
 unfoldable pub two_sent : World
 unfolding once_sent
-two_sent = after_event worked_policies two_written asks_datagram (gives_bytes 34)
+two_sent = after_event worked_policies two_written asks_datagram (gives_bytes 146)
 
 -- and taken
 unfoldable pub two_taken : World
@@ -211,8 +212,8 @@ second_run more told = record {
   start = started;
   events = second_events ++ more;
   answers = second_answers ++ told;
-  views = replicate 8 (record { client = open_view; server = open_view });
-  from_client = client_datagram 0 0 (0x0a ∷ 0x04 ∷ 0x05 ∷ hello) ∷ [];
+  views = replicate 8 (record { client = open_view; server = server_open });
+  from_client = client_datagram 0 0 (told_ids (0x0a ∷ 0x04 ∷ 0x05 ∷ hello)) ∷ [];
   from_server = [];
 }
 

@@ -1,7 +1,9 @@
--- A run in which a round trip is measured, and datagrams are lost by number and by time (RFC 9002, sections 5 and 6.1): the client gives four with PING
--- alone at moment 0, of which the last alone comes. Numbers before it are missing, so it is acknowledged at once (RFC 9000, section 13.2.1). And a run
--- in which a number is left out (section 21.4). Behind each stand machines that go wrong there.
-use Rattle.std.specs.Prelude.{ℕ, true, List, [], ◌∷◌, ◌++◌, replicate, take, Option, Some, None, Ok}
+-- A run in which a round trip is measured, and datagrams are lost by number and by time (RFC 9002,
+-- sections 5 and 6.1): the client gives four with PING alone at moment 0, of which the last alone
+-- comes. Numbers before it are missing, so it is acknowledged at once (RFC 9000, section 13.2.1).
+-- And a run in which a number is left out (section 21.4). Behind each stand machines that go wrong
+-- there.
+use Rattle.std.specs.Prelude.{ℕ, true, List, [], ◌∷◌, ◌++◌, replicate, take, Option, Some, None, Ok, suc, zero}
 use Rattle.quic_wire_core.specs.TransportError.{plain_error}
 use Rattle.quic_wire_core.specs.declared.stream_id.Side.TheVariants.{Client}
 use Rattle.quic_config.specs.Transport.{parameters_of}
@@ -16,10 +18,10 @@ use Rattle.quic_time.specs.Timers.{no_timers}
 use Rattle.quic_machine.specs.End.{new_end}
 use Rattle.quic_machine.specs.Machine.{World}
 use Rattle.quic_headline.specs.Runs.{Run}
-use Rattle.quic_worked.specs.Worked.{ran_so_far, steady, ran, worked_policies, client_id, server_id, started, with_client, delivers, gives_bytes, open_view, sent_view, waiting_view}
+use Rattle.quic_worked.specs.Worked.{ran_so_far, steady, ran, worked_policies, client_id, server_id, started, with_client, delivers, gives_bytes, open_view, sent_view, server_open, server_waiting}
 use Rattle.quic_worked.specs.Acknowledged.{ack_of_third, ack_payload, client_datagram, client_acked, from_server}
 use Rattle.quic_worked.specs.Reordered.{delivers_at}
-use Rattle.quic_worked.specs.Losses.{ping_events, ping_answers, ping_payload, server_waits, server_polled, client_delivered}
+use Rattle.quic_worked.specs.Losses.{ping_events, ping_answers, ping_payload, server_waits, server_polled, client_delivered, first_ping_answers, first_ping}
 use Rattle.quic_worked.specs.Closed.{closed_view}
 use Rattle.quic_worked.specs.Paired.{asks_server}
 use Rattle.quic_worked.specs.Timed.{serves, comes_at, seen_with}
@@ -42,7 +44,7 @@ measured_events =
 -- what it is answered
 abbrev pub measured_answers : List Answer
 measured_answers =
-    ping_answers
+    first_ping_answers
     ++ ping_answers
     ++ ping_answers
     ++ ping_answers
@@ -57,7 +59,8 @@ unfoldable pub once_measured : ℕ → World
 unfolding client_acked
 once_measured n = ran_so_far worked_policies started measured_events measured_answers n
 
--- the views, where the client shows its loss timer so once the acknowledgement came, and once the timers were served
+-- the views, where the client shows its loss timer so once the acknowledgement came, and once the
+-- timers were served
 abbrev pub measured_views : Option ℕ → Option ℕ → List View
 measured_views answered served =
     seen_with None None
@@ -75,7 +78,7 @@ measured_seen answered served = record {
   answers = measured_answers;
   views = measured_views answered served;
   from_client =
-      client_datagram 0 0 ping_payload
+      client_datagram 0 0 first_ping
       ∷ client_datagram 1 0 ping_payload
       ∷ client_datagram 2 0 ping_payload
       ∷ client_datagram 3 0 ping_payload
@@ -83,14 +86,16 @@ measured_seen answered served = record {
   from_server = from_server 0 ack_of_third ∷ [];
 }
 
--- the run: the round trip took 100 ms. Number 0 is lost, three below the number that is acknowledged; numbers 1 and 2 are once nine eighths of that have passed
--- since they went, and then nothing is waited for
+-- the run: the round trip took 100 ms. Number 0 is lost, three below the number that is
+-- acknowledged; numbers 1 and 2 are once nine eighths of that have passed since they went, and then
+-- nothing is waited for
 abbrev pub measured_run : Run
 measured_run = measured_seen (Some 112500000) None
 
 -- ---- machines that go wrong there
 
--- none is ever lost by time: an acknowledgement of numbers 1 and 2 is waited for during 100 ms, four times 50 ms, and 25 ms
+-- none is ever lost by time: an acknowledgement of numbers 1 and 2 is waited for during 100 ms,
+-- four times 50 ms, and 25 ms
 abbrev pub never_late : Run
 never_late = measured_seen (Some 325000000) (Some 325000000)
 
@@ -108,9 +113,14 @@ cleared = with_client (once_measured 11) (record (once_measured 11).client { tim
 
 -- ---- a number that is left out
 
+-- words of a random source, of which the first is 0
+abbrev pub zero_first : ℕ → ℕ
+zero_first zero = 0
+zero_first (suc n) = 63
+
 -- both ends, of which the client leaves out number 0: that was the first word of its random source
 abbrev pub leaving_out : World
-leaving_out = with_client started (new_end Client plain_settings steady (parameters_of plain_settings) client_id server_id 0 true 0)
+leaving_out = with_client started (new_end Client plain_settings steady (parameters_of plain_settings) client_id server_id 0 true zero_first)
 
 -- a datagram goes, and is acknowledged
 abbrev pub skipping_events : List RunEvent
@@ -118,7 +128,7 @@ skipping_events = ping_events ++ delivers ∷ server_waits ∷ server_polled ∷
 
 -- what that is answered until the client takes the acknowledgement
 abbrev pub skipping_until : List Answer
-skipping_until = ping_answers ++ answers.Deliver receives.Taken ∷ answers.Timeout (Ok tt) ∷ gives_bytes 32 ∷ []
+skipping_until = first_ping_answers ++ answers.Deliver receives.Taken ∷ answers.Timeout (Ok tt) ∷ gives_bytes 32 ∷ []
 
 -- and with its answer to that
 abbrev pub skipping_answers : List Answer
@@ -133,13 +143,14 @@ once_skipped n = ran worked_policies leaving_out (take n skipping_events) (take 
 abbrev pub ack_of_first : List ℕ
 ack_of_first = 0x02 ∷ 0x01 ∷ 0x4c ∷ 0x35 ∷ 0x00 ∷ 0x00 ∷ []
 
--- what is seen until then: the server waits for 25 ms, since before any packet came none counts as missing below number 1
+-- what is seen until then: the server waits for 25 ms, since before any packet came none counts as
+-- missing below number 1
 abbrev pub skipping_views : List View
 skipping_views =
-    record { client = open_view; server = open_view }
-    ∷ record { client = sent_view; server = open_view }
-    ∷ record { client = sent_view; server = waiting_view }
-    ∷ replicate 2 (record { client = sent_view; server = open_view })
+    record { client = open_view; server = server_open }
+    ∷ record { client = sent_view; server = server_open }
+    ∷ record { client = sent_view; server = server_waiting }
+    ∷ replicate 2 (record { client = sent_view; server = server_open })
 
 -- the run: the first datagram has number 1
 abbrev pub skipping_run : Run
@@ -148,20 +159,20 @@ skipping_run = record {
   start = leaving_out;
   events = skipping_events;
   answers = skipping_answers;
-  views = skipping_views ++ record { client = open_view; server = open_view } ∷ [];
-  from_client = client_datagram 1 0 ping_payload ∷ [];
+  views = skipping_views ++ record { client = open_view; server = server_open } ∷ [];
+  from_client = client_datagram 1 0 first_ping ∷ [];
   from_server = from_server 0 ack_of_first ∷ [];
 }
 
 -- a client gives 0, the number that it leaves out
 abbrev pub left_out_sent : Run
-left_out_sent = record skipping_run { events = ping_events; answers = ping_answers; from_client = client_datagram 0 0 ping_payload ∷ []; from_server = [] }
+left_out_sent = record skipping_run { events = ping_events; answers = first_ping_answers; from_client = client_datagram 0 0 first_ping ∷ []; from_server = [] }
 
 -- and it closes once that is acknowledged, as if its peer had made it up: PROTOCOL_VIOLATION
 abbrev pub left_out_given : Run
 left_out_given = record skipping_run {
   answers = skipping_until ++ answers.Deliver (receives.Closed (plain_error 10)) ∷ [];
-  views = skipping_views ++ record { client = closed_view (reasons.Transport (plain_error 10)); server = open_view } ∷ [];
-  from_client = client_datagram 0 0 ping_payload ∷ [];
+  views = skipping_views ++ record { client = closed_view (reasons.Transport (plain_error 10)); server = server_open } ∷ [];
+  from_client = client_datagram 0 0 first_ping ∷ [];
   from_server = from_server 0 ack_payload ∷ [];
 }

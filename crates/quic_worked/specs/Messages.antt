@@ -1,5 +1,6 @@
--- Runs in which a message goes (RFC 9221): the client sends `ping`, and its datagram comes to the server twice, which reads it once. Or that datagram counts
--- as lost before it comes. And runs of machines that give an application more, or something else.
+-- Runs in which a message goes (RFC 9221): the client sends `ping`, and its datagram comes to the
+-- server twice, which reads it once. Or that datagram counts as lost before it comes. And runs of
+-- machines that give an application more, or something else.
 use Rattle.std.specs.Prelude.{ℕ, false, List, [], ◌∷◌, ◌++◌, replicate, take, Option, Some, None, Ok, Err}
 use Rattle.quic_wire_core.specs.declared.stream_id.Side.TheVariants.{Client, Server}
 use Rattle.quic_wire.specs.Value.{datagram}
@@ -14,7 +15,8 @@ use Rattle.quic_machine.specs.declared.run.View.{View}
 use Rattle.quic_machine.specs.Heard.{heard_datagram}
 use Rattle.quic_machine.specs.Machine.{World}
 use Rattle.quic_headline.specs.Runs.{Packet, Run}
-use Rattle.quic_worked.specs.Worked.{after_event, ran, server_counting, worked_policies, started, once_taken, asks_datagram, delivers, gives_bytes, open_view, view_with}
+use Rattle.quic_headline.specs.Observer.{Sent}
+use Rattle.quic_worked.specs.Worked.{after_event, ran, ran_so_far, server_id, server_counting, worked_policies, started, once_taken, asks_datagram, delivers, gives_bytes, open_view, view_with, ids_payload, behind_ids, told_ids, server_open, both_steady}
 use Rattle.quic_worked.specs.Acknowledged.{client_acked, client_datagram, from_server}
 use Rattle.quic_worked.specs.Broken.{duplicate}
 use Rattle.quic_worked.specs.Losses.{asks_ping, ping_payload}
@@ -30,16 +32,17 @@ ping_message = 112 ∷ 105 ∷ 110 ∷ 103 ∷ []
 abbrev pub message_payload : List ℕ
 message_payload = 0x31 ∷ 0x04 ∷ ping_message
 
--- header, number under its mask, payload and tag
+-- header, number under its mask, the client's ids, payload and tag
 abbrev pub message_datagram : List ℕ
 message_datagram =
-    (0x49 ∷ 0x50 ∷ 0x50 ∷ 0x50 ∷ 0x50 ∷ 0x50 ∷ 0x50 ∷ 0x50 ∷ 0x50 ∷ 0x6e ∷ [])
+    (0x48 ∷ 0x50 ∷ 0x50 ∷ 0x50 ∷ 0x50 ∷ 0x50 ∷ 0x50 ∷ 0x50 ∷ 0x50 ∷ 0x00 ∷ [])
+    ++ ids_payload
     ++ (0x31 ∷ 0x04 ∷ 0x70 ∷ 0x69 ∷ 0x6e ∷ 0x67 ∷ [])
     ++ (replicate 8 0x00 ++ replicate 8 0x63)
 
 -- the packet that comes so
 abbrev pub message_packet : Packet
-message_packet = record { number = 0; frames = datagram ping_message ∷ [] }
+message_packet = record { number = 0; frames = behind_ids (datagram ping_message ∷ []) }
 
 -- ---- the events
 
@@ -59,7 +62,8 @@ server_reads = record { side = Server; call = calls.Recv }
 abbrev pub client_reads : RunEvent
 client_reads = record { side = Client; call = calls.Recv }
 
--- the client sends the message, and its datagram comes twice; the server's application asks twice what is to be told, and reads twice
+-- the client sends the message, and its datagram comes twice; the server's application asks twice
+-- what is to be told, and reads twice
 abbrev pub message_events : List RunEvent
 message_events = sends_message ping_message ∷ asks_datagram ∷ delivers ∷ delivers ∷ server_asks ∷ server_asks ∷ server_reads ∷ server_reads ∷ []
 
@@ -81,9 +85,10 @@ tells_message = answers.Event (Some events.Message)
 
 -- what is answered until the datagram came once
 abbrev pub message_front : List Answer
-message_front = is_sent ∷ gives_bytes 32 ∷ answers.Deliver receives.Taken ∷ []
+message_front = is_sent ∷ gives_bytes 144 ∷ answers.Deliver receives.Taken ∷ []
 
--- the answers: the datagram is dropped when it comes again, and the message is told once and read once
+-- the answers: the datagram is dropped when it comes again, and the message is told once and read
+-- once
 abbrev pub message_answers : List Answer
 message_answers = message_front ++ answers.Deliver duplicate ∷ tells_message ∷ answers.Event None ∷ gives_message ping_message ∷ gives_none ∷ []
 
@@ -112,7 +117,8 @@ message_read = after_event worked_policies nothing_told server_reads (gives_mess
 abbrev pub message_end : World
 message_end = after_event worked_policies message_read server_reads gives_none
 
--- what is seen: the client waits for an acknowledgement once it gave the datagram, and the server for 25 ms once it took it
+-- what is seen: the client waits for an acknowledgement once it gave the datagram, and the server
+-- for 25 ms once it took it
 abbrev pub message_views : List View
 message_views =
     seen_with None None
@@ -146,14 +152,15 @@ message_twice =
 abbrev pub message_cut : Run
 message_cut = messaged (message_front ++ answers.Deliver duplicate ∷ tells_message ∷ answers.Event None ∷ gives_message (take 3 ping_message) ∷ gives_none ∷ [])
 
--- a run of these events, answered so, with these datagrams of the client's, in which both ends stay open
+-- a run of these events, answered so, with these datagrams of the client's, in which both ends stay
+-- open
 abbrev pub messaging : List RunEvent → List Answer → List (List ℕ) → Run
 messaging happens told given = record {
   keys = worked_policies;
   start = started;
   events = happens;
   answers = told;
-  views = replicate 13 (record { client = open_view; server = open_view });
+  views = replicate 13 (record { client = open_view; server = server_open });
   from_client = given;
   from_server = [];
 }
@@ -166,7 +173,8 @@ message_made_up = messaging (server_reads ∷ []) (gives_message ping_message �
 abbrev pub message_back : Run
 message_back = messaging (sends_message ping_message ∷ client_reads ∷ []) (is_sent ∷ gives_message ping_message ∷ []) []
 
--- one byte more than a message may have here: 1200 for a datagram, less 8 for the id and 30 for what else stands beside it
+-- one byte more than a message may have here: 1200 for a datagram, less 8 for the id and 30 for
+-- what else stands beside it
 abbrev pub long_message : List ℕ
 long_message = replicate 1163 0x61
 
@@ -195,8 +203,8 @@ comes_to_server now index = record { side = Server; call = calls.Deliver (record
 abbrev pub server_pings : RunEvent
 server_pings = record { side = Server; call = calls.Ping }
 
--- the client sends the message at moment 0, and PING after 100 ms, which comes alone; the server acknowledges that along with a PING of its own, which
--- comes at 110 ms
+-- the client sends the message at moment 0, and PING after 100 ms, which comes alone; the server
+-- acknowledges that along with a PING of its own, which comes at 110 ms
 abbrev pub lossy_events : List RunEvent
 lossy_events =
     sends_message ping_message
@@ -213,12 +221,12 @@ lossy_events =
 abbrev pub lossy_answers : List Answer
 lossy_answers =
     is_sent
-    ∷ gives_bytes 32
+    ∷ gives_bytes 144
     ∷ answers.Ping
     ∷ gives_bytes 29
     ∷ answers.Deliver receives.Taken
     ∷ answers.Ping
-    ∷ gives_bytes 32
+    ∷ gives_bytes 144
     ∷ answers.Deliver receives.Taken
     ∷ []
 
@@ -230,10 +238,11 @@ late_events = lossy_events ++ comes_to_server 115000000 0 ∷ server_reads ∷ s
 abbrev pub late_answers : List Answer
 late_answers = lossy_answers ++ answers.Deliver receives.Taken ∷ gives_message ping_message ∷ gives_none ∷ []
 
--- what the first so many of the events until then leave: a round trip takes 10 ms, and the message went long before that
+-- what the first so many of the events until then leave: a round trip takes 10 ms, and the message
+-- went long before that
 unfoldable pub once_late : ℕ → World
 unfolding client_acked
-once_late n = ran worked_policies started (take n lossy_events) (take n lossy_answers)
+once_late n = ran worked_policies both_steady (take n lossy_events) (take n lossy_answers)
 
 -- the message came
 unfoldable pub late_taken : World
@@ -252,7 +261,8 @@ late_end = after_event worked_policies late_read server_reads gives_none
 abbrev pub both_seen : Option ℕ → Option ℕ → Option ℕ → Option ℕ → View
 both_seen client_loss client_due server_loss server_due = record { client = view_with client_loss client_due; server = view_with server_loss server_due }
 
--- what is seen: each end waits for what it gave, and has what it took to acknowledge; the number that comes late is to be acknowledged at once
+-- what is seen: each end waits for what it gave, and has what it took to acknowledge; the number
+-- that comes late is to be acknowledged at once
 abbrev pub late_views : List View
 late_views =
     both_seen None None None None
@@ -262,15 +272,15 @@ late_views =
     ++ both_seen (Some 1124000000) None (Some 1129000000) None
     ∷ replicate 4 (both_seen None (Some 135000000) (Some 1129000000) None)
 
--- PING, and ACK of number 1 alone
+-- PING, the server's ids, and ACK of number 1 alone
 abbrev pub named_payload : List ℕ
-named_payload = 0x01 ∷ 0x02 ∷ 0x01 ∷ 0x00 ∷ 0x00 ∷ 0x00 ∷ []
+named_payload = 0x01 ∷ told_ids (0x02 ∷ 0x01 ∷ 0x00 ∷ 0x00 ∷ 0x00 ∷ [])
 
 -- the run
 abbrev pub late_run : Run
 late_run = record {
   keys = worked_policies;
-  start = started;
+  start = both_steady;
   events = late_events;
   answers = late_answers;
   views = late_views;
@@ -278,7 +288,8 @@ late_run = record {
   from_server = from_server 0 named_payload ∷ [];
 }
 
--- the message goes again, as its datagram is lost; then both datagrams come, and the message is read twice
+-- the message goes again, as its datagram is lost; then both datagrams come, and the message is
+-- read twice
 abbrev pub again_events : List RunEvent
 again_events =
     lossy_events
@@ -306,4 +317,39 @@ again_given = message_datagram ∷ client_datagram 1 0 ping_payload ∷ client_d
 
 -- the run of a client that sends a message again
 abbrev pub message_again : Run
-message_again = record (messaging again_events again_answers again_given) { from_server = from_server 0 named_payload ∷ [] }
+message_again = record (messaging again_events again_answers again_given) { start = both_steady; from_server = from_server 0 named_payload ∷ [] }
+
+-- ---- two messages that wait
+
+-- another message of four bytes
+abbrev pub pong_message : List ℕ
+pong_message = 112 ∷ 111 ∷ 110 ∷ 103 ∷ []
+
+-- the client sends both, and gives a datagram
+abbrev pub two_events : List RunEvent
+two_events = sends_message ping_message ∷ sends_message pong_message ∷ asks_datagram ∷ []
+
+-- what that is answered
+abbrev pub two_answers : List Answer
+two_answers = is_sent ∷ is_sent ∷ gives_bytes 150 ∷ []
+
+-- what the first so many of these leave
+unfoldable pub once_two : ℕ → World
+unfolding once_taken
+once_two n = ran_so_far worked_policies started two_events two_answers n
+
+-- the run, where the datagram has these messages of four bytes
+abbrev pub two_run : List ℕ → List ℕ → Run
+two_run first second = record {
+  keys = worked_policies;
+  start = started;
+  events = two_events;
+  answers = two_answers;
+  views = replicate 2 (seen_with None None) ++ seen_with (Some 1024000000) None ∷ [];
+  from_client = client_datagram 0 0 (told_ids ((0x31 ∷ 0x04 ∷ first) ++ 0x31 ∷ 0x04 ∷ second)) ∷ [];
+  from_server = [];
+}
+
+-- the datagram as it was sent
+abbrev pub two_sent : List ℕ → List ℕ → Sent
+two_sent first second = record { id = server_id; number = 0; reference = 0; frames = behind_ids (datagram first ∷ datagram second ∷ []); moment = 0; size = 150 }

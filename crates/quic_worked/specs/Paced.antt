@@ -1,4 +1,5 @@
--- A run in which the pacer holds back what asks (RFC 9002, section 7.7): the client has no token left, and its datagram goes once it has as many as its pacer holds.
+-- A run in which the pacer holds back what asks (RFC 9002, section 7.7): the client has no token
+-- left, and its datagram goes once it has as many as its pacer holds.
 use Rattle.std.specs.Prelude.{ℕ, true, List, [], ◌∷◌, ◌++◌, replicate, take, Some, None, Ok}
 use Rattle.quic_wire_core.specs.declared.stream_id.Side.TheVariants.{Client}
 use Rattle.quic_machine.specs.declared.answers.State.TheVariants as states
@@ -11,7 +12,7 @@ use Rattle.quic_machine.specs.End.{End}
 use Rattle.quic_machine.specs.Control.{with_pacing_timer}
 use Rattle.quic_machine.specs.Machine.{World}
 use Rattle.quic_headline.specs.Runs.{Run}
-use Rattle.quic_worked.specs.Worked.{steady_window, worked_policies, ran, started, with_client, once_written, once_sent, hello, opens_stream, writes_hello, gives_bytes, open_view, sent_view, view_with}
+use Rattle.quic_worked.specs.Worked.{steady_window, worked_policies, ran, started, with_client, once_written, once_sent, hello, opens_stream, writes_hello, gives_bytes, open_view, sent_view, view_with, ids_payload, told_ids, server_open}
 use Rattle.quic_worked.specs.Acknowledged.{client_acked, client_datagram}
 use Rattle.quic_worked.specs.Timed.{serves, asks_at, seen_with}
 use Rattle.quic_worked.specs.Held.{gives_nothing}
@@ -24,7 +25,8 @@ with_tokens tokens moment e = record e { path = record e.path { pacing = record 
 abbrev pub paced_start : World
 paced_start = with_client started (with_tokens 0 0 started.client)
 
--- when the pacer is full: 12000 tokens take four fifths of 333 ms, since the window of 12000 bytes lets five quarters of itself go in a round trip
+-- when the pacer is full: 12000 tokens take four fifths of 333 ms, since the window of 12000 bytes
+-- lets five quarters of itself go in a round trip
 abbrev pub full_again : ℕ
 full_again = 266400000
 
@@ -34,7 +36,7 @@ paced_events = opens_stream ∷ writes_hello ∷ asks_at Client 0 ∷ asks_at Cl
 
 -- what that is answered
 abbrev pub paced_answers : List Answer
-paced_answers = answers.Open (Some 0) ∷ answers.Write (Ok 5) ∷ gives_nothing ∷ gives_bytes 34 ∷ []
+paced_answers = answers.Open (Some 0) ∷ answers.Write (Ok 5) ∷ gives_nothing ∷ gives_bytes 146 ∷ []
 
 -- what the first so many of these leave
 unfoldable pub once_paced : ℕ → World
@@ -54,7 +56,7 @@ pacing_view = record {
 
 -- and of both ends then
 abbrev pub paced_view : View
-paced_view = record { client = pacing_view; server = open_view }
+paced_view = record { client = pacing_view; server = server_open }
 
 -- the run
 abbrev pub paced_run : Run
@@ -64,11 +66,11 @@ paced_run = record {
   events = paced_events;
   answers = paced_answers;
   views =
-      replicate 2 (record { client = open_view; server = open_view })
+      replicate 2 (record { client = open_view; server = server_open })
       ++ paced_view
-      ∷ record { client = view_with (Some 1290400000) None; server = open_view }
+      ∷ record { client = view_with (Some 1290400000) None; server = server_open }
       ∷ [];
-  from_client = client_datagram 0 0 ((0x0a ∷ 0x00 ∷ 0x05 ∷ []) ++ hello) ∷ [];
+  from_client = client_datagram 0 0 (told_ids ((0x0a ∷ 0x00 ∷ 0x05 ∷ []) ++ hello)) ∷ [];
   from_server = [];
 }
 
@@ -83,8 +85,8 @@ needlessly_paced = with_client once_written (with_pacing_timer once_written.clie
 abbrev pub unheld_run : Run
 unheld_run = record paced_run {
   events = opens_stream ∷ writes_hello ∷ asks_at Client 0 ∷ [];
-  answers = answers.Open (Some 0) ∷ answers.Write (Ok 5) ∷ gives_bytes 34 ∷ [];
-  views = replicate 2 (record { client = open_view; server = open_view }) ++ record { client = sent_view; server = open_view } ∷ [];
+  answers = answers.Open (Some 0) ∷ answers.Write (Ok 5) ∷ gives_bytes 146 ∷ [];
+  views = replicate 2 (record { client = open_view; server = server_open }) ++ record { client = sent_view; server = server_open } ∷ [];
 }
 
 -- ---- probes
@@ -93,13 +95,13 @@ unheld_run = record paced_run {
 abbrev pub first_expiry : ℕ
 first_expiry = 1024000000
 
--- both ends, of which the client has tokens for one datagram of 1200 bytes and 34 bytes more, and
+-- both ends, of which the client has tokens for one datagram of 1200 bytes and 146 bytes more, and
 -- gets no others before then
 abbrev pub scarce_start : World
-scarce_start = with_client started (with_tokens 1234 first_expiry started.client)
+scarce_start = with_client started (with_tokens 1346 first_expiry started.client)
 
--- The client writes the word, and gives it. Its loss timer expires, and two probes go: PING, and two
--- bytes of PADDING. It writes the word again, and is asked for a datagram at once.
+-- The client writes the word, and gives it. Its loss timer expires, and two probes go, each with
+-- its ids. It writes the word again, and is asked for a datagram at once.
 abbrev pub scarce_events : List RunEvent
 scarce_events =
     opens_stream
@@ -117,10 +119,10 @@ abbrev pub scarce_answers : List Answer
 scarce_answers =
     answers.Open (Some 0)
     ∷ answers.Write (Ok 5)
-    ∷ gives_bytes 34
+    ∷ gives_bytes 146
     ∷ answers.Timeout (Ok tt)
-    ∷ gives_bytes 29
-    ∷ gives_bytes 29
+    ∷ gives_bytes 138
+    ∷ gives_bytes 138
     ∷ answers.Write (Ok 5)
     ∷ []
 
@@ -129,7 +131,8 @@ unfoldable pub once_scarce : ℕ → World
 unfolding client_acked
 once_scarce n = ran worked_policies scarce_start (take n scarce_events) (take n scarce_answers)
 
--- a client that gives the word again, though it hasn't tokens for 1200 bytes once the probes took theirs
+-- a client that gives the word again, though it hasn't tokens for 1200 bytes once the probes took
+-- theirs
 abbrev pub uncharged_run : Run
 uncharged_run = record {
   keys = worked_policies;
@@ -138,9 +141,9 @@ uncharged_run = record {
   answers = scarce_answers ++ gives_bytes 35 ∷ [];
   views = replicate 2 (seen_with None None) ++ seen_with (Some first_expiry) None ∷ seen_with (Some 2048000000) None ∷ replicate 4 (seen_with (Some 3072000000) None);
   from_client =
-      client_datagram 0 0 ((0x0a ∷ 0x00 ∷ 0x05 ∷ []) ++ hello)
-      ∷ client_datagram 1 0 (0x01 ∷ 0x00 ∷ 0x00 ∷ [])
-      ∷ client_datagram 2 0 (0x01 ∷ 0x00 ∷ 0x00 ∷ [])
+      client_datagram 0 0 (told_ids ((0x0a ∷ 0x00 ∷ 0x05 ∷ []) ++ hello))
+      ∷ client_datagram 1 0 ids_payload
+      ∷ client_datagram 2 0 ids_payload
       ∷ client_datagram 3 0 ((0x0e ∷ 0x00 ∷ 0x05 ∷ 0x05 ∷ []) ++ hello)
       ∷ [];
   from_server = [];

@@ -1,5 +1,6 @@
--- A run of two streams at once: the client opens both, writes on each, and resets the first; one datagram tells that, and has the bytes of
--- the second. The server takes it, accepts both, is told of the reset, reads the second, and stops it; the client is told so.
+-- A run of two streams at once: the client opens both, writes on each, and resets the first; one
+-- datagram tells that, and has the bytes of the second. The server takes it, accepts both, is told
+-- of the reset, reads the second, and stops it; the client is told so.
 use Rattle.std.specs.Prelude.{map, take, ℕ, true, false, List, [], ◌∷◌, ◌++◌, replicate, Some, None, Ok, Err}
 use Rattle.quic_wire_core.specs.declared.stream_id.Side.TheVariants.{Client, Server}
 use Rattle.quic_wire.specs.Value.{FrameValue, reset_stream, stream}
@@ -25,7 +26,7 @@ use Rattle.quic_streams_parts.specs.Table.{Table}
 use Rattle.quic_machine.specs.Tracking.{TrackedPacket}
 use Rattle.quic_machine.specs.Machine.{World}
 use Rattle.quic_headline.specs.Runs.{Run}
-use Rattle.quic_worked.specs.Worked.{ReadsAs, NextAnswers, worked_policies, started, with_client, with_server, after_event, once_sent, once_taken, opens_stream, asks_datagram, delivery, delivers, accepts_stream, reads_stream, gives_bytes, open_view, sent_view, waiting_view}
+use Rattle.quic_worked.specs.Worked.{ReadsAs, NextAnswers, worked_policies, with_client, with_server, after_event, once_sent, once_taken, opens_stream, asks_datagram, delivery, delivers, accepts_stream, reads_stream, gives_bytes, open_view, sent_view, waiting_view, behind_ids, told_ids, both_steady}
 use Rattle.quic_worked.specs.Acknowledged.{client_acked, client_datagram, from_server, ack_at_once}
 use Rattle.quic_worked.specs.Reordered.{abc, def}
 use Rattle.quic_worked.specs.Broken.{tells_finished}
@@ -76,7 +77,7 @@ giving_answers =
     ∷ answers.Write (Ok 3)
     ∷ answers.Write (Ok 3)
     ∷ answers.Reset (Ok tt)
-    ∷ gives_bytes 36
+    ∷ gives_bytes 148
     ∷ []
 
 -- all events
@@ -119,7 +120,7 @@ paired_answers =
     ∷ answers.ReceivedReset (Ok (Some 7))
     ∷ answers.Read (Ok second_nexts)
     ∷ answers.Stop (Ok tt)
-    ∷ gives_bytes 34
+    ∷ gives_bytes 146
     ∷ answers.Deliver receives.Taken
     ∷ tells_stopped
     ∷ answers.Event None
@@ -129,26 +130,26 @@ paired_answers =
 
 -- ---- the datagrams
 
--- RESET_STREAM of stream 0 with code 7 and final size 3, and STREAM with a length (RFC 9000, sections 19.4 and 19.8)
+-- RESET_STREAM of stream 0 with code 7 and final size 3, the client's ids, and STREAM with a length
+-- (RFC 9000, sections 19.4 and 19.8)
 abbrev pub paired_payload : List ℕ
-paired_payload = (0x04 ∷ 0x00 ∷ 0x07 ∷ 0x03 ∷ []) ++ (0x0a ∷ 0x04 ∷ 0x03 ∷ 0x64 ∷ 0x65 ∷ 0x66 ∷ [])
+paired_payload = (0x04 ∷ 0x00 ∷ 0x07 ∷ 0x03 ∷ []) ++ told_ids (0x0a ∷ 0x04 ∷ 0x03 ∷ 0x64 ∷ 0x65 ∷ 0x66 ∷ [])
 
--- STOP_SENDING of stream 4 with code 9 (section 19.5), and an acknowledgement
+-- STOP_SENDING of stream 4 with code 9 (section 19.5), the server's ids, and an acknowledgement
 abbrev pub stop_payload : List ℕ
-stop_payload = (0x05 ∷ 0x04 ∷ 0x09 ∷ []) ++ ack_at_once
+stop_payload = (0x05 ∷ 0x04 ∷ 0x09 ∷ []) ++ told_ids ack_at_once
 
 -- what the frames of the client's datagram say
 abbrev pub paired_frames : List FrameValue
 paired_frames =
     reset_stream (record { id = 0; code = 7; final_size = 3 })
-    ∷ stream (record { id = 4; offset = 0; fin = false; bytes = def })
-    ∷ []
+    ∷ behind_ids (stream (record { id = 4; offset = 0; fin = false; bytes = def }) ∷ [])
 
 -- ---- what the events leave
 
 -- the first stream is open
 abbrev pub first_open : World
-first_open = after_event worked_policies started opens_stream (answers.Open (Some 0))
+first_open = after_event worked_policies both_steady opens_stream (answers.Open (Some 0))
 
 -- and the second
 abbrev pub both_open : World
@@ -170,7 +171,7 @@ first_reset = after_event worked_policies both_written (resets_with 7) (answers.
 -- the datagram is given
 unfoldable pub pair_sent : World
 unfolding first_reset once_sent
-pair_sent = after_event worked_policies first_reset asks_datagram (gives_bytes 36)
+pair_sent = after_event worked_policies first_reset asks_datagram (gives_bytes 148)
 
 -- and taken
 unfoldable pub pair_taken : World
@@ -202,7 +203,7 @@ second_stopped = after_event worked_policies second_read stops_second (answers.S
 -- the server gives its datagram
 unfoldable pub stop_sent : World
 unfolding second_stopped
-stop_sent = after_event worked_policies second_stopped asks_server (gives_bytes 34)
+stop_sent = after_event worked_policies second_stopped asks_server (gives_bytes 146)
 
 -- which is taken
 unfoldable pub stop_taken : World
@@ -240,7 +241,7 @@ paired_views =
 abbrev pub paired_with : ReadCall → List Answer → Run
 paired_with read told = record {
   keys = worked_policies;
-  start = started;
+  start = both_steady;
   events = paired_events read;
   answers = told;
   views = paired_views;
@@ -270,7 +271,7 @@ opened_twice read = paired_with read (take 1 paired_answers ++ answers.Open (Som
 abbrev pub accepted_early : Run
 accepted_early = record {
   keys = worked_policies;
-  start = started;
+  start = both_steady;
   events = accepts_stream ∷ [];
   answers = answers.Accept (Some 0) ∷ [];
   views = record { client = open_view; server = open_view } ∷ [];
@@ -298,7 +299,8 @@ without_again packets = map (λ p. (p.0, record p.1 { carried = record p.1.carri
 abbrev pub reset_forgotten : World
 reset_forgotten = with_client pair_sent (record pair_sent.client { tracking = record pair_sent.client.tracking { packets = without_again pair_sent.client.tracking.packets } })
 
--- what is kept of datagrams, where the reset of another stream, with another code, has to be sent again
+-- what is kept of datagrams, where the reset of another stream, with another code, has to be sent
+-- again
 abbrev pub with_other_reset : Table TrackedPacket → Table TrackedPacket
 with_other_reset packets = map (λ p. (p.0, record p.1 { carried = record p.1.carried { retransmits = record nothing_waits { reset_stream = (4, 9) ∷ [] } } })) packets
 

@@ -1,4 +1,5 @@
--- A run in which the second of two datagrams comes first, and the server reads what has come in no order.
+-- A run in which the second of two datagrams comes first, and the server reads what has come in no
+-- order.
 use Rattle.std.specs.Prelude.{ℕ, false, List, [], ◌∷◌, ◌++◌, Some, Ok}
 use Rattle.quic_machine.specs.declared.answers.Received.TheVariants as receives
 use Rattle.quic_machine.specs.declared.run.ReadCall.{ReadCall}

@@ -1,23 +1,25 @@
--- A run in which a probe takes what has to be sent again of a datagram (RFC 9002, section 6.2.4): the client resets one of two streams, its datagram
--- comes to nobody, and its loss timer expires. The first probe carries the reset once more, the datagram stays in flight. And machines that go wrong
--- there.
-use Rattle.std.specs.Prelude.{ℕ, true, false, List, [], ◌∷◌, ◌++◌, drop, take, Some, None, Ok}
+-- A run in which a probe takes what has to be sent again of a datagram (RFC 9002, section 6.2.4):
+-- the client resets one of two streams, its datagram comes to nobody, and its loss timer expires.
+-- The first probe carries the reset once more, the datagram stays in flight. And machines that go
+-- wrong there.
+use Rattle.std.specs.Prelude.{ℕ, true, false, List, [], ◌∷◌, ◌++◌, drop, take, Some, None, Ok, Option}
 use Rattle.quic_wire_core.specs.declared.stream_id.Side.TheVariants.{Client}
 use Rattle.quic_send_buffer.specs.declared.stream_meta.StreamMeta.{StreamMeta}
 use Rattle.quic_wire.specs.Reading.{reset_stream_at}
 use Rattle.quic_retransmits.specs.Retransmits.{Retransmits, nothing_waits}
 use Rattle.quic_streams_parts.specs.Table.{Table}
+use Rattle.quic_machine.specs.declared.run.View.{View}
 use Rattle.quic_machine.specs.declared.run.RunEvent.{RunEvent}
 use Rattle.quic_machine.specs.declared.run.Answer.{Answer}
 use Rattle.quic_machine.specs.declared.run.Answer.TheVariants as answers
 use Rattle.quic_machine.specs.Tracking.{TrackedPacket}
 use Rattle.quic_machine.specs.Machine.{World}
 use Rattle.quic_headline.specs.Runs.{Run}
-use Rattle.quic_worked.specs.Worked.{ran, worked_policies, started, with_client, gives_bytes}
+use Rattle.quic_worked.specs.Worked.{ran, worked_policies, with_client, gives_bytes, ids_payload, ids_again, both_steady, view_with, open_view}
 use Rattle.quic_worked.specs.Acknowledged.{client_acked, client_datagram}
 use Rattle.quic_worked.specs.Losses.{waiting_for}
 use Rattle.quic_worked.specs.Paired.{pair_sent, giving_events, giving_answers, paired_payload, without_again}
-use Rattle.quic_worked.specs.Timed.{serves, asks_at, seen_with}
+use Rattle.quic_worked.specs.Timed.{serves, asks_at}
 
 -- ---- the run
 
@@ -25,35 +27,39 @@ use Rattle.quic_worked.specs.Timed.{serves, asks_at, seen_with}
 abbrev pub later_events : List RunEvent
 later_events = serves Client 1024000000 ∷ asks_at Client 1024000000 ∷ []
 
--- the probe has 30 bytes
+-- the probe has 142 bytes
 abbrev pub later_answers : List Answer
-later_answers = answers.Timeout (Ok tt) ∷ gives_bytes 30 ∷ []
+later_answers = answers.Timeout (Ok tt) ∷ gives_bytes 142 ∷ []
 
 -- what the first so many of these leave
 unfoldable pub once_probed : ℕ → World
 unfolding client_acked reset_stream_at pair_sent
 once_probed n = ran worked_policies pair_sent (take n later_events) (take n later_answers)
 
--- RESET_STREAM of stream 0 with code 7 and final size 3 alone (RFC 9000, section 19.4)
+-- RESET_STREAM of stream 0 with code 7 and final size 3 (RFC 9000, section 19.4), and the ids
 abbrev pub reset_payload : List ℕ
-reset_payload = 0x04 ∷ 0x00 ∷ 0x07 ∷ 0x03 ∷ []
+reset_payload = 0x04 ∷ 0x00 ∷ 0x07 ∷ 0x03 ∷ ids_payload
+
+-- what is seen of a client with this timer of losses, and of a server that is open
+abbrev pub shown_with : Option ℕ → View
+shown_with timer = record { client = view_with timer None; server = open_view }
 
 -- the run: the wait doubles once the timer expired, and counts from the probe on
 abbrev pub probed_run : Run
 probed_run = record {
   keys = worked_policies;
-  start = started;
+  start = both_steady;
   events = giving_events ++ later_events;
   answers = giving_answers ++ later_answers;
   views =
-      seen_with None None
-      ∷ seen_with None None
-      ∷ seen_with None None
-      ∷ seen_with None None
-      ∷ seen_with None None
-      ∷ seen_with (Some 1024000000) None
-      ∷ seen_with (Some 2048000000) None
-      ∷ seen_with (Some 3072000000) None
+      shown_with None
+      ∷ shown_with None
+      ∷ shown_with None
+      ∷ shown_with None
+      ∷ shown_with None
+      ∷ shown_with (Some 1024000000)
+      ∷ shown_with (Some 2048000000)
+      ∷ shown_with (Some 3072000000)
       ∷ [];
   from_client = client_datagram 0 0 paired_payload ∷ client_datagram 1 0 reset_payload ∷ [];
   from_server = [];
@@ -61,7 +67,8 @@ probed_run = record {
 
 -- ---- what is waited for
 
--- a datagram of so many bytes that went at a moment with these parts of streams, and of which this has to be sent again if it is lost
+-- a datagram of so many bytes that went at a moment with these parts of streams, and of which this
+-- has to be sent again if it is lost
 abbrev pub telling : ℕ → ℕ → List StreamMeta → Retransmits → TrackedPacket
 telling size moment frames again = record {
   generation = 0;
@@ -75,13 +82,13 @@ telling size moment frames again = record {
 abbrev pub second_bytes : StreamMeta
 second_bytes = record { id = 4; offsets = record { start = 0; end = 3 }; fin = false }
 
--- the reset of the first
+-- the reset of the first, and the ids
 abbrev pub the_reset : Retransmits
-the_reset = record nothing_waits { reset_stream = (0, 7) ∷ [] }
+the_reset = record ids_again { reset_stream = (0, 7) ∷ [] }
 
 -- the first datagram, of which this has to be sent again, and the probe
 abbrev pub both_with : Retransmits → Table TrackedPacket
-both_with again = (0, telling 36 0 (second_bytes ∷ []) again) ∷ (1, telling 30 1024000000 [] the_reset) ∷ []
+both_with again = (0, telling 148 0 (second_bytes ∷ []) again) ∷ (1, telling 142 1024000000 [] the_reset) ∷ []
 
 -- ---- machines that go wrong there
 

@@ -1,6 +1,8 @@
--- A run in which the datagram is lost that lets the client go further (RFC 9000, sections 4.1 and 13.3): the server takes 8 bytes at a
--- time, and once these are read it says that 16 may come, in MAX_DATA. That datagram never comes; once three later ones went, and the
--- client acknowledged the last of them, the limit waits again, goes again, and comes. And what machines leave that forget it.
+-- A run in which the datagram is lost that lets the client go further (RFC 9000, sections 4.1 and
+-- 13.3): the server takes 8 bytes at a time, and once these are read it says that 16 may come, in
+-- MAX_DATA. That datagram never comes; once three later ones went, and the client acknowledged the
+-- last of them, the limit waits again, goes again, and comes. And what machines leave that forget
+-- it.
 use Rattle.std.specs.Prelude.{ℕ, false, List, [], ◌∷◌, ◌++◌, None, Ok}
 use Rattle.quic_wire_core.specs.declared.stream_id.Side.TheVariants.{Client, Server}
 use Rattle.quic_sets.specs.Offsets.{with_offsets}
@@ -16,7 +18,7 @@ use Rattle.quic_machine.specs.declared.run.View.{View}
 use Rattle.quic_machine.specs.End.{End}
 use Rattle.quic_machine.specs.Machine.{World, Follows, view_of}
 use Rattle.quic_headline.specs.Runs.{Run}
-use Rattle.quic_worked.specs.Worked.{worked_policies, client_id, with_server, after_event, reads_stream, gives_bytes, gives_unmarked}
+use Rattle.quic_worked.specs.Worked.{worked_policies, client_id, with_server, after_event, reads_stream, gives_bytes, gives_unmarked, told_ids}
 use Rattle.quic_worked.specs.Acknowledged.{client_acked, client_datagram, from_server, ack_at_once}
 use Rattle.quic_worked.specs.Paired.{writes_on, asks_server}
 use Rattle.quic_worked.specs.Losses.{client_polled, server_polled}
@@ -71,7 +73,7 @@ ping_told = answers.Ping ∷ gives_bytes 32 ∷ []
 abbrev pub losing_told : List Answer
 losing_told =
     credit_until
-    ++ gives_bytes 33
+    ++ gives_bytes 145
     ∷ ping_told
     ++ ping_told
     ++ ping_told
@@ -83,7 +85,7 @@ losing_told =
 
 -- and what all of it is answered
 abbrev pub raised_told : List Answer
-raised_told = losing_told ++ gives_unmarked 33 ∷ answers.Deliver receives.Taken ∷ answers.Write (Ok 8) ∷ []
+raised_told = losing_told ++ gives_unmarked 145 ∷ answers.Deliver receives.Taken ∷ answers.Write (Ok 8) ∷ []
 
 -- ---- what they leave
 
@@ -128,7 +130,7 @@ limit_lost = after_event worked_policies third_named ack_comes (answers.Deliver 
 -- the limit goes again
 unfoldable pub limit_again : World
 unfolding limit_lost
-limit_again = after_event worked_policies limit_lost server_polled (gives_unmarked 33)
+limit_again = after_event worked_policies limit_lost server_polled (gives_unmarked 145)
 
 -- it comes
 unfoldable pub limit_came : World
@@ -178,9 +180,9 @@ ping_and_ack = 0x01 ∷ ack_at_once
 abbrev pub third_ack : List ℕ
 third_ack = 0x02 ∷ 0x03 ∷ 0x4c ∷ 0x35 ∷ 0x00 ∷ 0x00 ∷ []
 
--- MAX_DATA of 16 bytes, and ACK of number 1, at once
+-- MAX_DATA of 16 bytes, the ids that were told with it, and ACK of number 1, at once
 abbrev pub again_payload : List ℕ
-again_payload = 0x10 ∷ 0x10 ∷ 0x02 ∷ 0x01 ∷ 0x00 ∷ 0x00 ∷ 0x00 ∷ []
+again_payload = 0x10 ∷ 0x10 ∷ told_ids (0x02 ∷ 0x01 ∷ 0x00 ∷ 0x00 ∷ 0x00 ∷ [])
 
 -- the run, where the server reads by this call
 abbrev pub raised_run : ReadCall → Run

@@ -5,7 +5,7 @@ use Rattle.quic_wire_core.specs.declared.stream_id.Side.TheVariants.{Client, Ser
 use Rattle.quic_assembler.specs.Arrived.{Arrived, after_insert}
 use Rattle.quic_assembler.specs.ArrivedHistory.{nothing_arrived}
 use Rattle.quic_send_buffer.specs.Buffered.{Buffered, nothing_written, after_write, after_poll}
-use Rattle.quic_wire.specs.Value.{stream}
+use Rattle.quic_wire.specs.Value.{stream, FrameValue}
 use Rattle.quic_streams_parts.specs.declared.answers.ReadError.TheVariants as read_errors
 use Rattle.quic_machine.specs.declared.answers.Received.TheVariants as receives
 use Rattle.quic_machine.specs.declared.run.RunEvent.{RunEvent}
@@ -16,7 +16,7 @@ use Rattle.quic_machine.specs.declared.run.Answer.TheVariants as answers
 use Rattle.quic_machine.specs.declared.run.View.{View}
 use Rattle.quic_machine.specs.Machine.{World}
 use Rattle.quic_headline.specs.Runs.{Packet, Run}
-use Rattle.quic_worked.specs.Worked.{NextAnswers, end_after_reads, worked_policies, started, once_sent, once_taken, with_server, ran, opens_stream, asks_datagram, accepts_stream, reads_stream, gives_bytes, open_view, sent_view, waiting_view}
+use Rattle.quic_worked.specs.Worked.{NextAnswers, end_after_reads, worked_policies, started, once_sent, once_taken, with_server, ran, opens_stream, asks_datagram, accepts_stream, reads_stream, gives_bytes, open_view, sent_view, ids_payload, behind_ids, server_open, server_waiting}
 
 -- the first three bytes of the stream
 abbrev pub abc : List ℕ
@@ -26,10 +26,11 @@ abc = 0x61 ∷ 0x62 ∷ 0x63 ∷ []
 abbrev pub def : List ℕ
 def = 0x64 ∷ 0x65 ∷ 0x66 ∷ []
 
--- STREAM with a length, under number 0 (RFC 9000, section 19.8)
+-- the client's ids, and STREAM with a length, under number 0 (RFC 9000, section 19.8)
 abbrev pub abc_datagram : List ℕ
 abc_datagram =
-    (0x41 ∷ 0x50 ∷ 0x50 ∷ 0x50 ∷ 0x50 ∷ 0x50 ∷ 0x50 ∷ 0x50 ∷ 0x50 ∷ 0x62 ∷ [])
+    (0x48 ∷ 0x50 ∷ 0x50 ∷ 0x50 ∷ 0x50 ∷ 0x50 ∷ 0x50 ∷ 0x50 ∷ 0x50 ∷ 0x00 ∷ [])
+    ++ ids_payload
     ++ (0x0a ∷ 0x00 ∷ 0x03 ∷ 0x61 ∷ 0x62 ∷ 0x63 ∷ [])
     ++ (replicate 8 0x00 ++ replicate 8 0x63)
 
@@ -61,7 +62,7 @@ abbrev pub both_answers : List Answer
 both_answers =
     answers.Open (Some 0)
     ∷ answers.Write (Ok 3)
-    ∷ gives_bytes 32
+    ∷ gives_bytes 144
     ∷ answers.Write (Ok 3)
     ∷ gives_bytes 33
     ∷ []
@@ -138,14 +139,14 @@ both_read = with_server both_taken (end_after_reads both_taken.server 0 (32 ∷ 
 
 -- ---- what is seen of it
 
--- what is seen of both ends after each event: the server waits for 25 ms once number 1 came, since before
--- any packet came none counts as missing below it. Number 0 comes below it, so that an acknowledgement is
--- due at once; the timer stays as it was set
+-- what is seen of both ends after each event: the server waits for 25 ms once number 1 came, since
+-- before any packet came none counts as missing below it. Number 0 comes below it, so that an
+-- acknowledgement is due at once; the timer stays as it was set
 abbrev pub reordered_views : List View
 reordered_views =
-    replicate 2 (record { client = open_view; server = open_view })
-    ++ replicate 3 (record { client = sent_view; server = open_view })
-    ++ replicate 5 (record { client = sent_view; server = waiting_view })
+    replicate 2 (record { client = open_view; server = server_open })
+    ++ replicate 3 (record { client = sent_view; server = server_open })
+    ++ replicate 5 (record { client = sent_view; server = server_waiting })
 
 -- the run
 abbrev pub reordered_run : ReadCall → ReadCall → Run
@@ -159,16 +160,21 @@ reordered_run first second = record {
   from_server = [];
 }
 
--- a packet of this number, with these bytes of the stream from an offset on
-abbrev pub stream_packet : ℕ → ℕ → List ℕ → Packet
-stream_packet number offset bytes = record {
-  number = number;
-  frames = stream (record { id = 0; offset = offset; fin = false; bytes = bytes }) ∷ [];
-}
+-- the frame with these bytes of the stream from an offset on
+abbrev pub part_frame : ℕ → List ℕ → FrameValue
+part_frame offset bytes = stream (record { id = 0; offset = offset; fin = false; bytes = bytes })
+
+-- the packet of number 0, with the ids and the first bytes
+abbrev pub abc_packet : Packet
+abc_packet = record { number = 0; frames = behind_ids (part_frame 0 abc ∷ []) }
+
+-- that of number 1, with the bytes behind them
+abbrev pub def_packet : Packet
+def_packet = record { number = 1; frames = part_frame 3 def ∷ [] }
 
 -- its packets, the latest first
 abbrev pub reordered_packets : List Packet
-reordered_packets = stream_packet 0 0 abc ∷ stream_packet 1 3 def ∷ []
+reordered_packets = abc_packet ∷ def_packet ∷ []
 
 -- ---- the buffers alone
 

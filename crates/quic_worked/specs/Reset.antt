@@ -10,7 +10,7 @@ use Rattle.quic_machine.specs.declared.run.Answer.{Answer}
 use Rattle.quic_machine.specs.declared.run.Answer.TheVariants as answers
 use Rattle.quic_machine.specs.Machine.{World}
 use Rattle.quic_headline.specs.Runs.{Run}
-use Rattle.quic_worked.specs.Worked.{after_event, worked_policies, started, once_taken, opens_stream, asks_datagram, gives_bytes, open_view, sent_view, waiting_view}
+use Rattle.quic_worked.specs.Worked.{after_event, worked_policies, started, once_taken, opens_stream, asks_datagram, gives_bytes, open_view, sent_view, server_open, server_waiting}
 use Rattle.quic_worked.specs.Reordered.{abc, abc_datagram, writes_bytes, delivers_at, first_sent}
 use Rattle.quic_worked.specs.Paired.{resets_with}
 use Rattle.quic_worked.specs.Messages.{server_asks}
@@ -20,18 +20,18 @@ use Rattle.quic_worked.specs.Told.{tells_opened, tells_readable}
 abbrev pub reset_datagram : List ℕ
 reset_datagram = (0x43 ∷ (replicate 8 0x50 ++ 0x01 ∷ [])) ++ (0x04 ∷ 0x00 ∷ 0x07 ∷ 0x03 ∷ []) ++ (replicate 7 0x00 ++ 0x01 ∷ replicate 8 0x63)
 
--- the client writes three bytes, gives them, resets their stream, and gives that; the first datagram
--- comes, and the application is told of the stream; then the second comes, and it asks
+-- the client writes three bytes, gives them, resets their stream, and gives that; the first
+-- datagram comes, and the application is told of the stream; then the second comes, and it asks
 abbrev pub resetting : List RunEvent → List Answer → Run
 resetting asks told = record {
   keys = worked_policies;
   start = started;
   events = opens_stream ∷ writes_bytes abc ∷ asks_datagram ∷ resets_with 7 ∷ asks_datagram ∷ delivers_at 0 ∷ server_asks ∷ delivers_at 1 ∷ asks;
-  answers = answers.Open (Some 0) ∷ answers.Write (Ok 3) ∷ gives_bytes 32 ∷ answers.Reset (Ok tt) ∷ gives_bytes 30 ∷ answers.Deliver receives.Taken ∷ tells_opened ∷ answers.Deliver receives.Taken ∷ told;
+  answers = answers.Open (Some 0) ∷ answers.Write (Ok 3) ∷ gives_bytes 144 ∷ answers.Reset (Ok tt) ∷ gives_bytes 30 ∷ answers.Deliver receives.Taken ∷ tells_opened ∷ answers.Deliver receives.Taken ∷ told;
   views =
-      replicate 2 (record { client = open_view; server = open_view })
-      ++ replicate 3 (record { client = sent_view; server = open_view })
-      ++ replicate 5 (record { client = sent_view; server = waiting_view });
+      replicate 2 (record { client = open_view; server = server_open })
+      ++ replicate 3 (record { client = sent_view; server = server_open })
+      ++ replicate 5 (record { client = sent_view; server = server_waiting });
   from_client = abc_datagram ∷ reset_datagram ∷ [];
   from_server = [];
 }

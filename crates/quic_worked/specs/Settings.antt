@@ -2,6 +2,11 @@
 use Rattle.std.specs.Prelude.{None}
 use Rattle.quic_config.specs.Transport.{Settings, default_settings}
 
--- those where nothing is set but that no greater size of datagrams is looked for: a poll that has nothing to give gives nothing
+-- those where nothing is set but that there is no idle timeout, so that its timer isn't set
+abbrev pub search_settings : Settings
+search_settings = record default_settings { max_idle_timeout = None }
+
+-- those where no greater size of datagrams is looked for besides, so that a poll that has nothing
+-- to give gives nothing
 abbrev pub plain_settings : Settings
-plain_settings = record default_settings { mtu_discovery_config = None }
+plain_settings = record search_settings { mtu_discovery_config = None }

@@ -14,7 +14,7 @@ use Rattle.quic_machine.specs.declared.run.View.{View}
 use Rattle.quic_machine.specs.Machine.{World, end_at, Follows}
 use Rattle.quic_headline.specs.Runs.{Run}
 use Rattle.quic_headline.specs.Observer.{terms_of, loss_due, watch}
-use Rattle.quic_worked.specs.Worked.{ran, worked_policies, started, delivery, once_sent, sending_events, sending_answers, gives_bytes, hello_datagram, open_view, sent_view, view_with}
+use Rattle.quic_worked.specs.Worked.{ran, worked_policies, started, delivery, once_sent, sending_events, sending_answers, gives_bytes, hello_datagram, open_view, sent_view, view_with, ids_payload, server_with, server_open}
 use Rattle.quic_worked.specs.Acknowledged.{ack_payload, client_datagram, client_acked, from_server}
 
 -- an end's timers are served at a moment
@@ -29,9 +29,9 @@ asks_at side now = record { side = side; call = calls.Poll now }
 abbrev pub comes_at : Side → ℕ → RunEvent
 comes_at side now = record { side = side; call = calls.Deliver (record delivery { now = now }) }
 
--- the probe: PING, and two bytes of PADDING
+-- the probe: the ids, which the datagram in flight told
 abbrev pub probe : List ℕ
-probe = client_datagram 1 0 (0x01 ∷ 0x00 ∷ 0x00 ∷ [])
+probe = client_datagram 1 0 ids_payload
 
 -- what comes behind the datagram that is given at moment 0
 abbrev pub later_events : List RunEvent
@@ -48,7 +48,7 @@ later_events =
 abbrev pub later_answers : List Answer
 later_answers =
     answers.Timeout (Ok tt)
-    ∷ gives_bytes 29
+    ∷ gives_bytes 138
     ∷ answers.Deliver receives.Taken
     ∷ answers.Timeout (Ok tt)
     ∷ gives_bytes 32
@@ -62,13 +62,13 @@ once_later n = ran worked_policies once_sent (take n later_events) (take n later
 
 -- what is seen where the client's loss timer and the server's timer of acknowledgements are set so
 abbrev pub seen_with : Option ℕ → Option ℕ → View
-seen_with loss moment = record { client = view_with loss None; server = view_with None moment }
+seen_with loss moment = record { client = view_with loss None; server = server_with moment }
 
 -- the views, where the client shows its loss timer set to these moments once it expired, once the
 -- probe went, and once one datagram was acknowledged; and the server shows its timer so
 abbrev pub views_with : ℕ → ℕ → ℕ → ℕ → List View
 views_with expired probed answered due =
-    replicate 3 (record { client = open_view; server = open_view })
+    replicate 3 (record { client = open_view; server = server_open })
     ++ seen_with (Some 1024000000) None
     ∷ seen_with (Some expired) None
     ∷ seen_with (Some probed) None
@@ -91,8 +91,8 @@ run_seen views = record {
 }
 
 -- the run: the wait doubles once the timer expired, and no longer once a datagram was acknowledged.
--- That took 1060 ms, the first round trip that is measured: half of it is its variation, so the probe,
--- which went at 1024 ms, is waited for during 1060 ms, four times 530 ms, and 25 ms
+-- That took 1060 ms, the first round trip that is measured: half of it is its variation, so the
+-- probe, which went at 1024 ms, is waited for during 1060 ms, four times 530 ms, and 25 ms
 abbrev pub timed_run : Run
 timed_run = run_seen (views_with 2048000000 3072000000 4229000000 1055000000)
 
@@ -137,7 +137,7 @@ asking_run loss next = record {
   start = started;
   events = sending_events ++ asks_loss ∷ asks_next ∷ [];
   answers = sending_answers ++ answers.Timer loss ∷ answers.NextTimeout next ∷ [];
-  views = replicate 3 (record { client = open_view; server = open_view }) ++ replicate 3 (record { client = sent_view; server = open_view });
+  views = replicate 3 (record { client = open_view; server = server_open }) ++ replicate 3 (record { client = sent_view; server = server_open });
   from_client = hello_datagram ∷ [];
   from_server = [];
 }

@@ -13,7 +13,7 @@ use Rattle.quic_machine.specs.declared.run.Answer.{Answer}
 use Rattle.quic_machine.specs.declared.run.Answer.TheVariants as answers
 use Rattle.quic_machine.specs.Machine.{World}
 use Rattle.quic_headline.specs.Runs.{Packet, Run}
-use Rattle.quic_worked.specs.Worked.{NextAnswers, after_event, end_after_reads, with_server, worked_policies, started, once_taken, hello_frame, hello_datagram, asks_datagram, delivers, accepts_stream, reads_stream, gives_chunk, two_chunks, sending_events, sending_answers, open_view, sent_view, waiting_view}
+use Rattle.quic_worked.specs.Worked.{NextAnswers, after_event, end_after_reads, with_server, worked_policies, started, once_taken, hello_frame, hello_datagram, asks_datagram, delivers, accepts_stream, reads_stream, gives_chunk, two_chunks, sending_events, sending_answers, open_view, sent_view, behind_ids, server_open, server_waiting}
 use Rattle.quic_worked.specs.Reordered.{abc, abc_datagram, def_datagram, delivers_at, both_events, both_answers, blocked_nexts, both_sent}
 use Rattle.quic_worked.specs.Messages.{ping_message, message_datagram, sends_message, server_asks, message_front, messaging}
 
@@ -30,7 +30,7 @@ asking asks told = record {
   start = started;
   events = sending_events ++ delivers ∷ asks;
   answers = sending_answers ++ answers.Deliver receives.Taken ∷ told;
-  views = replicate 3 (record { client = open_view; server = open_view }) ++ record { client = sent_view; server = open_view } ∷ replicate 3 (record { client = sent_view; server = waiting_view });
+  views = replicate 3 (record { client = open_view; server = server_open }) ++ record { client = sent_view; server = server_open } ∷ replicate 3 (record { client = sent_view; server = server_waiting });
   from_client = hello_datagram ∷ [];
   from_server = [];
 }
@@ -41,7 +41,7 @@ opening_run = asking (server_asks ∷ server_asks ∷ []) (tells_opened ∷ answ
 
 -- the packet with the word
 abbrev pub hello_packet : Packet
-hello_packet = record { number = 0; frames = stream hello_frame ∷ [] }
+hello_packet = record { number = 0; frames = behind_ids (stream hello_frame ∷ []) }
 
 -- it was told of the stream
 abbrev pub opening_told : World
@@ -81,9 +81,9 @@ waiting read asks told = record {
       ∷ answers.Deliver receives.Taken
       ∷ told;
   views =
-      replicate 2 (record { client = open_view; server = open_view })
-      ++ replicate 3 (record { client = sent_view; server = open_view })
-      ++ replicate 7 (record { client = sent_view; server = waiting_view });
+      replicate 2 (record { client = open_view; server = server_open })
+      ++ replicate 3 (record { client = sent_view; server = server_open })
+      ++ replicate 7 (record { client = sent_view; server = server_waiting });
   from_client = abc_datagram ∷ def_datagram ∷ [];
   from_server = [];
 }

@@ -38,8 +38,7 @@ shut_run = record {
 -- settings come to
 abbrev pub lone_parameters : List ℕ
 lone_parameters =
-    (0x01 ∷ 0x04 ∷ 0x80 ∷ 0x00 ∷ 0x75 ∷ 0x30 ∷ [])
-    ++ (0x04 ∷ 0x08 ∷ 0xff ∷ 0xff ∷ 0xff ∷ 0xff ∷ 0xff ∷ 0xff ∷ 0xff ∷ 0xff ∷ [])
+    (0x04 ∷ 0x08 ∷ 0xff ∷ 0xff ∷ 0xff ∷ 0xff ∷ 0xff ∷ 0xff ∷ 0xff ∷ 0xff ∷ [])
     ++ (0x05 ∷ 0x04 ∷ 0x80 ∷ 0x13 ∷ 0x12 ∷ 0xd0 ∷ [])
     ++ (0x06 ∷ 0x04 ∷ 0x80 ∷ 0x13 ∷ 0x12 ∷ 0xd0 ∷ [])
     ++ (0x07 ∷ 0x04 ∷ 0x80 ∷ 0x13 ∷ 0x12 ∷ 0xd0 ∷ [])
@@ -52,8 +51,8 @@ lone_parameters =
 -- both ends, where the server lets one one-way stream be open
 abbrev pub lone_start : World
 lone_start = record {
-  client = new_end Client plain_settings roomy_windows (parameters_of (with_uni 1)) client_id server_id 0 true 63;
-  server = new_end Server (with_uni 1) roomy_windows (parameters_of plain_settings) server_id client_id 0 true 63;
+  client = new_end Client plain_settings roomy_windows (parameters_of (with_uni 1)) client_id server_id 0 true (λ n. 63);
+  server = new_end Server (with_uni 1) roomy_windows (parameters_of plain_settings) server_id client_id 0 true (λ n. 63);
   from_client = [];
   from_server = [];
   client_control = roomy_control;

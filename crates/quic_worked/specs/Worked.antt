@@ -10,14 +10,15 @@ use Rattle.quic_wire_core.specs.declared.stream_id.Side.TheVariants.{Client, Ser
 use Rattle.quic_wire_core.specs.declared.stream_id.Dir.{Dir}
 use Rattle.quic_wire_core.specs.declared.stream_id.Dir.TheVariants.{Bi}
 use Rattle.quic_wire_core.specs.declared.shared.EcnCodepoint.TheVariants.{Ect0}
-use Rattle.quic_config.specs.Transport.{Settings, default_settings, parameters_of}
-use Rattle.quic_worked.specs.Settings.{plain_settings}
+use Rattle.quic_wire_core.specs.declared.shared.IssuedCid.{IssuedCid}
+use Rattle.quic_config.specs.Transport.{Settings, parameters_of}
+use Rattle.quic_worked.specs.Settings.{plain_settings, search_settings}
 use Rattle.quic_sets.specs.Offsets.{without_offsets, parts_from}
 use Rattle.quic_sets.specs.Pieces.{pieces}
-use Rattle.quic_wire.specs.Value.{StreamValue}
+use Rattle.quic_wire.specs.Value.{StreamValue, FrameValue, new_connection_id}
 use Rattle.quic_wire.specs.Writing.{stream_spelling}
 use Rattle.quic_wire.specs.FrameTypes.{kind_of}
-use Rattle.quic_wire.specs.Reading.{block_at, sized_at, offset_at, data_at, stream_at, body_at}
+use Rattle.quic_wire.specs.Reading.{block_at, sized_at, offset_at, data_at, stream_at, byte_at, id_at, connection_id_at, id_and_token_at, issued_at, new_connection_id_at, body_at}
 use Rattle.quic_wire.specs.Items.{frame_at, items_within, items}
 use Rattle.quic_packet.specs.Number.{truncated, number_bytes}
 use Rattle.quic_packet.specs.Keys.{Protection}
@@ -40,11 +41,12 @@ use Rattle.quic_machine.specs.Policy.{Policy}
 use Rattle.quic_machine.specs.Control.{Control, after_told}
 use Rattle.quic_machine.specs.Closing.{failed}
 use Rattle.quic_machine.specs.Tracking.{TrackedPacket}
-use Rattle.quic_machine.specs.End.{End, new_end, with_closing, streams_at, with_streams}
+use Rattle.quic_machine.specs.End.{End, new_end, KeyLimits, with_closing, streams_at, with_streams, with_waiting}
 use Rattle.quic_machine.specs.Calls.{is_open, after_reads}
 use Rattle.quic_machine.specs.Poll.{Polled, polled}
 use Rattle.quic_machine.specs.Receive.{received}
 use Rattle.quic_machine.specs.Parts.{Windows}
+use Rattle.quic_machine.specs.Parts as parts
 use Rattle.quic_machine.specs.Heard.{nothing_heard, Heard, heard_datagram}
 use Rattle.quic_machine.specs.Machine.{World, Policies, policy_at, given_by, control_at, changed, end_met, after_call, gives, tells, heard_at, heard_by}
 use Rattle.quic_headline.specs.Runs.{Run, same_side}
@@ -55,7 +57,7 @@ use Rattle.quic_streams_parts.specs.declared.answers.FinishError.TheVariants as 
 use Rattle.quic_streams_parts.specs.declared.answers.ReadableError.TheVariants as readable_errors
 use Rattle.quic_streams_parts.specs.declared.answers.ReadError.{ReadError}
 use Rattle.quic_streams_parts.specs.declared.answers.ReadError.TheVariants as read_errors
-use Rattle.quic_retransmits.specs.Retransmits.{nothing_waits}
+use Rattle.quic_retransmits.specs.Retransmits.{Retransmits, nothing_waits}
 use Rattle.quic_streams_state.specs.Opening.{open_answer, accept_answer}
 use Rattle.quic_streams_state.specs.Writing.{write_answer, after_write}
 use Rattle.quic_streams_state.specs.Reading.{told_bytes, next_answer}
@@ -148,19 +150,38 @@ steady_control = λ (told : List Told). steady_window
 abbrev pub steady : Windows
 steady = record { initial = steady_window; present = steady_window }
 
--- an end that marks what it gives by one byte, and opens what is marked by another; its random source
--- answers 63 for ever
+-- a window in which no datagram fits: an end that reads it acknowledges what comes, and gives
+-- nothing that asks, so that the ids which it has issued wait to be told
+abbrev pub shut_window : ℕ
+shut_window = 1199
+
+-- a controller that shows it whatever it is told
+abbrev pub shut_control : Control
+shut_control = λ (told : List Told). shut_window
+
+-- it shows that when it is made
+abbrev pub shut : Windows
+shut = record { initial = steady_window; present = shut_window }
+
+-- an end that marks what it gives by one byte, and opens what is marked by another, 8388608 packets
+-- of each at most; its random source answers 63 for ever
 abbrev pub marking : ℕ → ℕ → Policy
 marking own theirs =
     record {
       header = masking;
       packet = record { seal = marked own; unseal = unmarked theirs };
       words = λ n. 63;
+      seals = 8388608;
+      openings = 8388608;
     }
 
 -- the marks are the letters `c` and `s`
 abbrev pub worked_policies : Policies
 worked_policies = record { client = marking 0x63 0x73; server = marking 0x73 0x63 }
+
+-- so long their keys last
+abbrev pub long_keys : KeyLimits
+long_keys = record { seals = 8388608; openings = 8388608 }
 
 -- ---- the ends as they are made
 
@@ -172,13 +193,12 @@ client_id = replicate 8 0xc0
 abbrev pub server_id : List ℕ
 server_id = replicate 8 0x50
 
--- what each end tells the other: 30000 ms, 2^62 - 1 bytes in all, 1250000 on each stream, 100
+-- what each end tells the other: 2^62 - 1 bytes in all, 1250000 on each stream, 100
 -- streams of each kind, 5 ids, DATAGRAM frames of 65535 bytes, 1000 microseconds (RFC 9000, section
 -- 18.2)
 abbrev pub worked_parameters : List ℕ
 worked_parameters =
-    (0x01 ∷ 0x04 ∷ 0x80 ∷ 0x00 ∷ 0x75 ∷ 0x30 ∷ [])
-    ++ (0x04 ∷ 0x08 ∷ 0xff ∷ 0xff ∷ 0xff ∷ 0xff ∷ 0xff ∷ 0xff ∷ 0xff ∷ 0xff ∷ [])
+    (0x04 ∷ 0x08 ∷ 0xff ∷ 0xff ∷ 0xff ∷ 0xff ∷ 0xff ∷ 0xff ∷ 0xff ∷ 0xff ∷ [])
     ++ (0x05 ∷ 0x04 ∷ 0x80 ∷ 0x13 ∷ 0x12 ∷ 0xd0 ∷ [])
     ++ (0x06 ∷ 0x04 ∷ 0x80 ∷ 0x13 ∷ 0x12 ∷ 0xd0 ∷ [])
     ++ (0x07 ∷ 0x04 ∷ 0x80 ∷ 0x13 ∷ 0x12 ∷ 0xd0 ∷ [])
@@ -188,22 +208,78 @@ worked_parameters =
     ++ (0x20 ∷ 0x04 ∷ 0x80 ∷ 0x00 ∷ 0xff ∷ 0xff ∷ [])
     ++ (0xc0 ∷ 0x00 ∷ 0x00 ∷ 0x00 ∷ 0xff ∷ 0x04 ∷ 0xde ∷ 0x1b ∷ 0x02 ∷ 0x43 ∷ 0xe8 ∷ [])
 
--- the client before the first event: open at moment 0, on a validated path; of its numbers 63 is the
--- first that is left out
+-- the client before the first event: open at moment 0, on a validated path; of its numbers 63 is
+-- the first that is left out
 abbrev pub client_made : End
 client_made =
-    new_end Client plain_settings steady (parameters_of plain_settings) client_id server_id 0 true 63
+    new_end Client plain_settings steady (parameters_of plain_settings) client_id server_id 0 true (λ n. 63)
 
--- the server before the first event
+-- the server before the first event: its window is shut
 abbrev pub server_made : End
 server_made =
-    new_end Server plain_settings steady (parameters_of plain_settings) server_id client_id 0 true 63
+    new_end Server plain_settings shut (parameters_of plain_settings) server_id client_id 0 true (λ n. 63)
 
 -- both ends, before anything was given
 abbrev pub started : World
 started = record {
   client = client_made;
   server = server_made;
+  from_client = [];
+  from_server = [];
+  client_control = steady_control;
+  server_control = shut_control;
+  client_heard = nothing_heard;
+  server_heard = nothing_heard;
+}
+
+-- ---- the ids that each end issues at once
+
+-- eight bytes of a word of the random source
+abbrev pub id_word : List ℕ
+id_word = replicate 7 0x00 ++ 0x3f ∷ []
+
+-- the id of a number: one word, and a token of two
+abbrev pub issued : ℕ → IssuedCid
+issued number = record { sequence = number; id = id_word; reset_token = id_word ++ id_word }
+
+-- those under numbers 1 to 4, as the peer takes five in all
+abbrev pub issued_ids : List IssuedCid
+issued_ids = issued 1 ∷ issued 2 ∷ issued 3 ∷ issued 4 ∷ []
+
+-- NEW_CONNECTION_ID of a number, which asks for none to be retired (RFC 9000, section 19.15)
+abbrev pub id_frame : ℕ → FrameValue
+id_frame number = new_connection_id (record { sequence = number; retire_prior_to = 0; id = id_word; token = id_word ++ id_word })
+
+-- its spelling: type, both numbers, the length of the id, the id and its token
+abbrev pub id_payload : ℕ → List ℕ
+id_payload number = 0x18 ∷ number ∷ 0x00 ∷ 0x08 ∷ id_word ++ id_word ++ id_word
+
+-- the frames with which an end tells all four, before the bytes of its streams
+abbrev pub id_frames : List FrameValue
+id_frames = id_frame 1 ∷ id_frame 2 ∷ id_frame 3 ∷ id_frame 4 ∷ []
+
+-- how they are written: 112 bytes
+abbrev pub ids_payload : List ℕ
+ids_payload = id_payload 1 ++ id_payload 2 ++ id_payload 3 ++ id_payload 4
+
+-- the frames of the first packet of an end, which tells its ids before these
+abbrev pub behind_ids : List FrameValue → List FrameValue
+behind_ids frames = id_frames ++ frames
+
+-- and how they are written
+abbrev pub told_ids : List ℕ → List ℕ
+told_ids payload = ids_payload ++ payload
+
+-- what has to be sent again of a packet that told them, beside the bytes of streams
+abbrev pub ids_again : Retransmits
+ids_again = record nothing_waits { new_cids = issued_ids }
+
+-- both ends, where the window of the server has room too, so that it tells its ids with the first
+-- datagram that it gives
+abbrev pub both_steady : World
+both_steady = record {
+  client = client_made;
+  server = new_end Server plain_settings steady (parameters_of plain_settings) server_id client_id 0 true (λ n. 63);
   from_client = [];
   from_server = [];
   client_control = steady_control;
@@ -248,9 +324,10 @@ numbered_from next e = record e { numbers = record e.numbers { next = next } }
 abbrev pub within : ℕ → End → End
 within limit e = record e { streams = record e.streams { sending = record e.streams.sending { limit = limit } } }
 
--- the client, which looks for a greater size of datagrams, on a path that is validated or isn't
+-- the client, which looks for a greater size of datagrams, on a path that is validated or isn't;
+-- what it asks then and which ids it tells were sent
 abbrev pub searching : Bool → End
-searching validated = new_end Client default_settings steady (parameters_of default_settings) client_id server_id 0 validated 63
+searching validated = with_waiting (new_end Client search_settings steady (parameters_of plain_settings) client_id server_id 0 validated (λ n. 63)) parts.nothing_waits
 
 -- settings by which the peer may open no two-way stream
 abbrev pub no_two_way : Settings
@@ -295,10 +372,15 @@ hello_frame = record { id = 0; offset = 0; fin = true; bytes = hello }
 abbrev pub hello_payload : List ℕ
 hello_payload = 0x0b ∷ 0x00 ∷ 0x05 ∷ hello
 
+-- it goes in the client's first datagram, which tells its ids before it
+abbrev pub hello_whole : List ℕ
+hello_whole = told_ids hello_payload
+
 -- header, number under its mask, payload and tag
 abbrev pub hello_datagram : List ℕ
 hello_datagram =
-    (0x48 ∷ 0x50 ∷ 0x50 ∷ 0x50 ∷ 0x50 ∷ 0x50 ∷ 0x50 ∷ 0x50 ∷ 0x50 ∷ 0x65 ∷ [])
+    (0x48 ∷ 0x50 ∷ 0x50 ∷ 0x50 ∷ 0x50 ∷ 0x50 ∷ 0x50 ∷ 0x50 ∷ 0x50 ∷ 0x00 ∷ [])
+    ++ ids_payload
     ++ (0x0b ∷ 0x00 ∷ 0x05 ∷ 0x68 ∷ 0x65 ∷ 0x6c ∷ 0x6c ∷ 0x6f ∷ [])
     ++ (replicate 8 0x00 ++ replicate 8 0x63)
 
@@ -316,20 +398,20 @@ client_packet first number payload =
 -- the datagram with its number and first byte as they are, the payload sealed behind them
 abbrev pub unprotected_hello : List ℕ
 unprotected_hello =
-    (0x40 ∷ server_id) ++ (0x00 ∷ worked_policies.client.packet.seal 0 [] hello_payload)
+    (0x40 ∷ server_id) ++ (0x00 ∷ worked_policies.client.packet.seal 0 [] hello_whole)
 
 -- what it opens to
 abbrev pub hello_opening : Opening
-hello_opening = record { first = 0x40; number = 0; payload = hello_payload }
+hello_opening = record { first = 0x40; number = 0; payload = hello_whole }
 
 -- what the server makes of a datagram at moment 0
 abbrev pub at_server : End → List ℕ → Received
-at_server server datagram = (received worked_policies.server server (arriving 0 None) datagram).answer
+at_server server datagram = (received worked_policies.server server (arriving 0 None false) datagram).answer
 
--- a datagram of so many bytes that went at moment 0 with the bytes of stream 0 from one offset up to
--- another, and with its end or not
-abbrev pub carrying : ℕ → ℕ → ℕ → Bool → TrackedPacket
-carrying size start end fin = record {
+-- a datagram of so many bytes that went at moment 0 with the bytes of stream 0 from one offset up
+-- to another, and with its end or not, and of which this has to be sent again besides if it is lost
+abbrev pub carrying : Retransmits → ℕ → ℕ → ℕ → Bool → TrackedPacket
+carrying again size start end fin = record {
   generation = 0;
   time_sent = 0;
   size = size;
@@ -337,12 +419,12 @@ carrying size start end fin = record {
   carried = record {
     largest_acked = None;
     stream_frames = record { id = 0; offsets = record { start = start; end = end }; fin = fin } ∷ [];
-    retransmits = nothing_waits;
+    retransmits = again;
   };
 }
 
--- a datagram that went at a moment with an acknowledgement of numbers up to one, and nothing else: it
--- doesn't ask for one, and counts against no window (RFC 9002, section 2)
+-- a datagram that went at a moment with an acknowledgement of numbers up to one, and nothing else:
+-- it doesn't ask for one, and counts against no window (RFC 9002, section 2)
 abbrev pub acknowledging : ℕ → ℕ → TrackedPacket
 acknowledging moment largest = record {
   generation = 0;
@@ -451,7 +533,7 @@ sending_events = opens_stream ∷ writes_hello ∷ finishes_stream ∷ asks_data
 -- their answers
 abbrev pub sending_answers : List Answer
 sending_answers =
-    answers.Open (Some 0) ∷ answers.Write (Ok 5) ∷ answers.Finish (Ok tt) ∷ gives_bytes 34 ∷ []
+    answers.Open (Some 0) ∷ answers.Write (Ok 5) ∷ answers.Finish (Ok tt) ∷ gives_bytes 146 ∷ []
 
 -- all events; `read` asks for two chunks
 abbrev pub worked_events : ReadCall → List RunEvent
@@ -488,7 +570,7 @@ once_sent = ran worked_policies started sending_events sending_answers
 
 -- the server took the datagram
 unfoldable pub once_taken : World
-unfolding once_sent items items_within frame_at body_at kind_of stream_at offset_at data_at sized_at block_at
+unfolding once_sent items items_within frame_at body_at kind_of stream_at offset_at data_at sized_at block_at new_connection_id_at issued_at id_and_token_at connection_id_at byte_at id_at
 once_taken = after_event worked_policies once_sent delivers (answers.Deliver receives.Taken)
 
 -- the datagram came again, and was a duplicate: no more than that is counted
@@ -505,16 +587,33 @@ once_read = with_server once_accepted (end_after_reads once_accepted.server 0 tw
 
 -- ---- the run
 
--- what is seen of an end that is open, with the timers of losses and of acknowledgements set or not
-abbrev pub view_with : Option ℕ → Option ℕ → EndView
-view_with loss moment = record {
+-- what is seen of an end that is open and shows this window, with the timers of losses and of
+-- acknowledgements set or not
+abbrev pub view_within : ℕ → Option ℕ → Option ℕ → EndView
+view_within window loss moment = record {
   state = states.Open;
   reason = None;
   validated = true;
   timers = loss ∷ replicate 7 None ++ moment ∷ [];
-  window = steady_window;
+  window = window;
   current_mtu = 1200;
 }
+
+-- of one whose window has room
+abbrev pub view_with : Option ℕ → Option ℕ → EndView
+view_with loss moment = view_within steady_window loss moment
+
+-- of a server whose window is shut, which gives nothing that asks
+abbrev pub server_with : Option ℕ → EndView
+server_with moment = view_within shut_window None moment
+
+-- with no timer set
+abbrev pub server_open : EndView
+server_open = server_with None
+
+-- and once it took an asking datagram at moment 0
+abbrev pub server_waiting : EndView
+server_waiting = server_with (Some 25000000)
 
 -- what is seen of an open end that has no timer set
 abbrev pub open_view : EndView
@@ -532,9 +631,9 @@ waiting_view = view_with None (Some 25000000)
 -- datagram, and the server's waits for 25 ms once it took it
 abbrev pub worked_views : List View
 worked_views =
-    replicate 3 (record { client = open_view; server = open_view })
-    ++ record { client = sent_view; server = open_view }
-    ∷ replicate 4 (record { client = sent_view; server = waiting_view })
+    replicate 3 (record { client = open_view; server = server_open })
+    ++ record { client = sent_view; server = server_open }
+    ∷ replicate 4 (record { client = sent_view; server = server_waiting })
 
 -- the run with these answers
 abbrev pub run_with : ReadCall → List Answer → Run

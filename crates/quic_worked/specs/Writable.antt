@@ -18,7 +18,7 @@ use Rattle.quic_machine.specs.Start.{AreStarted}
 use Rattle.quic_machine.specs.Machine.{World}
 use Rattle.quic_headline.specs.Runs.{Run}
 use Rattle.quic_headline.specs.Events.{writing}
-use Rattle.quic_worked.specs.Worked.{ran_so_far, worked_policies, with_server, end_after_reads, once_taken, hello, opens_stream, asks_datagram, delivers, accepts_stream, reads_stream, gives_bytes, sent_view, waiting_view}
+use Rattle.quic_worked.specs.Worked.{ran_so_far, worked_policies, with_server, end_after_reads, once_taken, hello, opens_stream, asks_datagram, delivers, accepts_stream, reads_stream, gives_bytes, sent_view, waiting_view, told_ids}
 use Rattle.quic_worked.specs.Acknowledged.{client_acked, client_datagram, from_server}
 use Rattle.quic_worked.specs.Paired.{writes_on, asks_server, client_hears, client_asks}
 use Rattle.quic_worked.specs.Credit.{eight_bounds, views_of_credit}
@@ -69,15 +69,17 @@ pub record AwaitsAt (read : ReadCall) (s : AreStarted limited_start) (i : ℕ) (
 abbrev pub own_front : List RunEvent
 own_front = opens_stream ∷ writes_on 0 sixteen ∷ writes_on 0 sixteen ∷ asks_datagram ∷ delivers ∷ accepts_stream ∷ []
 
+-- the answers to these: five bytes are written, and the second write is blocked
 abbrev pub own_told : List Answer
-own_told = answers.Open (Some 0) ∷ answers.Write (Ok 5) ∷ answers.Write (Err write_errors.Blocked) ∷ gives_bytes 37 ∷ answers.Deliver receives.Taken ∷ answers.Accept (Some 0) ∷ []
+own_told = answers.Open (Some 0) ∷ answers.Write (Ok 5) ∷ answers.Write (Err write_errors.Blocked) ∷ gives_bytes 149 ∷ answers.Deliver receives.Taken ∷ answers.Accept (Some 0) ∷ []
 
 -- once the stream is read, limits are raised, and the client's application asks twice
 abbrev pub own_back : List RunEvent
 own_back = asks_server ∷ client_hears ∷ client_asks ∷ client_asks ∷ []
 
+-- the answers to these: the client is told once that the stream is writable
 abbrev pub told_back : List Answer
-told_back = gives_bytes 36 ∷ answers.Deliver receives.Taken ∷ tells_again 0 ∷ answers.Event None ∷ []
+told_back = gives_bytes 148 ∷ answers.Deliver receives.Taken ∷ tells_again 0 ∷ answers.Event None ∷ []
 
 -- what the first so many leave
 unfoldable pub own_until : ℕ → World
@@ -93,9 +95,10 @@ unfoldable pub own_behind : ℕ → World
 unfolding own_until client_acked
 own_behind n = ran_so_far worked_policies own_read own_back told_back n
 
--- STREAM_DATA_BLOCKED at 5 bytes (RFC 9000, section 19.13), and STREAM with a length and the word
+-- STREAM_DATA_BLOCKED at 5 bytes (RFC 9000, section 19.13), the client's ids, and STREAM with a
+-- length and the word
 abbrev pub own_payload : List ℕ
-own_payload = (0x15 ∷ 0x00 ∷ 0x05 ∷ []) ++ (0x0a ∷ 0x00 ∷ 0x05 ∷ []) ++ hello
+own_payload = (0x15 ∷ 0x00 ∷ 0x05 ∷ []) ++ told_ids ((0x0a ∷ 0x00 ∷ 0x05 ∷ []) ++ hello)
 
 -- the run, where the server reads by this call
 abbrev pub own_run : ReadCall → Run

@@ -15,17 +15,18 @@ ghost use Rattle.quic_machine.specs.Acked.{after_acked};
 ghost use Rattle.quic_machine.specs.Tracking.{nothing_tracked, loss_moment};
 ghost use Rattle.quic_spaces.specs.Acknowledging.{written_delay};
 ghost use Rattle.quic_spaces.specs.Numbers.{cut_against};
-ghost use Rattle.quic_machine.specs.End.{closed_by, probe_timeout};
+ghost use Rattle.quic_machine.specs.End.{drained_by, probe_timeout};
 ghost use Rattle.quic_machine.specs.Calls.{end_tells, end_after_event, end_after_ping};
 ghost use Rattle.quic_machine.specs.Opens.{would_open};
 ghost use Rattle.quic_machine.specs.Poll.{composed};
 ghost use Rattle.quic_machine.specs.Timeouts.{timed_out};
-ghost use Rattle.quic_worked.specs.Worked.{client_gives, server_gives, worked_policies, client_made, server_made, once_sent, once_taken, hello_payload, hello_datagram};
+ghost use Rattle.quic_worked.specs.Worked.{client_gives, server_gives, worked_policies, client_made, server_made, once_sent, once_taken, hello_datagram, ids_payload, told_ids, hello_whole};
 ghost use Rattle.quic_worked.specs.Acknowledged.{client_takes, injected, third_ack, server_early, server_due, server_acked, ack_payload, ack_at_once, ack_of_unsent, from_server, client_datagram, client_acked, client_pinged, client_lost, client_mixed, two_ranges, client_timed_out};
+ghost use Rattle.quic_worked.specs.Losses.{first_ping};
 
 /// A packet that asks and comes in order is acknowledged after 25 ms: nothing is given before the
-/// timer expires, and then an ACK frame alone. Where something else goes before, the
-/// acknowledgement goes along.
+/// timer expires, and then an ACK frame alone, as the window is shut. Where something else goes
+/// before, the acknowledgement goes along.
 #[tactic(auto, unfolding(crate::specs::Acknowledged::server_acked))]
 pub fn hello_is_acknowledged()
     ensures set { timer_at MaxAckDelay once_taken.server.timers ≡ Some 25000000 }
@@ -40,8 +41,8 @@ pub fn hello_is_acknowledged()
     ensures size { (server_gives server_due 25000000).answer
         ≡ Ok (Some (record { size = 32; ecn = Some Ect0 })) }
     ensures once { (server_gives server_acked 25000000).answer ≡ Ok None }
-    ensures along { (composed (end_after_ping once_taken.server)).bytes ≡ 0x01 ∷ ack_at_once }
-    ensures before { (composed (end_after_ping server_due)).bytes ≡ ack_payload ++ 0x01 ∷ [] }
+    ensures along { (composed (end_after_ping once_taken.server)).bytes ≡ 0x01 ∷ told_ids ack_at_once }
+    ensures before { (composed (end_after_ping server_due)).bytes ≡ ack_payload ++ first_ping }
     ensures long { written_delay (2 ^ 64 - 1) ≡ 2305843009213693 }
 {}
 
@@ -70,16 +71,16 @@ pub fn acknowledgements_are_taken()
 pub fn lost_bytes_go_again()
     ensures sent { map (λ p. p.0) client_pinged.tracking.packets ≡ 0 ∷ 1 ∷ 2 ∷ 3 ∷ [] }
     ensures lost { map (λ p. p.0) client_lost.tracking.packets ≡ 1 ∷ 2 ∷ [] }
-    ensures beside { (composed client_mixed).bytes ≡ two_ranges ++ ack_at_once }
+    ensures beside { (composed client_mixed).bytes ≡ told_ids two_ranges ++ ack_at_once }
     ensures again { (client_gives client_lost 0).datagram
-        ≡ Some (client_datagram 4 3 (hello_payload ++ ack_at_once)) }
+        ≡ Some (client_datagram 4 3 (hello_whole ++ ack_at_once)) }
     ensures same { (rises : Bool) → after_acked rises third_ack client_lost ≡ client_lost }
 {}
 
 /// A datagram that asks is waited for: for 1024 ms, which are the 333 ms that a round trip is taken
 /// to last at first, four times half of that, and the 25 ms for which the peer may hold an
 /// acknowledgement back; then twice as long, and at most 65536 times as long. After each time two
-/// probes go, each a PING.
+/// probes go: the first has the ids, which the datagram that wasn't acknowledged told.
 #[tactic(auto, unfolding(crate::specs::Worked::once_sent))]
 pub fn timeouts_are_probed()
     ensures set { timer_at LossDetection once_sent.client.timers ≡ Some 1024000000 }
@@ -90,7 +91,7 @@ pub fn timeouts_are_probed()
     ensures expired { client_timed_out.tracking.probes ≡ 2 }
     ensures again { timer_at LossDetection client_timed_out.timers ≡ Some 2048000000 }
     ensures probe { (client_gives client_timed_out 1024000000).datagram
-        ≡ Some (client_datagram 1 0 (0x01 ∷ 0x00 ∷ 0x00 ∷ [])) }
+        ≡ Some (client_datagram 1 0 ids_payload) }
     ensures one_left { (client_gives client_timed_out 1024000000).end.tracking.probes ≡ 1 }
     ensures moment { timer_at LossDetection (client_gives client_timed_out 1024000000).end.timers
         ≡ Some 3072000000 }
@@ -105,7 +106,7 @@ pub fn timeouts_are_probed()
 pub fn injections_are_judged()
     ensures opens { would_open worked_policies.server server_made hello_datagram ≡ true }
     ensures again { would_open worked_policies.server once_taken.server hello_datagram ≡ true }
-    ensures drained { would_open worked_policies.server (closed_by NumberLimit server_made)
+    ensures drained { would_open worked_policies.server (drained_by NumberLimit server_made)
         hello_datagram ≡ true }
     ensures elsewhere { would_open worked_policies.client client_made hello_datagram ≡ false }
     ensures nothing { would_open worked_policies.server server_made [] ≡ false }
@@ -117,10 +118,10 @@ pub fn injections_are_judged()
 /// Why an end is lost is told once, and of an open end nothing.
 pub fn losses_are_told_once()
     ensures open { end_tells client_made ≡ None }
-    ensures lost { end_tells (closed_by NumberLimit client_made) ≡ Some (events.Lost NumberLimit) }
-    ensures once { end_tells (end_after_event (closed_by NumberLimit client_made)) ≡ None }
-    ensures stays { (end_after_event (end_after_event (closed_by NumberLimit client_made))).closing
-        ≡ (end_after_event (closed_by NumberLimit client_made)).closing }
-    ensures reason { (end_after_event (closed_by NumberLimit client_made)).closing.reason
+    ensures lost { end_tells (drained_by NumberLimit client_made) ≡ Some (events.Lost NumberLimit) }
+    ensures once { end_tells (end_after_event (drained_by NumberLimit client_made)) ≡ None }
+    ensures stays { (end_after_event (end_after_event (drained_by NumberLimit client_made))).closing
+        ≡ (end_after_event (drained_by NumberLimit client_made)).closing }
+    ensures reason { (end_after_event (drained_by NumberLimit client_made)).closing.reason
         ≡ Some NumberLimit }
 {}

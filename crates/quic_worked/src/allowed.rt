@@ -36,8 +36,8 @@ pub fn closed_is_allowed()
 pub fn late_reset_is_allowed()
     ensures honest { IsHonest reset_late }
     ensures run { IsRun reset_late late_end }
-    ensures arrived { AllArrived (took reset_late Server 10) 0 (until reset_late Client 10) }
-    ensures kept { reset 0 (until reset_late Client 10) ≡ None }
+    ensures arrived { AllArrived (took reset_late Server 13) 0 (until reset_late Client 13) }
+    ensures kept { reset 0 (until reset_late Client 13) ≡ None }
 {}
 
 /// Reading: a client that opened a stream can't read it. The machine lets it.

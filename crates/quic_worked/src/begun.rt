@@ -3,16 +3,31 @@
 ghost use Rattle.std.specs.Prelude.{◌≡◌, take, true};
 ghost use Rattle.quic_machine.specs.declared.run.ReadCall.{ReadCall};
 ghost use Rattle.quic_headline.specs.Duties.{AllData};
-ghost use Rattle.quic_headline.specs.Begins.{Frame, LimitOf, asks_for, WasLost, BeginsAt};
+ghost use Rattle.quic_headline.specs.Begins.{Challenge, Response, Frame, LimitOf, NewId, Retirement, IsPending, HasCause, asks_for, WasLost, BeginsAt};
 ghost use Rattle.quic_worked.specs.Credit.{ReadsEight, credit_written, credit_read, credit_given};
 ghost use Rattle.quic_worked.specs.Raised.{raised_events, raised_told, third_came, NeverComes};
-ghost use Rattle.quic_worked.specs.Begun.{sending_seen, reading_seen, raising_seen, pinging_seen, waiting_seen, losing_seen, limit_at_each_poll, ack_at_each_call, ping_at_each_timeout, bytes_at_each_poll};
+ghost use Rattle.quic_worked.specs.Begun.{sending_seen, reading_seen, raising_seen, pinging_seen, waiting_seen, losing_seen, challenged_seen, using_seen, retired_seen, unanswered_server, limit_at_each_poll, ack_at_each_call, ping_at_each_timeout, bytes_at_each_poll, challenge_at_each_call, response_at_each_call, id_at_each_call, retirement_at_each_call};
+ghost use Rattle.quic_worked.specs.Renamed.{once_renamed};
+ghost use Rattle.quic_worked.specs.Unvalidated.{once_answered};
 
 /// MAX_DATA waits once the bytes are read that may come, for which the read asks; and again once
 /// the datagram that said it is lost (RFC 9000, sections 4.1 and 13.3).
 pub fn limit_has_causes()
     ensures read { (read : ReadCall) → asks_for (reading_seen read) (LimitOf AllData) ≡ true }
     ensures lost { (read : ReadCall) → WasLost (losing_seen read) (Frame (LimitOf AllData)) }
+{}
+
+/// PATH_RESPONSE waits once PATH_CHALLENGE came (RFC 9000, section 8.2.2), RETIRE_CONNECTION_ID
+/// once the next id is used (section 5.1.2), NEW_CONNECTION_ID once the peer retired an id (section
+/// 5.1.1), and PATH_CHALLENGE once more where no answer came in time (section 8.2.4).
+pub fn frames_have_causes()
+    ensures challenged { HasCause challenged_seen Response }
+    ensures response { IsPending (once_answered 1).client Response }
+    ensures used { HasCause using_seen (Frame (Retirement 0)) }
+    ensures retirement { IsPending (once_renamed 4).client (Frame (Retirement 0)) }
+    ensures retired { HasCause retired_seen (Frame (NewId 5)) }
+    ensures new_id { IsPending (once_renamed 6).server (Frame (NewId 5)) }
+    ensures challenge { IsPending unanswered_server Challenge }
 {}
 
 /// A client at which bytes wait again behind the poll that gave them breaks the clause, and no run
@@ -40,4 +55,26 @@ pub fn needless_waits_show()
         → NeverComes (take 8 (raised_events read)) (take 8 raised_told) ack_at_each_call }
     ensures machine_ping { (read : ReadCall) → ReadsEight read
         → NeverComes (take 15 (raised_events read)) (take 15 raised_told) ping_at_each_timeout }
+{}
+
+/// A server at which PATH_CHALLENGE waits behind a call that asks for PING breaks the clause; so
+/// does one at which PATH_RESPONSE waits there, an id that was told is to be told again, or an id
+/// of the peer is retired. No run comes to them.
+pub fn needless_frames_show()
+    ensures challenge { (read : ReadCall)
+        → BeginsAt (pinging_seen read) credit_given.server challenge_at_each_call.server → ⊥ }
+    ensures response { (read : ReadCall)
+        → BeginsAt (pinging_seen read) credit_given.server response_at_each_call.server → ⊥ }
+    ensures new_id { (read : ReadCall)
+        → BeginsAt (pinging_seen read) credit_given.server id_at_each_call.server → ⊥ }
+    ensures retirement { (read : ReadCall)
+        → BeginsAt (pinging_seen read) credit_given.server retirement_at_each_call.server → ⊥ }
+    ensures machine_challenge { (read : ReadCall) → ReadsEight read
+        → NeverComes (take 8 (raised_events read)) (take 8 raised_told) challenge_at_each_call }
+    ensures machine_response { (read : ReadCall) → ReadsEight read
+        → NeverComes (take 8 (raised_events read)) (take 8 raised_told) response_at_each_call }
+    ensures machine_new_id { (read : ReadCall) → ReadsEight read
+        → NeverComes (take 8 (raised_events read)) (take 8 raised_told) id_at_each_call }
+    ensures machine_retirement { (read : ReadCall) → ReadsEight read
+        → NeverComes (take 8 (raised_events read)) (take 8 raised_told) retirement_at_each_call }
 {}

@@ -17,8 +17,8 @@ ghost use Rattle.quic_worked.specs.Blocked.{blocked_run, small_start, once_left,
 /// many bytes are left at least: all of eight, and fifteen of sixteen, since limits are told anew
 /// by an eighth.
 pub fn word_is_left()
-    ensures all { HasUnread (took rested_run Server 10) (until rested_run Server 10) 5 }
-    ensures stream { HasUnreadOn (took rested_run Server 10) (until rested_run Server 10) 0 5 }
+    ensures all { HasUnread (took rested_run Server 13) (until rested_run Server 13) 5 }
+    ensures stream { HasUnreadOn (took rested_run Server 13) (until rested_run Server 13) 0 5 }
     ensures eight { least_left 8 ≡ 8 }
     ensures sixteen { least_left 16 ≡ 15 }
     ensures one { least_left 1 ≡ 1 }
@@ -38,11 +38,11 @@ pub fn blocked_at_rest_shows()
 /// Both ends rest, and then a write is blocked: all eight are left unread.
 pub fn unread_bytes_block()
     ensures honest { IsHonest left_run }
-    ensures run { IsRun left_run (once_left 10) }
+    ensures run { IsRun left_run (once_left 13) }
     ensures room { HaveRoom (small_start 8) }
-    ensures modest { (s : AreStarted (small_start 8)) × IsModest left_run s 9
+    ensures modest { (s : AreStarted (small_start 8)) × IsModest left_run s 12
         × (receive_window left_run s Server ≡ 8) }
-    ensures client { Rests left_run Client 9 }
-    ensures server { Rests left_run Server 9 }
-    ensures left { HasUnread (took left_run Server 9) (until left_run Server 9) 8 }
+    ensures client { Rests left_run Client 12 }
+    ensures server { Rests left_run Server 12 }
+    ensures left { HasUnread (took left_run Server 12) (until left_run Server 12) 8 }
 {}

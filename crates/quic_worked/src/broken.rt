@@ -16,7 +16,7 @@ ghost use Rattle.quic_headline.specs.Duties.{DutiesAt};
 ghost use Rattle.quic_headline.specs.InFlight.{in_flight, TracksAt};
 ghost use Rattle.quic_headline.specs.Headline.{OrderedPrefix, Slices, Once, EndAfterAll, BlockedOnlyWithoutBytes, AcceptsAll, FinishedMeansArrived, ToldOnce, FinishedIsTold, AcknowledgedWereTaken, NamesWereTaken, IsNamedIn, frames_given, OpensExactly, would_open_at, IsHonest, IsRun, LossTimersFollow, AckTimersFollow, NumbersRise};
 ghost use Rattle.quic_worked.specs.Acknowledged.{ack_payload, from_server, client_datagram};
-ghost use Rattle.quic_worked.specs.Worked.{write_lacks, finish_lacks, read_lacks, next_lacks, poll_lacks, ReadsBy, two_chunks, sending_events, sending_answers, hello, hello_frame, hello_payload, hello_datagram, all_nexts, worked_policies, server_made, started, once_opened, once_ended, once_sent, once_taken, once_read, writes_hello, finishes_stream, asks_datagram, delivers, reads_stream, run_with, carrying, acknowledging};
+ghost use Rattle.quic_worked.specs.Worked.{write_lacks, finish_lacks, read_lacks, next_lacks, poll_lacks, ReadsBy, two_chunks, sending_events, sending_answers, hello, hello_frame, hello_payload, hello_datagram, all_nexts, worked_policies, server_made, started, once_opened, once_ended, once_sent, once_taken, once_read, writes_hello, finishes_stream, asks_datagram, delivers, reads_stream, run_with, carrying, acknowledging, behind_ids, ids_again};
 ghost use Rattle.quic_worked.specs.Broken.{IsNoRun, IsNever, NeverLeads, writes_nothing, once_blocked, once_failed, lets_expire, hellp, changed_byte, repeated_bytes, unwritten_byte, early_end, unwritten_end, taken_twice, never_taken, blocked_read, never_accepted, early_finish, tells_finished, told_twice, never_told, early_acknowledgement, never_timed, still_timed, sending_run, answered_run, asked_run, forgotten, empty_datagram, repeated_number, early_name, injected_run, once_injected, always_opens, never_opens};
 
 /// A read that changes a byte gives no prefix of what was written, and no slice of it.
@@ -164,7 +164,7 @@ pub fn forgotten_bytes_show()
 pub fn forgotten_datagram_shows()
     ensures before { (read : ReadCall) → in_flight (answered_run read) Client 3 ≡ [] }
     ensures given { (read : ReadCall)
-        → in_flight (answered_run read) Client 7 ≡ (0, carrying 34 0 5 true) ∷ [] }
+        → in_flight (answered_run read) Client 7 ≡ (0, carrying ids_again 146 0 5 true) ∷ [] }
     ensures answered { (read : ReadCall) → in_flight (answered_run read) Client 8 ≡ [] }
     ensures silent { (read : ReadCall)
         → in_flight (answered_run read) Server 8 ≡ (0, acknowledging 25000000 0) ∷ [] }
@@ -187,7 +187,7 @@ pub fn repeated_number_shows()
 pub fn taken_twice_shows()
     ensures took { (read : ReadCall)
         → took (run_with read taken_twice) Server 8
-        ≡ record { number = 0; frames = stream hello_frame ∷ [] } ∷ [] }
+        ≡ record { number = 0; frames = behind_ids (stream hello_frame ∷ []) } ∷ [] }
     ensures machine { (read : ReadCall) → IsNoRun (run_with read taken_twice) }
 {}
 

@@ -8,13 +8,13 @@ ghost use Rattle.quic_machine.specs.declared.run.Answer.TheVariants as answers;
 ghost use Rattle.quic_machine.specs.declared.answers.Received.TheVariants as receives;
 ghost use Rattle.quic_headline.specs.Runs.{until};
 ghost use Rattle.quic_machine.specs.declared.answers.LostReason.TheVariants as reasons;
-ghost use Rattle.quic_headline.specs.Observer.{sents_until, next_number};
+ghost use Rattle.quic_headline.specs.Observer.{next_number};
 ghost use Rattle.quic_headline.specs.Headline.{IsRun};
 ghost use Rattle.quic_headline.specs.Reasons.{ClosedHasAReason};
-ghost use Rattle.quic_headline.specs.Causes.{Shows, NoBlame, NumberLimit, PacketCame, TooManyPieces, TakenOrTooMany};
+ghost use Rattle.quic_headline.specs.Causes.{Shows, NoBlame, ordinary, NumberLimit, PacketCame, TooManyPieces, TakenOrTooMany};
 ghost use Rattle.quic_worked.specs.Worked.{worked_policies, worked_run, hello_datagram};
 ghost use Rattle.quic_worked.specs.Broken.{IsNoRun};
-ghost use Rattle.quic_worked.specs.Closed.{below_limits, early_pieces, early_limit, drains_silently, last_run, last_closed};
+ghost use Rattle.quic_worked.specs.Closed.{below_limits, early_pieces, early_limit, drains_silently, last_run, last_closed, early_last};
 ghost use Rattle.quic_worked.specs.Timed.{NeverShows};
 
 /// In the worked run the packet of the client comes to the server, which takes it.
@@ -39,20 +39,20 @@ pub fn early_pieces_show()
     ensures machine { IsNoRun early_pieces }
 {}
 
-/// A machine that closes for used-up numbers before it gave any has all of them left.
+/// A machine that closes for used-up numbers before it gave any but its close has all of them left.
 pub fn early_limit_shows()
     ensures numbers { NumberLimit early_limit → ⊥ }
     ensures machine { IsNoRun early_limit }
 {}
 
-/// A client that may give one number more gives it, and closes at the next poll for used-up
-/// numbers: one above the number that it gave is 2^31 - 16, and none is acknowledged. It is a run
-/// of the machine, but from no new ends: those give number 0 first, and so 2^31 - 17 datagrams
-/// before this one.
+/// A client that may give one number more gives it, closes at the next poll for used-up numbers,
+/// and gives its close under the number behind it: that is 2^31 - 16, and none is acknowledged. It
+/// is a run of the machine, but from no new ends: those give number 0 first, and so 2^31 - 17
+/// datagrams before this one.
 pub fn used_up_numbers_close()
     ensures run { IsRun last_run last_closed }
     ensures shows { Shows last_run Client 5 (Some reasons.NumberLimit) }
-    ensures next { next_number (sents_until last_run Client 6) ≡ 2 ^ 31 - 16 }
+    ensures next { next_number (ordinary last_run Client 6) ≡ 2 ^ 31 - 16 }
     ensures numbers { NumberLimit last_run }
 {}
 
@@ -62,4 +62,11 @@ pub fn silent_end_shows()
     ensures meets { ClosedHasAReason last_run }
     ensures reasons { ClosedHasAReason drains_silently → ⊥ }
     ensures machine { NeverShows drains_silently }
+{}
+
+/// A client that may give two numbers more gives one, and closes at the next poll for used-up
+/// numbers: with its close, but not without, they would be.
+pub fn early_last_shows()
+    ensures numbers { NumberLimit early_last → ⊥ }
+    ensures machine { IsNoRun early_last }
 {}

@@ -11,8 +11,9 @@ ghost use Rattle.quic_headline.specs.Amounts.{WritesTakeWhatLimitsAllow};
 ghost use Rattle.quic_headline.specs.Causes.{NoBlame, TakenOrTooMany};
 ghost use Rattle.quic_headline.specs.Moments.{LossMoments, LossTimerQuiet, AllNamed};
 ghost use Rattle.quic_headline.specs.Polls.{GaveNothing, IsFull, IsHeldBack};
+ghost use Rattle.quic_headline.specs.Sizes.{DatagramsAreSized};
 ghost use Rattle.quic_headline.specs.Headline.{AcceptsAll, NewestOpens, NumbersRise, opened_there, IsHonest, IsRun};
-ghost use Rattle.quic_worked.specs.Worked.{ReadsBy, two_chunks, started, once_ended, at_server, hello_datagram, hello_opening, run_with, worked_run};
+ghost use Rattle.quic_worked.specs.Worked.{ReadsBy, two_chunks, started, once_ended, at_server, hello_datagram, hello_opening, run_with, worked_run, told_ids};
 ghost use Rattle.quic_worked.specs.Acknowledged.{client_datagram};
 ghost use Rattle.quic_worked.specs.Broken.{IsNoRun};
 ghost use Rattle.quic_worked.specs.Machines.{NeverGives, all_dropped};
@@ -21,14 +22,14 @@ ghost use Rattle.quic_worked.specs.Losses.{once_acked};
 ghost use Rattle.quic_worked.specs.Messages.{ping_message, once_messaged};
 ghost use Rattle.quic_worked.specs.Held.{full_view};
 ghost use Rattle.quic_worked.specs.Timed.{due_at, NeverShows};
-ghost use Rattle.quic_worked.specs.Faults.{both_open, own_payload, own_limits, ever_blocked, opened_instead, accepted_run, nothing_to_accept, below_dropped, noted_early, clock_moved, quiet_run, told_run, nothing_to_tell, never_quiet, cut_short, silent_message, message_held, message_waits, answered_to};
+ghost use Rattle.quic_worked.specs.Faults.{both_open, own_payload, own_limits, ever_blocked, opened_instead, accepted_run, nothing_to_accept, below_dropped, noted_early, clock_moved, quiet_run, told_run, nothing_to_tell, never_quiet, cut_short, silent_message, message_held, message_waits, answered_to, too_long};
 
 /// Limits: those in an end's own parameters count for its peer's. So a write takes more than the
 /// peer lets come, which closes for it.
 pub fn limits_are_own()
     ensures writes { WritesTakeWhatLimitsAllow own_limits → ⊥ }
     ensures blame { NoBlame own_limits → ⊥ }
-    ensures closes { at_server limited_start.server (client_datagram 0 0 own_payload)
+    ensures closes { at_server limited_start.server (client_datagram 0 0 (told_ids own_payload))
         ≡ Closed (plain_error 3) }
     ensures premises { IsHonest own_limits }
     ensures machine { IsNoRun own_limits }
@@ -136,6 +137,13 @@ pub fn message_is_kept()
     ensures held { IsHeldBack silent_message Client 2 both_open → ⊥ }
     ensures premises { IsHonest silent_message }
     ensures machine { IsNoRun silent_message }
+{}
+
+/// Sending: a datagram that isn't an MTU probe has more bytes than the current size.
+pub fn datagram_is_too_long()
+    ensures sized { DatagramsAreSized too_long → ⊥ }
+    ensures premises { IsHonest too_long }
+    ensures machine { IsNoRun too_long }
 {}
 
 /// Where fewer answers are given than events, the run is one that was cut short, and no clause but

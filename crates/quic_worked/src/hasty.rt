@@ -10,7 +10,7 @@ ghost use Rattle.quic_headline.specs.AcksDue.{is_due, AcksAreDue};
 ghost use Rattle.quic_worked.specs.Broken.{IsNoRun};
 ghost use Rattle.quic_worked.specs.Timed.{timed_run};
 ghost use Rattle.quic_worked.specs.Measured.{measured_run};
-ghost use Rattle.quic_worked.specs.Hasty.{hasty_run, once_hasty, ping_packet, once_marked, marked_run, many_wait, gap_waits, mark_waits, late_waits};
+ghost use Rattle.quic_worked.specs.Hasty.{hasty_run, once_hasty, ping_packet, once_marked, marked_run, many_wait, gap_waits, mark_waits, late_waits, first_packet};
 
 /// One packet that asks may wait for 25 ms, and with the second an ACK frame is due: the server's
 /// next datagram has one.
@@ -19,7 +19,7 @@ pub fn second_packet_hastens()
     ensures run { IsRun hasty_run (once_hasty 7) }
     ensures first { is_due hasty_run Server 5 ≡ false }
     ensures second { is_due hasty_run Server 6 ≡ true }
-    ensures waiting { unanswered hasty_run Server 6 ≡ ping_packet 1 ∷ ping_packet 0 ∷ [] }
+    ensures waiting { unanswered hasty_run Server 6 ≡ ping_packet 1 ∷ first_packet ∷ [] }
     ensures went { acknowledges (went (watch hasty_run Server 6) (watch hasty_run Server 7)) ≡ true }
     ensures answered { is_due hasty_run Server 7 ≡ false }
     ensures client { is_due hasty_run Client 7 ≡ false }

@@ -6,8 +6,9 @@ ghost use Rattle.quic_machine.specs.declared.run.RunEvent.{RunEvent};
 ghost use Rattle.quic_machine.specs.declared.run.Answer.{Answer};
 ghost use Rattle.quic_machine.specs.declared.run.Answer.TheVariants as answers;
 ghost use Rattle.quic_headline.specs.Duties.{DutiesAt};
-ghost use Rattle.quic_worked.specs.Losses.{losing_events, losing_answers, losing_run, never_lost, seldom_lost, early_lost, still_waiting, lost_for_good, all_named, changed_again, wide_name, first_events, first_answers, first_run, above_acked, falling};
+ghost use Rattle.quic_worked.specs.Losses.{losing_events, losing_answers, losing_run, never_lost, seldom_lost, early_lost, still_waiting, lost_for_good, all_named, changed_again, wide_name, narrow_name, first_events, first_answers, first_run, above_acked, falling};
 ghost use Rattle.quic_headline.specs.InFlight.{TracksAt};
+ghost use Rattle.quic_headline.specs.AckFrames.{AcksNameAll};
 ghost use Rattle.quic_headline.specs.Headline.{OrderedPrefix, Once, EndAfterAll, BlockedOnlyWithoutBytes, AcceptsAll, FinishedMeansArrived, FinishedIsTold, AcknowledgedWereTaken, NamesWereTaken, OpensExactly, NumbersRise, LossTimersFollow, IsHonest};
 ghost use Rattle.quic_worked.specs.Worked.{ReadsBy, two_chunks, run_with, sending_events, sending_answers};
 ghost use Rattle.quic_worked.specs.Broken.{IsNoRun, NeverLeads, sending_run, asked_run, tells_finished};
@@ -114,6 +115,12 @@ pub fn coming_packet_is_named()
 pub fn one_more_is_named()
     ensures names { (read : ReadCall) → NamesWereTaken (wide_name read) → ⊥ }
     ensures machine { (read : ReadCall) → NeverGives (wide_name read) }
+{}
+
+/// Acknowledging: an ACK frame leaves out the only number that was taken.
+pub fn taken_packet_is_left_out()
+    ensures names { (read : ReadCall) → AcksNameAll (narrow_name read) → ⊥ }
+    ensures machine { (read : ReadCall) → NeverGives (narrow_name read) }
 {}
 
 /// Taking an ACK: the end of a stream is never booked, so it is never told to be finished.
@@ -229,6 +236,7 @@ pub fn premises_hold()
     ensures taken_early { (read : ReadCall) → IsHonest (taken_early read) }
     ensures nothing_given { (read : ReadCall) → IsHonest (nothing_given read) }
     ensures wide_name { (read : ReadCall) → IsHonest (wide_name read) }
+    ensures narrow_name { (read : ReadCall) → IsHonest (narrow_name read) }
     ensures silent { (read : ReadCall) → IsHonest (asked_run read (answers.Event None ∷ [])) }
     ensures falling { IsHonest (falling) }
     ensures all_named { IsHonest (all_named) }

@@ -5,20 +5,24 @@ ghost use Rattle.quic_wire_core.specs.declared.stream_id.Side.TheVariants.{Clien
 ghost use Rattle.quic_wire.specs.Value.{datagram};
 ghost use Rattle.quic_wire.specs.Writing.{spelling};
 ghost use Rattle.quic_headline.specs.Runs.{until};
-ghost use Rattle.quic_headline.specs.Observer.{took};
+ghost use Rattle.quic_headline.specs.Observer.{took, sents_until};
+ghost use Rattle.quic_headline.specs.Queue.{waiting_messages, MessagesGoInOrder};
 ghost use Rattle.quic_headline.specs.Headline.{IsHonest, IsRun};
 ghost use Rattle.quic_headline.specs.Messages.{sent_messages, received_messages, MessagesAtMostOnce};
-ghost use Rattle.quic_worked.specs.Worked.{client_gives, from_client};
+ghost use Rattle.quic_worked.specs.Worked.{from_client, told_ids};
 ghost use Rattle.quic_worked.specs.Broken.{IsNoRun};
-ghost use Rattle.quic_worked.specs.Messages.{ping_message, message_payload, message_datagram, message_packet, message_end, message_run, message_twice, message_cut, message_made_up, message_back, message_refused, once_late, late_end, late_run, message_again};
+ghost use Rattle.quic_worked.specs.Machines.{NeverGives};
+ghost use Rattle.quic_worked.specs.Messages.{ping_message, message_payload, message_datagram, message_packet, message_end, message_run, message_twice, message_cut, message_made_up, message_back, message_refused, once_late, late_end, late_run, message_again, pong_message, once_two, two_run, two_sent};
+ghost use Rattle.quic_worked.specs.Acknowledged.{ack_at_once};
+ghost use Rattle.quic_machine.specs.PollCases.{draft_at};
 
-/// A message goes in a frame of its own, with its length (RFC 9221, section 4). Its datagram comes
-/// twice, and is taken once: the application is told once that a message came, reads it once, and
-/// finds none behind it.
+/// A message goes in a frame of its own, with its length (RFC 9221, section 4), behind those that
+/// tell the client's ids. Its datagram comes twice, and is taken once: the application is told once
+/// that a message came, reads it once, and finds none behind it.
 #[tactic(auto, unfolding(crate::specs::Worked::once_taken))]
 pub fn message_comes_once()
     ensures spelling { spelling (datagram ping_message) ≡ message_payload }
-    ensures bytes { from_client 0 message_payload ≡ message_datagram }
+    ensures bytes { from_client 0 (told_ids message_payload) ≡ message_datagram }
     ensures honest { IsHonest message_run }
     ensures run { IsRun message_run message_end }
     ensures took { took message_run Server 8 ≡ message_packet ∷ [] }
@@ -28,12 +32,13 @@ pub fn message_comes_once()
 {}
 
 /// A message whose datagram is lost doesn't go again (RFC 9221, section 5.2), and nothing is waited
-/// for then. Where that datagram comes late, the message is received once all the same.
+/// for then: of what was in it the ids alone go again, with an acknowledgement. Where that datagram
+/// comes late, the message is received once all the same.
 pub fn late_message_comes_once()
     ensures honest { IsHonest late_run }
     ensures run { IsRun late_run late_end }
     ensures lost { (once_late 8).client.tracking.packets ≡ [] }
-    ensures silent { (client_gives (once_late 8).client 110000000).answer ≡ Ok None }
+    ensures silent { (draft_at (once_late 8).client 110000000).bytes ≡ told_ids ack_at_once }
     ensures sent { sent_messages (until late_run Client 11) ≡ ping_message ∷ [] }
     ensures received { received_messages (until late_run Server 11) ≡ ping_message ∷ [] }
     ensures once { MessagesAtMostOnce late_run }
@@ -79,4 +84,22 @@ pub fn refused_message_goes()
     ensures once { MessagesAtMostOnce message_refused → ⊥ }
     ensures premises { IsHonest message_refused }
     ensures machine { IsNoRun message_refused }
+{}
+
+/// Of two messages that wait the older one goes first, both in one datagram.
+pub fn messages_go_in_turn()
+    ensures honest { IsHonest (two_run ping_message pong_message) }
+    ensures run { IsRun (two_run ping_message pong_message) (once_two 3) }
+    ensures waiting { waiting_messages (two_run ping_message pong_message) Client 2
+        ≡ ping_message ∷ pong_message ∷ [] }
+    ensures sent { sents_until (two_run ping_message pong_message) Client 3
+        ≡ two_sent ping_message pong_message ∷ [] }
+    ensures none { waiting_messages (two_run ping_message pong_message) Client 3 ≡ [] }
+{}
+
+/// Sending: of two messages that wait the later one goes first.
+pub fn later_message_goes_first()
+    ensures order { MessagesGoInOrder (two_run pong_message ping_message) → ⊥ }
+    ensures premises { IsHonest (two_run pong_message ping_message) }
+    ensures machine { NeverGives (two_run pong_message ping_message) }
 {}

@@ -14,8 +14,9 @@ ghost use Rattle.quic_headline.specs.Resets.{ResetsAreTold};
 ghost use Rattle.quic_headline.specs.Ids.{IdsAreNew, AcceptedWereOpened};
 ghost use Rattle.quic_worked.specs.Acknowledged.{client_datagram, from_server};
 ghost use Rattle.quic_worked.specs.Reordered.{abc, def};
-ghost use Rattle.quic_worked.specs.Broken.{IsNoRun, NeverLeads};
+ghost use Rattle.quic_worked.specs.Broken.{IsNoRun, NeverLeadsFrom};
 ghost use Rattle.quic_worked.specs.Paired.{ReadsSecond, second_bounds, paired_payload, stop_payload, paired_frames, giving_events, giving_answers, reset_refused, paired_run, told_of_reset, other_code, opened_twice, accepted_early, accepted_twice, reset_of_second, pair_giving, reset_forgotten, reset_changed, reset_unaccepted, second_unaccepted, other_bytes};
+ghost use Rattle.quic_worked.specs.Worked.{both_steady};
 
 /// The reference machine runs it, and gives these datagrams: the reset of the first stream goes
 /// with the bytes of the second, and is told to the server's application; the stop of the second
@@ -89,13 +90,13 @@ pub fn resets_are_told_rightly()
 /// Sending: a reset is forgotten once it went, though its datagram came to nobody.
 pub fn reset_is_forgotten()
     ensures duties { (read : ReadCall) → DutiesAt (pair_giving read) 6 reset_forgotten → ⊥ }
-    ensures machine { NeverLeads giving_events giving_answers reset_forgotten }
+    ensures machine { NeverLeadsFrom both_steady giving_events giving_answers reset_forgotten }
 {}
 
 /// Sending: of a datagram with a reset it is kept that it resets another stream.
 pub fn reset_is_changed()
     ensures tracks { (read : ReadCall) → TracksAt (pair_giving read) 6 reset_changed → ⊥ }
-    ensures machine { NeverLeads giving_events giving_answers reset_changed }
+    ensures machine { NeverLeadsFrom both_steady giving_events giving_answers reset_changed }
 {}
 
 /// Receiving: a stream isn't accepted of which the reset alone came.

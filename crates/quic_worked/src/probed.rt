@@ -7,14 +7,15 @@ ghost use Rattle.quic_headline.specs.Duties.{DutiesAt};
 ghost use Rattle.quic_headline.specs.InFlight.{in_flight, TracksAt};
 ghost use Rattle.quic_headline.specs.Moments.{LossMoments};
 ghost use Rattle.quic_headline.specs.Headline.{IsHonest, IsRun};
-ghost use Rattle.quic_worked.specs.Broken.{NeverLeads};
+ghost use Rattle.quic_worked.specs.Broken.{NeverLeadsFrom};
 ghost use Rattle.quic_worked.specs.Timed.{due_at};
 ghost use Rattle.quic_worked.specs.Paired.{giving_events, giving_answers};
 ghost use Rattle.quic_worked.specs.Probed.{later_events, later_answers, once_probed, probed_run, the_reset, both_with, record_dropped, datagram_dropped};
+ghost use Rattle.quic_worked.specs.Worked.{both_steady};
 
-/// A reset whose datagram came to nobody goes again with the first probe, alone: the datagram stays
-/// in flight, and what has to be sent again of it is with the probe alone. So the client waits for
-/// both, as the observer does, but for that.
+/// A reset whose datagram came to nobody goes again with the first probe, and the ids that were
+/// told with it; nothing else does: the datagram stays in flight, and what has to be sent again of
+/// it is with the probe alone. So the client waits for both, as the observer does, but for that.
 pub fn reset_is_probed()
     ensures honest { IsHonest probed_run }
     ensures run { IsRun probed_run (once_probed 2) }
@@ -31,13 +32,13 @@ pub fn reset_is_probed()
 /// Probes: the reset is taken from its datagram, and is nowhere then.
 pub fn probed_reset_is_dropped()
     ensures duties { DutiesAt probed_run 8 record_dropped → ⊥ }
-    ensures machine { NeverLeads (giving_events ++ later_events) (giving_answers ++ later_answers)
+    ensures machine { NeverLeadsFrom both_steady (giving_events ++ later_events) (giving_answers ++ later_answers)
         record_dropped }
 {}
 
 /// Probes: the datagram whose reset was taken isn't waited for any more.
 pub fn probed_datagram_is_dropped()
     ensures tracks { TracksAt probed_run 8 datagram_dropped → ⊥ }
-    ensures machine { NeverLeads (giving_events ++ later_events) (giving_answers ++ later_answers)
+    ensures machine { NeverLeadsFrom both_steady (giving_events ++ later_events) (giving_answers ++ later_answers)
         datagram_dropped }
 {}

@@ -18,17 +18,17 @@ ghost use Rattle.quic_worked.specs.Rested.{rested_start, once_rested, rested_run
 /// packet until it gave one.
 pub fn both_ends_rest()
     ensures honest { IsHonest rested_run }
-    ensures run { IsRun rested_run (once_rested 10) }
+    ensures run { IsRun rested_run (once_rested 13) }
     ensures room { HaveRoom rested_start }
-    ensures client { Rests rested_run Client 10 }
-    ensures client_before { Rests rested_run Client 9 }
-    ensures server { Rests rested_run Server 10 }
-    ensures first { HasArrived (took rested_run Server 10) 0 0 }
-    ensures last { HasArrived (took rested_run Server 10) 0 4 }
-    ensures end { EndHasArrived (took rested_run Server 10) 0 5 }
+    ensures client { Rests rested_run Client 13 }
+    ensures client_before { Rests rested_run Client 12 }
+    ensures server { Rests rested_run Server 13 }
+    ensures first { HasArrived (took rested_run Server 13) 0 0 }
+    ensures last { HasArrived (took rested_run Server 13) 0 4 }
+    ensures end { EndHasArrived (took rested_run Server 13) 0 5 }
     ensures owed { unanswered rested_run Server 6 ≡ hello_packet ∷ [] }
-    ensures owed_no_more { unanswered rested_run Server 10 ≡ [] }
-    ensures owed_never { unanswered rested_run Client 10 ≡ [] }
+    ensures owed_no_more { unanswered rested_run Server 13 ≡ [] }
+    ensures owed_never { unanswered rested_run Client 13 ≡ [] }
 {}
 
 /// A client that keeps what it wrote, and one that forgets what a lost datagram carried, come to
@@ -56,7 +56,7 @@ pub fn unanswered_rest_shows()
 /// its pacer lets the datagram go: by the lists it names no later moment.
 pub fn restless_shows()
     ensures quiet { LossTimerQuiet timed_on → ⊥ }
-    ensures timed { Rests timed_on Client 10 → ⊥ }
+    ensures timed { Rests timed_on Client 13 → ⊥ }
     ensures paced { IsPaced paced_run Client 3 paced_view }
     ensures pacing { Rests paced_run Client 3 → ⊥ }
     ensures pacer { PacerIsOfHistory paced_run → ⊥ }

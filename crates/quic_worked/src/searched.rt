@@ -10,21 +10,21 @@ ghost use Rattle.quic_headline.specs.Sizes.{WasProbed};
 ghost use Rattle.quic_worked.specs.Timed.{seen_with};
 ghost use Rattle.quic_worked.specs.Searched.{once_searched, told_of_size, found_view, searched_run};
 
-/// Where nothing waits, a client whose size is 1200 gives a datagram of 1326 bytes, which is an MTU
-/// probe, while no PTO probe is queued; the server's acknowledgement has no more bytes than its
-/// size. Once that came, the client's size is that of the probe, which was in flight before and is
-/// acknowledged behind; and its controller was told so (RFC 8899, sections 5.2 and 5.3; RFC 9000,
-/// section 14.3).
+/// Where nothing waits, as its ids are told, a client whose size is 1200 gives a datagram of 1326
+/// bytes, which is an MTU probe, while no PTO probe is queued; the server's acknowledgement has no
+/// more bytes than its size. Once that came, the client's size is that of the probe, which was in
+/// flight before and is acknowledged behind; and its controller was told so (RFC 8899, sections 5.2
+/// and 5.3; RFC 9000, section 14.3).
 pub fn larger_size_is_found()
     ensures honest { IsHonest searched_run }
-    ensures run { IsRun searched_run (once_searched 5) }
-    ensures probe { (gave : GaveAsking searched_run Client 0 0) × IsSizeProbe searched_run Client 0 gave.one.sent }
-    ensures queued { (watch searched_run Client 0).flight.probes ≡ 0 }
-    ensures size { (seen_at searched_run Client 0).current_mtu ≡ 1200 }
-    ensures ordinary { (gave : GaveOne searched_run Server 3 35000000) × (gave.sent.size ≤ (seen_at searched_run Server 3).current_mtu) }
+    ensures run { IsRun searched_run (once_searched 6) }
+    ensures probe { (gave : GaveAsking searched_run Client 1 0) × IsSizeProbe searched_run Client 1 gave.one.sent }
+    ensures queued { (watch searched_run Client 1).flight.probes ≡ 0 }
+    ensures size { (seen_at searched_run Client 1).current_mtu ≡ 1200 }
+    ensures ordinary { (gave : GaveOne searched_run Server 4 35000000) × (gave.sent.size ≤ (seen_at searched_run Server 4).current_mtu) }
     ensures before { mtu_in (seen_with (Some 1024000000) None) Client ≡ 1200 }
     ensures behind { mtu_in found_view Client ≡ 1326 }
-    ensures probed { WasProbed searched_run Client 4 1326 }
-    ensures history { IsHistory searched_run Client 5 (once_searched 5) told_of_size }
+    ensures probed { WasProbed searched_run Client 5 1326 }
+    ensures history { IsHistory searched_run Client 6 (once_searched 6) told_of_size }
     ensures last { last_size 1200 told_of_size ≡ 1326 }
 {}

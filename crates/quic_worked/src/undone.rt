@@ -18,7 +18,7 @@ ghost use Rattle.quic_worked.specs.Undone.{shut_run, ReadsLone, kept_back_run};
 /// A server that reads nothing isn't done with the stream that the client opened and ended; and
 /// where a hundred may be open at once, so many aren't done at least.
 pub fn stream_is_left()
-    ensures undone { HasUndone (until rested_run Client 10) (took rested_run Server 10) (until rested_run Server 10) Bi 1 }
+    ensures undone { HasUndone (until rested_run Client 13) (took rested_run Server 13) (until rested_run Server 13) Bi 1 }
     ensures hundred { least_left 100 ≡ 89 }
 {}
 

@@ -12,10 +12,10 @@ ghost use Rattle.quic_packet.specs.Destination.{decoded, fixed_length_id};
 ghost use Rattle.quic_wire.specs.Value.{stream, ping};
 ghost use Rattle.quic_congestion.specs.Search.{open_probe};
 ghost use Rattle.quic_parameters.specs.ParametersRead.{parameters_at};
-ghost use Rattle.quic_wire.specs.Writing.{spelling};
+ghost use Rattle.quic_wire.specs.Writing.{spelling, spelled_all};
 ghost use Rattle.quic_wire.specs.Items.{items};
 ghost use Rattle.quic_machine.specs.declared.answers.LostReason.TheVariants.{NumberLimit};
-ghost use Rattle.quic_machine.specs.declared.answers.ConfigError.TheVariants.{Parameters, IdLength, Size, Window};
+ghost use Rattle.quic_machine.specs.declared.answers.ConfigError.TheVariants.{Parameters, IdLength, Size, Window, KeyLimit};
 ghost use Rattle.quic_streams_parts.specs.declared.answers.ReadableError.TheVariants as readable_errors;
 ghost use Rattle.quic_streams_parts.specs.declared.answers.ReadError.TheVariants as read_errors;
 ghost use Rattle.quic_streams_parts.specs.declared.answers.WriteError.TheVariants as write_errors;
@@ -31,37 +31,40 @@ ghost use Rattle.quic_recovery_core.specs.Duplicates.{is_duplicate};
 ghost use Rattle.quic_recovery_core.specs.DuplicateRuns.{seen_after};
 ghost use Rattle.quic_streams_state.specs.Writing.{finish_answer};
 ghost use Rattle.quic_streams_state.specs.Reading.{read_answer};
-ghost use Rattle.quic_machine.specs.End.{MadeFrom, new_end, refusal_of, closed_by, with_window};
+ghost use Rattle.quic_machine.specs.End.{MadeFrom, new_end, refusal_of, drained_by, with_waiting, with_window};
+ghost use Rattle.quic_machine.specs.Parts.{nothing_waits};
 ghost use Rattle.quic_machine.specs.Poll.{IsDatagram};
 ghost use Rattle.quic_machine.specs.PollCases.{draft_at};
 ghost use Rattle.quic_machine.specs.Machine.{IsStep, Follows};
 ghost use Rattle.quic_machine.specs.Opens.{opens};
-ghost use Rattle.quic_headline.specs.Runs.{until, written, ended, reads, finished, ids_of, accepts, count_given, given_until, is_again, HasArrived, EndHasArrived};
+ghost use Rattle.quic_headline.specs.Runs.{until, written, ended, reads, finished, ids_of, accepts, count_given, given_until, is_again, HasArrived, EndHasArrived, frames_of};
 ghost use Rattle.quic_headline.specs.Observer.{took, references_until};
 ghost use Rattle.quic_machine.specs.Start.{AreStarted, AreKeys};
 ghost use Rattle.quic_headline.specs.Headline.{IsHonest, IsRun};
 ghost use Rattle.quic_worked.specs.Broken.{once_full, once_failed};
-ghost use Rattle.quic_worked.specs.Worked.{steady_window, steady, unprotected_hello, hello_opening, client_gives, searching, no_two_way, end_opens, end_accepts, end_writes, end_after_write, end_next, write_lacks, finish_lacks, read_lacks, next_lacks, poll_lacks, ReadsBy, two_chunks, worked_parameters, client_id, server_id, client_made, server_made, started, with_server, once_opened, once_written, once_ended, once_sent, once_taken, once_read, hello, hello_frame, hello_payload, hello_datagram, writes_hello, finishes_stream, asks_datagram, delivers, reads_stream, failed_end, numbered_from, from_client, client_packet, at_server, within, worked_policies, worked_events, worked_answers, worked_views, worked_run};
+ghost use Rattle.quic_worked.specs.Worked.{steady_window, steady, long_keys, unprotected_hello, hello_opening, client_gives, searching, no_two_way, end_opens, end_accepts, end_writes, end_after_write, end_next, write_lacks, finish_lacks, read_lacks, next_lacks, poll_lacks, ReadsBy, two_chunks, worked_parameters, client_id, server_id, client_made, server_made, started, with_server, once_opened, once_written, once_ended, once_sent, once_taken, once_read, hello, hello_frame, hello_payload, hello_datagram, writes_hello, finishes_stream, asks_datagram, delivers, reads_stream, failed_end, numbered_from, from_client, client_packet, at_server, within, worked_policies, worked_events, worked_answers, worked_views, worked_run, shut, id_frames, ids_payload, behind_ids, hello_whole};
 
-/// Each end is made of the other's parameters and first id, at moment 0 on a validated path.
+/// Each end is made of the other's parameters and first id, at moment 0 on a validated path. The
+/// window of the server is shut, so that it only acknowledges.
 pub fn ends_are_made()
     ensures client { MadeFrom Client plain_settings steady worked_parameters client_id server_id 0
-        true 63 client_made }
-    ensures server { MadeFrom Server plain_settings steady worked_parameters server_id client_id 0
-        true 63 server_made }
+        true (λ n. 63) client_made }
+    ensures server { MadeFrom Server plain_settings shut worked_parameters server_id client_id 0
+        true (λ n. 63) server_made }
 {}
 
-/// The frame with the five bytes and the end, under number 0 and the server's first id, is the
-/// datagram of 34 bytes.
+/// The frame with the five bytes and the end, behind those that tell four ids, under number 0 and
+/// the server's first id, is the datagram of 146 bytes.
 #[tactic(auto, unfolding(crate::specs::Worked::once_sent))]
 pub fn hello_is_given()
     ensures spelling { spelling (stream hello_frame) ≡ hello_payload }
-    ensures bytes { from_client 0 hello_payload ≡ hello_datagram }
-    ensures size { length hello_datagram ≡ 34 }
+    ensures ids { spelled_all id_frames ≡ ids_payload }
+    ensures bytes { from_client 0 hello_whole ≡ hello_datagram }
+    ensures size { length hello_datagram ≡ 146 }
     ensures sealed { protected worked_policies.client.header worked_policies.client.packet 9 0
-        ((0x40 ∷ server_id) ++ (0x00 ∷ hello_payload)) ≡ hello_datagram }
-    ensures is { IsDatagram worked_policies.client 0 0 server_id (stream hello_frame ∷ [])
-        hello_datagram }
+        ((0x40 ∷ server_id) ++ (0x00 ∷ hello_whole)) ≡ hello_datagram }
+    ensures is { IsDatagram worked_policies.client 0 0 server_id
+        (behind_ids (stream hello_frame ∷ [])) hello_datagram }
     ensures against { (read : ReadCall) → references_until (worked_run read) Client 8 ≡ 0 ∷ [] }
 {}
 
@@ -81,6 +84,7 @@ pub fn hello_is_opened()
     ensures refused { opened_packet worked_policies.client.header worked_policies.client.packet 9 0
         hello_datagram ≡ None }
     ensures frames { items hello_payload ≡ Ok (stream hello_frame) ∷ [] }
+    ensures all_frames { frames_of (items hello_whole) ≡ behind_ids (stream hello_frame ∷ []) }
 {}
 
 /// The reference machine runs the worked example: each event is answered so and is seen so. Then
@@ -94,8 +98,8 @@ pub fn worked_run_follows()
     ensures tracked { map (λ p. p.0) once_read.client.tracking.packets ≡ 0 ∷ [] }
     ensures pending { once_read.server.acknowledging.runs ≡ record { start = 0; end = 1 } ∷ [] }
     ensures read { once_read.server.streams.receiving.halves.live ≡ [] }
-    ensures sent { once_read.client_heard ≡ record { received = 0; sent = 34; failures = 0 } }
-    ensures received { once_read.server_heard ≡ record { received = 68; sent = 0; failures = 0 } }
+    ensures sent { once_read.client_heard ≡ record { received = 0; sent = 146; failures = 0 } }
+    ensures received { once_read.server_heard ≡ record { received = 292; sent = 0; failures = 0 } }
 {}
 
 /// It meets the premises of the headline: what is proved of every run holds of this one.
@@ -133,7 +137,7 @@ pub fn hello_arrives()
     ensures before { (read : ReadCall) → took (worked_run read) Server 4 ≡ [] }
     ensures took { (read : ReadCall)
         → took (worked_run read) Server 8
-        ≡ record { number = 0; frames = stream hello_frame ∷ [] } ∷ [] }
+        ≡ record { number = 0; frames = behind_ids (stream hello_frame ∷ []) } ∷ [] }
     ensures bytes { (read : ReadCall) (offset : ℕ) → offset < 5
         → HasArrived (took (worked_run read) Server 8) 0 offset }
     ensures end { (read : ReadCall) → EndHasArrived (took (worked_run read) Server 8) 0 5 }
@@ -167,7 +171,7 @@ pub fn datagrams_are_dropped()
     ensures key_phase { at_server server_made (client_packet 0x44 0 hello_payload)
         ≡ Dropped drops.KeyPhase }
     ensures again { at_server once_taken.server hello_datagram ≡ Dropped drops.Duplicate }
-    ensures drained { at_server (closed_by NumberLimit server_made) hello_datagram
+    ensures drained { at_server (drained_by NumberLimit server_made) hello_datagram
         ≡ Dropped drops.Drained }
 {}
 
@@ -196,7 +200,7 @@ pub fn broken_rules_are_found()
         ≡ Closed (plain_error 6) }
     ensures beyond_count { at_server
         (new_end Server no_two_way steady (parameters_of plain_settings) server_id client_id 0
-        true 63)
+        true (λ n. 63))
         hello_datagram ≡ Closed (plain_error 4) }
     ensures none { at_server server_made (from_client 0 (0x40 ∷ 0x00 ∷ 0x01 ∷ [])) ≡ Taken }
 {}
@@ -209,17 +213,17 @@ pub fn calls_are_bounded()
     ensures one_way { end_opens Uni once_opened.client ≡ Some 2 }
     ensures no_count { end_opens Bi
         (new_end Client plain_settings steady (parameters_of no_two_way) client_id server_id 0
-        true 63)
+        true (λ n. 63))
         ≡ None }
     ensures server_open { end_opens Bi server_made ≡ Some 1 }
-    ensures drained_open { end_opens Bi (closed_by NumberLimit client_made) ≡ None }
+    ensures drained_open { end_opens Bi (drained_by NumberLimit client_made) ≡ None }
     ensures not_opened { end_writes client_made 0 5 ≡ Err write_errors.ClosedStream }
     ensures ended { end_writes once_ended.client 0 5 ≡ Err write_errors.ClosedStream }
     ensures within { end_writes (within 8 once_opened.client) 0 20 ≡ Ok 8 }
     ensures full { end_writes
         (end_after_write (Ok 8) (within 8 once_opened.client) 0 (replicate 20 0x61)) 0 12
         ≡ Err write_errors.Blocked }
-    ensures drained { end_writes (closed_by NumberLimit once_opened.client) 0 5
+    ensures drained { end_writes (drained_by NumberLimit once_opened.client) 0 5
         ≡ Err write_errors.Blocked }
     ensures second_end { finish_answer once_ended.client.streams 0
         ≡ Err finish_errors.ClosedStream }
@@ -237,21 +241,27 @@ pub fn calls_are_bounded()
     ensures numbers_used { (client_gives (numbered_from (2 ^ 31 - 16) once_ended.client) 0).end.closing.reason
         ≡ Some NumberLimit }
     ensures no_number_left { (client_gives (numbered_from (2 ^ 31 - 16) once_ended.client) 0).answer
-        ≡ Ok None }
+        ≡ Ok (Some (record { size = 33; ecn = Some Ect0 })) }
     ensures last_number { (client_gives (numbered_from (2 ^ 31 - 17) once_ended.client) 0).answer
-        ≡ Ok (Some (record { size = 37; ecn = Some Ect0 })) }
-    ensures bad_parameters { refusal_of plain_settings steady_window
+        ≡ Ok (Some (record { size = 149; ecn = Some Ect0 })) }
+    ensures bad_parameters { refusal_of plain_settings steady_window long_keys
         (parameters_at (0x04 ∷ 0x01 ∷ [])) client_id server_id ≡ Some Parameters }
-    ensures short_id { refusal_of plain_settings steady_window (parameters_at worked_parameters)
-        (take 7 client_id) server_id ≡ Some IdLength }
-    ensures no_peer_id { refusal_of plain_settings steady_window
+    ensures short_id { refusal_of plain_settings steady_window long_keys
+        (parameters_at worked_parameters) (take 7 client_id) server_id ≡ Some IdLength }
+    ensures no_peer_id { refusal_of plain_settings steady_window long_keys
         (parameters_at worked_parameters) client_id [] ≡ Some IdLength }
     ensures big_datagrams { refusal_of (record plain_settings { initial_mtu = 65528 })
-        steady_window (parameters_at worked_parameters) client_id server_id ≡ Some Size }
-    ensures small_window { refusal_of plain_settings 2399 (parameters_at worked_parameters)
-        client_id server_id ≡ Some Window }
+        steady_window long_keys (parameters_at worked_parameters) client_id server_id ≡ Some Size }
+    ensures small_window { refusal_of plain_settings 2399 long_keys
+        (parameters_at worked_parameters) client_id server_id ≡ Some Window }
+    ensures few_seals { refusal_of plain_settings steady_window (record long_keys { seals = 15 })
+        (parameters_at worked_parameters) client_id server_id ≡ Some KeyLimit }
+    ensures few_openings { refusal_of plain_settings steady_window
+        (record long_keys { openings = 15 }) (parameters_at worked_parameters) client_id server_id
+        ≡ Some KeyLimit }
     ensures no_refusal { refusal_of plain_settings steady_window
-        (parameters_at worked_parameters) client_id server_id ≡ None }
+        (record { seals = 16; openings = 16 }) (parameters_at worked_parameters) client_id
+        server_id ≡ None }
 {}
 
 /// Where nothing waits, PING goes as a probe of the size between 1200 and 1452 bytes, under a
@@ -266,7 +276,8 @@ pub fn sizes_are_probed()
         ≡ Ok (Some (record { size = 1326; ecn = Some Ect0 })) }
     ensures no_room { (client_gives (with_window (searching true) 1452) 0).answer ≡ Ok None }
     ensures not_validated { (client_gives (searching false) 0).answer ≡ Ok None }
-    ensures not_looked_for { (client_gives client_made 0).answer ≡ Ok None }
+    ensures not_looked_for { (client_gives (with_waiting client_made nothing_waits) 0).answer
+        ≡ Ok None }
 {}
 
 /// Where memory lacks, an application's call leaves all as it was, and an end that is polled or

@@ -114,7 +114,7 @@ impl PartMap {
     ///
     /// # Errors
     ///
-    /// [`AllocError`] where memory lacks; nothing has changed.
+    /// - [`AllocError`]: an allocation fails. Nothing changes.
     pub(crate) fn keep(&mut self, end: u64, part: Bytes) -> Result<(), AllocError>
         ensures ok { OnOk result (self.new ≡ insert_entry nat_cmp self.old end part) }
         ensures err { OnErr result (self.new ≡ self.old) }
@@ -166,7 +166,7 @@ impl PartMap {
     ///
     /// # Errors
     ///
-    /// [`AllocError`] where memory lacks; nothing has changed. It lacks none for no bytes.
+    /// - [`AllocError`]: an allocation fails, where `max` isn't 0. Nothing changes.
     pub(crate) fn split_front(&mut self, max: usize) -> Result<Option<Bytes>, AllocError>
         requires { IfSome (first_bytes self.old) (λ b. max < length b) }
         ensures ok { IfOk result (λ b. b ≡ front_of self.old max) }

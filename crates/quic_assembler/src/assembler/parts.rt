@@ -607,7 +607,7 @@ impl Parts {
     ///
     /// # Errors
     ///
-    /// [`AllocError`] where memory lacks; nothing changed.
+    /// - [`AllocError`]: an allocation fails. Nothing changes.
     pub(crate) fn insert(
         &mut self,
         given: &BTreeMap<u64, u64>,
@@ -647,7 +647,7 @@ impl Parts {
     ///
     /// # Errors
     ///
-    /// [`AllocError`] where the part is cut and memory lacks; nothing changed.
+    /// - [`AllocError`]: an allocation fails, where the part is cut. Nothing changes.
     pub(crate) fn take_front(&mut self, at: u64, max: usize) -> Result<Option<Bytes>, AllocError>
         ensures ok { IfOk result (λ bytes. bytes ≡ cond (is_next self.old at) (front_of self.old max) None) }
         ensures new { OnOk result (self.new ≡ cond (is_next self.old at) (left_front self.old max) self.old) }
@@ -673,7 +673,7 @@ impl Parts {
     ///
     /// # Errors
     ///
-    /// [`AllocError`] where memory lacks.
+    /// - [`AllocError`]: an allocation fails.
     pub(crate) fn front(&self, max: usize) -> Result<Option<Chunk>, AllocError>
         ensures ok { IfOk result (λ chunk. chunk ≡ first_given self.now max) }
         ensures some { OnErr result (is_some_part self.now ≡ true) }

@@ -39,7 +39,9 @@ impl Model for NewRenoConfig {
 }
 
 impl NewRenoConfig {
-    /// The window that a controller begins with, in bytes.
+    /// The window that a controller begins with, in bytes. The default is 12000 bytes. Where it
+    /// doesn't hold two datagrams of the size that the path begins with, no connection is made
+    /// (`ConfigError::Window`).
     pub fn initial_window(&mut self, value: u64) -> &mut Self
         ensures same_reference { result.ghost_name ≡ self.entry.ghost_name }
         ensures value { result.now ≡ record self.old { initial = value } }
@@ -48,8 +50,9 @@ impl NewRenoConfig {
         self
     }
 
-    /// What a loss leaves of the window: `numerator / denominator` of it. The numerator has to be
-    /// at most the denominator, and the denominator above 0.
+    /// What a loss leaves of the window: `numerator / denominator` of it, but two datagrams at
+    /// least. The numerator has to be at most the denominator, and the denominator above 0. The
+    /// default is 1/2.
     pub fn loss_reduction_factor(&mut self, numerator: u64, denominator: u64) -> &mut Self
         requires at_most_one { numerator ≤ denominator }
         requires above_zero { 0 < denominator }

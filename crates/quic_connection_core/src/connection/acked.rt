@@ -1,206 +1,35 @@
 //! What an ACK frame makes of an end: packets are acknowledged, a round trip is measured, and other
 //! packets are lost (RFC 9000, section 13.1; RFC 9002, sections 5 and 6.1).
-ghost use Rattle.std.specs.Prelude.{ℕ, ◌≡◌, ◌≢◌, true, [], reverse, ◌&&◌, None, if◌then◌else◌, IfSome, IfNone, IfOk, OnOk, OnErr};
+ghost use Rattle.std.specs.Prelude.{ℕ, ◌≡◌, ◌≢◌, [], reverse, IfOk, OnOk, OnErr};
 ghost use Rattle.std.specs.Option.{option_map};
-ghost use Rattle.quic_time.specs.Clocks.{saturated};
-ghost use Rattle.quic_retransmits.specs.Kept.{made};
-ghost use Rattle.quic_retransmits.specs.Retransmits.{merged};
-ghost use Rattle.quic_streams_state.specs.State.{streams_of};
-ghost use Rattle.quic_streams_state.specs.Acked.{after_stream_acked};
 ghost use Rattle.quic_streams_parts.specs.Table.{at};
-ghost use Rattle.quic_sent_packets.specs.Packets.{asks_any, from};
-ghost use Rattle.quic_paths.specs.InFlight.{CanLeave, no_flight, flight_of};
 ghost use Rattle.quic_machine.specs.End.{with_end, with_tracking, with_rtt};
 ghost use Rattle.quic_machine.specs.Sizes.{told_packets};
-ghost use Rattle.quic_congestion.specs.Search.{is_number, open_probe};
+ghost use Rattle.quic_congestion.specs.Search.{open_probe};
 ghost use Rattle.quic_wire.specs.AckView.{counts_view};
-ghost use Rattle.quic_machine.specs.Control.{bytes_in_flight, last_sent, persistent_period, told_packet, told_acks_ended};
+ghost use Rattle.quic_machine.specs.Control.{bytes_in_flight, persistent_period, told_packet, told_acks_ended};
 ghost use Rattle.quic_machine.specs.Tracking.{lost_by, acked_by, not_acked_by};
 ghost use Rattle.quic_machine.specs.Acked.{without_known, carried_acked, carried_lost, packets_acked, verdict, losses_detected, told_delay, first_measured, counts_answer, counts_judged, marks_seen, told_grown, told_seen, after_acked, told_detected, told_acked};
-ghost use Rattle.quic_connection_core.specs.Flying.{flying_packets, is_flying, flight_left, less, HasAll};
-ghost use Rattle.quic_connection_core.specs.Losses.{none_lost, all_lost, told_lost};
-ghost use Rattle.quic_connection_core.specs.Telling.{telling, KeepsRest};
-ghost use Rattle.quic_connection_core.specs.Tracked.{TakesLost, acked_taken, acked_told, acked_count, sampled_at, after_losses, with_resets_acked, with_frames_acked, with_carried_acked, with_frames_lost, with_carried_lost};
+ghost use Rattle.quic_connection_parts.specs.Losses.{none_lost, all_lost, told_lost};
+ghost use Rattle.quic_connection_parts.specs.Telling.{telling, KeepsRest};
+ghost use Rattle.quic_connection_parts.specs.Tracked.{acked_taken, acked_told, acked_count, sampled_at, after_losses};
 
 use crate::connection::Connection;
-use crate::connection::losses::Losses;
-use crate::connection::telling::{tell_ack, tell_acks_ended, tell_congested};
 use quic_congestion::Controller;
+use quic_connection_parts::acked::{
+    clear_flight, if_measured, is_number, last_sent, leave_all, leave_flight, on_carried_acked,
+    on_carried_lost, saturated, take_lost,
+};
+use quic_connection_parts::losses::Losses;
+use quic_connection_parts::telling::{tell_ack, tell_acks_ended, tell_congested};
 use quic_machine::Instant;
 use quic_packet::crypto::{HeaderKey, PacketKey};
-use quic_paths::{InFlight, PathData};
-use quic_retransmits::{Retransmits, ThinRetransmits};
-use quic_send_buffer::StreamMeta;
 use quic_sent_packets::SentPacket;
 use quic_spaces::{Tracking, Verdict};
-use quic_streams_handles::EndStreams;
-use quic_streams_state::StreamsState;
 use quic_time::Duration;
 use quic_wire::frame::{Ack, EcnCounts};
 use rand_core::Rng;
 use std::alloc::AllocError;
-
-/// RESET_STREAM frames are acknowledged.
-fn on_resets_acked(streams: &mut EndStreams, resets: &mut Retransmits)
-    ensures { streams_of streams.new.state streams.new.pending ≡ with_resets_acked resets.old.reset_stream (streams_of streams.old.state streams.old.pending) }
-{
-    while let Some(reset) = resets.pop_reset_stream() {
-        streams.state.reset_acked(reset.0, &mut streams.pending);
-    }
-}
-
-/// The RESET_STREAM frames of a packet are acknowledged, if it carried any.
-fn on_kept_acked(streams: &mut EndStreams, mut kept: ThinRetransmits)
-    ensures { streams_of streams.new.state streams.new.pending ≡ with_resets_acked (made kept).reset_stream (streams_of streams.old.state streams.old.pending) }
-{
-    if let Some(resets) = kept.get_mut() {
-        on_resets_acked(streams, resets);
-    }
-}
-
-/// A STREAM frame is acknowledged: where its stream is wholly acknowledged then, its end too, the
-/// application is to be told so.
-fn on_stream_acked(streams: &mut EndStreams, frame: &StreamMeta) -> Result<(), AllocError>
-    ensures { OnOk result (streams_of streams.new.state streams.new.pending ≡ after_stream_acked streams.old.state streams.old.pending frame.now) }
-{
-    streams.state.received_ack_of(frame, &mut streams.pending)
-}
-
-/// The STREAM frames of a packet are acknowledged.
-fn on_streams_acked(streams: &mut EndStreams, frames: &[StreamMeta]) -> Result<(), AllocError>
-    ensures { OnOk result (streams_of streams.new.state streams.new.pending ≡ with_frames_acked frames.now (streams_of streams.old.state streams.old.pending)) }
-{
-    for frame in frames {
-        on_stream_acked(streams, frame)?;
-    }
-    Ok(())
-}
-
-/// What a packet carried of streams is acknowledged: the bytes, ends and resets that it carried
-/// never go again. An error is want of memory.
-fn on_carried_acked(streams: &mut EndStreams, packet: SentPacket) -> Result<(), AllocError>
-    ensures { OnOk result (streams_of streams.new.state streams.new.pending ≡ with_carried_acked packet.carried (streams_of streams.old.state streams.old.pending)) }
-{
-    on_kept_acked(streams, packet.retransmits);
-    on_streams_acked(streams, packet.stream_frames.as_slice())
-}
-
-/// The STREAM frames of a packet are lost: what they carried goes again. An error is want of
-/// memory.
-fn on_streams_lost(state: &mut StreamsState, frames: &[StreamMeta]) -> Result<(), AllocError>
-    ensures { OnOk result (state.new ≡ with_frames_lost frames.now state.old) }
-{
-    for frame in frames {
-        state.retransmit(frame)?;
-    }
-    Ok(())
-}
-
-/// What has to be sent again of a packet that is lost waits again. An error is want of memory.
-fn on_kept_lost(pending: &mut Retransmits, kept: &ThinRetransmits) -> Result<(), AllocError>
-    ensures { OnOk result (pending.new ≡ merged pending.old (made kept.now)) }
-{
-    match kept.get() {
-        Some(lost) => pending.merge(lost),
-        None => Ok(()),
-    }
-}
-
-/// What a packet carried is lost: it goes again. Its acknowledgement doesn't, since a later one
-/// says more. An error is want of memory.
-fn on_carried_lost(streams: &mut EndStreams, packet: &SentPacket) -> Result<(), AllocError>
-    ensures { OnOk result (streams_of streams.new.state streams.new.pending ≡ with_carried_lost packet.now.carried (streams_of streams.old.state streams.old.pending)) }
-{
-    on_streams_lost(&mut streams.state, packet.stream_frames.as_slice())?;
-    on_kept_lost(&mut streams.pending, &packet.retransmits)
-}
-
-/// Whether one of these packets asks for an acknowledgement.
-fn asks_any(packets: &[(u64, SentPacket)]) -> bool
-    ensures { result ≡ asks_any packets.now }
-{
-    packets.iter().any(|(_, packet)| packet.ack_eliciting)
-}
-
-/// When the packet with the greatest number of an ACK frame went, if its round trip is measured:
-/// that number lies above all that were named before, and one of the newly acknowledged packets
-/// asks for an acknowledgement (RFC 9002, section 5.1).
-fn if_measured(rises: bool, sent: Option<Instant>, acked: &[(u64, SentPacket)]) -> Option<Instant>
-    ensures { result ≡ (if rises && asks_any acked.now then sent else None) }
-{
-    if rises && asks_any(acked) { sent } else { None }
-}
-
-/// When the packet of the greatest number went, which stands first.
-fn last_sent(acked: &[(u64, SentPacket)]) -> Instant
-    ensures { result ≡ last_sent (reverse acked.now) }
-{
-    match acked.first() {
-        Some((_, packet)) => packet.time_sent,
-        None => Instant::from_nanos(0),
-    }
-}
-
-/// So many bytes, as far as 64 bits hold them.
-fn saturated(bytes: u128) -> u64
-    ensures { result ≡ saturated bytes }
-{
-    match u64::try_from(bytes) {
-        Ok(bytes) => bytes,
-        Err(_) => u64::MAX,
-    }
-}
-
-/// Takes out the first lost packet, where none below `low` is lost: there may be one from there on.
-fn take_lost(tracking: &mut Tracking, low: u64, verdict: &Verdict) -> Option<(u64, SentPacket)>
-    requires { lost_by verdict.now (from low tracking.old.packets) ≡ lost_by verdict.now tracking.old.packets }
-    ensures taken { IfSome result (λ p. TakesLost verdict.now p tracking.old tracking.new) }
-    ensures none { IfNone result (lost_by verdict.now tracking.old.packets ≡ []) }
-    ensures same { IfNone result (tracking.new ≡ tracking.old) }
-{
-    let number = tracking.next_lost(low, verdict)?;
-    // The proof reads that the numbers ascend.
-    let _packet = tracking.packets().get(number);
-    let packet = tracking.take(number)?;
-    Some((number, packet))
-}
-
-/// Whether this is the number of a probe, if there is one.
-fn is_number(number: u64, probe: Option<u64>) -> bool
-    ensures { result ≡ is_number number probe }
-{
-    match probe {
-        Some(probe) => probe == number,
-        None => false,
-    }
-}
-
-/// A packet is no longer in flight, if it was.
-pub(crate) fn leave_flight<C>(path: &mut PathData<C>, packet: &SentPacket)
-    requires { is_flying path.old.generation packet.now ≡ true → CanLeave path.old.in_flight packet.now.size true }
-    ensures { path.new ≡ record path.old { in_flight = flight_left path.old.generation path.old.in_flight packet.now } }
-{
-    if packet.ack_eliciting {
-        path.remove_in_flight(packet.path_generation, packet.size, true);
-    }
-}
-
-/// Nothing is in flight on a path any more.
-fn clear_flight<C>(path: &mut PathData<C>)
-    ensures { path.new ≡ record path.old { in_flight = no_flight } }
-{
-    path.in_flight = InFlight::new();
-}
-
-/// None of these packets is in flight any more.
-fn leave_all<C>(path: &mut PathData<C>, acked: &[(u64, SentPacket)])
-    requires { HasAll path.old.in_flight (flight_of (flying_packets path.old.generation acked.now)) }
-    ensures { path.new ≡ record path.old { in_flight = less path.old.in_flight (flight_of (flying_packets path.old.generation acked.now)) } }
-{
-    for (_, packet) in acked {
-        leave_flight(path, packet);
-    }
-}
 
 impl<H: HeaderKey + Drop, K: PacketKey + Drop, R: Rng + Drop, C: Controller> Connection<
     H,
@@ -325,11 +154,12 @@ impl<H: HeaderKey + Drop, K: PacketKey + Drop, R: Rng + Drop, C: Controller> Con
         Ok(())
     }
 
-    /// The congestion controller is told that a packet is acknowledged, where it asks.
+    /// The congestion controller is told that a packet is acknowledged, where it asks; but not
+    /// while the peer has a challenge to answer.
     fn tell_acked(&mut self, packet: &SentPacket)
         ensures { (number : ℕ) → self.new ≡ telling C.steps self.old (told_packet self.old.end (number, packet.now)) self.old.end }
     {
-        if !packet.ack_eliciting {
+        if !packet.ack_eliciting || self.path.challenge.is_some() {
             return;
         }
         let now = self.closing.clock();
@@ -346,8 +176,10 @@ impl<H: HeaderKey + Drop, K: PacketKey + Drop, R: Rng + Drop, C: Controller> Con
         tell_acks_ended(&mut self.path, now, in_flight, self.app_limited, largest);
     }
 
-    /// The bytes in flight on the path.
-    pub(crate) fn bytes_in_flight(&self) -> u128
+    /// The bytes in flight on the path: the sizes of the datagrams that ask for an acknowledgement
+    /// and are neither acknowledged, lost nor forgotten (RFC 9002, section 2; quinn-proto's
+    /// `bytes_in_flight`).
+    pub fn bytes_in_flight(&self) -> u128
         ensures { result ≡ bytes_in_flight self.now.end }
     {
         self.path.in_flight.bytes()

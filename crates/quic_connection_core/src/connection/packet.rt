@@ -1,46 +1,40 @@
 //! The packet of a datagram: header, frames, PADDING and seal.
-ghost use Rattle.std.specs.Prelude.{◌≡◌, ◌+◌, ◌-◌, ◌<◌, ◌≤◌, ◌^◌, ◌++◌, length, replicate, take, drop, IfOk, OnOk, OnErr, true, vec_len, vec_capacity, max};
+ghost use Rattle.std.specs.Prelude.{◌≡◌, ◌+◌, ◌-◌, ◌<◌, ◌≤◌, ◌^◌, ◌++◌, length, take, drop, IfOk, OnOk, OnErr, true, vec_len, vec_capacity};
 ghost use Rattle.quic_packet.specs.Number.{truncated};
 ghost use Rattle.quic_packet.specs.Header.{header_bytes};
 ghost use Rattle.quic_packet.specs.Datagram.{protected};
 ghost use Rattle.quic_wire.specs.AckSet.{ranges_of_set, greatest};
-ghost use Rattle.quic_wire.specs.Value.{ack, ping};
-ghost use Rattle.quic_wire.specs.Writing.{spelling, spelled_all, frame_size};
+ghost use Rattle.quic_wire.specs.Value.{ack};
+ghost use Rattle.quic_wire.specs.Writing.{spelling, frame_size};
 ghost use Rattle.quic_recovery_core.specs.declared.spaces.pending_acks.TheConstants.{MAX_ACK_RUNS};
 ghost use Rattle.quic_recovery_core.specs.PendingAcks.{can_send, is_filled};
 ghost use Rattle.quic_time.specs.Timers.{no_timers};
-ghost use Rattle.quic_retransmits.specs.Kept.{made};
-ghost use Rattle.quic_streams_state.specs.State.{streams_of};
-ghost use Rattle.quic_machine.specs.End.{with_end, with_number_given, number_of, policy_of, HasFailed};
+ghost use Rattle.quic_machine.specs.End.{with_end, with_number_given, number_of, policy_of, HasFailed, words_drawn};
 ghost use Rattle.quic_spaces.specs.Acknowledging.{most_ack_bytes};
-ghost use Rattle.quic_spaces.specs.Numbers.{can_number, cut_against};
-ghost use Rattle.quic_machine.specs.Tracking.{carried_in, retransmits_in};
+ghost use Rattle.quic_spaces.specs.Numbers.{can_number, may_give, cut_against};
+ghost use Rattle.quic_machine.specs.Tracking.{carried_in};
 ghost use Rattle.quic_machine.specs.DraftLaws.{MayGo, MayLeave};
 ghost use Rattle.quic_machine.specs.Poll.{draft_left, draft_as, lazied_as, most_of, composed, frame_room, payload_of, datagram_of, datagram_size, paid_if, told_draft, after_given, asking, tracked, ack_of, after_ack};
-ghost use Rattle.quic_connection_core.specs.Leaving.{leaving_of, IsLooked, least_of};
+ghost use Rattle.quic_connection_parts.specs.Leaving.{leaving_of, IsLooked, least_of, pads_left};
+ghost use Rattle.quic_machine.specs.Idle.{packet_given};
+ghost use Rattle.quic_machine.specs.Validation.{path_waits};
 ghost use Rattle.quic_machine.specs.Parts.{current_mtu};
-ghost use Rattle.quic_connection_core.specs.Frames.{control_part, content, content_at, with_content, asked, ping_bytes, pinged, fits_behind, ack_bytes_if, acked_if, end_after_ack_if};
-ghost use Rattle.quic_connection_core.specs.Drawn.{words_of, after_words};
-ghost use Rattle.quic_connection_core.specs.Telling.{KeepsRest};
+ghost use Rattle.quic_connection_parts.specs.Frames.{content_at, with_content, asked, ping_bytes, pinged, fits_behind, ack_bytes_if, acked_if, end_after_ack_if};
+ghost use Rattle.quic_connection_parts.specs.Drawn.{words_of, after_words};
+ghost use Rattle.quic_connection_parts.specs.Telling.{KeepsRest};
 ghost use Rattle.quic_congestion.specs.Congestion.{after_calls};
 
 use crate::connection::Connection;
-use crate::connection::leaving::Leaving;
-use crate::connection::messages::put_messages;
-use crate::connection::sent::{Carried, SentFrames};
-use crate::connection::statistics::{count_frames, count_streams};
+use crate::connection::validation::PATH_FRAMES_SIZE;
 use quic_congestion::Controller;
+use quic_connection_parts::leaving::Leaving;
+use quic_connection_parts::packet::{pad, put_content, put_ping};
+use quic_connection_parts::sent::{Carried, SentFrames};
 use quic_machine::{Failed, Timer};
-use quic_messages::DatagramState;
 use quic_packet::crypto::{HeaderKey, PacketKey, TAG_LEN};
 use quic_packet::{PacketNumber, ShortHeader, seal_reserved};
-use quic_retransmits::{Retransmits, ThinRetransmits};
-use quic_stats::FrameStats;
-use quic_streams_handles::EndStreams;
-use quic_wire::frame::{Ack, Frame, Stream, put_frame};
-use quic_wire_core::reserved::append_zeros;
 use rand_core::Rng;
-use std::alloc::{AllocError, Global};
+use std::alloc::AllocError;
 
 impl<H: HeaderKey + Drop, K: PacketKey + Drop, R: Rng + Drop, C: Controller> Connection<
     H,
@@ -75,14 +69,14 @@ impl<H: HeaderKey + Drop, K: PacketKey + Drop, R: Rng + Drop, C: Controller> Con
         requires number { can_number self.old.end.numbers ≡ true }
         requires due { MayLeave (leaving_of leaving) self.old.end }
         requires looked { IsLooked leaving self.old.end }
-        ensures items { OnOk result (out.new.items ≡ out.old.items ++ datagram_of (policy_of H.protection K.aead (words_of R.stream) self.old) (draft_as (leaving_of leaving) self.old.end)) }
+        ensures items { OnOk result (out.new.items ≡ out.old.items ++ datagram_of (policy_of H.protection K.aead K.seal_limit K.refusal_limit (words_of R.stream) self.old) (draft_as (leaving_of leaving) self.old.end)) }
         ensures size { IfOk result (λ size. vec_len out.new ≡ vec_len out.old + size) }
         ensures most { IfOk result (λ size. size ≤ most_of (leaving_of leaving) self.old.end) }
-        ensures end { OnOk result (self.new.end ≡ after_given (policy_of H.protection K.aead (words_of R.stream) self.old) (draft_as (leaving_of leaving) self.old.end)) }
+        ensures end { OnOk result (self.new.end ≡ after_given (policy_of H.protection K.aead K.seal_limit K.refusal_limit (words_of R.stream) self.old) (draft_as (leaving_of leaving) self.old.end)) }
         ensures control { OnOk result (self.new.control ≡ after_calls C.steps self.old.control (told_draft (draft_as (leaving_of leaving) self.old.end))) }
         ensures keys { self.new.keys ≡ self.old.keys }
         ensures heard { OnOk result (self.new.heard ≡ self.old.heard) }
-        ensures random { OnOk result (R.stream self.new.random ≡ after_words (self.new.end.filter.drawn - self.old.end.filter.drawn) (R.stream self.old.random)) }
+        ensures random { OnOk result (R.stream self.new.random ≡ after_words (words_drawn self.new.end - words_drawn self.old.end) (R.stream self.old.random)) }
         ensures failed { OnErr result (HasFailed self.old self.new) }
         ensures stopped { OnErr result (self.new.end.timers ≡ no_timers) }
         ensures nothing { OnErr result (out.new.items ≡ out.old.items) }
@@ -102,14 +96,14 @@ impl<H: HeaderKey + Drop, K: PacketKey + Drop, R: Rng + Drop, C: Controller> Con
         requires due { MayGo (leaving_of leaving) self.old.end }
         requires looked { IsLooked leaving self.old.end }
         requires room { vec_len out.old + most_of (leaving_of leaving) self.old.end ≤ vec_capacity out.old }
-        ensures items { OnOk result (out.new.items ≡ out.old.items ++ datagram_of (policy_of H.protection K.aead (words_of R.stream) self.old) (draft_left (leaving_of leaving) self.old.end)) }
+        ensures items { OnOk result (out.new.items ≡ out.old.items ++ datagram_of (policy_of H.protection K.aead K.seal_limit K.refusal_limit (words_of R.stream) self.old) (draft_left (leaving_of leaving) self.old.end)) }
         ensures size { IfOk result (λ size. vec_len out.new ≡ vec_len out.old + size) }
         ensures most { IfOk result (λ size. size ≤ most_of (leaving_of leaving) self.old.end) }
-        ensures end { OnOk result (self.new.end ≡ after_given (policy_of H.protection K.aead (words_of R.stream) self.old) (draft_left (leaving_of leaving) self.old.end)) }
+        ensures end { OnOk result (self.new.end ≡ after_given (policy_of H.protection K.aead K.seal_limit K.refusal_limit (words_of R.stream) self.old) (draft_left (leaving_of leaving) self.old.end)) }
         ensures control { OnOk result (self.new.control ≡ after_calls C.steps self.old.control (told_draft (draft_left (leaving_of leaving) self.old.end))) }
         ensures keys { self.new.keys ≡ self.old.keys }
         ensures heard { OnOk result (self.new.heard ≡ self.old.heard) }
-        ensures random { OnOk result (R.stream self.new.random ≡ after_words (self.new.end.filter.drawn - self.old.end.filter.drawn) (R.stream self.old.random)) }
+        ensures random { OnOk result (R.stream self.new.random ≡ after_words (words_drawn self.new.end - words_drawn self.old.end) (R.stream self.old.random)) }
         ensures failed { OnErr result (HasFailed self.old self.new) }
         ensures stopped { OnErr result (self.new.end.timers ≡ no_timers) }
         ensures nothing { OnErr result (out.new.items ≡ out.old.items) }
@@ -135,13 +129,13 @@ impl<H: HeaderKey + Drop, K: PacketKey + Drop, R: Rng + Drop, C: Controller> Con
         requires due { MayGo (leaving_of leaving) self.old.end }
         requires looked { IsLooked leaving self.old.end }
         requires room { vec_len out.old + most_of (leaving_of leaving) self.old.end ≤ vec_capacity out.old }
-        ensures items { OnOk result (out.new.items ≡ out.old.items ++ (header_bytes self.old.end.ids.active.id (truncated (number_of self.old.end) (cut_against self.old.end.numbers)) ++ payload_of (draft_left (leaving_of leaving) self.old.end))) }
-        ensures four { OnOk result (vec_len out.old + 1 + length self.old.end.ids.active.id + 4 ≤ vec_len out.new) }
+        ensures items { OnOk result (out.new.items ≡ out.old.items ++ (header_bytes self.old.end.ids.peer.id (truncated (number_of self.old.end) (cut_against self.old.end.numbers)) ++ payload_of (draft_left (leaving_of leaving) self.old.end))) }
+        ensures four { OnOk result (vec_len out.old + 1 + length self.old.end.ids.peer.id + 4 ≤ vec_len out.new) }
         ensures within { OnOk result (vec_len out.new + 16 ≤ vec_len out.old + most_of (leaving_of leaving) self.old.end) }
         ensures capacity { vec_capacity out.old ≤ vec_capacity out.new }
-        ensures end { OnOk result (self.new.end ≡ paid_if (asking (draft_left (leaving_of leaving) self.old.end).frames) (with_number_given (words_of R.stream self.old.random 0) (tracked (draft_left (leaving_of leaving) self.old.end))) (datagram_size (draft_left (leaving_of leaving) self.old.end))) }
+        ensures end { OnOk result (self.new.end ≡ packet_given (asking (draft_left (leaving_of leaving) self.old.end).frames) (paid_if (asking (draft_left (leaving_of leaving) self.old.end).frames) (with_number_given (words_of R.stream self.old.random 0) (tracked (draft_left (leaving_of leaving) self.old.end))) (datagram_size (draft_left (leaving_of leaving) self.old.end)))) }
         ensures control { OnOk result (self.new.control ≡ after_calls C.steps self.old.control (told_draft (draft_left (leaving_of leaving) self.old.end))) }
-        ensures random { OnOk result (R.stream self.new.random ≡ after_words (self.new.end.filter.drawn - self.old.end.filter.drawn) (R.stream self.old.random)) }
+        ensures random { OnOk result (R.stream self.new.random ≡ after_words (words_drawn self.new.end - words_drawn self.old.end) (R.stream self.old.random)) }
         ensures ids { OnOk result (self.new.end.ids ≡ self.old.end.ids) }
         ensures keys { self.new.keys ≡ self.old.keys }
         ensures heard { OnOk result (self.new.heard ≡ self.old.heard) }
@@ -165,8 +159,8 @@ impl<H: HeaderKey + Drop, K: PacketKey + Drop, R: Rng + Drop, C: Controller> Con
         requires due { MayGo (leaving_of leaving) self.old.end }
         requires looked { IsLooked leaving self.old.end }
         requires room { vec_len out.old + most_of (leaving_of leaving) self.old.end ≤ vec_capacity out.old }
-        ensures items { OnOk result (out.new.items ≡ out.old.items ++ (header_bytes self.old.end.ids.active.id (truncated (number_of self.old.end) (cut_against self.old.end.numbers)) ++ payload_of (draft_left (leaving_of leaving) self.old.end))) }
-        ensures four { OnOk result (vec_len out.old + 1 + length self.old.end.ids.active.id + 4 ≤ vec_len out.new) }
+        ensures items { OnOk result (out.new.items ≡ out.old.items ++ (header_bytes self.old.end.ids.peer.id (truncated (number_of self.old.end) (cut_against self.old.end.numbers)) ++ payload_of (draft_left (leaving_of leaving) self.old.end))) }
+        ensures four { OnOk result (vec_len out.old + 1 + length self.old.end.ids.peer.id + 4 ≤ vec_len out.new) }
         ensures within { OnOk result (vec_len out.new + 16 ≤ vec_len out.old + most_of (leaving_of leaving) self.old.end) }
         ensures capacity { vec_capacity out.old ≤ vec_capacity out.new }
         ensures end { OnOk result (self.new ≡ with_end self.old (draft_left (leaving_of leaving) self.old.end).end) }
@@ -188,7 +182,7 @@ impl<H: HeaderKey + Drop, K: PacketKey + Drop, R: Rng + Drop, C: Controller> Con
         let body = out.len();
         let sent = self.put_leave(leaving, out)?;
         let beside = body - start + TAG_LEN;
-        let least = self.least_size(leaving, sent.asks);
+        let least = self.least_size(leaving, &sent);
         pad(out, width, body, least.saturating_sub(beside));
         Ok(sent)
     }
@@ -208,6 +202,7 @@ impl<H: HeaderKey + Drop, K: PacketKey + Drop, R: Rng + Drop, C: Controller> Con
         ensures capacity { vec_capacity out.old ≤ vec_capacity out.new }
         ensures end { OnOk result (self.new ≡ with_end self.old (draft_left (leaving_of leaving) self.old.end).end) }
         ensures asks { IfOk result (λ sent. sent.asks ≡ asking (draft_left (leaving_of leaving) self.old.end).frames) }
+        ensures pads { IfOk result (λ sent. sent.requires_padding ≡ pads_left (leaving_of leaving) self.old.end) }
         ensures carried { IfOk result (λ sent. sent.carried ≡ carried_in (draft_left (leaving_of leaving) self.old.end).frames) }
         ensures front { take (vec_len out.old) out.new.items ≡ out.old.items }
         ensures others { self.new ≡ with_end self.old self.new.end }
@@ -227,16 +222,17 @@ impl<H: HeaderKey + Drop, K: PacketKey + Drop, R: Rng + Drop, C: Controller> Con
         }
     }
 
-    /// How many bytes a datagram has at least: a probe has its size, and one that asks that of its
-    /// path, where `pad_to_mtu` is set.
-    fn least_size(&self, leaving: Leaving, asks: bool) -> usize
-        ensures { result ≡ least_of (leaving_of leaving) asks self.now.end }
+    /// How many bytes a datagram has at least: a probe has its size, one with a frame of path
+    /// validation 1200, and one that asks that of its path, where `pad_to_mtu` is set.
+    fn least_size(&self, leaving: Leaving, sent: &SentFrames) -> usize
+        ensures { result ≡ least_of (leaving_of leaving) sent.now.requires_padding sent.now.asks self.now.end }
     {
         let size = match leaving {
+            Leaving::Whole if sent.requires_padding => PATH_FRAMES_SIZE,
             Leaving::Whole | Leaving::Alone => 0,
             Leaving::Probe(size) => size,
         };
-        if self.transport.get_pad_to_mtu() && asks {
+        if self.transport.get_pad_to_mtu() && sent.asks {
             usize::from(size.max(self.path.current_mtu()))
         } else {
             usize::from(size)
@@ -257,6 +253,7 @@ impl<H: HeaderKey + Drop, K: PacketKey + Drop, R: Rng + Drop, C: Controller> Con
         ensures capacity { vec_capacity out.old ≤ vec_capacity out.new }
         ensures end { OnOk result (self.new ≡ with_end self.old (composed self.old.end).end) }
         ensures asks { IfOk result (λ sent. sent.asks ≡ asking (composed self.old.end).frames) }
+        ensures pads { IfOk result (λ sent. sent.requires_padding ≡ path_waits self.old.end) }
         ensures carried { IfOk result (λ sent. sent.carried ≡ carried_in (composed self.old.end).frames) }
         ensures front { take (vec_len out.old) out.new.items ≡ out.old.items }
         ensures others { self.new ≡ with_end self.old self.new.end }
@@ -304,6 +301,7 @@ impl<H: HeaderKey + Drop, K: PacketKey + Drop, R: Rng + Drop, C: Controller> Con
 
     /// Whether there is a number to acknowledge, and its frame fits behind so many bytes of a
     /// payload.
+    #[tactic(auto, using(crate::proofs::Plain::can_give))]
     fn ack_fits(&self, used: usize) -> bool
         requires number { can_number self.now.end.numbers ≡ true }
         requires used { used ≤ frame_room self.now.end }
@@ -345,10 +343,10 @@ impl<H: HeaderKey + Drop, K: PacketKey + Drop, R: Rng + Drop, C: Controller> Con
         largest
     }
 
-    /// Appends what asks for an acknowledgement, PING, messages and frames about streams, behind
-    /// the frames of the packet whose payload begins at `body`: none, or an ACK. There is room for
-    /// the whole payload. This answers what went. An error is want of memory; the end is of no more
-    /// use then.
+    /// Appends what asks for an acknowledgement, frames of path validation, PING, messages and
+    /// frames about streams, behind the frames of the packet whose payload begins at `body`: none,
+    /// or an ACK. There is room for the whole payload. This answers what went. An error is want of
+    /// memory; the end is of no more use then.
     fn put_asking(&mut self, body: usize, out: &mut Vec<u8>) -> Result<SentFrames, AllocError>
         requires number { can_number self.old.end.numbers ≡ true }
         requires body { body ≤ vec_len out.old }
@@ -361,15 +359,18 @@ impl<H: HeaderKey + Drop, K: PacketKey + Drop, R: Rng + Drop, C: Controller> Con
         ensures capacity { vec_capacity out.old ≤ vec_capacity out.new }
         ensures end { OnOk result (self.new ≡ with_end self.old (asked self.old.end (vec_len out.old - body)).end) }
         ensures asks { IfOk result (λ sent. sent.asks ≡ asking (asked self.old.end (vec_len out.old - body)).frames) }
+        ensures pads { IfOk result (λ sent. sent.requires_padding ≡ path_waits self.old.end) }
         ensures carried { IfOk result (λ sent. sent.carried ≡ carried_in (asked self.old.end (vec_len out.old - body)).frames) }
         ensures front { take (vec_len out.old) out.new.items ≡ out.old.items }
         ensures others { self.new ≡ with_end self.old self.new.end }
     {
         let before = out.len();
+        let requires_padding = self.put_path_frames(out);
         self.put_ping(out);
         let carried = self.put_content(body, out)?;
         Ok(SentFrames {
             asks: before < out.len(),
+            requires_padding,
             carried,
         })
     }
@@ -392,6 +393,7 @@ impl<H: HeaderKey + Drop, K: PacketKey + Drop, R: Rng + Drop, C: Controller> Con
     /// Appends messages and frames about streams behind the frames of the packet whose payload
     /// begins at `body`; there is room for the whole payload. This answers what they carry. An
     /// error is want of memory; the end is of no more use then.
+    #[tactic(auto, using(crate::proofs::Plain::can_give))]
     fn put_content(&mut self, body: usize, out: &mut Vec<u8>) -> Result<Carried, AllocError>
         requires number { can_number self.old.end.numbers ≡ true }
         requires body { body ≤ vec_len out.old }
@@ -431,7 +433,7 @@ impl<H: HeaderKey + Drop, K: PacketKey + Drop, R: Rng + Drop, C: Controller> Con
 
     /// That number as it is written, cut against the greatest that was acknowledged.
     fn packet_number(&self) -> PacketNumber
-        requires { can_number self.now.end.numbers ≡ true }
+        requires { may_give self.now.end.numbers (number_of self.now.end) ≡ true }
         ensures value { result ≡ truncated (number_of self.now.end) (cut_against self.now.end.numbers) }
         ensures some { 1 ≤ result.width }
         ensures four { result.width ≤ 4 }
@@ -443,11 +445,11 @@ impl<H: HeaderKey + Drop, K: PacketKey + Drop, R: Rng + Drop, C: Controller> Con
     }
 
     /// How many bytes are left for frames in the next datagram.
-    fn frame_room(&self) -> usize
-        requires number { can_number self.now.end.numbers ≡ true }
+    pub(crate) fn frame_room(&self) -> usize
+        requires number { may_give self.now.end.numbers (number_of self.now.end) ≡ true }
         ensures room { result ≡ frame_room self.now.end }
         ensures some { 1159 ≤ result }
-        ensures whole { 1 + length self.now.end.ids.active.id + (truncated (number_of self.now.end) (cut_against self.now.end.numbers)).width + result + 16 ≡ current_mtu self.now.end.path }
+        ensures whole { 1 + length self.now.end.ids.peer.id + (truncated (number_of self.now.end) (cut_against self.now.end.numbers)).width + result + 16 ≡ current_mtu self.now.end.path }
         ensures few { result < 2 ^ 16 }
     {
         let header = 1 + self.ids.destination().len() + self.packet_number().len();
@@ -456,14 +458,14 @@ impl<H: HeaderKey + Drop, K: PacketKey + Drop, R: Rng + Drop, C: Controller> Con
 
     /// Appends the header of the next datagram, for which there is room: how many bytes its number
     /// takes.
-    fn put_header(&self, out: &mut Vec<u8>) -> usize
-        requires number { can_number self.now.end.numbers ≡ true }
+    pub(crate) fn put_header(&self, out: &mut Vec<u8>) -> usize
+        requires number { may_give self.now.end.numbers (number_of self.now.end) ≡ true }
         requires room { vec_len out.old + 25 ≤ vec_capacity out.old }
-        ensures items { out.new.items ≡ out.old.items ++ header_bytes self.now.end.ids.active.id (truncated (number_of self.now.end) (cut_against self.now.end.numbers)) }
+        ensures items { out.new.items ≡ out.old.items ++ header_bytes self.now.end.ids.peer.id (truncated (number_of self.now.end) (cut_against self.now.end.numbers)) }
         ensures width { result ≡ (truncated (number_of self.now.end) (cut_against self.now.end.numbers)).width }
         ensures four { result ≤ 4 }
-        ensures short { 1 + length self.now.end.ids.active.id + result ≤ 25 }
-        ensures len { vec_len out.new ≡ vec_len out.old + (1 + length self.now.end.ids.active.id + result) }
+        ensures short { 1 + length self.now.end.ids.peer.id + result ≤ 25 }
+        ensures len { vec_len out.new ≡ vec_len out.old + (1 + length self.now.end.ids.peer.id + result) }
         ensures capacity { vec_capacity out.old ≤ vec_capacity out.new }
     {
         let header = ShortHeader {
@@ -475,11 +477,11 @@ impl<H: HeaderKey + Drop, K: PacketKey + Drop, R: Rng + Drop, C: Controller> Con
     }
 
     /// Seals the packet of this number that stands behind the first bytes.
-    fn seal(&self, start: usize, number: u64, out: &mut Vec<u8>)
-        requires start { start + 1 + length self.now.end.ids.active.id + 4 ≤ vec_len out.old }
+    pub(crate) fn seal(&self, start: usize, number: u64, out: &mut Vec<u8>)
+        requires start { start + 1 + length self.now.end.ids.peer.id + 4 ≤ vec_len out.old }
         requires room { vec_len out.old + 16 ≤ vec_capacity out.old }
         requires number { number < 2 ^ 62 }
-        ensures items { out.new.items ≡ take start out.old.items ++ protected (H.protection self.now.keys.header.local) (K.aead self.now.keys.packet.local) (length self.now.end.ids.active.id + 1) number (drop start out.old.items) }
+        ensures items { out.new.items ≡ take start out.old.items ++ protected (H.protection self.now.keys.header.local) (K.aead self.now.keys.packet.local) (length self.now.end.ids.peer.id + 1) number (drop start out.old.items) }
         ensures len { vec_len out.new ≡ vec_len out.old + 16 }
     {
         let number_at = self.ids.destination().len() + 1;
@@ -492,110 +494,4 @@ impl<H: HeaderKey + Drop, K: PacketKey + Drop, R: Rng + Drop, C: Controller> Con
             &self.keys.packet.local,
         );
     }
-}
-
-/// Appends messages and frames about streams behind the frames of a packet whose payload begins at
-/// `body` and may have `most` bytes, for which there is room: frames of control, DATAGRAM frames
-/// behind them, and STREAM frames behind these. This answers what they carry. An error is want of
-/// memory; the streams are of no more use then.
-fn put_content(
-    streams: &mut EndStreams,
-    datagrams: &mut DatagramState,
-    stats: &mut FrameStats,
-    fair: bool,
-    alloc: Global,
-    body: usize,
-    most: usize,
-    out: &mut Vec<u8>,
-) -> Result<Carried, AllocError>
-    requires body { body ≤ vec_len out.old }
-    requires within { vec_len out.old ≤ body + most }
-    requires room { body + most ≤ vec_capacity out.old }
-    requires few { most < 2 ^ 62 }
-    ensures items { OnOk result (out.new.items ≡ out.old.items ++ (content fair most (vec_len out.old - body) streams.old.state streams.old.pending datagrams.old.outgoing).bytes) }
-    ensures within { vec_len out.new ≤ body + most }
-    ensures grows { vec_len out.old ≤ vec_len out.new }
-    ensures capacity { vec_capacity out.old ≤ vec_capacity out.new }
-    ensures streams { OnOk result (streams_of streams.new.state streams.new.pending ≡ (content fair most (vec_len out.old - body) streams.old.state streams.old.pending datagrams.old.outgoing).streams) }
-    ensures messages { OnOk result (datagrams.new ≡ record datagrams.old { outgoing = (content fair most (vec_len out.old - body) streams.old.state streams.old.pending datagrams.old.outgoing).outgoing }) }
-    ensures carried { IfOk result (λ carried. carried ≡ carried_in (content fair most (vec_len out.old - body) streams.old.state streams.old.pending datagrams.old.outgoing).frames) }
-    ensures front { take (vec_len out.old) out.new.items ≡ out.old.items }
-{
-    let retransmits = put_control_frames(streams, stats, alloc, body, most, out)?;
-    put_messages(datagrams, stats, body, most, out);
-    let mut stream_frames = Vec::new(alloc);
-    streams
-        .state
-        .write_stream_frames(out, body + most, fair, &mut stream_frames)?;
-    count_streams(stats, stream_frames.len());
-    Ok(Carried {
-        largest_acked: None,
-        stream_frames,
-        retransmits,
-    })
-}
-
-/// Appends frames about streams but for STREAM behind the frames of a packet whose payload begins
-/// at `body` and may have `most` bytes, for which there is room. This answers what has to be sent
-/// again if the datagram is lost. An error is want of memory; the streams are of no more use then.
-fn put_control_frames(
-    streams: &mut EndStreams,
-    stats: &mut FrameStats,
-    alloc: Global,
-    body: usize,
-    most: usize,
-    out: &mut Vec<u8>,
-) -> Result<ThinRetransmits, AllocError>
-    requires body { body ≤ vec_len out.old }
-    requires within { vec_len out.old ≤ body + most }
-    requires room { body + most ≤ vec_capacity out.old }
-    ensures items { OnOk result (out.new.items ≡ out.old.items ++ spelled_all (control_part most (vec_len out.old - body) streams.old.state streams.old.pending).frames) }
-    ensures within { vec_len out.new ≤ body + most }
-    ensures grows { vec_len out.old ≤ vec_len out.new }
-    ensures capacity { vec_capacity out.old ≤ vec_capacity out.new }
-    ensures state { OnOk result (streams.new.state ≡ (control_part most (vec_len out.old - body) streams.old.state streams.old.pending).state) }
-    ensures pending { OnOk result (streams.new.pending ≡ (control_part most (vec_len out.old - body) streams.old.state streams.old.pending).pending) }
-    ensures carried { IfOk result (λ kept. made kept ≡ retransmits_in (control_part most (vec_len out.old - body) streams.old.state streams.old.pending).frames) }
-    ensures front { take (vec_len out.old) out.new.items ≡ out.old.items }
-{
-    // Mostly nothing waits, and the walk over the kinds is spared.
-    if streams.pending.is_idle() {
-        return Ok(ThinRetransmits::new());
-    }
-    let before = out.len();
-    let mut sent = Retransmits::new(alloc);
-    streams
-        .state
-        .write_control_frames(out, body + most, &mut streams.pending, &mut sent)?;
-    if out.len() == before {
-        return Ok(ThinRetransmits::new());
-    }
-    count_frames(stats, &out[before..]);
-    ThinRetransmits::of(alloc, sent)
-}
-
-/// Appends a PING frame, for which there is room.
-fn put_ping(out: &mut Vec<u8>)
-    requires { vec_len out.old + 1 ≤ vec_capacity out.old }
-    ensures items { out.new.items ≡ out.old.items ++ spelling ping }
-    ensures len { vec_len out.new ≡ vec_len out.old + 1 }
-    ensures capacity { vec_capacity out.old ≤ vec_capacity out.new }
-{
-    let _: Option<(Stream<'_>, Ack<'_>)> = None;
-    put_frame(out, &Frame::Ping);
-}
-
-/// Pads the payload that begins there, so that it has four bytes with its number (RFC 9001, section
-/// 5.4.2), and so many by itself at least.
-fn pad(out: &mut Vec<u8>, width: usize, body: usize, least: usize)
-    requires width { width ≤ 4 }
-    requires body { body ≤ vec_len out.old }
-    requires room { vec_len out.old + max (4 - (width + (vec_len out.old - body))) (least - (vec_len out.old - body)) ≤ vec_capacity out.old }
-    ensures items { out.new.items ≡ out.old.items ++ replicate (max (4 - (width + (vec_len out.old - body))) (least - (vec_len out.old - body))) 0 }
-    ensures len { vec_len out.new ≡ vec_len out.old + max (4 - (width + (vec_len out.old - body))) (least - (vec_len out.old - body)) }
-    ensures capacity { vec_capacity out.old ≤ vec_capacity out.new }
-{
-    let used = out.len() - body;
-    let zeros = 4usize.saturating_sub(width + used);
-    append_zeros(out, zeros.max(least.saturating_sub(used)));
 }

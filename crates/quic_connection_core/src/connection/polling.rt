@@ -1,28 +1,25 @@
 //! What goes at a poll, if something does.
-ghost use Rattle.std.specs.Prelude.{◌≡◌, ◌≢◌, ◌+◌, ◌-◌, ◌<◌, ◌≤◌, ◌++◌, IfOk, IfSome, OnOk, OnErr, Ok, None, true, false, max};
+ghost use Rattle.std.specs.Prelude.{◌≡◌, ◌≢◌, ◌-◌, ◌≤◌, ◌++◌, IfOk, IfSome, OnOk, OnErr, Ok, None, true, false};
 ghost use Rattle.quic_time.specs.Timers.{no_timers};
-ghost use Rattle.quic_machine.specs.End.{with_end, hearing, policy_of, HasFailed};
+ghost use Rattle.quic_machine.specs.End.{with_end, hearing, policy_of, HasFailed, words_drawn};
 ghost use Rattle.quic_machine.specs.Heard.{heard_sent, heard_given};
-ghost use Rattle.quic_machine.specs.Poll.{IsSilent, polled, told_polled, is_gated, gated, asks_to_go, waits, leaves, leaves_if, mark_of, probed};
+ghost use Rattle.quic_machine.specs.Poll.{IsSilent, polled, told_polled, is_gated, gated, asks_to_go, waits, leaves_at, leaves_if, mark_of, probed};
 ghost use Rattle.quic_machine.specs.PollCases.{ready_at};
-ghost use Rattle.quic_connection_core.specs.Leaving.{Leaves, rested};
+ghost use Rattle.quic_connection_parts.specs.Leaving.{Leaves, rested};
 ghost use Rattle.quic_machine.specs.Control.{is_window_full, by_window};
 ghost use Rattle.quic_machine.specs.Lacking.{PollTakes, MovesRecord};
-ghost use Rattle.quic_connection_core.specs.Given.{given_bytes};
-ghost use Rattle.quic_connection_core.specs.Drawn.{words_of, after_words};
-ghost use Rattle.quic_connection_core.specs.Telling.{reading};
+ghost use Rattle.quic_connection_parts.specs.Given.{given_bytes};
+ghost use Rattle.quic_connection_parts.specs.Drawn.{words_of, after_words};
+ghost use Rattle.quic_connection_parts.specs.Telling.{reading};
 ghost use Rattle.quic_congestion.specs.Congestion.{after_calls};
-ghost use Rattle.quic_congestion.specs.Pacer.{after_delay, delay_of};
-ghost use Rattle.quic_time.specs.Rtt.{best_rtt};
 
 use crate::connection::Connection;
-use crate::connection::leaving::Leaving;
 use quic_congestion::Controller;
-use quic_machine::{Failed, Instant, LostReason, State, Timer, Transmit};
+use quic_connection_parts::leaving::Leaving;
+use quic_connection_parts::polling::pacer_answer;
+use quic_machine::{Failed, Instant, State, Timer, Transmit};
 use quic_packet::crypto::{HeaderKey, PacketKey};
-use quic_paths::PathData;
 use quic_streams_handles::EndStreams;
-use quic_time::Duration;
 use quic_wire_core::EcnCodepoint;
 use rand_core::Rng;
 use std::alloc::AllocError;
@@ -34,79 +31,95 @@ impl<H: HeaderKey + Drop, K: PacketKey + Drop, R: Rng + Drop, C: Controller> Con
     C,
 > {
     /// Appends the next datagram to `out`, if there is something to send at this moment: a due
-    /// acknowledgement, PING, what has to be told of streams, messages, or bytes of streams (RFC
-    /// 9000, sections 13.2 and 13.3; RFC 9221, section 5). An acknowledgement that isn't due goes
-    /// along where it fits. Where a PTO probe waits and nothing has to be told of streams, what a
-    /// tracked packet carried of it is told once more, or a PING goes (RFC 9002, section 6.2.4).
-    /// The datagram is tracked until it is acknowledged, lost or forgotten, and sets the loss timer
-    /// anew. Where its number is the one above one that is left out, a word of the random source
-    /// says which is left out next. Its bytes count as sent (section 8.1).
+    /// acknowledgement, PATH_CHALLENGE, PATH_RESPONSE, PING, what has to be told of streams,
+    /// messages, or bytes of streams (RFC 9000, sections 8.2, 13.2 and 13.3; RFC 9221, section 5).
+    /// An acknowledgement that isn't due goes along where it fits. Where a PTO probe waits and
+    /// nothing has to be told of streams, what a tracked packet carried of it is told once more, or
+    /// a PING goes (RFC 9002, section 6.2.4). The datagram is tracked until it is acknowledged,
+    /// lost or forgotten, and sets the loss timer anew. Where its number is the one above one that
+    /// is left out, a word of the random source says which is left out next. Its bytes count as
+    /// sent (section 8.1).
     ///
     /// What asks for an acknowledgement waits where the congestion window has no room for one more
     /// datagram, or where the pacer names a later moment, to which the timer [`Timer::Pacing`] is
     /// set; a due acknowledgement goes alone then, and a PTO probe that waits passes both (RFC
     /// 9002, sections 7, 7.5 and 7.7).
     ///
+    /// Nothing goes while the peer's address isn't validated and one more datagram of the current
+    /// size would come to more than three times the bytes that came (RFC 9000, section 8.1).
+    ///
     /// Where nothing waits, a PING may go as an MTU probe of a size no smaller than the current
     /// one: where path MTU discovery is configured and names one, the peer's address is validated,
     /// and the congestion window has room for the greatest size that is looked at (RFC 8899,
-    /// section
-    /// 5.3; RFC 9000, section 14.3).
+    /// section 5.3; RFC 9000, section 14.3).
     ///
     /// The datagram has at most [`Connection::current_mtu`] bytes, or is such an MTU probe, which
-    /// has the size that is looked for. It is to be marked as the answer says: ECT(0), until an ACK
-    /// shows that marks don't come through (section 13.4.2). Where something goes and the packet
-    /// numbers are used up, the end closes, no timer of it is set any more, and nothing is given.
-    /// An end that gives nothing and is open has nothing left to send but what is held back.
+    /// has the size that is looked for; with PATH_CHALLENGE or PATH_RESPONSE it has 1200 at least.
+    /// It is to be marked as the answer says: ECT(0), until an ACK shows that marks don't come
+    /// through (section 13.4.2). An end that gives nothing and is open has nothing left to send but
+    /// what is held back.
+    ///
+    /// Where something would go and the packet numbers are used up, or the packets that the key may
+    /// seal, the end closes instead, and gives its close (section 12.3; RFC 9001, section 6.6).
+    /// Sixteen numbers and eight seals are kept for closes. An end that is closing gives its close
+    /// once, and once more for each new packet that came (section 10.2.1), while numbers and seals
+    /// last; a drained end gives nothing.
     ///
     /// # Errors
     ///
-    /// [`Failed`] where memory lacks now, and the end fails for good and has no timer, or where it
-    /// had failed before, and nothing changes; `out` is as it was.
+    /// - [`Failed`]: the endpoint had failed before. Nothing changes, and nothing is appended to
+    ///   `out`.
+    /// - [`Failed`]: an allocation fails. The endpoint fails for good and has no timer, and nothing
+    ///   is appended to `out`.
+    #[tactic(auto, using(quic_connection_parts::proofs::Drawing::draws_same))]
     pub fn poll_transmit(
         &mut self,
         now: Instant,
         out: &mut Vec<u8>,
     ) -> Result<Option<Transmit>, Failed>
-        ensures answer { OnOk result (result ≡ (polled (policy_of H.protection K.aead (words_of R.stream) self.old) (reading C.window_of self.old) now).answer) }
-        ensures end { OnOk result (self.new.end ≡ (polled (policy_of H.protection K.aead (words_of R.stream) self.old) (reading C.window_of self.old) now).end) }
-        ensures control { OnOk result (self.new.control ≡ after_calls C.steps self.old.control (told_polled (reading C.window_of self.old) now)) }
+        ensures answer { OnOk result (result ≡ (polled (policy_of H.protection K.aead K.seal_limit K.refusal_limit (words_of R.stream) self.old) (reading C.window_of self.old) now).answer) }
+        ensures end { OnOk result (self.new.end ≡ (polled (policy_of H.protection K.aead K.seal_limit K.refusal_limit (words_of R.stream) self.old) (reading C.window_of self.old) now).end) }
+        ensures control { OnOk result (self.new.control ≡ after_calls C.steps self.old.control (told_polled (policy_of H.protection K.aead K.seal_limit K.refusal_limit (words_of R.stream) self.old) (reading C.window_of self.old) now)) }
         ensures keys { self.new.keys ≡ self.old.keys }
         ensures heard { IfOk result (λ given. self.new.heard ≡ heard_given given self.old.heard) }
-        ensures random { OnOk result (R.stream self.new.random ≡ after_words (self.new.end.filter.drawn - self.old.end.filter.drawn) (R.stream self.old.random)) }
-        ensures datagram { OnOk result (out.new.items ≡ out.old.items ++ given_bytes (polled (policy_of H.protection K.aead (words_of R.stream) self.old) (reading C.window_of self.old) now).datagram) }
+        ensures random { OnOk result (R.stream self.new.random ≡ after_words (words_drawn self.new.end - words_drawn self.old.end) (R.stream self.old.random)) }
+        ensures datagram { OnOk result (out.new.items ≡ out.old.items ++ given_bytes (polled (policy_of H.protection K.aead K.seal_limit K.refusal_limit (words_of R.stream) self.old) (reading C.window_of self.old) now).datagram) }
         ensures failed { OnErr result (HasFailed self.old self.new) }
         ensures stopped { self.old.end.closing.state ≢ State.Failed → OnErr result (self.new.end.timers ≡ no_timers) }
         ensures nothing { OnErr result (out.new.items ≡ out.old.items) }
-        ensures lacking { OnErr result (PollTakes (policy_of H.protection K.aead (words_of R.stream) self.old) (reading C.window_of self.old) now) }
+        ensures lacking { OnErr result (PollTakes (policy_of H.protection K.aead K.seal_limit K.refusal_limit (words_of R.stream) self.old) (reading C.window_of self.old) now) }
         ensures still { self.old.end.closing.state ≡ State.Failed → self.new ≡ self.old }
         ensures size { IfOk result (λ given. IfSome given (λ transmit. transmit.size ≤ 65527)) }
         ensures silent { result ≡ Ok None → self.new.end.closing.state ≡ State.Open → IsSilent self.new.end }
     {
         match self.state() {
             State::Failed => return Err(Failed),
-            State::Closing | State::Drained | State::Open => self.read_window(),
+            State::Closing | State::Drained | State::Open => {
+                self.read_window();
+                self.read_blocked();
+            }
         }
-        if !self.is_open() {
-            return Ok(None);
+        match self.state() {
+            State::Open => self.poll_open(now, out),
+            State::Closing => self.poll_closing(now, out),
+            State::Drained | State::Failed => Ok(None),
         }
-        self.poll_open(now, out)
     }
 
     /// The same of an open end that has read the window.
     fn poll_open(&mut self, now: Instant, out: &mut Vec<u8>) -> Result<Option<Transmit>, Failed>
         requires { self.old.end.closing.state ≡ State.Open }
-        ensures answer { OnOk result (result ≡ (polled (policy_of H.protection K.aead (words_of R.stream) self.old) self.old.end now).answer) }
-        ensures end { OnOk result (self.new.end ≡ (polled (policy_of H.protection K.aead (words_of R.stream) self.old) self.old.end now).end) }
-        ensures control { OnOk result (self.new.control ≡ after_calls C.steps self.old.control (told_polled self.old.end now)) }
+        ensures answer { OnOk result (result ≡ (polled (policy_of H.protection K.aead K.seal_limit K.refusal_limit (words_of R.stream) self.old) self.old.end now).answer) }
+        ensures end { OnOk result (self.new.end ≡ (polled (policy_of H.protection K.aead K.seal_limit K.refusal_limit (words_of R.stream) self.old) self.old.end now).end) }
+        ensures control { OnOk result (self.new.control ≡ after_calls C.steps self.old.control (told_polled (policy_of H.protection K.aead K.seal_limit K.refusal_limit (words_of R.stream) self.old) self.old.end now)) }
         ensures keys { self.new.keys ≡ self.old.keys }
         ensures heard { IfOk result (λ given. self.new.heard ≡ heard_given given self.old.heard) }
-        ensures random { OnOk result (R.stream self.new.random ≡ after_words (self.new.end.filter.drawn - self.old.end.filter.drawn) (R.stream self.old.random)) }
-        ensures datagram { OnOk result (out.new.items ≡ out.old.items ++ given_bytes (polled (policy_of H.protection K.aead (words_of R.stream) self.old) self.old.end now).datagram) }
+        ensures random { OnOk result (R.stream self.new.random ≡ after_words (words_drawn self.new.end - words_drawn self.old.end) (R.stream self.old.random)) }
+        ensures datagram { OnOk result (out.new.items ≡ out.old.items ++ given_bytes (polled (policy_of H.protection K.aead K.seal_limit K.refusal_limit (words_of R.stream) self.old) self.old.end now).datagram) }
         ensures failed { OnErr result (HasFailed self.old self.new) }
         ensures stopped { OnErr result (self.new.end.timers ≡ no_timers) }
         ensures nothing { OnErr result (out.new.items ≡ out.old.items) }
-        ensures lacking { OnErr result (PollTakes (policy_of H.protection K.aead (words_of R.stream) self.old) self.old.end now) }
+        ensures lacking { OnErr result (PollTakes (policy_of H.protection K.aead K.seal_limit K.refusal_limit (words_of R.stream) self.old) self.old.end now) }
         ensures size { IfOk result (λ given. IfSome given (λ transmit. transmit.size ≤ 65527)) }
         ensures silent { result ≡ Ok None → self.new.end.closing.state ≡ State.Open → IsSilent self.new.end }
     {
@@ -115,9 +128,9 @@ impl<H: HeaderKey + Drop, K: PacketKey + Drop, R: Rng + Drop, C: Controller> Con
         let Some(leaving) = self.make_ready(now)? else {
             return Ok(None);
         };
-        if !self.can_number() {
-            self.close_by(LostReason::NumberLimit);
-            return Ok(None);
+        if let Some((reason, code)) = self.bound_reached() {
+            self.close_by(reason, code);
+            return self.give_close(out);
         }
         let size = self.give(leaving, out)?;
         self.count_bytes(size);
@@ -128,7 +141,7 @@ impl<H: HeaderKey + Drop, K: PacketKey + Drop, R: Rng + Drop, C: Controller> Con
     }
 
     /// A datagram of so many bytes went on the path (RFC 9000, section 8.1).
-    fn count_bytes(&mut self, size: usize)
+    pub(crate) fn count_bytes(&mut self, size: usize)
         ensures { self.new ≡ hearing self.old (heard_sent size self.old.heard) }
     {
         self.path.on_datagram_sent(size as u64);
@@ -150,7 +163,7 @@ impl<H: HeaderKey + Drop, K: PacketKey + Drop, R: Rng + Drop, C: Controller> Con
     }
 
     /// The mark of a datagram: ECT(0), while the path is marked (RFC 9000, section 13.4).
-    fn mark(&self) -> Option<EcnCodepoint>
+    pub(crate) fn mark(&self) -> Option<EcnCodepoint>
         ensures { result ≡ mark_of self.now.end.path.marking }
     {
         if self.path.sending_ecn {
@@ -162,11 +175,15 @@ impl<H: HeaderKey + Drop, K: PacketKey + Drop, R: Rng + Drop, C: Controller> Con
 
     /// What leaves, if something does: all that waits, unless window or pacer hold back what asks;
     /// a due acknowledgement goes alone then. Where nothing waits, the search for a greater size
-    /// may name one to probe (RFC 8899, section 5.3).
+    /// may name one to probe (RFC 8899, section 5.3). Nothing leaves where three times what came
+    /// went to an address that isn't validated (RFC 9000, section 8.1).
     fn leaving(&mut self) -> Option<Leaving>
-        ensures leaving { Leaves result (leaves (gated self.old.end)).leaving }
-        ensures end { self.new ≡ with_end self.old (rested (leaves (gated self.old.end))) }
+        ensures leaving { Leaves result (leaves_at self.old.end).leaving }
+        ensures end { self.new ≡ with_end self.old (rested (leaves_at self.old.end)) }
     {
+        if self.blocked {
+            return self.rest();
+        }
         let asks = self.asks_to_go();
         let goes = self.waits(asks);
         if self.is_held_back(asks) {
@@ -272,16 +289,4 @@ impl<H: HeaderKey + Drop, K: PacketKey + Drop, R: Rng + Drop, C: Controller> Con
             _ => false,
         }
     }
-}
-
-/// The moment until which one more datagram has to wait at this moment, if the pacer of a path
-/// holds it back, whose window this is.
-fn pacer_answer<C>(path: &mut PathData<C>, window: u64, now: Instant) -> Option<Instant>
-    requires { 0 < window }
-    ensures answer { result ≡ delay_of path.old.pacing (max (best_rtt path.old.rtt) 1) path.old.discovery.size path.old.discovery.size window now }
-    ensures path { path.new ≡ record path.old { pacing = after_delay path.old.pacing (max (best_rtt path.old.rtt) 1) path.old.discovery.size path.old.discovery.size window now } }
-{
-    let size = path.current_mtu();
-    let rtt = path.rtt.get().max(Duration::from_nanos(1));
-    path.pacing.delay(rtt, u64::from(size), size, window, now)
 }

@@ -1,101 +1,34 @@
 //! Taking a datagram (RFC 9000, sections 5.2, 12 and 13.1).
-ghost use Rattle.std.specs.Prelude.{◌≡◌, ◌≢◌, ◌+◌, ◌≤◌, ◌<◌, ◌^◌, length, slice_range, true, false, Some, None, Ok, IfSome, IfNone, IfOk, IfErr, OnOk, MatchResult};
+ghost use Rattle.std.specs.Prelude.{◌≡◌, ◌≢◌, ◌+◌, ◌-◌, ◌≤◌, ◌<◌, ◌^◌, length, slice_range, true, false, Some, None, Ok, IfSome, IfNone, IfOk, IfErr, OnOk, MatchResult};
 ghost use Rattle.quic_wire.specs.Items.{items};
 ghost use Rattle.quic_packet.specs.Destination.{decoded, fixed_length_id};
 ghost use Rattle.quic_machine.specs.Ids.{known};
 ghost use Rattle.quic_time.specs.Timers.{no_timers};
 ghost use Rattle.quic_wire.specs.FrameView.{frame_view, item_view};
-ghost use Rattle.quic_machine.specs.End.{with_end, hearing, policy_of, closed_by, HasFailed};
-ghost use Rattle.quic_machine.specs.Heard.{heard_datagram, heard_answer, heard_failure};
+ghost use Rattle.quic_machine.specs.End.{with_end, hearing, policy_of, HasFailed, drawing, words_drawn};
+ghost use Rattle.quic_machine.specs.Heard.{is_last, heard_datagram, heard_answer};
 ghost use Rattle.quic_machine.specs.Opens.{own_id_length, would_open};
 ghost use Rattle.quic_machine.specs.Arrival.{arriving};
-ghost use Rattle.quic_machine.specs.Receive.{is_above, names_ungiven, received, opened_to, processed, fault_of_breach, plain_error, take_ack, take_frame, take_item, take_items, take_payload, told_received, told_opened, told_processed, told_payload, told_items, told_item, told_ack, item_asks, asks_in, opening, error_of, reason_of, drop_of, violation};
-ghost use Rattle.quic_connection_core.specs.Drawn.{words_of};
-ghost use Rattle.quic_connection_core.specs.Telling.{telling, KeepsRest};
-ghost use Rattle.quic_connection_core.specs.Faults.{fault_view, TellsAs, TakesAs, TakesAllAs, TakesPacketAs, HasForm, ItemHasForm};
+ghost use Rattle.quic_machine.specs.Receive.{names_ungiven, received, opened_to, processed, take_ack, take_frame, take_item, take_items, take_payload, told_received, told_opened, told_processed, told_payload, told_items, told_item, told_ack, asks_in, opening, ends_as, violation};
+ghost use Rattle.quic_connection_parts.specs.Drawn.{words_of, after_words};
+ghost use Rattle.quic_connection_parts.specs.Telling.{telling, KeepsRest};
+ghost use Rattle.quic_connection_parts.specs.Faults.{fault_view, TellsAs, TakesAs, TakesAllAs, TakesPacketAs, HasForm, ItemHasForm};
 ghost use Rattle.quic_machine.specs.Lacking.{TakesFrames};
 
 use crate::connection::Connection;
-use crate::connection::ids::OWN_ID_LENGTH;
-use crate::connection::stream_frames::take_other;
 use quic_congestion::Controller;
-use quic_machine::{DropReason, Instant, LostReason, Received, State};
+use quic_connection_parts::closes::{take_application_close, take_connection_close};
+use quic_connection_parts::ids::OWN_ID_LENGTH;
+use quic_connection_parts::receiving::{
+    Trouble, drop_reason, is_above, is_read, item_asks, violation,
+};
+use quic_connection_parts::stream_frames::take_other;
+use quic_machine::{DropReason, Instant, Received, State};
 use quic_packet::crypto::{HeaderKey, NotOpened, PacketKey};
 use quic_packet::{HeaderError, Opened, open_packet};
-use quic_streams_parts::{Breach, ReceivedError};
 use quic_wire::frame::{Ack, Frame, InvalidFrame, Iter};
-use quic_wire_core::{Code, ConnectionId, EcnCodepoint, Reason, TransportError};
+use quic_wire_core::{ConnectionId, EcnCodepoint, Reason, TransportError};
 use rand_core::Rng;
-use std::alloc::AllocError;
-
-/// Why the frames of a packet weren't all taken.
-#[derive(Debug, Drop)]
-pub(crate) enum Trouble {
-    /// A rule was broken.
-    Broke(TransportError),
-    /// Too many runs of a stream wait.
-    TooManyPieces,
-    /// Memory lacks.
-    Memory,
-}
-
-impl From<AllocError> for Trouble {
-    ghost use Rattle.std.specs.Prelude.{◌≡◌};
-    ghost use Rattle.quic_connection_core.specs.declared.connection.receiving.Trouble.TheVariants as troubles;
-
-    ghost from_gives = { λ error trouble. trouble ≡ troubles.Memory };
-
-    fn from(_: AllocError) -> Trouble {
-        Trouble::Memory
-    }
-}
-
-impl From<ReceivedError> for Trouble {
-    ghost use Rattle.quic_connection_core.specs.Faults.{Becomes};
-
-    ghost from_gives = { Becomes };
-
-    fn from(error: ReceivedError) -> Trouble {
-        match error {
-            ReceivedError::Breach(breach) => trouble_of(breach),
-            ReceivedError::Memory => Trouble::Memory,
-        }
-    }
-}
-
-/// An error that names no frame.
-fn plain_error(code: Code, reason: Reason) -> TransportError
-    ensures { result ≡ plain_error code }
-{
-    TransportError::new(code, None, reason)
-}
-
-/// What a broken rule of streams comes to.
-pub(crate) fn trouble_of(breach: Breach) -> Trouble
-    ensures { fault_view result ≡ Some (fault_of_breach breach) }
-{
-    let error = match breach {
-        Breach::FlowControl => plain_error(Code::FLOW_CONTROL_ERROR, Reason::TooManyBytes),
-        Breach::StreamLimit => plain_error(Code::STREAM_LIMIT_ERROR, Reason::TooManyStreams),
-        Breach::StreamState => plain_error(Code::STREAM_STATE_ERROR, Reason::NotSendable),
-        Breach::FinalSize => plain_error(Code::FINAL_SIZE_ERROR, Reason::FinalSize),
-        Breach::FrameEncoding => plain_error(Code::FRAME_ENCODING_ERROR, Reason::TooManyStreams),
-        Breach::Pieces => return Trouble::TooManyPieces,
-    };
-    Trouble::Broke(error)
-}
-
-/// Why a datagram with this header is dropped.
-fn drop_reason(error: HeaderError) -> DropReason
-    ensures { result ≡ drop_of error }
-{
-    match error {
-        HeaderError::TooShort => DropReason::TooShort,
-        HeaderError::NotShort => DropReason::NotShort,
-        HeaderError::FixedBit => DropReason::FixedBit,
-        HeaderError::UnknownId => DropReason::UnknownId,
-    }
-}
 
 impl<H: HeaderKey + Drop, K: PacketKey + Drop, R: Rng + Drop, C: Controller> Connection<
     H,
@@ -107,27 +40,34 @@ impl<H: HeaderKey + Drop, K: PacketKey + Drop, R: Rng + Drop, C: Controller> Con
     /// sections 5.2 and 12).
     ///
     /// Its bytes count as received, whatever is made of it (section 8.1), and it counts as a
-    /// failure where its packet doesn't open (RFC 9001, section 6.6). A datagram that is dropped
-    /// changes nothing else but what [`stats`](Self::stats) counts, and that the new number of one
-    /// that a closing end opened counts as seen. Where it breaks a rule, the end closes; the frames
-    /// before keep their effect, and its number isn't taken. Where memory lacks, the end fails for
-    /// good. Its number is to be acknowledged once all its frames were taken, at once where it came
-    /// with the mark CE, and its mark counts (sections 13.2.1 and 13.4.1). The datagram's bytes may
-    /// be changed; to what isn't said.
+    /// failure where its packet doesn't open: with the last that the peer's key may refuse, an
+    /// open end closes for [`LostReason::KeyLimit`] (RFC 9001, section 6.6). A datagram that is
+    /// dropped changes nothing else but what [`stats`](Self::stats) counts, and that the new
+    /// number of one that a closing end opened counts as seen, and lets the close go once more
+    /// (section 10.2.1). Where it breaks a rule, the end closes; the frames before keep their
+    /// effect, and its number isn't taken. Where the peer closes, the number is taken, the end is
+    /// drained at once, and the frames behind aren't taken (section 10.2.2). Where memory lacks,
+    /// the end fails for good. Its number is to be acknowledged once all its frames were taken, at
+    /// once where it came with the mark CE, and its mark counts (sections 13.2.1 and 13.4.1). Each
+    /// connection id that is issued for it draws three words of the random source behind its
+    /// frames (section 5.1.1). The datagram's bytes may be changed; to what isn't said.
+    ///
+    /// [`LostReason::KeyLimit`]: quic_machine::LostReason::KeyLimit
     pub fn receive(
         &mut self,
         now: Instant,
         ecn: Option<EcnCodepoint>,
         datagram: &mut [u8],
     ) -> Received
-        ensures answer { result ≢ Received.Failed → result ≡ (received (policy_of H.protection K.aead (words_of R.stream) self.old) self.old.end (arriving now ecn) datagram.old).answer }
-        ensures end { result ≢ Received.Failed → self.new ≡ telling C.steps (hearing self.old (heard_datagram datagram.old result self.old.heard))
-            (told_received (policy_of H.protection K.aead (words_of R.stream) self.old) self.old.end now datagram.old)
-            (received (policy_of H.protection K.aead (words_of R.stream) self.old) self.old.end (arriving now ecn) datagram.old).end }
+        ensures answer { result ≢ Received.Failed → result ≡ (received (policy_of H.protection K.aead K.seal_limit K.refusal_limit (words_of R.stream) self.old) self.old.end (arriving now ecn (is_last (K.refusal_limit self.old.keys.packet.remote) self.old.heard)) datagram.old).answer }
+        ensures end { result ≢ Received.Failed → self.new ≡ drawing self.new.random (telling C.steps (hearing self.old (heard_datagram datagram.old result self.old.heard))
+            (told_received (policy_of H.protection K.aead K.seal_limit K.refusal_limit (words_of R.stream) self.old) self.old.end now datagram.old)
+            (received (policy_of H.protection K.aead K.seal_limit K.refusal_limit (words_of R.stream) self.old) self.old.end (arriving now ecn (is_last (K.refusal_limit self.old.keys.packet.remote) self.old.heard)) datagram.old).end) }
+        ensures random { result ≢ Received.Failed → R.stream self.new.random ≡ after_words (words_drawn self.new.end - words_drawn self.old.end) (R.stream self.old.random) }
         ensures failed { result ≡ Received.Failed → HasFailed self.old self.new }
         ensures before { result ≡ Received.Failed → self.old.end.closing.state ≢ State.Failed }
         ensures stopped { result ≡ Received.Failed → self.new.end.timers ≡ no_timers }
-        ensures lacking { result ≡ Received.Failed → TakesFrames (received (policy_of H.protection K.aead (words_of R.stream) self.old) self.old.end (arriving now ecn) datagram.old).answer }
+        ensures lacking { result ≡ Received.Failed → TakesFrames (received (policy_of H.protection K.aead K.seal_limit K.refusal_limit (words_of R.stream) self.old) self.old.end (arriving now ecn false) datagram.old).answer }
     {
         let len = datagram.len();
         self.stats.udp_rx.on_datagram(len);
@@ -136,20 +76,22 @@ impl<H: HeaderKey + Drop, K: PacketKey + Drop, R: Rng + Drop, C: Controller> Con
     }
 
     /// Takes a datagram that came at this moment with this mark, opening it in place.
+    #[tactic(auto, using(quic_connection_parts::proofs::Drawing::draws_same))]
     fn take_datagram(
         &mut self,
         now: Instant,
         ecn: Option<EcnCodepoint>,
         datagram: &mut [u8],
     ) -> Received
-        ensures answer { result ≢ Received.Failed → result ≡ (received (policy_of H.protection K.aead (words_of R.stream) self.old) self.old.end (arriving now ecn) datagram.old).answer }
-        ensures end { result ≢ Received.Failed → self.new ≡ telling C.steps (hearing self.old (heard_answer result self.old.heard))
-            (told_received (policy_of H.protection K.aead (words_of R.stream) self.old) self.old.end now datagram.old)
-            (received (policy_of H.protection K.aead (words_of R.stream) self.old) self.old.end (arriving now ecn) datagram.old).end }
+        ensures answer { result ≢ Received.Failed → result ≡ (received (policy_of H.protection K.aead K.seal_limit K.refusal_limit (words_of R.stream) self.old) self.old.end (arriving now ecn (is_last (K.refusal_limit self.old.keys.packet.remote) self.old.heard)) datagram.old).answer }
+        ensures end { result ≢ Received.Failed → self.new ≡ drawing self.new.random (telling C.steps (hearing self.old (heard_answer result self.old.heard))
+            (told_received (policy_of H.protection K.aead K.seal_limit K.refusal_limit (words_of R.stream) self.old) self.old.end now datagram.old)
+            (received (policy_of H.protection K.aead K.seal_limit K.refusal_limit (words_of R.stream) self.old) self.old.end (arriving now ecn (is_last (K.refusal_limit self.old.keys.packet.remote) self.old.heard)) datagram.old).end) }
+        ensures random { result ≢ Received.Failed → R.stream self.new.random ≡ after_words (words_drawn self.new.end - words_drawn self.old.end) (R.stream self.old.random) }
         ensures failed { result ≡ Received.Failed → HasFailed self.old self.new }
         ensures before { result ≡ Received.Failed → self.old.end.closing.state ≢ State.Failed }
         ensures stopped { result ≡ Received.Failed → self.new.end.timers ≡ no_timers }
-        ensures lacking { result ≡ Received.Failed → TakesFrames (received (policy_of H.protection K.aead (words_of R.stream) self.old) self.old.end (arriving now ecn) datagram.old).answer }
+        ensures lacking { result ≡ Received.Failed → TakesFrames (received (policy_of H.protection K.aead K.seal_limit K.refusal_limit (words_of R.stream) self.old) self.old.end (arriving now ecn false) datagram.old).answer }
     {
         match self.state() {
             State::Failed => return Received::Dropped(DropReason::Failed),
@@ -160,18 +102,15 @@ impl<H: HeaderKey + Drop, K: PacketKey + Drop, R: Rng + Drop, C: Controller> Con
             return Received::Dropped(drop_reason(error));
         }
         let Ok(opened) = self.unprotect(datagram) else {
-            self.count_failure();
-            return Received::Dropped(DropReason::NotOpened);
+            return self.refuse_packet(now);
         };
         let payload = &datagram[opened.start..opened.end];
-        self.take_opened(now, ecn, &opened, payload)
-    }
-
-    /// A packet didn't open (RFC 9001, section 6.6).
-    fn count_failure(&mut self)
-        ensures { self.new ≡ hearing self.old (heard_failure self.old.heard) }
-    {
-        self.authentication_failures = self.authentication_failures.saturating_add(1);
+        let received = self.take_opened(now, ecn, &opened, payload);
+        if !is_read(&received) {
+            return received;
+        }
+        self.draw_ids();
+        received
     }
 
     /// The own id that a datagram is for, or why it is for none.
@@ -183,11 +122,11 @@ impl<H: HeaderKey + Drop, K: PacketKey + Drop, R: Rng + Drop, C: Controller> Con
     }
 
     /// Whether a datagram would open here, whatever the state of the end, and also where it came
-    /// before: it has a short header with an own id, its packet opens under its number, and its key
-    /// phase is 0. It is opened in place, so `scratch` is a copy of it, whose bytes may be changed;
-    /// the end stays as it is.
+    /// before: it has a short header with an own id, its packet opens under its number, and its
+    /// key phase is 0. It is opened in place, so `scratch` is a copy of it, whose bytes may be
+    /// changed; the end stays as it is.
     pub fn would_open(&self, scratch: &mut [u8]) -> bool
-        ensures { result ≡ would_open (policy_of H.protection K.aead (words_of R.stream) self.now) self.now.end scratch.old }
+        ensures { result ≡ would_open (policy_of H.protection K.aead K.seal_limit K.refusal_limit (words_of R.stream) self.now) self.now.end scratch.old }
     {
         if self.destination_of(scratch).is_err() {
             return false;
@@ -202,8 +141,8 @@ impl<H: HeaderKey + Drop, K: PacketKey + Drop, R: Rng + Drop, C: Controller> Con
     fn unprotect(&self, datagram: &mut [u8]) -> Result<Opened, NotOpened>
         requires { own_id_length + 21 ≤ length datagram.old }
         ensures opened { MatchResult result
-            (λ o. opening (policy_of H.protection K.aead (words_of R.stream) self.now) self.now.end datagram.old ≡ Some (record { first = o.first; number = o.number; payload = slice_range datagram.new o.start o.end }))
-            (λ _. opening (policy_of H.protection K.aead (words_of R.stream) self.now) self.now.end datagram.old ≡ None) }
+            (λ o. opening (policy_of H.protection K.aead K.seal_limit K.refusal_limit (words_of R.stream) self.now) self.now.end datagram.old ≡ Some (record { first = o.first; number = o.number; payload = slice_range datagram.new o.start o.end }))
+            (λ _. opening (policy_of H.protection K.aead K.seal_limit K.refusal_limit (words_of R.stream) self.now) self.now.end datagram.old ≡ None) }
         ensures number { IfOk result (λ o. o.number < 2 ^ 62) }
         ensures start { IfOk result (λ o. o.start ≤ o.end) }
         ensures end { IfOk result (λ o. o.end ≤ length datagram.new) }
@@ -227,11 +166,11 @@ impl<H: HeaderKey + Drop, K: PacketKey + Drop, R: Rng + Drop, C: Controller> Con
         payload: &[u8],
     ) -> Received
         requires { opened.now.number < 2 ^ 62 }
-        ensures answer { result ≢ Received.Failed → result ≡ (opened_to (record { first = opened.now.first; number = opened.now.number; payload = payload.now }) (arriving now ecn) self.old.end).answer }
-        ensures end { result ≢ Received.Failed → self.new ≡ telling C.steps self.old (told_opened (record { first = opened.now.first; number = opened.now.number; payload = payload.now }) now self.old.end) (opened_to (record { first = opened.now.first; number = opened.now.number; payload = payload.now }) (arriving now ecn) self.old.end).end }
+        ensures answer { result ≢ Received.Failed → result ≡ (opened_to (record { first = opened.now.first; number = opened.now.number; payload = payload.now }) (arriving now ecn false) self.old.end).answer }
+        ensures end { result ≢ Received.Failed → self.new ≡ telling C.steps self.old (told_opened (record { first = opened.now.first; number = opened.now.number; payload = payload.now }) now self.old.end) (opened_to (record { first = opened.now.first; number = opened.now.number; payload = payload.now }) (arriving now ecn false) self.old.end).end }
         ensures failed { result ≡ Received.Failed → HasFailed self.old self.new }
         ensures stopped { result ≡ Received.Failed → self.new.end.timers ≡ no_timers }
-        ensures lacking { result ≡ Received.Failed → TakesFrames (opened_to (record { first = opened.now.first; number = opened.now.number; payload = payload.now }) (arriving now ecn) self.old.end).answer }
+        ensures lacking { result ≡ Received.Failed → TakesFrames (opened_to (record { first = opened.now.first; number = opened.now.number; payload = payload.now }) (arriving now ecn false) self.old.end).answer }
     {
         if opened.key_phase() {
             return Received::Dropped(DropReason::KeyPhase);
@@ -241,7 +180,10 @@ impl<H: HeaderKey + Drop, K: PacketKey + Drop, R: Rng + Drop, C: Controller> Con
         }
         match self.state() {
             State::Open => self.process(now, ecn, opened, payload),
-            State::Closing => Received::Dropped(DropReason::Closing),
+            State::Closing => {
+                self.closing.ask();
+                Received::Dropped(DropReason::Closing)
+            }
             State::Drained => Received::Dropped(DropReason::Drained),
             State::Failed => Received::Dropped(DropReason::Failed),
         }
@@ -256,16 +198,16 @@ impl<H: HeaderKey + Drop, K: PacketKey + Drop, R: Rng + Drop, C: Controller> Con
         payload: &[u8],
     ) -> Received
         requires { opened.now.number < 2 ^ 62 }
-        ensures answer { result ≢ Received.Failed → result ≡ (processed (record { first = opened.now.first; number = opened.now.number; payload = payload.now }) (arriving now ecn) self.old.end).answer }
-        ensures end { result ≢ Received.Failed → self.new ≡ telling C.steps self.old (told_processed (record { first = opened.now.first; number = opened.now.number; payload = payload.now }) now self.old.end) (processed (record { first = opened.now.first; number = opened.now.number; payload = payload.now }) (arriving now ecn) self.old.end).end }
+        ensures answer { result ≢ Received.Failed → result ≡ (processed (record { first = opened.now.first; number = opened.now.number; payload = payload.now }) (arriving now ecn false) self.old.end).answer }
+        ensures end { result ≢ Received.Failed → self.new ≡ telling C.steps self.old (told_processed (record { first = opened.now.first; number = opened.now.number; payload = payload.now }) now self.old.end) (processed (record { first = opened.now.first; number = opened.now.number; payload = payload.now }) (arriving now ecn false) self.old.end).end }
         ensures failed { result ≡ Received.Failed → HasFailed self.old self.new }
         ensures stopped { result ≡ Received.Failed → self.new.end.timers ≡ no_timers }
-        ensures lacking { result ≡ Received.Failed → TakesFrames (processed (record { first = opened.now.first; number = opened.now.number; payload = payload.now }) (arriving now ecn) self.old.end).answer }
+        ensures lacking { result ≡ Received.Failed → TakesFrames (processed (record { first = opened.now.first; number = opened.now.number; payload = payload.now }) (arriving now ecn false) self.old.end).answer }
     {
         self.tick(now);
         match self.take_packet(ecn, opened, payload) {
             Ok(()) => Received::Taken,
-            Err(trouble) => self.close_for(trouble),
+            Err(trouble) => self.close_for(trouble, opened.number),
         }
     }
 
@@ -331,7 +273,9 @@ impl<H: HeaderKey + Drop, K: PacketKey + Drop, R: Rng + Drop, C: Controller> Con
         }
     }
 
-    /// Takes a frame. Those that speak of neither packets, streams nor messages do nothing yet.
+    /// Takes a frame. Those that speak of neither packets, streams, messages, ids nor a close do
+    /// nothing yet.
+    #[tactic(auto, using(crate::proofs::Items::tells_nothing))]
     fn take_frame(&mut self, frame: &Frame<'_>) -> Result<(), Trouble>
         requires { HasForm (frame_view frame.now) }
         ensures takes { TakesAs result (take_frame (frame_view frame.now) self.old.end) self.new.end }
@@ -341,6 +285,24 @@ impl<H: HeaderKey + Drop, K: PacketKey + Drop, R: Rng + Drop, C: Controller> Con
         match frame {
             Frame::Ack(frame) => self.take_ack(frame),
             Frame::Datagram { data } => self.take_message(data),
+            Frame::ConnectionClose {
+                error_code,
+                frame_type,
+                reason,
+            } => take_connection_close(self.alloc, *error_code, *frame_type, reason),
+            Frame::ApplicationClose { error_code, reason } => {
+                take_application_close(self.alloc, *error_code, reason)
+            }
+            Frame::PathChallenge(token) => {
+                self.take_path_challenge(*token);
+                Ok(())
+            }
+            Frame::PathResponse(token) => {
+                self.take_path_response(*token);
+                Ok(())
+            }
+            Frame::NewConnectionId(frame) => self.take_new_id(*frame),
+            Frame::RetireConnectionId { sequence } => self.take_retirement(*sequence),
             _ => take_other(&mut self.streams, frame),
         }
     }
@@ -379,23 +341,22 @@ impl<H: HeaderKey + Drop, K: PacketKey + Drop, R: Rng + Drop, C: Controller> Con
         Ok(())
     }
 
-    /// Closes for what was wrong with a packet, or fails.
-    fn close_for(&mut self, trouble: Trouble) -> Received
-        ensures answer { IfSome (fault_view trouble) (λ fault. result ≡ Received.Closed (error_of fault)) }
-        ensures end { IfSome (fault_view trouble) (λ fault. self.new ≡ with_end self.old (closed_by (reason_of fault) self.old.end)) }
+    /// Closes for what was wrong with the packet of a number, or fails; or the peer closed in it.
+    fn close_for(&mut self, trouble: Trouble, number: u64) -> Received
+        requires { number < 2 ^ 62 }
+        ensures answer { IfSome (fault_view trouble) (λ fault. result ≡ (ends_as (Some fault) false number None self.old.end).answer) }
+        ensures end { IfSome (fault_view trouble) (λ fault. self.new ≡ with_end self.old (ends_as (Some fault) false number None self.old.end).end) }
         ensures memory { IfNone (fault_view trouble) (result ≡ Received.Failed) }
         ensures failed { IfNone (fault_view trouble) (HasFailed self.old self.new) }
         ensures stopped { IfNone (fault_view trouble) (self.new.end.timers ≡ no_timers) }
     {
         match trouble {
-            Trouble::Broke(error) => {
-                let answer = Received::Closed(error.copied());
-                self.close_by(LostReason::Transport(error));
-                answer
-            }
-            Trouble::TooManyPieces => {
-                self.close_by(LostReason::Pieces);
-                Received::Closed(plain_error(Code::INTERNAL_ERROR, Reason::TooManyPieces))
+            Trouble::Broke(error) => self.close_for_error(error),
+            Trouble::TooManyPieces => self.close_for_pieces(),
+            Trouble::Closed(close) => {
+                self.space.numbers.take(number);
+                self.close_by_peer(close);
+                Received::Taken
             }
             Trouble::Memory => {
                 self.fail();
@@ -403,31 +364,4 @@ impl<H: HeaderKey + Drop, K: PacketKey + Drop, R: Rng + Drop, C: Controller> Con
             }
         }
     }
-}
-
-/// Whether a number lies above the greatest that was named before, if one was.
-fn is_above(largest_acked: Option<u64>, number: u64) -> bool
-    ensures { result ≡ is_above largest_acked number }
-{
-    match largest_acked {
-        None => true,
-        Some(largest) => largest < number,
-    }
-}
-
-/// Whether a frame asks for an acknowledgement; what can't be read as one doesn't.
-fn item_asks(item: &Result<Frame<'_>, InvalidFrame>) -> bool
-    ensures { result ≡ item_asks (item_view item.now) }
-{
-    match item {
-        Ok(frame) => frame.is_ack_eliciting(),
-        Err(_) => false,
-    }
-}
-
-/// PROTOCOL_VIOLATION.
-pub(crate) fn violation(reason: Reason) -> Trouble
-    ensures { fault_view result ≡ Some violation }
-{
-    Trouble::Broke(plain_error(Code::PROTOCOL_VIOLATION, reason))
 }

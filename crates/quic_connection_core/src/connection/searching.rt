@@ -1,25 +1,24 @@
 //! The search for a greater size of datagrams (RFC 8899; RFC 9000, section 14.3).
-ghost use Rattle.std.specs.Prelude.{◌≡◌, ◌≤◌, true, None};
-ghost use Rattle.quic_congestion.specs.Congestion.{HasRoom, after_calls};
-ghost use Rattle.quic_congestion.specs.Search.{open_probe, poll_names, after_poll, after_ack, after_probe_lost, after_packet_lost, after_question};
+ghost use Rattle.std.specs.Prelude.{◌≡◌, true, None};
+ghost use Rattle.quic_congestion.specs.Search.{open_probe, after_probe_lost, after_packet_lost, after_question};
 ghost use Rattle.quic_machine.specs.Control.{with_app_limited};
 ghost use Rattle.quic_machine.specs.End.{with_end, with_discovery};
 ghost use Rattle.quic_machine.specs.MessageCalls.{most_message};
 ghost use Rattle.quic_machine.specs.Poll.{searched_if};
 ghost use Rattle.quic_machine.specs.Sizes.{may_search, search_names, search_asked, told_size, told_probe, search_acked, with_one_lost, with_searched, without_longer_if};
 ghost use Rattle.quic_machine.specs.Tracking.{TrackedPacket};
-ghost use Rattle.quic_connection_core.specs.Leaving.{Leaves, rested};
-ghost use Rattle.quic_connection_core.specs.Losses.{asked_if};
-ghost use Rattle.quic_connection_core.specs.Telling.{IsTold, telling};
+ghost use Rattle.quic_connection_parts.specs.Leaving.{Leaves, rested};
+ghost use Rattle.quic_connection_parts.specs.Losses.{asked_if};
+ghost use Rattle.quic_connection_parts.specs.Telling.{telling};
 
 use crate::connection::Connection;
-use crate::connection::leaving::Leaving;
-use crate::connection::losses::Losses;
-use crate::connection::telling::tell_resized;
 use quic_congestion::Controller;
-use quic_machine::Instant;
+use quic_connection_parts::leaving::Leaving;
+use quic_connection_parts::losses::Losses;
+use quic_connection_parts::searching::{
+    hear_lost, hear_probe_lost, path_acked, path_asked, poll_search,
+};
 use quic_packet::crypto::{HeaderKey, PacketKey};
-use quic_paths::PathData;
 use rand_core::Rng;
 
 impl<H: HeaderKey + Drop, K: PacketKey + Drop, R: Rng + Drop, C: Controller> Connection<
@@ -68,7 +67,7 @@ impl<H: HeaderKey + Drop, K: PacketKey + Drop, R: Rng + Drop, C: Controller> Con
     }
 
     /// Nothing goes, for want of anything to send.
-    fn rest(&mut self) -> Option<Leaving>
+    pub(crate) fn rest(&mut self) -> Option<Leaving>
         ensures none { result ≡ None }
         ensures end { self.new ≡ with_end self.old (with_app_limited self.old.end true) }
     {
@@ -149,74 +148,11 @@ impl<H: HeaderKey + Drop, K: PacketKey + Drop, R: Rng + Drop, C: Controller> Con
     }
 
     /// Messages are dropped that are longer than one may be now.
-    fn drop_oversized(&mut self)
+    pub(crate) fn drop_oversized(&mut self)
         ensures { self.new ≡ with_end self.old (without_longer_if (most_message self.old.end) self.old.end) }
     {
         if let Some(most) = self.datagram_limits().max_size {
             self.datagrams.drop_oversized(most);
         }
     }
-}
-
-/// The search on a path is asked for a size to probe under a number, which it answers.
-fn poll_search<C>(path: &mut PathData<C>, now: Instant, number: u64) -> Option<u16>
-    ensures named { result ≡ poll_names now path.old.discovery }
-    ensures path { path.new ≡ record path.old { discovery = after_poll now number path.old.discovery } }
-{
-    path.mtud.poll_transmit(now, number)
-}
-
-/// It hears that a packet of so many bytes is acknowledged.
-fn hear_acked<C>(path: &mut PathData<C>, number: u64, size: u16)
-    ensures { path.new ≡ record path.old { discovery = after_ack number size path.old.discovery } }
-{
-    path.mtud.on_acked(number, size);
-}
-
-/// It hears that its open probe is lost.
-fn hear_probe_lost<C>(path: &mut PathData<C>)
-    ensures { path.new ≡ record path.old { discovery = after_probe_lost path.old.discovery } }
-{
-    path.mtud.on_probe_lost();
-}
-
-/// It hears that another packet of so many bytes is lost.
-fn hear_lost<C>(path: &mut PathData<C>, number: u64, size: u16)
-    ensures { path.new ≡ record path.old { discovery = after_packet_lost number size path.old.discovery } }
-{
-    path.mtud.on_non_probe_lost(number, size);
-}
-
-/// It is asked whether the path carries less than before, which it answers.
-fn hear_question<C>(path: &mut PathData<C>, now: Instant) -> bool
-    ensures { path.new ≡ record path.old { discovery = after_question now path.old.discovery } }
-{
-    path.mtud.black_hole_detected(now)
-}
-
-/// It hears that a packet of so many bytes is acknowledged, and the controller is told of a size
-/// that changed.
-fn path_acked<C: Controller>(path: &mut PathData<C>, number: u64, size: u16)
-    ensures told { let discovery = after_ack number size path.old.discovery in
-        path.new ≡ record path.old { discovery = discovery; congestion = after_calls C.steps path.old.congestion (told_size path.old.discovery discovery) } }
-    ensures sizes { path.old.discovery.size ≤ C.size_of path.old.congestion → HasRoom (C.size_of path.old.congestion) (C.window_of path.old.congestion)
-        → IsTold C.size_of C.window_of (after_ack number size path.old.discovery).size path.new.congestion }
-{
-    let before = path.current_mtu();
-    hear_acked(path, number, size);
-    tell_resized(path, before);
-}
-
-/// It is asked whether the path carries less than before, which it answers, and the controller is
-/// told of a size that fell.
-fn path_asked<C: Controller>(path: &mut PathData<C>, now: Instant) -> bool
-    ensures told { let discovery = after_question now path.old.discovery in
-        path.new ≡ record path.old { discovery = discovery; congestion = after_calls C.steps path.old.congestion (told_size path.old.discovery discovery) } }
-    ensures sizes { path.old.discovery.size ≤ C.size_of path.old.congestion → HasRoom (C.size_of path.old.congestion) (C.window_of path.old.congestion)
-        → IsTold C.size_of C.window_of (after_question now path.old.discovery).size path.new.congestion }
-{
-    let before = path.current_mtu();
-    let fell = hear_question(path, now);
-    tell_resized(path, before);
-    fell
 }

@@ -5,8 +5,7 @@ ghost use Rattle.quic_machine.specs.Parts.{current_mtu};
 
 use crate::connection::Connection;
 use quic_congestion::Controller;
-use quic_stats::{ConnectionStats, FrameStats};
-use quic_wire::frame::Iter;
+use quic_stats::ConnectionStats;
 
 impl<H, K, R, C: Controller> Connection<H, K, R, C> {
     /// What was counted of the end since it was made, and what it knows of its path (quinn-proto's
@@ -39,6 +38,22 @@ impl<H, K, R, C: Controller> Connection<H, K, R, C> {
     {
         let frames = &mut self.stats.frame_tx;
         frames.ping = frames.ping.saturating_add(1);
+    }
+
+    /// A PATH_CHALLENGE frame goes.
+    pub(crate) fn count_challenge(&mut self)
+        ensures { self.new ≡ self.old }
+    {
+        let frames = &mut self.stats.frame_tx;
+        frames.path_challenge = frames.path_challenge.saturating_add(1);
+    }
+
+    /// A PATH_RESPONSE frame goes.
+    pub(crate) fn count_response(&mut self)
+        ensures { self.new ≡ self.old }
+    {
+        let frames = &mut self.stats.frame_tx;
+        frames.path_response = frames.path_response.saturating_add(1);
     }
 
     /// A packet of so many bytes goes.
@@ -91,18 +106,4 @@ impl<H, K, R, C: Controller> Connection<H, K, R, C> {
         let path = &mut self.stats.path;
         path.congestion_events = path.congestion_events.saturating_add(1);
     }
-}
-
-/// The frames in these bytes go: those of control, of which there are few.
-pub(crate) fn count_frames(stats: &mut FrameStats, bytes: &[u8]) {
-    for item in Iter::new(bytes) {
-        if let Ok(frame) = item {
-            stats.record(&frame);
-        }
-    }
-}
-
-/// So many STREAM frames go.
-pub(crate) fn count_streams(stats: &mut FrameStats, frames: usize) {
-    stats.stream = stats.stream.saturating_add(frames as u64);
 }

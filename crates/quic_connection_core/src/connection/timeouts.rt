@@ -1,13 +1,13 @@
 //! Timers of an end, and what the application is told.
 ghost use Rattle.std.specs.Prelude.{◌≡◌, ◌≢◌, OnOk, OnErr};
 ghost use Rattle.quic_time.specs.Timers.{timer_at, next_timer, has_come, no_timers};
-ghost use Rattle.quic_machine.specs.End.{with_end, policy_of, HasFailed};
+ghost use Rattle.quic_machine.specs.End.{with_end, policy_of, HasFailed, drawing};
 ghost use Rattle.quic_machine.specs.Calls.{end_tells, end_after_event};
 ghost use Rattle.quic_machine.specs.Lacking.{LosesOrHasFailed};
 ghost use Rattle.quic_machine.specs.Timeouts.{timed_out, told_timed_out, expired, loss_expired, told_expired, acks_expired, pacing_expired};
-ghost use Rattle.quic_connection_core.specs.Drawn.{words_of};
-ghost use Rattle.quic_connection_core.specs.Telling.{telling, KeepsRest};
-ghost use Rattle.quic_connection_core.specs.Tracked.{LosesByTime};
+ghost use Rattle.quic_connection_parts.specs.Drawn.{words_of, words_at, Draws};
+ghost use Rattle.quic_connection_parts.specs.Telling.{telling, KeepsRest};
+ghost use Rattle.quic_connection_parts.specs.Tracked.{LosesByTime};
 
 use crate::connection::Connection;
 use quic_congestion::Controller;
@@ -25,17 +25,23 @@ impl<H: HeaderKey + Drop, K: PacketKey + Drop, R: Rng + Drop, C: Controller> Con
     /// Lets the timers expire that are set to this moment or one before it. Where the loss timer
     /// expires, packets are lost by time if it was set for one, and else two probes go (RFC 9002,
     /// section 6.2). Where the timer of acknowledgements expires, one is due (RFC 9000, section
-    /// 13.2.1). Where the pacer's does, the next poll asks it again (RFC 9002, section 7.7). The
-    /// loss timer is set anew, perhaps to a moment that has come already. An end that is closing or
-    /// drained has no timer, and takes no moment over.
+    /// 13.2.1). Where that of path validation does, another PATH_CHALLENGE waits, by a new word,
+    /// and the timer is set anew (section 8.2.4). Where the pacer's does, the next poll asks it
+    /// again (RFC 9002, section 7.7). Where nothing came for the idle timeout, the end is drained,
+    /// and its peer isn't told (RFC 9000, section 10.1); where no packet came or went for the
+    /// interval of keep-alive, a PING is to go (section 10.1.2). The loss timer is set anew,
+    /// perhaps to a moment that has come already. A closing end is drained once its timer expires
+    /// (section 10.2). A drained end has no timer, and takes no moment over.
     ///
     /// # Errors
     ///
-    /// [`Failed`] where memory lacks now, which it may only where packets are lost, and the end
-    /// fails for good and has no timer; or where it had failed before, and nothing changes.
+    /// - [`Failed`]: the endpoint had failed before. Nothing changes.
+    /// - [`Failed`]: an allocation fails, where packets are lost. The endpoint fails for good and
+    ///   has no timer.
     pub fn handle_timeout(&mut self, now: Instant) -> Result<(), Failed>
-        ensures answer { OnOk result (result ≡ (timed_out (policy_of H.protection K.aead (words_of R.stream) self.old) self.old.end now).answer) }
-        ensures end { OnOk result (self.new ≡ telling C.steps self.old (told_timed_out self.old.end now) (timed_out (policy_of H.protection K.aead (words_of R.stream) self.old) self.old.end now).end) }
+        ensures answer { OnOk result (result ≡ (timed_out (policy_of H.protection K.aead K.seal_limit K.refusal_limit (words_of R.stream) self.old) self.old.end now).answer) }
+        ensures end { OnOk result (self.new ≡ drawing self.new.random (telling C.steps self.old (told_timed_out self.old.end now) (timed_out (policy_of H.protection K.aead K.seal_limit K.refusal_limit (words_of R.stream) self.old) self.old.end now).end)) }
+        ensures random { OnOk result (Draws R.stream self.old self.new) }
         ensures failed { OnErr result (HasFailed self.old self.new) }
         ensures stopped { self.old.end.closing.state ≢ State.Failed → OnErr result (self.new.end.timers ≡ no_timers) }
         ensures lacking { OnErr result (LosesOrHasFailed self.old.end now) }
@@ -43,7 +49,11 @@ impl<H: HeaderKey + Drop, K: PacketKey + Drop, R: Rng + Drop, C: Controller> Con
     {
         match self.state() {
             State::Failed => Err(Failed),
-            State::Closing | State::Drained => Ok(()),
+            State::Drained => Ok(()),
+            State::Closing => {
+                self.expire_close_timer(now);
+                Ok(())
+            }
             State::Open => self.take_timeout(now),
         }
     }
@@ -52,7 +62,8 @@ impl<H: HeaderKey + Drop, K: PacketKey + Drop, R: Rng + Drop, C: Controller> Con
     /// lacks, the end fails for good.
     fn take_timeout(&mut self, now: Instant) -> Result<(), Failed>
         requires { self.old.end.closing.state ≡ State.Open }
-        ensures end { OnOk result (self.new ≡ telling C.steps self.old (told_timed_out self.old.end now) (timed_out (policy_of H.protection K.aead (words_of R.stream) self.old) self.old.end now).end) }
+        ensures end { OnOk result (self.new ≡ drawing self.new.random (telling C.steps self.old (told_timed_out self.old.end now) (timed_out (policy_of H.protection K.aead K.seal_limit K.refusal_limit (words_of R.stream) self.old) self.old.end now).end)) }
+        ensures random { OnOk result (Draws R.stream self.old self.new) }
         ensures failed { OnErr result (HasFailed self.old self.new) }
         ensures stopped { OnErr result (self.new.end.timers ≡ no_timers) }
         ensures lacking { OnErr result (LosesOrHasFailed self.old.end now) }
@@ -65,16 +76,22 @@ impl<H: HeaderKey + Drop, K: PacketKey + Drop, R: Rng + Drop, C: Controller> Con
         Ok(())
     }
 
-    /// Lets the timers expire that have come. An error is want of memory; the end is of no more use
-    /// then.
+    /// Lets the timers expire that have come. An error is want of memory; the end is of no more
+    /// use then.
     fn expire_timers(&mut self) -> Result<(), AllocError>
-        ensures ok { OnOk result (self.new ≡ telling C.steps self.old (told_expired (has_come self.old.end.timers.loss_detection self.old.end.closing.clock) self.old.end) (expired self.old.end)) }
-        ensures others { KeepsRest self.old self.new }
+        ensures ok { OnOk result (self.new ≡ drawing self.new.random (telling C.steps self.old (told_expired (has_come self.old.end.timers.loss_detection self.old.end.closing.clock) self.old.end) (expired (words_at R.stream self.old) self.old.end))) }
+        ensures random { OnOk result (Draws R.stream self.old self.new) }
+        ensures others { OnErr result (KeepsRest self.old self.new) }
         ensures lacking { OnErr result (LosesByTime self.old.end) }
     {
         self.expire_loss_timer()?;
-        self.expire_ack_timer();
+        if self.expire_idle_timer() {
+            return Ok(());
+        }
+        self.expire_path_timer();
+        self.expire_keep_alive_timer();
         self.expire_pacing_timer();
+        self.expire_ack_timer();
         self.set_loss_timer();
         Ok(())
     }
@@ -138,8 +155,9 @@ impl<H: HeaderKey + Drop, K: PacketKey + Drop, R: Rng + Drop, C: Controller> Con
         self.timers.next_timeout()
     }
 
-    /// What the application is to be told next: that a message came while none was unread, once for
-    /// each that did; then what happened to streams; and then that the end is lost, once, and why.
+    /// What the application is to be told next: that a message came while none was unread, once
+    /// for each that did; then what happened to streams; and then that the end is lost, once, and
+    /// why.
     pub fn poll(&mut self) -> Option<Event>
         ensures answer { result ≡ end_tells self.old.end }
         ensures end { self.new ≡ with_end self.old (end_after_event self.old.end) }

@@ -152,6 +152,8 @@ pub arrivals_press : (e : End) (now n : ℕ) (frames : List FrameValue) (i : Int
 arrivals_press e now n frames i ps ruled counted seen = record {
   ignored = λ reason. none_presses i ps e.acknowledging e (λ was. was);
   noted = λ state reason opened. absurd (let clash : states.Closing ≡ states.Open = sym state ∙ opened in cc);
-  takes = λ state new none mark opened. (stays e now n frames i ps ruled (counted state) mark, one_presses e now n frames i ps ruled (counted state) mark (seen state));
-  refuses = λ state new f is opened. absurd cc;
+  takes = λ words state new none mark opened. (stays e now n frames i ps ruled (counted state) mark, one_presses e now n frames i ps ruled (counted state) mark (seen state));
+  drains = λ words state new close is opened. absurd cc;
+  refuses = λ words state new f is opened. absurd cc;
+  exhausts = λ state opened. absurd cc;
 }

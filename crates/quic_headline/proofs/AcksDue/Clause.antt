@@ -1,6 +1,6 @@
 -- Where an ACK frame is due at an open end, and it owes an acknowledgement, a poll that leaves it
 -- open gives one.
-use Rattle.std.proofs.Common.{◌≡◌, ℕ, suc, Bool, true, false, ◌||◌, [], ◌∷◌, ◌++◌, None, refl, sym, ap, ◌∙◌, subst, ◌⊎◌, inl, inr}
+use Rattle.std.proofs.Common.{◌≡◌, ℕ, suc, Bool, true, false, ◌||◌, [], ◌∷◌, ◌++◌, None, refl, sym, ap, ◌∙◌, subst, ◌⊎◌, inl, inr, Option, Some}
 use Rattle.std.specs.Prelude.{nat_lt}
 use Rattle.std.specs.List.{list_any}
 use Rattle.std.proofs.lemmas.Bool.{or_left, and_from, and_parts, both_ways}
@@ -17,23 +17,26 @@ use Rattle.quic_machine.specs.declared.run.Answer.TheVariants as answers
 use Rattle.quic_spaces.specs.Numbers.{can_number}
 use Rattle.quic_machine.specs.Policy.{Policy}
 use Rattle.quic_machine.specs.Closing.{ticked}
-use Rattle.quic_machine.specs.End.{End, with_closing, with_window}
+use Rattle.quic_machine.specs.End.{End, with_closing, with_window, closed_by}
 use Rattle.quic_machine.specs.Control.{Gated, with_pacing_timer}
-use Rattle.quic_machine.specs.Poll.{Polled, Draft, no_frames, with_asking, with_ack, composed_if, probed, waits, asks_to_go, gated, Leaving, whole, alone, Ready, goes_as, goes, lazied, draft_as, draft_of, sends, polled_if, polled_in, polled}
-use Rattle.quic_machine.specs.PollCases.{ready_at, frames_at, by_leaves, search_leaves}
+use Rattle.quic_machine.specs.Poll.{Polled, Draft, no_frames, with_asking, with_ack, composed_if, probed, waits, asks_to_go, gated, Leaving, whole, alone, Ready, goes_as, goes, lazied, draft_as, draft_of, sends, polled_if, polled_in, polled, bounds}
+use Rattle.quic_machine.specs.PollCases.{ready_at, frames_at, by_leaves, search_leaves, ready_leaves, draft_at}
 use Rattle.quic_machine.specs.DraftLaws.{Writing, by_asking}
 use Rattle.quic_machine.specs.Puts as puts
 use Rattle.quic_machine.specs.Machine.{World, gave, end_at, control_at, policy_at}
 use Rattle.quic_headline.specs.Runs.{Run, Intake, In, folded}
-use Rattle.quic_headline.specs.Observer.{Watch, first_watch, watch, took, sents_until}
+use Rattle.quic_headline.specs.Observer.{Sent, Watch, first_watch, watch, took, sents_until}
 use Rattle.quic_headline.specs.Headline.{IsHonest, IsRun}
-use Rattle.quic_headline.specs.Moments.{is_ack, acknowledges}
-use Rattle.quic_headline.specs.Polls.{IsMade}
+use Rattle.quic_headline.specs.Moments.{is_ack, acknowledges, went}
+use Rattle.quic_headline.specs.Polls.{IsMade, IsLimited}
+use Rattle.quic_headline.proofs.Packets.Quiet.{HaveHeardNothing}
 use Rattle.quic_headline.specs.Rest.{unanswered_told, none_unanswered}
 use Rattle.quic_headline.specs.AcksDue.{AcksAreDue}
+use Rattle.quic_machine.specs.declared.answers.LostReason.{LostReason}
+use Rattle.quic_headline.proofs.Packets.Closes.{by_closes}
 use Rattle.quic_headline.proofs.Packets.Watching.{watched_intake}
 use Rattle.quic_headline.proofs.Packets.Probes.{ready_acks}
-use Rattle.quic_headline.proofs.Places.Parties.{sent_by, sent_if, sents_by, Party, came_to, lens}
+use Rattle.quic_headline.proofs.Places.Parties.{sent_by, sent_if, sents_by, Party, came_to, lens, with_shown, shown_at, sent_as, given_in}
 use Rattle.quic_headline.proofs.Places.Groups.{Way, Nothing, And, Group, both, over}
 use Rattle.quic_headline.proofs.Places.Placed.{party_at, Placed, placed}
 use Rattle.quic_headline.proofs.Places.Steps.{poll_answer}
@@ -41,7 +44,9 @@ use Rattle.quic_headline.proofs.Timers.Watched.{Observed, went_is, open_behind}
 use Rattle.quic_headline.proofs.Timers.Still.{was_open}
 use Rattle.quic_headline.proofs.Timers.AckMoments.{any_padded}
 use Rattle.quic_headline.proofs.Steps.Made.{made_served, made_end, polling, PollHolds, poll_holds, sents_more}
+use Rattle.quic_headline.proofs.Held.Silent.{may_go}
 use Rattle.quic_headline.proofs.Held.Behind.{Last, last_step}
+use Rattle.quic_headline.proofs.Held.Limited.{limits_poll}
 use Rattle.quic_headline.proofs.Rest.Unanswered.{Owes}
 use Rattle.quic_headline.proofs.Rest.Owed.{Known, known, owed_filled}
 use Rattle.quic_headline.proofs.AcksDue.Arrivals.{IsPressed}
@@ -76,7 +81,8 @@ draft_acks leaving e (inr only) due = subst (λ (l : Leaving). Acknowledges (dra
 
 -- ---- a poll
 
-module _ (p : Policy) (e : End) (now : ℕ) (due : can_send e.acknowledging ≡ true) where
+-- of an end of which more may go to its address
+module _ (p : Policy) (e : End) (now : ℕ) (due : can_send e.acknowledging ≡ true) (free : e.path.blocked ≡ false) where
   abbrev g : Ready
   g = ready_at e now
 
@@ -88,18 +94,18 @@ module _ (p : Policy) (e : End) (now : ℕ) (due : can_send e.acknowledging ≡ 
   due_ready = ap can_send (ready_acks e now) ∙ due
 
   due_gated : can_send gate.end.acknowledging ≡ true
-  due_gated = ap (λ (x : End). can_send x.acknowledging) (sym (search_leaves gate)) ∙ due_ready
+  due_gated = ap (λ (x : End). can_send x.acknowledging) (sym (search_leaves gate)) ∙ ap (λ (r : Ready). can_send r.end.acknowledging) (sym (may_go e now free)) ∙ due_ready
 
   -- all goes, or an ACK alone
   acks : Acks g.leaving
-  acks = by_leaves gate (λ (r : Ready). Acks r.leaving) (record {
+  acks = subst (λ (r : Ready). Acks r.leaving) (sym (may_go e now free)) (by_leaves gate (λ (r : Ready). Acks r.leaving) (record {
     acks = λ held is. inr refl;
     held = λ held none. absurd (both_ways (can_send gate.end.acknowledging) none due_gated);
     all = λ free waiting. inl refl;
     idle = λ free none. absurd (busy none);
     asked = λ free none. absurd (busy none);
     probes = λ size free none may is. absurd (busy none);
-  })
+  }))
     where
       busy : waits gate.end ≡ false → ⊥
       busy none = both_ways (waits gate.end) none (or_left (can_send gate.end.acknowledging) (asks_to_go gate.end) due_gated)
@@ -115,16 +121,22 @@ module _ (p : Policy) (e : End) (now : ℕ) (due : can_send e.acknowledging ≡ 
       any_padded (draft_of g).frames _
       ∙ draft_acks g.leaving g.end acks (and_from (g.end.acknowledging.due || nat_lt lazy_threshold g.end.acknowledging.silent) (is_filled g.end.acknowledging.runs) (or_left g.end.acknowledging.due (nat_lt lazy_threshold g.end.acknowledging.silent) parts.0) parts.1)
 
-  polled_as : e.closing.state ≡ states.Open → polled p e now ≡ sends (can_number g.end.numbers) p g
+  polled_as : e.closing.state ≡ states.Open → polled p e now ≡ sends (bounds p g.end) p g
   polled_as opened = ap (λ (s : State). polled_in s p e now) opened ∙ ap (λ (b : Bool). polled_if b p g) some
 
   -- so a poll gives one that leaves an open end open
-  pub gives_ack : e.closing.state ≡ states.Open → (polled p e now).end.closing.state ≡ states.Open → acknowledges (sent_if (gave (answers.Poll (polled p e now).answer)) (sent_by e now)) ≡ true
-  gives_ack opened still = go (can_number g.end.numbers) (polled_as opened)
+  pub gives_ack : e.closing.state ≡ states.Open → (polled p e now).end.closing.state ≡ states.Open → acknowledges (sent_if (gave (answers.Poll (polled p e now).answer)) (sent_by p e now)) ≡ true
+  gives_ack opened still = go (bounds p g.end) refl (polled_as opened)
     where
-      go : (b : Bool) → polled p e now ≡ sends b p g → acknowledges (sent_if (gave (answers.Poll (polled p e now).answer)) (sent_by e now)) ≡ true
-      go true is = ap (λ (q : Polled). acknowledges (sent_if (gave (answers.Poll q.answer)) (sent_by e now))) is ∙ or_left (list_any is_ack (frames_at e now)) false frames_acknowledge
-      go false is = let clash : states.Drained ≡ states.Open = sym (ap (λ (q : Polled). q.end.closing.state) is) ∙ still in cc
+      -- what goes of an open end whose numbers and key last
+      ordinary : bounds p g.end ≡ None → sent_by p e now ≡ sent_as e now (draft_at e now)
+      ordinary none =
+          ap (λ (s : State). sent_as e now (given_in s (bounds p e) p e now)) opened
+          ∙ ap (λ (o : Option LostReason). sent_as e now (given_in states.Open o p e now)) (sym (ap (λ (x : End). bounds p x) (ready_leaves e now)) ∙ none)
+
+      go : (o : Option LostReason) → bounds p g.end ≡ o → polled p e now ≡ sends o p g → acknowledges (sent_if (gave (answers.Poll (polled p e now).answer)) (sent_by p e now)) ≡ true
+      go None none is = ap (λ (q : Polled). acknowledges (sent_if (gave (answers.Poll q.answer)) (sent_by p e now))) is ∙ ap (λ (s : Sent). acknowledges (s ∷ [])) (ordinary none) ∙ or_left (list_any is_ack (frames_at e now)) false frames_acknowledge
+      go (Some reason) bound is = by_closes p (closed_by reason g.end) (λ (q : Polled). q.end.closing.state ≡ states.Open → acknowledges (sent_if (gave (answers.Poll (polled p e now).answer)) (sent_by p e now)) ≡ true) (λ none. cc) (λ f goes none. cc) (sym (ap (λ (q : Polled). q.end.closing.state) is) ∙ still)
 
 -- ---- the clause
 
@@ -142,11 +154,8 @@ All = And Timed Hastes
 all : Group Nothing All
 all = both Nothing Timed Hastes timed (over Waiting (And Nothing Timed) Hastes (λ x y h. ((h.1.0.0.0.0, h.1.0.0.1), (h.1.0.1, h.1.1))) hastes_group)
 
-pub acks_are_due : (r : Run) (end : World) → IsHonest r → IsRun r end → AcksAreDue r
-acks_are_due r end honest run side i now a v q served at there opened due owed =
-    ap acknowledges (went_is (watch r side i) (watch r side (suc i)) (sents_by e call a) (sents_more r i side now a w seen))
-    ∙ ap (λ (b : Answer). acknowledges (sent_if (gave b) (sent_by e now))) (poll_answer p e now a made.step.answer (made_served r i side call a w next made))
-    ∙ gives_ack p e now can opened_before (sym (ap (λ (z : End). z.closing.state) left) ∙ opened_behind)
+pub acks_are_due : (r : Run) (end : World) → IsHonest r → IsRun r end → HaveHeardNothing r.start → AcksAreDue r
+acks_are_due r end honest run quiet side i now a v q served at there opened due owed = go e.path.blocked refl
   where
     call : Call
     call = calls.Poll now
@@ -192,7 +201,7 @@ acks_are_due r end honest run side i now a v q served at there opened due owed =
     p = policy_at side r.keys
 
     e : End
-    e = with_window (end_at side w) (control_at side w [])
+    e = with_shown (end_at side w) (shown_at side w)
 
     left : end_at side next ≡ (polled p e now).end
     left = made_end r i side call a w next made
@@ -222,3 +231,10 @@ acks_are_due r end honest run side i now a v q served at there opened due owed =
 
     can : can_send e.acknowledging ≡ true
     can = and_from e.acknowledging.due (is_filled e.acknowledging.runs) pressed.0 (owed_filled r side i q owed e x.sents (came_to x y).took sents_are took_is owes)
+
+    go : (b : Bool) → e.path.blocked ≡ b → (acknowledges (went (watch r side i) (watch r side (suc i))) ≡ true) ⊎ IsLimited r side (suc i) v
+    go true blocked = inr (limits_poll r end honest run quiet side i now a v w next made behind.leads there opened opened_before blocked)
+    go false free = inl (
+        ap acknowledges (went_is (watch r side i) (watch r side (suc i)) (sents_by p e call a) (sents_more r i side now a w seen))
+        ∙ ap (λ (b : Answer). acknowledges (sent_if (gave b) (sent_by p e now))) (poll_answer p e now a made.step.answer (made_served r i side call a w next made))
+        ∙ gives_ack p e now can free opened_before (sym (ap (λ (z : End). z.closing.state) left) ∙ opened_behind))

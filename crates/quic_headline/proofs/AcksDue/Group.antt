@@ -101,7 +101,7 @@ module _ (x y : Party) (call : Call) (a : Answer) (c : Calls Waiting x y call a)
   after = watch_behind x y call a observed before.watch watched
 
   -- what is due behind the call
-  due_told : (haste_of (called x y.given call a) y).due ≡ due_if told (acknowledges (sents_by x.end call a)) (haste_of x y).due (came_to x y) (came_to (called x y.given call a) y) behind.packets (debt_of (called x y.given call a) y).arrivals after.clock
+  due_told : (haste_of (called x y.given call a) y).due ≡ due_if told (acknowledges (sents_by x.policy x.end call a)) (haste_of x y).due (came_to x y) (came_to (called x y.given call a) y) behind.packets (debt_of (called x y.given call a) y).arrivals after.clock
   due_told =
       let first : Watch = first_watch x.final x.began x.initial_rtt in
       let due : Bool = (haste_of x y).due in
@@ -113,10 +113,10 @@ module _ (x y : Party) (call : Call) (a : Answer) (c : Calls Waiting x y call a)
       ∙ ap (λ (u : Unanswered). due_behind (record { known = u; debt = (haste_of x y).debt; due = due }) told (unanswered_told (lens x y) told u) (debt_told (lens x y) told (haste_of x y).debt)) known_before
       ∙ ap (λ (d : Debt). due_behind (record { known = before; debt = d; due = due }) told unanswered (debt_told (lens x y) told d)) debt_before
       ∙ ap (λ (ss : List Sent). due_if told (acknowledges ss) due before.watch.intake after.intake unanswered.packets debt.arrivals after.clock) (went_behind x y call a observed before.watch watched)
-      ∙ ap (λ (i : Intake). due_if told (acknowledges (sents_by x.end call a)) due i after.intake unanswered.packets debt.arrivals after.clock) (came_before x y call a observed before.watch watched)
-      ∙ ap (λ (j : Intake). due_if told (acknowledges (sents_by x.end call a)) due (came_to x y) j unanswered.packets debt.arrivals after.clock) (came_behind x y call a observed before.watch watched)
-      ∙ ap (λ (u : Unanswered). due_if told (acknowledges (sents_by x.end call a)) due (came_to x y) (came_to (called x y.given call a) y) u.packets debt.arrivals after.clock) (sym same)
-      ∙ ap (λ (d : Debt). due_if told (acknowledges (sents_by x.end call a)) due (came_to x y) (came_to (called x y.given call a) y) behind.packets d.arrivals after.clock) (sym same_moments)
+      ∙ ap (λ (i : Intake). due_if told (acknowledges (sents_by x.policy x.end call a)) due i after.intake unanswered.packets debt.arrivals after.clock) (came_before x y call a observed before.watch watched)
+      ∙ ap (λ (j : Intake). due_if told (acknowledges (sents_by x.policy x.end call a)) due (came_to x y) j unanswered.packets debt.arrivals after.clock) (came_behind x y call a observed before.watch watched)
+      ∙ ap (λ (u : Unanswered). due_if told (acknowledges (sents_by x.policy x.end call a)) due (came_to x y) (came_to (called x y.given call a) y) u.packets debt.arrivals after.clock) (sym same)
+      ∙ ap (λ (d : Debt). due_if told (acknowledges (sents_by x.policy x.end call a)) due (came_to x y) (came_to (called x y.given call a) y) behind.packets d.arrivals after.clock) (sym same_moments)
 
   -- it has the clock of an open end
   clock_there : (called x y.given call a).end.closing.state ≡ states.Open → after.clock ≡ (called x y.given call a).end.closing.clock
@@ -147,11 +147,11 @@ ruled_step : (x y : Party) (call : Call) (a : Answer) → Calls Waiting x y call
 ruled_step x y call a c ruled = by_coming x y a c.joined c.served (meets y x c.takes.0.0) (λ (e : End) (i : Intake). Ruled e.acknowledging i.took) call c.answer (record {
   apart = λ apart. call_ruled (came_to x y).took x.policy x.end y.given call a apart ruled;
   none = λ delivery is. ruled;
-  comes = λ delivery is s among. arrivals_ruled x.end delivery.now s.number s.frames (came_to x y) ruled;
+  comes = λ delivery is s among. arrivals_ruled x.end delivery.now s.number s.frames (came_to x y) (c.takes.0.0.alone s among) ruled;
 })
 
 -- what is due behind a call that gives no ACK frame
-press_step : (x y : Party) (call : Call) (a : Answer) → Calls Waiting x y call a → Ruled x.end.acknowledging (came_to x y).took → acknowledges (sents_by x.end call a) ≡ false
+press_step : (x y : Party) (call : Call) (a : Answer) → Calls Waiting x y call a → Ruled x.end.acknowledging (came_to x y).took → acknowledges (sents_by x.policy x.end call a) ≡ false
     → Presses x.end.acknowledging (came_to x y) (unanswered_of x y).packets (called x y.given call a).end (came_to (called x y.given call a) y)
 press_step x y call a c ruled none = by_coming x y a c.joined c.served (meets y x c.takes.0.0) (Presses x.end.acknowledging (came_to x y) (unanswered_of x y).packets) call c.answer (record {
   apart = λ apart. none_presses (came_to x y) (unanswered_of x y).packets x.end.acknowledging (after_call x.policy x.end y.given call a) (stands (after_call x.policy x.end y.given call a).acknowledging (call_stands x.policy x.end y.given call a apart c.answer c.served none));
@@ -187,7 +187,7 @@ out_due x y call a timely arrival late w = (elim w.waits [ inl due ↦ due | inr
     go states.Failed call state timely late moment set soon = cc
 
 hastes_step : (x y : Party) (call : Call) (a : Answer) → Calls Waiting x y call a → Hastes x y → Hastes (called x y.given call a) y
-hastes_step x y call a c h = record { ruled = ruled_step x y call a c h.ruled; due = λ opened is. by_acks (acknowledges (sents_by x.end call a)) refl opened (sym (due_told x y call a c) ∙ is) }
+hastes_step x y call a c h = record { ruled = ruled_step x y call a c h.ruled; due = λ opened is. by_acks (acknowledges (sents_by x.policy x.end call a)) refl opened (sym (due_told x y call a c) ∙ is) }
   where
     next : Party
     next = called x y.given call a
@@ -211,7 +211,7 @@ hastes_step x y call a c h = record { ruled = ruled_step x y call a c h.ruled; d
     clock = (after x y call a c).clock
 
     -- a packet hastens it
-    by_packet : acknowledges (sents_by x.end call a) ≡ false → next.end.closing.state ≡ states.Open → one_hastens i j waiting ≡ true → IsPressed next.end.acknowledging
+    by_packet : acknowledges (sents_by x.policy x.end call a) ≡ false → next.end.closing.state ≡ states.Open → one_hastens i j waiting ≡ true → IsPressed next.end.acknowledging
     by_packet none opened hastens = (press_step x y call a c h.ruled none opened).1 (ap (λ (qs : List Packet). one_hastens i j qs) (sym waiting_is) ∙ hastens)
       where
         ps : List Packet
@@ -225,7 +225,7 @@ hastes_step x y call a c h = record { ruled = ruled_step x y call a c h.ruled; d
     by_mark opened marked =
         let parts = and_parts (takes_marked call a) (are_some waiting) marked in
         let first = first_some waiting parts.1 in
-        (marked_due x.policy x.end y.given call a c.answer parts.0, (c.gives_behind.1.0.owes opened first.0 first.1).counted)
+        (marked_due x.policy x.end y.given call a c.answer parts.0 opened, (c.gives_behind.1.0.owes opened first.0 first.1).counted)
 
     -- one has waited
     by_wait : next.end.closing.state ≡ states.Open → waits_out t arrivals clock ≡ true → IsPressed next.end.acknowledging
@@ -234,7 +234,7 @@ hastes_step x y call a c h = record { ruled = ruled_step x y call a c h.ruled; d
         let late : ack_due found.1.0 ≤ next.end.closing.clock = subst (λ (k : ℕ). ack_due found.1.0 ≤ k) (clock_there x y call a c opened) found.1.2 in
         out_due x y call a found.0 found.1.0 late (c.gives_behind.1.1.timed opened found.1.0 found.1.1)
 
-    by_cause : acknowledges (sents_by x.end call a) ≡ false → next.end.closing.state ≡ states.Open
+    by_cause : acknowledges (sents_by x.policy x.end call a) ≡ false → next.end.closing.state ≡ states.Open
         → ((haste_of x y).due ≡ true) ⊎ ((one_hastens i j waiting || ((takes_marked call a && are_some waiting) || waits_out t arrivals clock)) ≡ true) → IsPressed next.end.acknowledging
     by_cause none opened (inl was) = (press_step x y call a c h.ruled none opened).0 (h.due (was_open x.policy x.end y.given call a opened) was)
     by_cause none opened (inr more) = elim (or_cases (one_hastens i j waiting) ((takes_marked call a && are_some waiting) || waits_out t arrivals clock) more) [
@@ -242,7 +242,7 @@ hastes_step x y call a c h = record { ruled = ruled_step x y call a c h.ruled; d
       | inr others ↦ elim (or_cases (takes_marked call a && are_some waiting) (waits_out t arrivals clock) others) [ inl marked ↦ by_mark opened marked | inr out ↦ by_wait opened out ]
     ]
 
-    by_acks : (b : Bool) → acknowledges (sents_by x.end call a) ≡ b → next.end.closing.state ≡ states.Open → due_if t b (haste_of x y).due i j waiting arrivals clock ≡ true → IsPressed next.end.acknowledging
+    by_acks : (b : Bool) → acknowledges (sents_by x.policy x.end call a) ≡ b → next.end.closing.state ≡ states.Open → due_if t b (haste_of x y).due i j waiting arrivals clock ≡ true → IsPressed next.end.acknowledging
     by_acks true some opened is = cc
     by_acks false none opened is = by_cause none opened (or_cases (haste_of x y).due (one_hastens i j waiting || ((takes_marked call a && are_some waiting) || waits_out t arrivals clock)) is)
 

@@ -201,6 +201,8 @@ module _ (stop over : ℕ → Type 0) where
     sent = λ fair s id room h found i. (by_frame IsShaped shape_any fair s id room h found tt i.0, record { each = i.1.each });
     limits = λ p s f i goes. tt;
     pads = tt;
+    challenges = λ word. tt;
+    responses = λ r. tt;
     pings = tt;
     connection_closes = λ c. tt;
     application_closes = λ c. tt;

@@ -28,7 +28,7 @@ use Rattle.quic_machine.specs.declared.run.ReadCall.{ReadCall}
 use Rattle.quic_machine.specs.Policy.{Policy}
 use Rattle.quic_machine.specs.End.{End}
 use Rattle.quic_machine.specs.CallCases.{is_delivery}
-use Rattle.quic_machine.specs.Machine.{World, IsAnswer, after_call, reads_window, control_at}
+use Rattle.quic_machine.specs.Machine.{World, IsAnswer, after_call, reads_window, control_at, heard_at}
 use Rattle.quic_headline.specs.Runs.{Run, Told, Intake, until}
 use Rattle.quic_headline.specs.Headline.{IsHonest, IsRun}
 use Rattle.quic_headline.specs.Unread.{stopped_by, stopped}
@@ -250,7 +250,7 @@ module _ (r : Run) (end : World) (honest : IsHonest r) (run : IsRun r end) where
       unreadable : (n : ℕ) (ordered : Bool) → (n == id) ≡ true → ◌≡◌ {A = Result (Unit {0}) ReadableError} (readable (receiving_half s n) ordered) (Err readable_errors.ClosedStream)
       unreadable n ordered same = closed_unreadable (receiving_half s n) ordered (ap (is_closed s) (eqb-true n id same) ∙ shut)
 
-      by_call : (call : Call) (a : Answer) → would_read id call ≡ true → IsAnswer x.policy (reads_window (control_at side p.world) call x.end) y.given call a → (is_kept_from_reading id call a ≡ true) ⊎ (found_no_memory a ≡ true)
+      by_call : (call : Call) (a : Answer) → would_read id call ≡ true → IsAnswer x.policy (reads_window (control_at side p.world) (heard_at side p.world) call x.end) y.given call a → (is_kept_from_reading id call a ≡ true) ⊎ (found_no_memory a ≡ true)
       by_call (calls.Read rd) (answers.Read (Ok said)) same is = absurd (ok_shut (readable (receiving_half s rd.id) rd.ordered) (unreadable rd.id rd.ordered same) is.0)
       by_call (calls.Read rd) (answers.Read (Err error)) same (inl is) = by_error rd error same (inl (same_error error (sym is ∙ unreadable rd.id rd.ordered same)))
       by_call (calls.Read rd) (answers.Read (Err error)) same (inr is) = by_error rd error same (inr is)

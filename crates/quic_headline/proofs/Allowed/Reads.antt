@@ -31,7 +31,7 @@ use Rattle.quic_machine.specs.StreamCalls.{if_ok, IsRead}
 use Rattle.quic_machine.specs.End.{End, streams_at}
 use Rattle.quic_machine.specs.CallCases.{is_delivery}
 use Rattle.quic_machine.specs.FrameCases.{begun, passed, frames_keep}
-use Rattle.quic_machine.specs.Machine.{World, IsAnswer, after_call, reads_window, control_at}
+use Rattle.quic_machine.specs.Machine.{World, IsAnswer, after_call, reads_window, control_at, heard_at}
 use Rattle.quic_headline.specs.Runs.{Run, Told, Next, Intake, until, nexts_by, nexts, tells_end}
 use Rattle.quic_headline.specs.Headline.{IsHonest, IsRun, used}
 use Rattle.quic_headline.specs.Undone.{tells_reset, asked_by, asked}
@@ -174,7 +174,7 @@ module _ (B : Way) (w : IsWriting B) (x y : Party) (call : Call) (a : Answer) (c
       comes = λ delivery is s among. (
           let all : Shut (Stops (behind call a)) (IsReadOff (behind call a)) (passed s.frames (begun x.end delivery.now s.number)).end.streams =
           frames_keep (λ (e : End). Shut (Stops (behind call a)) (IsReadOff (behind call a)) e.streams) (λ f e j. (shape_lasts.frame f e j.0, frame_fits (Stops (behind call a)) (IsReadOff (behind call a)) (stop_ends (behind call a)) f e j)) s.frames (begun x.end delivery.now s.number) (there call a) in
-          record { ignored = λ reason. (there call a).1; noted = λ state reason. (there call a).1; takes = λ state new none mark. all.1; refuses = λ state new f fault. all.1 });
+          record { ignored = λ reason. (there call a).1; noted = λ state reason. (there call a).1; takes = λ words state new none mark. all.1; drains = λ words state new close fault. all.1; refuses = λ words state new f fault. all.1; exhausts = λ state. (there call a).1 });
     });
   }
 
@@ -283,7 +283,7 @@ module _ (r : Run) (end : World) (honest : IsHonest r) (run : IsRun r end) where
       only true false e = refl
       only false two e = cc
 
-      closed : (call : Call) (a : Answer) → is_kept_from_reading id call a ≡ true → IsAnswer x.policy (reads_window (control_at side p.world) call x.end) y.given call a → is_closed s id ≡ true
+      closed : (call : Call) (a : Answer) → is_kept_from_reading id call a ≡ true → IsAnswer x.policy (reads_window (control_at side p.world) (heard_at side p.world) call x.end) y.given call a → is_closed s id ≡ true
       closed (calls.Read read) (answers.Read (Err readable_errors.ClosedStream)) kept (inl is) = subst (λ (n : ℕ). is_closed s n ≡ true) (eqb-true read.id id kept) (readable_closed (receiving_half s read.id) read.ordered is)
       closed (calls.Read read) (answers.Read (Err readable_errors.ClosedStream)) kept (inr is) = cc
       closed (calls.Stop q code) (answers.Stop (Err update_errors.ClosedStream)) kept (inl is) = subst (λ (n : ℕ). is_closed s n ≡ true) (eqb-true q id kept) (stop_closed (is_closed s q) is)

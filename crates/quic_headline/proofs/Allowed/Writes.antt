@@ -26,7 +26,7 @@ use Rattle.quic_machine.specs.declared.run.Call.TheVariants as calls
 use Rattle.quic_machine.specs.declared.run.Answer.{Answer}
 use Rattle.quic_machine.specs.declared.run.Answer.TheVariants as answers
 use Rattle.quic_machine.specs.Calls.{is_open}
-use Rattle.quic_machine.specs.Machine.{World, IsAnswer, reads_window, control_at}
+use Rattle.quic_machine.specs.Machine.{World, IsAnswer, reads_window, control_at, heard_at}
 use Rattle.quic_headline.specs.Runs.{Run, Packet, Intake, until, reset}
 use Rattle.quic_headline.specs.Observer.{took}
 use Rattle.quic_headline.specs.Headline.{IsHonest, IsRun, IsAt, used}
@@ -201,7 +201,7 @@ module _ (r : Run) (end : World) (honest : IsHonest r) (side : Side) (i id : ℕ
   only : sends_on s.side id ≡ false → only_receives side id ≡ true
   only none = ap not (sym (ap (λ (d : Side). sends_on d id) p.gives.1.side) ∙ none)
 
-  written : (call : Call) (a : Answer) → is_kept_from_writing id call a ≡ true → IsAnswer x.policy (reads_window (control_at side p.world) call x.end) y.given call a → IsShut (sending_half s id)
+  written : (call : Call) (a : Answer) → is_kept_from_writing id call a ≡ true → IsAnswer x.policy (reads_window (control_at side p.world) (heard_at side p.world) call x.end) y.given call a → IsShut (sending_half s id)
   written (calls.Write q bytes) (answers.Write (Err write_errors.ClosedStream)) kept (inl is) = subst (λ (n : ℕ). IsShut (sending_half s n)) (eqb-true q id kept) (write_call_shut (is_open x.end.closing.state) s q (length bytes) (same_write (Err write_errors.ClosedStream) (write_answer (is_open x.end.closing.state) s q (length bytes)) is))
   written (calls.Write q bytes) (answers.Write (Err write_errors.ClosedStream)) kept (inr is) = cc
   written (calls.WriteChunks q buffers) (answers.WriteChunks (Err write_errors.ClosedStream)) kept (inl is) = subst (λ (n : ℕ). IsShut (sending_half s n)) (eqb-true q id kept) (write_call_shut (is_open x.end.closing.state) s q (bytes_of buffers.items) (chunks_shut (write_answer (is_open x.end.closing.state) s q (bytes_of buffers.items)) buffers.items (same_chunks (Err write_errors.ClosedStream) (chunks_of (write_answer (is_open x.end.closing.state) s q (bytes_of buffers.items)) buffers.items) is)))
@@ -217,7 +217,7 @@ module _ (r : Run) (end : World) (honest : IsHonest r) (side : Side) (i id : ℕ
         | inr none ↦ inr (only none)
       ]
 
-  changed : (call : Call) (a : Answer) → is_kept_from_changing id call a ≡ true → IsAnswer x.policy (reads_window (control_at side p.world) call x.end) y.given call a → is_reset_at (sending_half s id) ≡ true
+  changed : (call : Call) (a : Answer) → is_kept_from_changing id call a ≡ true → IsAnswer x.policy (reads_window (control_at side p.world) (heard_at side p.world) call x.end) y.given call a → is_reset_at (sending_half s id) ≡ true
   changed (calls.Reset q code) (answers.Reset (Err update_errors.ClosedStream)) kept (inl is) = subst (λ (n : ℕ). is_reset_at (sending_half s n) ≡ true) (eqb-true q id kept) (reset_shut (is_reset_at (sending_half s q)) is)
   changed (calls.Reset q code) (answers.Reset (Err update_errors.ClosedStream)) kept (inr is) = cc
   changed (calls.SetPriority q priority) (answers.SetPriority (Err update_errors.ClosedStream)) kept (inl is) = subst (λ (n : ℕ). is_reset_at (sending_half s n) ≡ true) (eqb-true q id kept) (priority_shut (sending_half s q) is)

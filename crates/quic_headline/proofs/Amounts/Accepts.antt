@@ -1,4 +1,5 @@
--- What a write leaves of what is tallied: the bytes that were accepted are one piece more of their stream, or as many as there were buffers.
+-- What a write leaves of what is tallied: the bytes that were accepted are one piece more of their
+-- stream, or as many as there were buffers.
 use Rattle.std.proofs.Common.{◌≡◌, ℕ, zero, suc, ◌+◌, Bool, true, false, List, [], ◌∷◌, ◌++◌, length, take, Option, Some, None, Result, Ok, Err, refl, sym, ap, ◌∙◌, subst, inl, inr, arith, append_assoc, append-nil, length-append, length-take}
 use Rattle.std.specs.Prelude.{◌==◌, if◌then◌else◌}
 use Rattle.std.specs.Option.{is_some}

@@ -36,7 +36,7 @@ use Rattle.quic_machine.specs.declared.run.Answer.TheVariants as answers
 use Rattle.quic_machine.specs.Calls.{is_open}
 use Rattle.quic_machine.specs.End.{End}
 use Rattle.quic_machine.specs.Start.{AreStarted}
-use Rattle.quic_machine.specs.Machine.{World, IsAnswer, reads_window, end_at, control_at}
+use Rattle.quic_machine.specs.Machine.{World, IsAnswer, reads_window, end_at, control_at, heard_at}
 use Rattle.quic_headline.specs.Runs.{Run, Told, Packet, Intake, In, until, state_at, AreServed, written, reset, ids_of}
 use Rattle.quic_headline.specs.Observer.{Sent, HoldsOffset, HoldsEnd, Watch, took, acked_until}
 use Rattle.quic_headline.specs.Headline.{IsHonest, IsRun, IsAt, used}
@@ -194,7 +194,7 @@ first_is side id w st = ap (λ (e : End). first_limit e.streams id) (start_is w 
     go true Uni = refl
     go false dir = refl
 
-all_is : (side : Side) (w : World) (st : AreStarted w) → (end_at side w).streams.sending.limit ≡ (peer_parameters side w st).initial_max_data
+pub all_is : (side : Side) (w : World) (st : AreStarted w) → (end_at side w).streams.sending.limit ≡ (peer_parameters side w st).initial_max_data
 all_is side w st = ap (λ (e : End). e.streams.sending.limit) (start_is w st side)
 
 window_is : (side : Side) (w : World) (st : AreStarted w) → (end_at side w).streams.sending.window ≡ (making_at side w st).settings.send_window
@@ -296,7 +296,7 @@ module _ (r : Run) (end : World) (honest : IsHonest r) (all : (side : Side) (i :
       chunks_told (Ok n) cs = refl
       chunks_told (Err e) cs = refl
 
-      by_call : (call : Call) (a : Answer) → IsAt r i side call a → WritesOn call id count → IsAnswer x.policy (reads_window (control_at side p.world) call x.end) y.given call a → told_so a (Err write_errors.Memory) ⊎ told_so a (taken_of (left_for r honest.start side i id) count)
+      by_call : (call : Call) (a : Answer) → IsAt r i side call a → WritesOn call id count → IsAnswer x.policy (reads_window (control_at side p.world) (heard_at side p.world) call x.end) y.given call a → told_so a (Err write_errors.Memory) ⊎ told_so a (taken_of (left_for r honest.start side i id) count)
       by_call (calls.Write q bytes) a event on (inl is) =
           let among : In id (ids_of told) = honest.ids side i id (calls.Write q bytes) a event (ap Some on.0) in
           inr (subst (λ (b : Answer). told_so b (taken_of (left_for r honest.start side i id) count)) (sym is) (rw (on.0, on.1) (takes count among)))

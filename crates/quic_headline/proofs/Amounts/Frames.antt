@@ -1,5 +1,5 @@
--- What a frame that was taken leaves of what is tallied: MAX_DATA and MAX_STREAM_DATA raise a limit, and STOP_SENDING stops a stream (RFC 9000,
--- sections 19.5, 19.9 and 19.10).
+-- What a frame that was taken leaves of what is tallied: MAX_DATA and MAX_STREAM_DATA raise a
+-- limit, and STOP_SENDING stops a stream (RFC 9000, sections 19.5, 19.9 and 19.10).
 use Rattle.std.proofs.Common.{◌≡◌, ℕ, ◌<◌, ◌≤◌, Bool, true, false, not, nat_le, List, [], ◌∷◌, Option, Some, None, refl, sym, ap, ◌∙◌, subst, arith, inl, inr}
 use Rattle.std.specs.Prelude.{max, nat_lt, ◌==◌, ◌&&◌, ◌||◌, if◌then◌else◌}
 use Rattle.std.specs.Option.{is_some}
@@ -7,7 +7,7 @@ use Rattle.std.specs.List.{list_any}
 use Rattle.std.proofs.lemmas.Bool.{cond_both, cases_eq, cases_Bool, eq-eqb, ne_eqb, ltb-true, ltb-false, and_from}
 use Rattle.quic_wire_core.specs.declared.stream_id.Side.{Side}
 use Rattle.quic_wire_core.specs.StreamId.{dir_of, index_of}
-use Rattle.quic_wire.specs.Value.{FrameValue, StopSendingValue, StreamLimitValue, ack, stream, reset_stream, stop_sending, max_data, max_stream_data, max_streams, datagram}
+use Rattle.quic_wire.specs.Value.{FrameValue, StopSendingValue, StreamLimitValue, ack, stream, reset_stream, stop_sending, max_data, max_stream_data, max_streams, datagram, new_connection_id, retire_connection_id, path_response}
 use Rattle.quic_streams_parts.specs.declared.answers.Breach.{Breach}
 use Rattle.quic_streams_parts.specs.declared.answers.Breach.TheVariants as breaches
 use Rattle.quic_streams_parts.specs.Dirs.{is_own, is_two_way}
@@ -24,7 +24,7 @@ use Rattle.quic_streams_laws.specs.KeepingLaws.{by_option, by_opened, sends_with
 use Rattle.quic_machine.specs.Tracking.{dir_named}
 use Rattle.quic_machine.specs.End.{End}
 use Rattle.quic_machine.specs.Receive.{fault_of, is_above, names_ungiven, take_frame}
-use Rattle.quic_machine.specs.FrameCases.{acked_keeps, named, ack_taken, passed, frames_taken, message_leaves}
+use Rattle.quic_machine.specs.FrameCases.{acked_keeps, named, ack_taken, passed, frames_taken, message_leaves, apart_leaves}
 use Rattle.quic_headline.specs.Amounts.{data_limit_in, stream_limit_in, stops_stream, greatest_in}
 use Rattle.quic_headline.proofs.Halves.Opened.{opened_now, side_now}
 use Rattle.quic_headline.proofs.Amounts.Tally.{Tally, IsTallied, IsFresh, HasSums, AreTallied, Tallies, AlikeAt, alike_at, half_tallied, tallied_kept, tallies_kept, tallies_settle, put_tallied, halves_alike, tallies_alike}
@@ -198,6 +198,15 @@ module _ (t : Tally) where
   frame_tallies (datagram m) e none i =
       let same = plain t (datagram m) e.streams (λ id. refl) (λ id. refl) refl i in
       message_leaves (λ (x : End). Tallies (and_frame (datagram m) t) x.streams) m e same (λ left. same)
+  frame_tallies (new_connection_id g) e none i =
+      let same = plain t (new_connection_id g) e.streams (λ id. refl) (λ id. refl) refl i in
+      apart_leaves (λ (x : End). Tallies (and_frame (new_connection_id g) t) x.streams) (new_connection_id g) e tt (λ c. same) (λ c most. same)
+  frame_tallies (retire_connection_id n) e none i =
+      let same = plain t (retire_connection_id n) e.streams (λ id. refl) (λ id. refl) refl i in
+      apart_leaves (λ (x : End). Tallies (and_frame (retire_connection_id n) t) x.streams) (retire_connection_id n) e tt (λ c. same) (λ c most. same)
+  frame_tallies (path_response token) e none i =
+      let same = plain t (path_response token) e.streams (λ id. refl) (λ id. refl) refl i in
+      apart_leaves (λ (x : End). Tallies (and_frame (path_response token) t) x.streams) (path_response token) e tt (λ c. same) (λ c most. same)
   frame_tallies other e none i = plain t other e.streams (λ id. refl) (λ id. refl) refl i
 
 -- ---- all frames of a packet

@@ -1,5 +1,5 @@
--- What an open end knows of its limits, of what it accepted and of the pieces that it keeps is what was told at it and what came, at each place of an
--- honest run.
+-- What an open end knows of its limits, of what it accepted and of the pieces that it keeps is what
+-- was told at it and what came, at each place of an honest run.
 use Rattle.std.proofs.Common.{◌≡◌, ℕ, Bool, true, false, List, [], ◌∷◌, ◌++◌, None, refl, sym, ap, ◌∙◌, inl, inr, arith, append-nil}
 use Rattle.std.specs.Prelude.{max}
 use Rattle.quic_config.specs.Transport.{Settings, parameters_of}
@@ -86,7 +86,7 @@ module _ (B : Way) (packets : (x y : Party) → B x y → PacketsHold x y) (x y 
       before : x.end.closing.state ≡ states.Open
       before = elim (call_closes x.policy x.end y.given call a apart) [
         | inl k ↦ sym k.state ∙ still
-        | inr shut ↦ (let clash : states.Drained ≡ states.Open = sym shut.1 ∙ still in cc)
+        | inr shut ↦ absurd (shut.shut still)
       ]
 
       go : (b : Bool) → is_write call ≡ b → Tallies (tally_of x.made.streams (came_to x y).took (x.told ++ t ∷ [])) (after_call x.policy x.end y.given call a).streams
@@ -98,9 +98,11 @@ module _ (B : Way) (packets : (x y : Party) → B x y → PacketsHold x y) (x y 
   comes_tallies quiet now s = record {
     ignored = λ reason still. more (came_to x y).took x.end.streams (i.still still);
     noted = λ state reason still. (let clash : states.Closing ≡ states.Open = sym state ∙ still in cc);
-    takes = λ state new none mark still. more (record { number = s.number; frames = s.frames } ∷ (came_to x y).took) (arrived x.end now s.number s.frames).end.streams
+    takes = λ words state new none mark still. more (record { number = s.number; frames = s.frames } ∷ (came_to x y).took) (arrived x.end now s.number s.frames).end.streams
         (packet_more x.made.streams (came_to x y).took x.told (record { number = s.number; frames = s.frames }) (arrived x.end now s.number s.frames).end.streams (frames_tally (tally_of x.made.streams (came_to x y).took x.told) s.frames (begun x.end now s.number) none (i.still state)));
-    refuses = λ state new f is still. cc;
+    drains = λ words state new close is still. cc;
+    refuses = λ words state new f is still. cc;
+    exhausts = λ state still. cc;
   }
     where
       more : (ps : List Packet) (v : StreamsState) → Tallies (tally_of x.made.streams ps x.told) v → Tallies (tally_of x.made.streams ps (x.told ++ t ∷ [])) v

@@ -1,4 +1,5 @@
--- How many bytes an end keeps of all streams is what its pieces come to of which not all is acknowledged.
+-- How many bytes an end keeps of all streams is what its pieces come to of which not all is
+-- acknowledged.
 use Rattle.std.proofs.Common.{◌≡◌, ℕ, zero, suc, ◌+◌, ◌-◌, ◌<◌, ◌≤◌, Bool, true, false, List, [], ◌∷◌, ◌++◌, length, Option, Some, None, refl, sym, ap, ◌∙◌, subst, inl, inr, arith}
 use Rattle.std.specs.Prelude.{cond, ◌==◌, ◌||◌, if◌then◌else◌}
 use Rattle.std.specs.List.{list_any, sum_by}

@@ -18,7 +18,7 @@ use Rattle.quic_machine.specs.declared.run.Call.{Call}
 use Rattle.quic_machine.specs.declared.run.Call.TheVariants as calls
 use Rattle.quic_machine.specs.declared.run.Answer.{Answer}
 use Rattle.quic_machine.specs.Calls.{is_open}
-use Rattle.quic_machine.specs.Machine.{World, policy_at, end_at, control_at, reads_window, given_by, IsAnswer}
+use Rattle.quic_machine.specs.Machine.{World, policy_at, end_at, control_at, reads_window, given_by, IsAnswer, heard_at}
 use Rattle.quic_headline.specs.Runs.{Run, id_by, AreServed}
 use Rattle.quic_headline.specs.Ids.{IdsAreNew}
 use Rattle.quic_headline.proofs.Places.Parties.{Party}
@@ -135,7 +135,7 @@ module _ (G : Way) (g : SaysWhatIsGot G) (r : Run) (end : World) (all : (side : 
       here : IsGot side id x.end.streams
       here = (g.got x (party_at r i p.world (other_side side) p.theirs) p.gives).each id among
 
-      go : (call : Call) (a : Answer) → id_by call a ≡ Some id → IsAnswer (policy_at side r.keys) (reads_window (control_at side p.world) call (end_at side p.world)) (given_by (other_side side) p.world) call a → ⊥
+      go : (call : Call) (a : Answer) → id_by call a ≡ Some id → IsAnswer (policy_at side r.keys) (reads_window (control_at side p.world) (heard_at side p.world) call (end_at side p.world)) (given_by (other_side side) p.world) call a → ⊥
       go (calls.Open dir) a by is = new_open (is_open x.end.closing.state) dir x.end.streams id (sym (ap (λ (b : Answer). id_by (calls.Open dir) b) is) ∙ by) here.got
       go (calls.Accept dir) a by is = new_accept dir x.end.streams id (sym (ap (λ (b : Answer). id_by (calls.Accept dir) b) is) ∙ by) here.got
       go call a by is = cc

@@ -1,4 +1,5 @@
--- The pieces that calls added: of each stream they lie one behind another, and by one call more only those of its stream are more.
+-- The pieces that calls added: of each stream they lie one behind another, and by one call more
+-- only those of its stream are more.
 use Rattle.std.proofs.Common.{◌≡◌, ℕ, ◌+◌, ◌-◌, Bool, true, false, List, [], ◌∷◌, ◌++◌, length, take, Ok, refl, sym, ap, ◌∙◌, arith, append_assoc, append-nil, length-append, length-take}
 use Rattle.std.specs.Prelude.{min, ◌==◌, if◌then◌else◌, map}
 use Rattle.std.proofs.lemmas.Bool.{eqb-true}

@@ -1,5 +1,6 @@
--- What an end knows of its limits, of what it accepted and of the pieces that it keeps, as numbers and lists that a run's lists say: each word about
--- its streams that neither writes nor tells a limit keeps it (RFC 9000, sections 4.1, 13.3 and 19.5).
+-- What an end knows of its limits, of what it accepted and of the pieces that it keeps, as numbers
+-- and lists that a run's lists say: each word about its streams that neither writes nor tells a
+-- limit keeps it (RFC 9000, sections 4.1, 13.3 and 19.5).
 use Rattle.std.proofs.Common.{◌≡◌, ℕ, ◌+◌, ◌-◌, Bool, true, false, not, List, [], ◌∷◌, ◌++◌, Option, Some, None, refl, sym, ap, ◌∙◌, subst, arith, append_assoc, inl, inr}
 use Rattle.std.specs.Prelude.{◌&&◌, ◌||◌}
 use Rattle.std.specs.Option.{is_some}
@@ -26,7 +27,7 @@ use Rattle.quic_machine.specs.declared.run.Answer.{Answer}
 use Rattle.quic_machine.specs.Policy.{Policy}
 use Rattle.quic_machine.specs.Calls.{is_open}
 use Rattle.quic_machine.specs.StreamCalls.{is_on_streams}
-use Rattle.quic_machine.specs.End.{End, streams_at}
+use Rattle.quic_machine.specs.End.{End, streams_at, with_closing}
 use Rattle.quic_machine.specs.Tracking.{TrackedPacket}
 use Rattle.quic_machine.specs.Acked.{stream_lost}
 use Rattle.quic_machine.specs.Poll.{Draft, composed, polled}
@@ -37,6 +38,8 @@ use Rattle.quic_machine.specs.Steps as steps
 use Rattle.quic_machine.specs.LeaveCases.{by_expired, by_event}
 use Rattle.quic_machine.specs.CallCases.{is_delivery, by_call}
 use Rattle.quic_machine.specs.Machine.{IsAnswer, after_call}
+use Rattle.quic_machine.specs.Closing.{ticked}
+use Rattle.quic_headline.proofs.Packets.Apart.{by_waits, by_next_id}
 use Rattle.quic_streams_laws.specs.QuietLaws.{by_told}
 use Rattle.quic_headline.proofs.Packets.Losses.{Losing, expiry_stays}
 use Rattle.quic_headline.proofs.Halves.Words.{OtherWords, is_write, other_with}
@@ -46,8 +49,8 @@ use Rattle.quic_headline.proofs.Packets.Probes.{poll_state}
 
 -- ---- what is tallied
 
--- how far each stream may come at first, and now; whether it was stopped; the sizes of its pieces; how far all streams may come; how many bytes were
--- accepted; and how many may be buffered
+-- how far each stream may come at first, and now; whether it was stopped; the sizes of its pieces;
+-- how far all streams may come; how many bytes were accepted; and how many may be buffered
 pub record Tally : Type 0 where
   pub first : ℕ → ℕ
   pub limit : ℕ → ℕ
@@ -207,7 +210,10 @@ module _ (t : Tally) where
         on_streams = λ on answer. cc;
         on_messages = λ on answer. i;
         pings = i;
-        times = λ now expiry set. by_expired e now (λ (f : End). Tallies t f.streams) (λ pending tracking timers runs packets. i) (λ pending timers runs. expiry_stays (λ (s : Streams). Tallies t s.state) e now (losing e.tracking.packets) i pending timers) expiry;
+        closes = λ reason f now own. i;
+        waits = λ now b set. by_waits (λ (f : End). Tallies t f.streams) b (with_closing e (ticked e.closing now)) i i;
+        changes_id = λ uses answer. by_next_id (λ (f : End). Tallies t f.streams) e a i (λ c. i) (λ c most. i);
+        times = λ now expiry set. by_expired p.words e now (λ (f : End). Tallies t f.streams) (λ pending tracking timers waits asked runs packets. i) (λ pending timers waits asked runs. expiry_stays (λ (s : Streams). Tallies t s.state) e now (losing e.tracking.packets) i pending timers waits asked) (λ x j. j) expiry;
         polls = λ now set. poll_tallies p e now i;
         hears = λ arrival d set. cc;
         tells = λ asks. by_event e (λ (f : End). Tallies t f.streams) i (λ told. by_polled (Tallies t) tallies_kept e.streams i);

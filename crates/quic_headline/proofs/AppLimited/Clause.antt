@@ -1,4 +1,5 @@
--- At each place of an honest run an open end counts as having nothing more to send only as its last poll lets it; and so its controller is told.
+-- At each place of an honest run an open end counts as having nothing more to send only as its last
+-- poll lets it; and so its controller is told.
 use Rattle.std.proofs.Common.{◌≡◌, ℕ, zero, suc, ◌+◌, ◌<◌, ◌≤◌, Bool, true, false, not, ◌&&◌, List, [], ◌∷◌, length, Option, Some, None, Result, Ok, refl, sym, ap, ◌∙◌, subst, ◌⊎◌, inl, inr, arith}
 use Rattle.std.specs.Prelude.{slice_get, nat_lt}
 use Rattle.std.proofs.lemmas.Bool.{and_right, both_ways, leb-true, ltb-true, ltb-false}
@@ -19,29 +20,32 @@ use Rattle.quic_machine.specs.Policy.{Policy}
 use Rattle.quic_machine.specs.Opens.{own_id_length}
 use Rattle.quic_machine.specs.Closing.{ticked}
 use Rattle.quic_machine.specs.Parts.{current_mtu}
-use Rattle.quic_machine.specs.End.{End, with_closing, with_window}
+use Rattle.quic_machine.specs.End.{End, with_closing, with_window, closed_by}
 use Rattle.quic_machine.specs.Control.{bytes_in_flight, is_window_full}
 use Rattle.quic_machine.specs.Timeouts.{loss_judged}
 use Rattle.quic_machine.specs.Poll.{Polled, asks_to_go, is_held, rests, polled}
-use Rattle.quic_machine.specs.FrameCases.{Settling, Receives, named, acked_keeps, losses_keep, frame_keeps, frame_leaves, apart_leaves, by_received}
-use Rattle.quic_machine.specs.LeaveCases.{Expired, by_timers}
-use Rattle.quic_machine.specs.LeaveCases as expiring
+use Rattle.quic_machine.specs.FrameCases.{Settling, Receives, named, acked_keeps, losses_keep, frame_keeps, frame_leaves, by_received, apart_leaves}
 use Rattle.quic_machine.specs.Steps as steps
 use Rattle.quic_machine.specs.PollCases.{ready_at, draft_at, by_poll_to}
 use Rattle.quic_machine.specs.CallCases.{Plain, is_poll, by_plain_call}
 use Rattle.quic_machine.specs.CallCases as cases
 use Rattle.quic_machine.specs.Machine.{World, after_call, reads_window, end_at, control_at, given_by, policy_at}
 use Rattle.quic_machine.specs.RunLaws.{as_many_views}
+use Rattle.quic_machine.specs.LeaveCases.{by_timers, Expired}
+use Rattle.quic_machine.specs.LeaveCases as expiring
+use Rattle.quic_headline.proofs.Packets.Closes.{by_closes}
 use Rattle.quic_headline.specs.Runs.{Run, In, same_side, state_in, LeadsTo, AreServed}
 use Rattle.quic_headline.specs.Headline.{IsHonest, IsRun, IsAt}
-use Rattle.quic_headline.specs.Polls.{window_in, mtu_in, pacing_timer, bytes_flying, pacing_at, IsMade, GaveNothing, IsFull, IsToGo}
+use Rattle.quic_headline.specs.Polls.{window_in, mtu_in, pacing_timer, bytes_flying, pacing_at, IsMade, GaveNothing, IsFull, IsLimited, IsToGo}
+use Rattle.quic_headline.proofs.Packets.Quiet.{HaveHeardNothing}
 use Rattle.quic_headline.specs.Queue.{waiting_messages}
 use Rattle.quic_headline.specs.AppLimited.{WasPolled, HasToGo, MayCount}
 use Rattle.quic_headline.specs.Telling.{ControllersAreTold}
+use Rattle.quic_headline.proofs.Packets.Apart.{by_waits, by_next_id}
 use Rattle.quic_headline.proofs.Packets.Group.{PacketsHold, has_room}
 use Rattle.quic_headline.proofs.Packets.Probes.{by_going}
 use Rattle.quic_headline.proofs.Packets.Sight.{Sight}
-use Rattle.quic_headline.proofs.Places.Parties.{Party}
+use Rattle.quic_headline.proofs.Places.Parties.{Party, with_shown, shown_at}
 use Rattle.quic_headline.proofs.Places.Moments.{state_shown}
 use Rattle.quic_headline.proofs.Places.Placed.{party_at, Placed, placed, placed_less, shown as placed_view}
 use Rattle.quic_headline.proofs.Places.Steps.{poll_answer}
@@ -50,9 +54,10 @@ use Rattle.quic_headline.proofs.Places.Theorems.{ready}
 use Rattle.quic_headline.proofs.Halves.Ready.{Ready}
 use Rattle.quic_headline.proofs.Held.Flight.{bytes_at}
 use Rattle.quic_headline.proofs.Held.Silent.{IsQuiet, quiet}
-use Rattle.quic_headline.proofs.Held.Behind.{last_step, window_at, mtu_at}
+use Rattle.quic_headline.proofs.Held.Behind.{last_step, last as last_poll, met, blocked_there, unblocked_there, window_at, mtu_at}
+use Rattle.quic_headline.proofs.Held.Bytes.{when_blocked, blocked_back}
 use Rattle.quic_headline.proofs.Held.Messages.{short_waits}
-use Rattle.quic_headline.proofs.Held.Clause.{Shortly, shortly, message_asks, what_asks}
+use Rattle.quic_headline.proofs.Held.Clause.{Shortly, shortly, heard_first, message_asks, what_asks}
 use Rattle.quic_headline.proofs.Messages.Lists.{waiting_is}
 use Rattle.quic_headline.proofs.Rest.Between.{step_leaves}
 use Rattle.quic_headline.proofs.Sizes.Moves.{did_there}
@@ -61,7 +66,8 @@ use Rattle.quic_headline.proofs.Steps.Probing.{same_answer}
 use Rattle.quic_headline.proofs.Tellings.Clause.{view_before}
 use Rattle.quic_headline.proofs.Timers.Still.{was_open}
 use Rattle.quic_headline.proofs.Timers.Watched.{timers_behind, open_behind}
-use Rattle.quic_headline.proofs.AppLimited.Rests.{IsResting, paced, full, idle, resting}
+use Rattle.quic_headline.proofs.AppLimited.Rests.{IsResting, paced, full, idle, resting, blocked_rests}
+use Rattle.quic_headline.proofs.Packets.Heard.{by_taken}
 
 -- ---- any call but a poll
 
@@ -80,40 +86,48 @@ receives_same e = record {
   frame = frame_keeps (SameCount e) (record {
     ack = λ rises a x i. acked_keeps (SameCount e) (settling e) rises a (named a x) i;
     on_streams = λ f x on i. frame_leaves (SameCount e) f x on (λ t. i);
-    apart = λ f x is i. apart_leaves (SameCount e) f x is (λ c. i);
+    apart = λ f x is i. apart_leaves (SameCount e) f x is (λ c. i) (λ c most. i);
     message = λ m x i. i;
   });
-  takes = λ n asks mark x i. i;
+  takes = λ n asks mark x i. by_taken (SameCount e) n asks mark x (λ idle alive. i);
   closes = λ reason x i. i;
+  drains = λ close x i. i;
+  asks_close = λ x i. i;
+  exhausts = λ now x i. i;
+  draws = λ words x i. i;
 }
 
 judged_same : (e : End) (moment : Option ℕ) (x : End) → SameCount e x → SameCount e (loss_judged moment x)
 judged_same e None x i = i
 judged_same e (Some moment) x i = losses_keep (SameCount e) (settling e) x i
 
-expires_same : (e : End) (s : Expired) (x : End) → SameCount e x → SameCount e (expiring.after s x)
-expires_same e expiring.of_acks x i = i
-expires_same e s x i = i
-
 count_stays : (p : Policy) (e : End) (theirs : List (List ℕ)) (call : Call) (a : Answer) → is_poll call ≡ false → SameCount e (after_call p e theirs call a)
 count_stays p e theirs call a other = by_plain_call p e theirs (SameCount e) call a keep
   where
+    each : (s : Expired) (x : End) → SameCount e x → SameCount e (expiring.after s x)
+    each expiring.of_acks x i = i
+    each s x i = i
+
     keep : Plain p e call (SameCount e)
-    keep (cases.times now expiry) may = by_timers (SameCount e) (SameCount e) (judged_same e) (expires_same e) (λ f j. j) expiry (with_closing e (ticked e.closing now)) refl
+    keep (cases.times now expiry) may = by_timers p.words (SameCount e) (SameCount e) (λ o x i. judged_same e o x i) each (λ x i. i) (λ x i. i) expiry (with_closing e (ticked e.closing now)) refl
     keep (cases.polls now) is = cc
     keep (cases.hears arrival d) may = by_received (SameCount e) (receives_same e) p e arrival d refl
+    keep (cases.closes reason f now) may = refl
+    keep (cases.waits now b) may = by_waits (SameCount e) b (with_closing e (ticked e.closing now)) refl refl
+    keep (cases.changes_id a) may = by_next_id (SameCount e) e a refl (λ c. refl) (λ c most. refl)
     keep c may = refl
 
 -- ---- a poll
 
--- one that gives a datagram leaves its end so that it counts as having more
-gave_more : (p : Policy) (e : End) (now : ℕ) (transmit : Transmit) → (polled p e now).answer ≡ Ok (Some transmit) → (polled p e now).end.path.app_limited ≡ false
-gave_more p e now transmit = by_poll_to p e now (λ (q : Polled). q.answer ≡ Ok (Some transmit) → q.end.path.app_limited ≡ false) (record {
-  silent = λ is. cc;
-  failed = λ is. cc;
-  nothing = λ opened none is. cc;
-  closes = λ is. cc;
-  gives = λ opened may some is. by_going (λ (x : End). x.path.app_limited ≡ false) p (draft_at e now) (λ pacing. refl);
+-- one that gives a datagram, and leaves its end open, leaves it so that it counts as having more
+gave_more : (p : Policy) (e : End) (now : ℕ) (transmit : Transmit) → (polled p e now).answer ≡ Ok (Some transmit) → (polled p e now).end.closing.state ≡ states.Open → (polled p e now).end.path.app_limited ≡ false
+gave_more p e now transmit = by_poll_to p e now (λ (q : Polled). q.answer ≡ Ok (Some transmit) → q.end.closing.state ≡ states.Open → q.end.path.app_limited ≡ false) (record {
+  silent = λ is still. cc;
+  failed = λ is still. cc;
+  nothing = λ opened none is still. cc;
+  repeats = λ shut. by_closes p (with_closing e (ticked e.closing now)) (λ (q : Polled). q.answer ≡ Ok (Some transmit) → q.end.closing.state ≡ states.Open → q.end.path.app_limited ≡ false) (λ is still. cc) (λ f goes is still. let clash : states.Closing ≡ states.Open = sym shut ∙ still in cc);
+  closes = λ reason bound. by_closes p (closed_by reason (ready_at e now).end) (λ (q : Polled). q.answer ≡ Ok (Some transmit) → q.end.closing.state ≡ states.Open → q.end.path.app_limited ≡ false) (λ is still. cc) (λ f goes is still. cc);
+  gives = λ opened may some is still. by_going (λ (x : End). x.path.app_limited ≡ false) p (draft_at e now) (λ pacing. refl);
 })
 
 -- ---- places
@@ -156,6 +170,7 @@ module _ (r : Run) (side : Side) (i : ℕ) (event : RunEvent) (there : slice_get
     gave = λ place now transmit p. c.gave place now transmit (earlier place now _ p);
     paced = λ place now moment v p. c.paced place now moment v (earlier place now _ p);
     full = λ place now v p. c.full place now v (earlier place now _ p);
+    limits = λ place now v p. c.limits place now v (earlier place now _ p);
     idle = λ place now v p. c.idle place now v (earlier place now _ p);
   }
 
@@ -179,12 +194,12 @@ slice_get_there (x ∷ xs) (suc i) within = slice_get_there xs i (omega arith)
 one_answer : (x y : Result (Option Transmit) Failed) → answers.Poll x ≡ answers.Poll y → x ≡ y
 one_answer x y is = sym (same_answer x y is)
 
-module _ (r : Run) (end : World) (honest : IsHonest r) (run : IsRun r end) where
+module _ (r : Run) (end : World) (honest : IsHonest r) (run : IsRun r end) (quiet_first : HaveHeardNothing r.start) where
   -- ---- behind a poll
 
   module _ (i : ℕ) (side : Side) (now : ℕ) (a : Answer) (v : View) (w next : World) (m : IsMade r i side (calls.Poll now) a w next) (leads : LeadsTo r (suc i) next) (there : slice_get r.views i ≡ Some v) (still : (end_at side next).closing.state ≡ states.Open) where
     abbrev e : End
-    e = with_window (end_at side w) (control_at side w [])
+    e = with_shown (end_at side w) (shown_at side w)
 
     abbrev p : Policy
     p = policy_at side r.keys
@@ -207,7 +222,7 @@ module _ (r : Run) (end : World) (honest : IsHonest r) (run : IsRun r end) where
 
     -- it gave a datagram
     gave_one : (transmit : Transmit) → a ≡ answers.Poll (Ok (Some transmit)) → f.path.app_limited ≡ false
-    gave_one transmit is = ap (λ (x : End). x.path.app_limited) left ∙ gave_more p e now transmit (one_answer (polled p e now).answer (Ok (Some transmit)) (sym said ∙ is))
+    gave_one transmit is = ap (λ (x : End). x.path.app_limited) left ∙ gave_more p e now transmit (one_answer (polled p e now).answer (Ok (Some transmit)) (sym said ∙ is)) (sym (ap (λ (x : End). x.closing.state) left) ∙ still)
 
     -- it gave nothing
     module _ (is : a ≡ answers.Poll (Ok None)) where
@@ -250,28 +265,89 @@ module _ (r : Run) (end : World) (honest : IsHonest r) (run : IsRun r end) where
           let place = slice_get_within r.views i v there in
           let among : In message.0 (end_at side at.world).messages.queues.outgoing = subst (In message.0) (waiting_is r end honest run side (suc i) at.world (omega (arith, place)) m.served at.leads) message.1 in
           let packets = at.gives.0.0.0 in
-          let eight : length x.end.ids.active.id ≡ own_id_length = ap (λ (own : List ℕ). length own) packets.active ∙ at.joined.y_long in
-          subst (λ (u : World). asks_to_go (end_at side u) ≡ true) same (message_asks x.end (short_waits x.end message.0 (has_room x y packets at.joined.y_long) eight at.gives.1.short among))
+          let eight : length x.end.ids.peer.id ≡ own_id_length = packets.long.peer.used in
+          subst (λ (u : World). asks_to_go (end_at side u) ≡ true) same (message_asks x.end (short_waits x.end message.0 (has_room x y packets) eight at.gives.1.short among))
 
       -- its timer is set to a moment, and isn't
       set_and_not : (moment : ℕ) (o : Option ℕ) → pacing_timer v side ≡ Some (Some moment) → f.timers.pacing ≡ o → o ≡ Some moment
       set_and_not moment o set timer = sym timer ∙ same_Some f.timers.pacing (Some moment) (sym shown ∙ set)
 
-      when_paced : (moment : ℕ) → pacing_timer v side ≡ Some (Some moment) → IsResting (ready_at e now) → f.path.app_limited ≡ false
-      when_paced moment set (paced later timer held) = limited_is ∙ ap not held
-      when_paced moment set (full none filled held) = limited_is ∙ ap not held
-      when_paced moment set (idle none silent free) = (let clash : ◌≡◌ {A = Option ℕ} None (Some moment) = set_and_not moment None set (ap (λ (x : End). x.timers.pacing) at_rest ∙ none) in cc)
+      -- the world before is that of the poll
+      before_is : (last_poll r side i now v next leads gave).before ≡ w
+      before_is = one_behind r i (last_poll r side i now v next leads gave).before w (served_before r.answers i m.served) (last_poll r side i now v next leads gave).leads m.leads
 
-      when_full : HasToGo r side (suc i) → IsResting (ready_at e now) → f.path.app_limited ≡ false
-      when_full to_go (paced later timer held) = limited_is ∙ ap not held
-      when_full to_go (full none filled held) = limited_is ∙ ap not held
-      when_full to_go (idle none silent free) = absurd (both_ways (asks_to_go f) (ap asks_to_go at_rest ∙ silent) (asks to_go))
+      reads : (b : Bool) → e.path.blocked ≡ b → (met r side i now v next leads gave).path.blocked ≡ b
+      reads b is_read = subst (λ (u : World). (with_shown (end_at side u) (shown_at side u)).path.blocked ≡ b) (sym before_is) is_read
 
-      when_idle : pacing_timer v side ≡ Some None → bytes_flying r side (suc i) + mtu_in v side < window_in v side → IsResting (ready_at e now) → f.path.app_limited ≡ true
-      when_idle unset room (paced later timer held) =
+      all_hold : (by : Side) (j : ℕ) → AreServed r j → Placed PacketsHold r end by j
+      all_hold by j served = placed_less Shortly PacketsHold r end by j (λ x y h. h.0.0.0) (placed Shortly shortly r end honest run by j served)
+
+      -- datagrams have bytes
+      sized : 0 < current_mtu f.path
+      sized =
+          let at = placed Shortly shortly r end honest run side (suc i) m.served in
+          let same : at.world ≡ next = one_behind r (suc i) at.world next m.served at.leads leads in
+          let x : Party = party_at r (suc i) at.world side at.sents in
+          let y : Party = party_at r (suc i) at.world (other_side side) at.theirs in
+          let long : 1200 ≤ current_mtu x.end.path = (has_room x y at.gives.0.0.0).1 in
+          subst (λ (u : World). 0 < current_mtu (end_at side u).path) same (omega (arith, long))
+
+      -- nothing more might go by what the end read exactly where so it is by the lists
+      limits_there : e.path.blocked ≡ true → IsLimited r side (suc i) v
+      limits_there blocked = when_blocked r end honest run all_hold side (heard_first side r.start quiet_first) i now v next m.served leads gave (blocked_there r side i now v next leads gave (reads true blocked))
+
+      no_limit_there : e.path.blocked ≡ false → IsLimited r side (suc i) v → ⊥
+      no_limit_there free limited =
+          unblocked_there r side i now v next leads gave (reads false free)
+          (blocked_back r end honest run all_hold side (heard_first side r.start quiet_first) i now v next m.served leads gave sized limited)
+
+      -- the end rests then with nothing more to send
+      counts_blocked : e.path.blocked ≡ true → f.path.app_limited ≡ true
+      counts_blocked blocked = limited_is ∙ ap not (blocked_rests e now blocked).1
+
+      paced_rests : (moment : ℕ) → pacing_timer v side ≡ Some (Some moment) → IsResting (ready_at e now) → f.path.app_limited ≡ false
+      paced_rests moment set (paced later timer held) = limited_is ∙ ap not held
+      paced_rests moment set (full none filled held) = limited_is ∙ ap not held
+      paced_rests moment set (idle none silent free) = (let clash : ◌≡◌ {A = Option ℕ} None (Some moment) = set_and_not moment None set (ap (λ (x : End). x.timers.pacing) at_rest ∙ none) in cc)
+
+      when_paced : (moment : ℕ) → pacing_timer v side ≡ Some (Some moment) → f.path.app_limited ≡ false
+      when_paced moment set = go e.path.blocked refl
+        where
+          go : (b : Bool) → e.path.blocked ≡ b → f.path.app_limited ≡ false
+          go true blocked = (let clash : ◌≡◌ {A = Option ℕ} None (Some moment) = set_and_not moment None set (ap (λ (x : End). x.timers.pacing) at_rest ∙ (blocked_rests e now blocked).0) in cc)
+          go false free = paced_rests moment set (resting e now free rested.none)
+
+      full_rests : HasToGo r side (suc i) → IsResting (ready_at e now) → f.path.app_limited ≡ false
+      full_rests to_go (paced later timer held) = limited_is ∙ ap not held
+      full_rests to_go (full none filled held) = limited_is ∙ ap not held
+      full_rests to_go (idle none silent free) = absurd (both_ways (asks_to_go f) (ap asks_to_go at_rest ∙ silent) (asks to_go))
+
+      when_full : HasToGo r side (suc i) → (IsLimited r side (suc i) v → ⊥) → f.path.app_limited ≡ false
+      when_full to_go unlimited = go e.path.blocked refl
+        where
+          go : (b : Bool) → e.path.blocked ≡ b → f.path.app_limited ≡ false
+          go true blocked = absurd (unlimited (limits_there blocked))
+          go false free = full_rests to_go (resting e now free rested.none)
+
+      idle_rests : pacing_timer v side ≡ Some None → bytes_flying r side (suc i) + mtu_in v side < window_in v side → IsResting (ready_at e now) → f.path.app_limited ≡ true
+      idle_rests unset room (paced later timer held) =
           (let clash : ◌≡◌ {A = Option ℕ} None (Some later) = sym (same_Some f.timers.pacing None (sym shown ∙ unset)) ∙ ap (λ (x : End). x.timers.pacing) at_rest ∙ timer in cc)
-      when_idle unset room (full none filled held) = (let most : window_in v side ≤ bytes_flying r side (suc i) + mtu_in v side = no_room (ap is_window_full at_rest ∙ filled) in absurd (omega (arith, most, room)))
-      when_idle unset room (idle none silent free) = limited_is ∙ ap not free
+      idle_rests unset room (full none filled held) = (let most : window_in v side ≤ bytes_flying r side (suc i) + mtu_in v side = no_room (ap is_window_full at_rest ∙ filled) in absurd (omega (arith, most, room)))
+      idle_rests unset room (idle none silent free) = limited_is ∙ ap not free
+
+      when_idle : pacing_timer v side ≡ Some None → bytes_flying r side (suc i) + mtu_in v side < window_in v side → f.path.app_limited ≡ true
+      when_idle unset room = go e.path.blocked refl
+        where
+          go : (b : Bool) → e.path.blocked ≡ b → f.path.app_limited ≡ true
+          go true blocked = counts_blocked blocked
+          go false free = idle_rests unset room (resting e now free rested.none)
+
+      when_limited : IsLimited r side (suc i) v → f.path.app_limited ≡ true
+      when_limited limited = go e.path.blocked refl
+        where
+          go : (b : Bool) → e.path.blocked ≡ b → f.path.app_limited ≡ true
+          go true blocked = counts_blocked blocked
+          go false free = absurd (no_limit_there free limited)
 
     -- so it counts as the poll lets it
     poll_counts : MayCount r side (suc i) f.path.app_limited
@@ -279,15 +355,21 @@ module _ (r : Run) (end : World) (honest : IsHonest r) (run : IsRun r end) where
       gave = λ place later transmit was. gave_one transmit (this_one r side i now a m.at place later _ was).1;
       paced = λ place later moment u was seen set. (
           let here = this_one r side i now a m.at place later _ was in
-          when_paced here.1 moment (subst (λ (x : View). pacing_timer x side ≡ Some (Some moment)) (one_view place u here.0 seen) set) (resting e now (rested here.1).none));
-      full = λ place later u was seen filled to_go. (
+          when_paced here.1 moment (subst (λ (x : View). pacing_timer x side ≡ Some (Some moment)) (one_view place u here.0 seen) set));
+      full = λ place later u was seen filled to_go unlimited. (
           let here = this_one r side i now a m.at place later _ was in
-          when_full here.1 (subst (λ (n : ℕ). HasToGo r side (suc n)) here.0 to_go) (resting e now (rested here.1).none));
+          let same : u ≡ v = one_view place u here.0 seen in
+          when_full here.1 (subst (λ (n : ℕ). HasToGo r side (suc n)) here.0 to_go)
+          (λ limited. unlimited (subst (λ (x : View). IsLimited r side (suc place) x) (sym same) (subst (λ (n : ℕ). IsLimited r side (suc n) v) (sym here.0) limited))));
+      limits = λ place later u was seen limited. (
+          let here = this_one r side i now a m.at place later _ was in
+          let same : u ≡ v = one_view place u here.0 seen in
+          when_limited here.1 (subst (λ (n : ℕ). IsLimited r side (suc n) v) here.0 (subst (λ (x : View). IsLimited r side (suc place) x) same limited)));
       idle = λ place later u was seen unset room. (
           let here = this_one r side i now a m.at place later _ was in
           let same : u ≡ v = one_view place u here.0 seen in
           when_idle here.1 (subst (λ (x : View). pacing_timer x side ≡ Some None) same unset)
-          (subst (λ (n : ℕ). bytes_flying r side (suc n) + mtu_in v side < window_in v side) here.0 (subst (λ (x : View). bytes_flying r side (suc place) + mtu_in x side < window_in x side) same room)) (resting e now (rested here.1).none));
+          (subst (λ (n : ℕ). bytes_flying r side (suc n) + mtu_in v side < window_in v side) here.0 (subst (λ (x : View). bytes_flying r side (suc place) + mtu_in x side < window_in x side) same room)));
     }
       where
         one_view : (place : ℕ) (u : View) → place ≡ i → slice_get r.views place ≡ Some u → u ≡ v
@@ -328,6 +410,7 @@ module _ (r : Run) (end : World) (honest : IsHonest r) (run : IsRun r end) where
     gave = λ place now transmit p. absurd (none p.below);
     paced = λ place now moment v p. absurd (none p.below);
     full = λ place now v p. absurd (none p.below);
+    limits = λ place now v p. absurd (none p.below);
     idle = λ place now v p. absurd (none p.below);
   }
     where
@@ -342,5 +425,5 @@ module _ (r : Run) (end : World) (honest : IsHonest r) (run : IsRun r end) where
 
 -- ---- the clause
 
-pub controllers_are_told : (r : Run) (end : World) → IsHonest r → IsRun r end → ControllersAreTold r
-controllers_are_told r end honest run = everything.controllers_are_told Ready ready r end honest run (λ i side w within leads served opened. counts_at r end honest run i side w within leads served opened)
+pub controllers_are_told : (r : Run) (end : World) → IsHonest r → IsRun r end → HaveHeardNothing r.start → ControllersAreTold r
+controllers_are_told r end honest run quiet_first = everything.controllers_are_told Ready ready r end honest run (λ i side w within leads served opened. counts_at r end honest run quiet_first i side w within leads served opened)

@@ -1,5 +1,6 @@
--- What an end holds of which nothing goes: it is held back by its pacer or its window, or has nothing more to send.
-use Rattle.std.proofs.Common.{◌≡◌, ℕ, Bool, true, false, Option, Some, None, refl, sym, ap, ◌∙◌}
+-- What an end holds of which nothing goes: it is held back by its pacer or its window, or has
+-- nothing more to send.
+use Rattle.std.proofs.Common.{◌≡◌, ℕ, Bool, true, false, Option, Some, None, refl, sym, ap, ◌∙◌, subst}
 use Rattle.std.specs.Prelude.{◌==◌}
 use Rattle.std.proofs.lemmas.Bool.{and_parts, or_parts, both_ways}
 use Rattle.quic_recovery_core.specs.PendingAcks.{can_send}
@@ -7,6 +8,7 @@ use Rattle.quic_machine.specs.End.{End}
 use Rattle.quic_machine.specs.Control.{is_window_full, pacer_asked, with_pacing_timer, Gated, lets, holds}
 use Rattle.quic_machine.specs.Poll.{waits, probed, asks_to_go, is_gated, Ready, leaves, goes, is_held}
 use Rattle.quic_machine.specs.PollCases.{ready_at, probe_leaves, by_gate, by_leaves}
+use Rattle.quic_headline.proofs.Held.Silent.{may_go, may_not_go}
 use Rattle.quic_headline.proofs.Steps.Probes.{begun}
 
 -- An end that is ready, of which nothing goes, is so.
@@ -77,10 +79,15 @@ module _ (e : End) (now : ℕ) where
       never : waits (pacer_asked x) ≡ false → ⊥
       never quiet = both_ways (asks_to_go x) (none_asks (pacer_asked x) quiet) (and_parts (asks_to_go x) (x.tracking.probes == 0) gate).0
 
-  pub resting : goes (ready_at e now) ≡ false → IsResting (ready_at e now)
-  resting = by_gate x (λ (f : Gated). Rests (leaves f)) (record {
+  -- where more may go to its address
+  pub resting : e.path.blocked ≡ false → goes (ready_at e now) ≡ false → IsResting (ready_at e now)
+  resting unblocked = subst Rests (sym (may_go e now unblocked)) (by_gate x (λ (f : Gated). Rests (leaves f)) (record {
     free = λ gate. when_free;
     full = λ gate is. when_full is;
     lets = λ gate room until. when_let gate;
     holds = λ moment gate room until. when_held moment;
-  })
+  }))
+
+  -- where nothing more may go there, no timer of the pacer is set, and nothing is held back
+  pub blocked_rests : e.path.blocked ≡ true → ((ready_at e now).end.timers.pacing ≡ None) × (is_held (ready_at e now).leaving ≡ false)
+  blocked_rests blocked = subst (λ (g : Ready). (g.end.timers.pacing ≡ None) × (is_held g.leaving ≡ false)) (sym (may_not_go e now blocked)) (stops, refl)

@@ -1,4 +1,5 @@
--- Which frames about streams wait behind a call on streams, a frame that comes, and what is acknowledged, that didn't before: those that are called for.
+-- Which control frames wait behind a call on streams, a frame that comes, and what is acknowledged,
+-- that didn't before: those that are called for.
 use Rattle.std.proofs.Common.{◌≡◌, ℕ, Bool, true, false, ◌||◌, List, [], ◌∷◌, ◌++◌, Option, Some, None, Result, Ok, Err, refl, sym, ap, ◌∙◌, subst, ◌⊎◌, inl, inr}
 use Rattle.std.specs.Prelude.{◌==◌, if◌then◌else◌}
 use Rattle.std.specs.Option.{is_some}
@@ -35,7 +36,7 @@ use Rattle.quic_machine.specs.Receive.{take_frame}
 use Rattle.quic_headline.specs.Runs.{reset_by}
 use Rattle.quic_headline.specs.Duties.{AllData, StreamData, StreamCount, has_reset, has_stop}
 use Rattle.quic_headline.specs.Unread.{stopped_by}
-use Rattle.quic_headline.specs.Begins.{Control, ResetOf, StopOf, LimitOf, Blocked, BlockedOn, control_waits, uses_up, reads_on, finds_blocked, brings_data}
+use Rattle.quic_headline.specs.Begins.{Control, ResetOf, StopOf, LimitOf, Blocked, BlockedOn, NewId, Retirement, control_waits, uses_up, uses_next, reads_on, finds_blocked, brings_data}
 use Rattle.quic_headline.proofs.Begins.Controls.{has_either}
 use Rattle.std.proofs.lemmas.List.Folds.{list_any-append}
 
@@ -55,7 +56,7 @@ decided_one c s p is = inl is
 
 -- ---- calls
 
--- whether a call asks for a frame about streams
+-- whether a call asks for a control frame
 abbrev pub call_asks : Call → Answer → Control → Bool
 call_asks call a (ResetOf id) = is_some (reset_by id call a)
 call_asks call a (StopOf id) = stopped_by id call a
@@ -64,6 +65,8 @@ call_asks call a (LimitOf (StreamData id)) = reads_on id call a
 call_asks call a (LimitOf (StreamCount dir)) = uses_up call a
 call_asks call a Blocked = finds_blocked (λ id. true) call a
 call_asks call a (BlockedOn id) = finds_blocked (λ j. j == id) call a
+call_asks call a (NewId number) = false
+call_asks call a (Retirement number) = uses_next call a
 
 -- a limit that is decided is asked for by a call that uses up what came
 grew_asked : (c : Control) (s : StreamsState) (call : Call) (a : Answer) → uses_up call a ≡ true → Grew s c → call_asks call a c ≡ true

@@ -1,7 +1,7 @@
 -- So what waits behind a call waited before it, or has a cause, at each place of an honest run.
-use Rattle.std.proofs.Common.{◌≡◌, ℕ, suc, ◌+◌, ◌-◌, ◌<◌, ◌≤◌, ◌^◌, max, min, Bool, true, false, ◌||◌, ◌&&◌, List, [], ◌∷◌, ◌++◌, length, drop, append-nil, Option, Some, None, refl, sym, ap, ◌∙◌, subst, ◌⊎◌, inl, inr, arith}
-use Rattle.std.specs.Prelude.{nat_le, ltb, leb}
-use Rattle.std.specs.Option.{is_none, option_map}
+use Rattle.std.proofs.Common.{◌≡◌, ℕ, suc, ◌+◌, ◌-◌, ◌<◌, ◌≤◌, ◌^◌, max, min, Bool, true, false, ◌||◌, ◌&&◌, List, [], ◌∷◌, ◌++◌, length, map, drop, append-nil, Option, Some, None, Ok, refl, sym, ap, ◌∙◌, subst, ◌⊎◌, inl, inr, arith}
+use Rattle.std.specs.Prelude.{nat_le, nat_lt, not, ltb, leb}
+use Rattle.std.specs.Option.{is_some, is_none, option_map}
 use Rattle.std.specs.List.{list_any}
 use Rattle.std.proofs.lemmas.Bool.{or_left, or_right, or_cases, and_from, and_parts, lt-ltb, ltb-true, both_ways}
 use Rattle.quic_wire_core.specs.declared.stream_id.Side.{Side}
@@ -9,6 +9,7 @@ use Rattle.quic_wire_core.specs.declared.stream_id.Side.TheVariants.{Client, Ser
 use Rattle.quic_wire_core.specs.declared.stream_id.Dir.{Dir}
 use Rattle.quic_wire_core.specs.declared.stream_id.Dir.TheVariants.{Bi, Uni}
 use Rattle.quic_wire_core.specs.StreamId.{other_side}
+use Rattle.quic_wire_core.specs.declared.shared.IssuedCid.{IssuedCid}
 use Rattle.quic_wire.specs.FrameView.{is_one_way}
 use Rattle.quic_streams_parts.specs.Dirs.{of}
 use Rattle.quic_machine.specs.Tracking.{dir_named}
@@ -33,26 +34,31 @@ use Rattle.quic_machine.specs.declared.run.Call.{Call}
 use Rattle.quic_machine.specs.declared.run.Call.TheVariants as calls
 use Rattle.quic_machine.specs.declared.run.Delivery.{Delivery}
 use Rattle.quic_machine.specs.declared.run.Answer.{Answer}
-use Rattle.quic_machine.specs.End.{End}
+use Rattle.quic_time.specs.Timers.{has_come}
+use Rattle.quic_machine.specs.Closing.{Closing, ticked}
+use Rattle.quic_machine.specs.Calls.{closed_in}
+use Rattle.quic_machine.specs.End.{End, words_drawn}
 use Rattle.quic_machine.specs.Control as window
 use Rattle.quic_machine.specs.Timeouts.{timed_out_in, timed_out}
-use Rattle.quic_machine.specs.Receive.{Outcome}
+use Rattle.quic_machine.specs.Ids.{words_behind}
+use Rattle.quic_machine.specs.IdFrames.{drawn, drawing}
+use Rattle.quic_machine.specs.Receive.{Outcome, asks_in, after_taken}
 use Rattle.quic_machine.specs.StreamCalls.{is_on_streams}
 use Rattle.quic_machine.specs.FrameCases.{begun}
 use Rattle.quic_machine.specs.CallCases.{is_delivery, is_poll, is_timeout}
 use Rattle.quic_machine.specs.InjectionCases.{by_injection}
 use Rattle.quic_machine.specs.LeaveCases.{by_event}
-use Rattle.quic_machine.specs.Machine.{World, IsAnswer, fails, gave, reads_window, changed, end_at, control_at}
+use Rattle.quic_machine.specs.Machine.{World, IsAnswer, says_last, fails, gave, reads_window, changed, end_at, control_at, heard_at}
 use Rattle.quic_machine.specs.Heard.{Heard}
 use Rattle.quic_machine.specs.RunLaws.{as_many_views}
 use Rattle.quic_headline.specs.Runs.{Run, Told, Packet, Intake, In, and_told, folded, until, state_at, given_of, AreServed, written}
-use Rattle.quic_headline.specs.Observer.{Sent, HoldsOffset, HoldsEnd, Flight, after_frames, Watch, first_watch, watch, news, clock_behind, moment_of, is_timely, watch_moment, watch_given, watch_told, watch_from, terms_of, lens_of}
+use Rattle.quic_headline.specs.Observer.{Sent, HoldsOffset, HoldsEnd, Flight, after_frames, Watch, first_watch, watch, news, clock_behind, moment_of, is_past, is_timely, watch_moment, watch_given, watch_told, watch_from, terms_of, lens_of}
 use Rattle.quic_headline.specs.Headline.{IsHonest, IsRun, IsAt}
-use Rattle.quic_headline.specs.Duties.{AllData, StreamCount, on_half}
-use Rattle.quic_headline.specs.Moments.{went, debt, debt_told, first_debt}
+use Rattle.quic_headline.specs.Duties.{AllData, StreamCount, on_half, has_new_id}
+use Rattle.quic_headline.specs.Moments.{went, debt}
 use Rattle.quic_headline.specs.AcksDue.{takes_marked, are_some, waits_out}
-use Rattle.quic_headline.specs.Waited.{one_asks, count_silent, may_come, stands, is_ping, wants, wants_told, no_wants}
-use Rattle.quic_headline.specs.Begins.{Control, LimitOf, Blocked, Thing, Ack, Ping, Probe, Message, Byte, Fin, Frame, byte_waits, IsPending, Bears, Seen, came, brings, WasLost, may_end, brings_data, asks_for, HasCause, HasGone, seen_at, still, BeginsAt, WaitingBegins}
+use Rattle.quic_headline.specs.Waited.{one_asks, count_silent, may_come, stands, is_ping, asks_ping, is_path_challenge, wakes, wants, wants_told, no_wants}
+use Rattle.quic_headline.specs.Begins.{Control, LimitOf, Blocked, NewId, Retirement, Thing, Ack, Ping, Challenge, Response, Probe, Message, Byte, Fin, Frame, byte_waits, IsPending, Bears, Seen, came, brings, WasLost, may_end, brings_data, is_retirement, is_new_id, uses_next, asks_for, HasCause, HasGone, seen_at, still, BeginsAt, WaitingBegins}
 use Rattle.quic_headline.specs.Begins as new
 use Rattle.quic_headline.proofs.Packets.Intakes.{folded_more}
 use Rattle.quic_headline.proofs.Packets.Group.{PacketsHold, meets}
@@ -71,22 +77,27 @@ use Rattle.quic_headline.proofs.Halves.Ready.{Ready}
 use Rattle.quic_headline.proofs.Halves.Ghosts.{wrote}
 use Rattle.quic_headline.proofs.Halves.QuietSteps.{sent_within}
 use Rattle.quic_headline.proofs.Halves.ReadGroup.{ReadsHold}
+use Rattle.quic_headline.proofs.Duties.Listed.{places_same}
 use Rattle.quic_headline.proofs.Grown.Clause.{GrownWait}
 use Rattle.quic_headline.proofs.Timers.Watched.{Observed, drop_all, went_is}
 use Rattle.quic_headline.proofs.Timers.Still.{was_open}
-use Rattle.quic_headline.proofs.Timers.AckMoments.{call_answered, InDebt, debt_of, debt_group}
+use Rattle.quic_headline.proofs.Timers.AckMoments.{call_answered, debt_of}
+use Rattle.quic_headline.proofs.Timers.FirstDue.{Indebted, debt_group}
 use Rattle.quic_headline.proofs.Steps.Made.{MadeAt, made_at, made_served, made_end, served_before, told_next, told_here, one_behind, calling, CallHolds, call_holds}
 use Rattle.quic_headline.proofs.Waited.Marks.{call_due}
+use Rattle.quic_headline.proofs.Packets.Apart.{next_acks}
+use Rattle.quic_headline.proofs.Waited.Alive.{timed, wakes_at, past_is}
 use Rattle.quic_headline.proofs.Waited.Pings.{call_pinged, polled_pinged}
-use Rattle.quic_headline.proofs.Waited.Flags.{Flag, all, counts, blocked, flag, says as flag_says}
+use Rattle.quic_headline.proofs.Waited.Flags.{Flag, all, counts, blocked, challenge, response, flag, says as flag_says}
 use Rattle.quic_headline.proofs.Waited.Group.{polled_flags, wants_of, Wanting, wanting_group}
 use Rattle.quic_headline.proofs.Begins.Acks.{timeout_due, polled_due}
 use Rattle.quic_headline.proofs.Begins.Queued.{call_queues}
-use Rattle.quic_headline.proofs.Begins.Probed.{told_probes, moment_clock}
+use Rattle.quic_headline.proofs.Begins.Probed.{told_probes}
 use Rattle.quic_headline.proofs.Begins.Called.{call_asks}
 use Rattle.quic_headline.proofs.Begins.Halves.{Any, Waits as HalfWaits, all_pend, pends_more, none_reset, byte_is, fin_is}
 use Rattle.quic_headline.proofs.Begins.Walk.{Pends, pend_more}
-use Rattle.quic_headline.proofs.Begins.Flights.{By, BegunAt, Begun, begun_loses, begun_flies}
+use Rattle.quic_headline.proofs.Begins.Apart.{SignalsBy, signals_same, frames_signals, polled_signals, quiet_signals}
+use Rattle.quic_headline.proofs.Begins.Flights.{By, BegunAt, Begun, ids_begun, begun_loses, begun_flies}
 use Rattle.quic_headline.proofs.Begins.Gone.{polled_goes}
 use Rattle.quic_headline.proofs.Begins.Steps.{Left, left_of, polled_left, streams_left, quiet_left}
 
@@ -97,13 +108,13 @@ abbrev Grown : Way
 Grown = And (And (everything.All Ready ready) ReadsHold) GrownWait
 
 abbrev Owing : Way
-Owing = And Grown InDebt
+Owing = And Grown Indebted
 
 abbrev Known : Way
 Known = And Owing Wanting
 
 owing : Group Nothing Owing
-owing = both Nothing Grown InDebt (everything.all_grown Ready ready) (over Observed (And Nothing Grown) InDebt (λ x y h. (h.1.0.0.0.0, h.1.0.0.1)) debt_group)
+owing = both Nothing Grown Indebted (everything.all_grown Ready ready) (over Observed (And Nothing Grown) Indebted (λ x y h. (h.1.0.0.0.0, h.1.0.0.1)) debt_group)
 
 known : Group Nothing Known
 known = both Nothing Owing Wanting owing (over Observed (And Nothing Owing) Wanting (λ x y h. (h.1.0.0.0.0.0, h.1.0.0.0.1)) wanting_group)
@@ -137,6 +148,7 @@ seen_of x y call a = record {
   unanswered = (wants_of x y).packets;
   unanswered_behind = (wants_of (called x y.given call a) y).packets;
   arrivals = (debt_of x y).arrivals;
+  alive = (wants_of x y).alive;
   terms = x.terms;
 }
 
@@ -164,6 +176,19 @@ module _ (x y : Party) (call : Call) (a : Answer) (s : Stepped x y call a) where
       ap (λ (i : Intake). news i seen.behind.intake) (watched_intake (lens x y) x.told (first_watch x.final x.began x.initial_rtt))
       ∙ ap (λ (i : Intake). news (came_to x y) i) (ap (λ (w : Watch). w.intake) (sym behind_is) ∙ watched_intake (lens x y) next.told (first_watch x.final x.began x.initial_rtt))
 
+-- what goes at a call is what its end sends
+went_here : (x y : Party) (call : Call) (a : Answer) → Stepped x y call a → went (seen_of x y call a).before (seen_of x y call a).behind ≡ sents_by x.policy x.end call a
+went_here x y call a s = went_is (watch_of x y) (seen_of x y call a).behind (sents_by x.policy x.end call a) (
+    ap (λ (w : Watch). w.own) (sym (behind_is x y call a s)) ∙ (sight (called x y.given call a) y s.behind).own ∙ ap (λ (ss : List Sent). ss ++ sents_by x.policy x.end call a) (sym (sight x y s.gives).own))
+
+-- the observer has the clock of the end behind a call
+clock_behind_is : (x y : Party) (call : Call) (a : Answer) (s : Stepped x y call a) → (seen_of x y call a).behind.clock ≡ (called x y.given call a).end.closing.clock
+clock_behind_is x y call a s = ap (λ (w : Watch). w.clock) (sym (behind_is x y call a s)) ∙ ((sight (called x y.given call a) y s.behind).watched.flight s.opened).tells.clock
+
+-- so it is of a moment that is taken over
+timeout_clock : (x y : Party) (now : ℕ) (a : Answer) (s : Stepped x y (calls.Timeout now) a) → (seen_of x y (calls.Timeout now) a).behind.clock ≡ (ticked x.end.closing now).clock
+timeout_clock x y now a s = clock_behind_is x y (calls.Timeout now) a s ∙ ap (λ (c : Closing). c.clock) (timed x.policy x.end now (was x y (calls.Timeout now) a s) s.opened).closing
+
 -- ---- an acknowledgement
 
 -- where one is due behind a delivery, it was, or a packet came
@@ -175,8 +200,10 @@ delivered_some x y delivery a s = by_coming x y a s.joined s.served (meets y x (
   comes = λ other same d among. record {
     ignored = λ reason opened due. inl due;
     noted = λ state reason opened due. (let clash : states.Closing ≡ states.Open = sym state ∙ opened in cc);
-    takes = λ state new none mark opened due. inr (ap are_some (one_new (came_to x y) d.number d.frames));
-    refuses = λ state new f is opened. cc;
+    takes = λ words state new none mark opened due. inr (ap are_some (one_new (came_to x y) d.number d.frames));
+    drains = λ words state new close is opened. cc;
+    refuses = λ words state new f is opened. cc;
+    exhausts = λ state opened. cc;
   };
 }) s.opened
 
@@ -194,7 +221,7 @@ ack_begins x y (calls.Deliver delivery) a s due = elim (call_due x.policy x.end 
   where
     v : Seen
     v = seen_of x y (calls.Deliver delivery) a
-ack_begins x y (calls.Timeout now) a s due = elim (timeout_due x.policy x.end now (debt_of x y).arrivals opened (s.gives.0.1.owes opened) due) [
+ack_begins x y (calls.Timeout now) a s due = elim (timeout_due x.policy x.end now (debt_of x y).arrivals opened (s.gives.0.1.1.owes opened) due) [
   | inl before ↦ inl before
   | inr late ↦ inr (or_right (are_some (came v) && one_asks v.unanswered_behind) _ (or_right (takes_marked (calls.Timeout now) a) _ (or_left (waits_out v.now v.arrivals v.behind.clock) _
       (and_from (is_timely x.end.closing.state (calls.Timeout now)) _ (ap (λ (z : State). is_timely z (calls.Timeout now)) opened)
@@ -207,15 +234,8 @@ ack_begins x y (calls.Timeout now) a s due = elim (timeout_due x.policy x.end no
     opened : x.end.closing.state ≡ states.Open
     opened = was x y (calls.Timeout now) a s
 
-    t : Told
-    t = told_of (calls.Timeout now) a x.end.closing.state
-
     clock : v.behind.clock ≡ max x.end.closing.clock now
-    clock =
-        ap (λ (w : Watch). w.clock) (told_timed (lens x y) t (watch_of x y) (only_polls_give x.policy x.end y.given (calls.Timeout now) a refl s.answer) (none_comes (lens x y) t (watch_of x y).intake refl))
-        ∙ moment_clock (is_timely t.state t.call) x.terms (record (watch_of x y) { clock = clock_behind (watch_of x y).clock (moment_of x.end.closing.state false (calls.Timeout now)) })
-        ∙ ap (λ (z : State). clock_behind (watch_of x y).clock (moment_of z false (calls.Timeout now))) opened
-        ∙ ap (λ (n : ℕ). max n now) ((sight x y s.gives).watched.flight opened).tells.clock
+    clock = timeout_clock x y now a s
 ack_begins x y (calls.Poll now) a s due = elim (polled_due x.policy x.end now due) [
   | inl before ↦ inl before
   | inr many ↦ inr (or_right (are_some (came v) && one_asks v.unanswered_behind) _ (or_right (takes_marked (calls.Poll now) a) _ (or_right (waits_out v.now v.arrivals v.behind.clock) _
@@ -224,15 +244,53 @@ ack_begins x y (calls.Poll now) a s due = elim (polled_due x.policy x.end now du
   where
     v : Seen
     v = seen_of x y (calls.Poll now) a
-ack_begins x y (calls.Inject injection) a s due = inl (by_injection x.policy x.end injection (λ (e : End). e.acknowledging.due ≡ true → x.end.acknowledging.due ≡ true) (λ is. is) due)
+ack_begins x y (calls.Inject injection) a s due = inl (by_injection x.policy x.end (says_last a) injection (λ (e : End). e.acknowledging.due ≡ true → x.end.acknowledging.due ≡ true) (λ is. is) (λ now is. is) due)
+ack_begins x y (calls.Close close) a s due = inl (go x.end.closing.state due)
+  where
+    go : (z : State) → (closed_in z close.now close.error_code close.reason x.end).acknowledging.due ≡ true → x.end.acknowledging.due ≡ true
+    go states.Open is = is
+    go states.Closing is = is
+    go states.Drained is = is
+    go states.Failed is = is
+ack_begins x y calls.UseNextId a s due = inl (sym (ap (λ (p : Pending). p.due) (next_acks x.end a)) ∙ due)
 ack_begins x y calls.Event a s due = inl (by_event x.end (λ (e : End). e.acknowledging.due ≡ true → x.end.acknowledging.due ≡ true) (λ is. is) (λ told is. is) due)
 ack_begins x y call a s due = inl due
 
 -- ---- PING, probes and messages
 
+-- it waited, it is asked for, or the time without a packet is over
+other_ping : (x y : Party) (call : Call) (a : Answer) → Stepped x y call a → is_poll call ≡ false → (wakes_at x.end call ≡ true → wakes (seen_of x y call a).now (seen_of x y call a).behind.clock (seen_of x y call a).alive ≡ true) → IsPending (called x y.given call a).end Ping → Caused x y call a Ping
+other_ping x y call a s silent woken set = elim (or_cases (asks_ping call) (wakes_at x.end call || x.end.waiting.signals.ping) (sym (call_pinged x.policy x.end y.given call a silent s.opened) ∙ set)) [
+  | inl asked ↦ inr (or_left (asks_ping call) _ asked)
+  | inr other ↦ elim (or_cases (wakes_at x.end call) x.end.waiting.signals.ping other) [
+    | inl wakes_up ↦ inr (or_right (asks_ping call) _ (or_left (wakes (seen_of x y call a).now (seen_of x y call a).behind.clock (seen_of x y call a).alive) _ (woken wakes_up)))
+    | inr was_set ↦ inl was_set
+  ]
+]
+
 ping_begins : (x y : Party) (call : Call) (a : Answer) → Stepped x y call a → IsPending (called x y.given call a).end Ping → Caused x y call a Ping
-ping_begins x y (calls.Poll now) a s set = inl (polled_pinged x.policy x.end now s.opened set).1
-ping_begins x y call a s set = elim (call_pinged x.policy x.end y.given call a refl) [ inl asked ↦ inr asked | inr same ↦ inl (sym same ∙ set) ]
+ping_begins x y (calls.Poll now) a s set = elim (polled_pinged x.policy x.end now s.opened set).before [
+  | inl before ↦ inl before
+  | inr waited ↦ inr (or_right (wakes v.now v.behind.clock v.alive) _ (and_from (nat_lt 0 v.before.flight.probes) (not (nat_lt 0 (length (went v.before v.behind))))
+      (let same = ((sight x y s.gives).watched.flight (was x y (calls.Poll now) a s)).probes in let some = waited.0 in lt-ltb 0 v.before.flight.probes (omega arith))
+      (ap (λ (ss : List Sent). not (nat_lt 0 (length ss))) (went_here x y (calls.Poll now) a s ∙ ap (λ (b : Answer). sent_if (gave b) (sent_by x.policy x.end now)) (poll_answer x.policy x.end now a s.answer s.served) ∙ waited.1))))
+]
+  where
+    v : Seen
+    v = seen_of x y (calls.Poll now) a
+ping_begins x y (calls.Timeout now) a s set = other_ping x y (calls.Timeout now) a s refl (λ woke.
+    ap (λ (z : State). is_timely z (calls.Timeout now) && is_past v.alive v.behind.clock) opened
+    ∙ past_is v.alive v.behind.clock
+    ∙ ap (λ (o : Option ℕ). has_come o v.behind.clock) (s.gives.1.wanted opened).alive
+    ∙ ap (λ (n : ℕ). has_come x.end.timers.keep_alive n) (timeout_clock x y now a s)
+    ∙ woke) set
+  where
+    v : Seen
+    v = seen_of x y (calls.Timeout now) a
+
+    opened : x.end.closing.state ≡ states.Open
+    opened = was x y (calls.Timeout now) a s
+ping_begins x y call a s set = other_ping x y call a s refl (λ woke. cc) set
 
 probe_begins : (x y : Party) (call : Call) (a : Answer) → Stepped x y call a → IsPending (called x y.given call a).end Probe → Caused x y call a Probe
 probe_begins x y call a s some = elim (told_probes (lens x y) (told_of call a x.end.closing.state) (watch_of x y) (subst (λ (n : ℕ). 0 < n) (sym here) some)) [
@@ -242,6 +300,55 @@ probe_begins x y call a s some = elim (told_probes (lens x y) (told_of call a x.
   where
     here : (seen_of x y call a).behind.flight.probes ≡ (called x y.given call a).end.tracking.probes
     here = ap (λ (w : Watch). w.flight.probes) (sym (behind_is x y call a s)) ∙ ((sight (called x y.given call a) y s.behind).watched.flight s.opened).probes
+
+-- ---- path validation
+
+-- whether PATH_CHALLENGE came between
+abbrev Asked : Intake → Intake → Bool
+Asked i j = list_any (λ p. list_any is_path_challenge p.frames) (news i j)
+
+-- a delivery leaves PATH_CHALLENGE as it was, or none, and PATH_RESPONSE waits where it did, or
+-- PATH_CHALLENGE came
+delivered_signals : (x y : Party) (delivery : Delivery) (a : Answer) (s : Stepped x y (calls.Deliver delivery) a)
+    → SignalsBy (Asked (came_to x y) (came_to (called x y.given (calls.Deliver delivery) a) y)) x.end.waiting.signals (called x y.given (calls.Deliver delivery) a).end.waiting.signals
+delivered_signals x y delivery a s = by_coming x y a s.joined s.served (meets y x (packets y x s.takes)) (λ (e : End) (j : Intake). e.closing.state ≡ states.Open → SignalsBy (Asked (came_to x y) j) x.end.waiting.signals e.waiting.signals) (calls.Deliver delivery) s.answer (record {
+  apart = λ apart. cc;
+  none = λ other same opened. signals_same (Asked (came_to x y) (came_to x y)) x.end.waiting.signals;
+  comes = λ other same d among. record {
+    ignored = λ reason opened. signals_same (Asked (came_to x y) (came_to x y)) x.end.waiting.signals;
+    noted = λ state reason opened. (let clash : states.Closing ≡ states.Open = sym state ∙ opened in cc);
+    takes = λ words state new none mark opened. (let left = frames_signals d.frames (begun x.end other.now d.number) in (
+      left.0,
+      λ is. elim (left.1 is) [
+        | inl waited ↦ inl waited
+        | inr one ↦ inr (ap (λ (ps : List Packet). list_any (λ p. list_any is_path_challenge p.frames) ps) (one_new (came_to x y) d.number d.frames) ∙ or_left (list_any is_path_challenge d.frames) false one)
+      ],
+    ));
+    drains = λ words state new close is opened. cc;
+    refuses = λ words state new f is opened. cc;
+    exhausts = λ state opened. cc;
+  };
+}) s.opened
+
+-- so each waited, or has a cause
+abbrev SignalsBegin : Party → Party → Call → Answer → Type 0
+SignalsBegin x y call a = (IsPending (called x y.given call a).end Challenge → Caused x y call a Challenge) × (IsPending (called x y.given call a).end Response → Caused x y call a Response)
+
+-- where nothing asks for them
+quiet_begin : (x y : Party) (call : Call) (a : Answer) → SignalsBy false x.end.waiting.signals (called x y.given call a).end.waiting.signals → SignalsBegin x y call a
+quiet_begin x y call a by = ((λ set. inl (by.0 set)), λ set. elim (by.1 set) [ inl waited ↦ inl waited | inr none ↦ absurd (let clash : false ≡ true = none in cc) ])
+
+signals_begin : (x y : Party) (call : Call) (a : Answer) → Stepped x y call a → SignalsBegin x y call a
+signals_begin x y (calls.Poll now) a s = quiet_begin x y (calls.Poll now) a (polled_signals x.policy x.end now s.opened)
+signals_begin x y (calls.Timeout now) a s = ((λ set. inr refl), λ set. inl (sym (ap is_some (timed x.policy x.end now (was x y (calls.Timeout now) a s) s.opened).response) ∙ set))
+signals_begin x y (calls.Deliver delivery) a s = (let by = delivered_signals x y delivery a s in (
+  (λ set. inl (by.0 set)),
+  (λ set. elim (by.1 set) [
+    | inl waited ↦ inl waited
+    | inr brought ↦ inr (ap (λ (ps : List Packet). list_any (λ p. list_any is_path_challenge p.frames) ps) (came_is x y (calls.Deliver delivery) a s) ∙ brought)
+  ]),
+))
+signals_begin x y call a s = quiet_begin x y call a (quiet_signals x.policy x.end y.given call a refl refl refl)
 
 -- ---- streams, and what waits beside their bytes
 
@@ -296,8 +403,7 @@ Brings test i j = list_any (λ p. list_any test p.frames) (news i j) ≡ true
 -- what waits behind what came, which has these frames at most
 record Arrived (x y : Party) (delivery : Delivery) (e : End) (j : Intake) : Type 0 where
   frames : List FrameValue
-  data_came : list_any brings_data frames ≡ true → Brings brings_data (came_to x y) j
-  ends_came : list_any may_end frames ≡ true → Brings may_end (came_to x y) j
+  brought : (test : FrameValue → Bool) → list_any test frames ≡ true → Brings test (came_to x y) j
   begins : let v = with_delivery x.terms (watch_of x y) x.end.closing.state delivery j in Begun (λ q. IsPending x.end q) (watch_of x y).flight.flying (watch_of x y).flight.acked frames v.flight.flying v.flight.acked e
 
 -- before anything came
@@ -309,6 +415,10 @@ nothing_begun x y h frames = record {
   apart = λ u i j. absurd j;
   pends = pend_more (λ q. IsPending x.end q) (By (λ q. IsPending x.end q) (watch_of x y).flight.flying (watch_of x y).flight.acked frames (watch_of x y).flight.flying []) x.end.streams x.end.waiting.frames (λ q is. inl is) (pends_start x y h);
 }
+
+-- ids that are drawn keep their numbers
+numbers_same : (words : ℕ → ℕ) (e : End) (n : ℕ) → has_new_id n (drawing words e).waiting ≡ has_new_id n e.waiting.frames.new_cids
+numbers_same words e n = places_same n e.ids.undrawn (words_behind (words_drawn e) words) (record { living = e.ids.living; waiting = e.waiting.frames.new_cids })
 
 module _ (x y : Party) (delivery : Delivery) (a : Answer) (s : Stepped x y (calls.Deliver delivery) a) where
   abbrev w : Watch
@@ -324,25 +434,26 @@ module _ (x y : Party) (delivery : Delivery) (a : Answer) (s : Stepped x y (call
   same_arrived : Arrived x y delivery x.end i
   same_arrived = record {
     frames = [];
-    data_came = λ is. cc;
-    ends_came = λ is. cc;
+    brought = λ test is. cc;
     begins = subst (λ (v : Watch). Begun (λ q. IsPending x.end q) w.flight.flying w.flight.acked [] v.flight.flying v.flight.acked x.end)
         (sym (ap (λ (j : Intake). with_delivery x.terms w x.end.closing.state delivery j) (sym intake) ∙ nothing_delivered x.terms w x.end.closing.state delivery)) (nothing_begun x y s.gives []);
   }
 
   -- a packet is taken
-  taken_arrived : (d : Sent) → x.end.closing.state ≡ states.Open → (arrived x.end delivery.now d.number d.frames).fault ≡ None → (f : End) → f.streams ≡ (arrived x.end delivery.now d.number d.frames).end.streams → f.waiting.frames ≡ (arrived x.end delivery.now d.number d.frames).end.waiting.frames
+  taken_arrived : (d : Sent) → x.end.closing.state ≡ states.Open → (arrived x.end delivery.now d.number d.frames).fault ≡ None → (f : End) (ids : List IssuedCid) → ((n : ℕ) → has_new_id n ids ≡ true → has_new_id n (arrived x.end delivery.now d.number d.frames).end.waiting.frames.new_cids ≡ true) → f.streams ≡ (arrived x.end delivery.now d.number d.frames).end.streams → f.waiting.frames ≡ record (arrived x.end delivery.now d.number d.frames).end.waiting.frames { new_cids = ids }
       → Arrived x y delivery f (with_taken i d.number d.frames)
-  taken_arrived d opened none f streams waiting = record {
+  taken_arrived d opened none f ids same streams waiting = record {
     frames = d.frames;
-    data_came = λ is. came brings_data is;
-    ends_came = λ is. came may_end is;
+    brought = came;
     begins = let all = frames_fly x.terms now d.frames (Begun Start flew before d.frames) (begun_flies Start flew before d.frames) w.flight (begun x.end delivery.now d.number) none (record { waits = begins; holds = nothing_begun x y s.gives d.frames }) in
         subst (λ (v : Watch). BegunAt Start flew before d.frames v.flight.flying v.flight.acked f.streams f.waiting.frames) (sym there)
         (subst (λ (p : _). BegunAt Start flew before d.frames after.flying after.acked f.streams p) (sym waiting)
-        (subst (λ (t : StreamsState). BegunAt Start flew before d.frames after.flying after.acked t (arrived x.end delivery.now d.number d.frames).end.waiting.frames) (sym streams) all.holds));
+        (subst (λ (t : StreamsState). BegunAt Start flew before d.frames after.flying after.acked t (record left.waiting.frames { new_cids = ids })) (sym streams) (ids_begun Start flew before d.frames after.flying after.acked left ids same all.holds)));
   }
     where
+      left : End
+      left = (arrived x.end delivery.now d.number d.frames).end
+
       Start : Thing → Type 0
       Start q = IsPending x.end q
 
@@ -380,8 +491,10 @@ module _ (x y : Party) (delivery : Delivery) (a : Answer) (s : Stepped x y (call
     comes = λ other same d among. (let is : delivery ≡ other = cc in subst (λ (z : Delivery). Arrivals x.end z.now d.number d.frames i (λ (o : Outcome) (j : Intake). o.end.closing.state ≡ states.Open → Arrived x y delivery o.end j)) is (record {
       ignored = λ reason opened. same_arrived;
       noted = λ state reason opened. (let clash : states.Closing ≡ states.Open = sym state ∙ opened in cc);
-      takes = λ state new none mark opened. taken_arrived d state none _ refl refl;
-      refuses = λ state new f fault opened. cc;
+      takes = λ words state new none mark opened. (let f : End = after_taken d.number (asks_in (map Ok d.frames)) mark (arrived x.end delivery.now d.number d.frames).end in taken_arrived d state none (drawn words f) (drawing words f).waiting (λ n is. sym (numbers_same words f n) ∙ is) refl refl);
+      drains = λ words state new close fault opened. cc;
+      refuses = λ words state new f fault opened. cc;
+      exhausts = λ state opened. cc;
     }));
   })
 
@@ -391,8 +504,9 @@ module _ (x y : Party) (delivery : Delivery) (a : Answer) (s : Stepped x y (call
 behind_acked : (before after new : List Sent) → after ≡ before ++ new → drop (length before) after ≡ new
 behind_acked before after new is = ap (λ (xs : List Sent). drop (length before) xs) is ∙ drop_all before new
 
--- where these are in flight behind the call, and these were acknowledged, and frames that it brought are among these
-module _ (x y : Party) (call : Call) (a : Answer) (frames : List FrameValue) (data_came : list_any brings_data frames ≡ true → brings brings_data (seen_of x y call a) ≡ true) (ends_came : list_any may_end frames ≡ true → brings may_end (seen_of x y call a) ≡ true) (new : List Sent)
+-- where these are in flight behind the call, and these were acknowledged, and frames that it
+-- brought are among these
+module _ (x y : Party) (call : Call) (a : Answer) (frames : List FrameValue) (brought : (test : FrameValue → Bool) → list_any test frames ≡ true → brings test (seen_of x y call a) ≡ true) (new : List Sent)
     (more : (seen_of x y call a).behind.flight.acked ≡ (watch_of x y).flight.acked ++ new) where
   caused : (q : Thing) → By (λ z. IsPending x.end z) (watch_of x y).flight.flying (watch_of x y).flight.acked frames (seen_of x y call a).behind.flight.flying new q → Caused x y call a q
   caused q (inl start) = inl start
@@ -409,8 +523,10 @@ module _ (x y : Party) (call : Call) (a : Answer) (frames : List FrameValue) (da
       by_kind (Fin id) bore l = inr l
       by_kind (Frame c) bore l = inr (inl l)
       by_kind z bore l = absurd bore
-  caused (Frame (LimitOf AllData)) (inr (inr raised)) = inr (inl (or_right _ (brings brings_data (seen_of x y call a)) (data_came raised)))
-  caused (Frame (LimitOf (StreamCount dir))) (inr (inr raised)) = inr (inl (or_right _ (brings may_end (seen_of x y call a)) (ends_came raised)))
+  caused (Frame (LimitOf AllData)) (inr (inr raised)) = inr (inl (or_right _ (brings brings_data (seen_of x y call a)) (brought brings_data raised)))
+  caused (Frame (LimitOf (StreamCount dir))) (inr (inr raised)) = inr (inl (or_right _ (brings may_end (seen_of x y call a)) (brought may_end raised)))
+  caused (Frame (NewId number)) (inr (inr raised)) = inr (inl (brought is_retirement raised))
+  caused (Frame (Retirement number)) (inr (inr raised)) = inr (inl (or_right _ (brings is_new_id (seen_of x y call a)) (brought is_new_id raised)))
   caused q (inr (inr raised)) = absurd raised
 
 -- what waits of streams and beside their bytes
@@ -419,7 +535,7 @@ StreamsBegin x y call a = Left (Caused x y call a) (called x y.given call a).end
 
 -- a delivery
 delivery_begins : (x y : Party) (delivery : Delivery) (a : Answer) → Stepped x y (calls.Deliver delivery) a → StreamsBegin x y (calls.Deliver delivery) a
-delivery_begins x y delivery a s = left_of (Caused x y call a) (called x y.given call a).end (pend_more _ (Caused x y call a) _ _ (caused x y call a r.frames (λ is. here brings_data (r.data_came is)) (λ is. here may_end (r.ends_came is)) at.new at.more) at.pends)
+delivery_begins x y delivery a s = left_of (Caused x y call a) (called x y.given call a).end (pend_more _ (Caused x y call a) _ _ (caused x y call a r.frames (λ test is. here test (r.brought test is)) at.new at.more) at.pends)
   where
     call : Call
     call = calls.Deliver delivery
@@ -443,7 +559,7 @@ delivery_begins x y delivery a s = left_of (Caused x y call a) (called x y.given
 
 -- a timeout
 timeout_begins : (x y : Party) (now : ℕ) (a : Answer) → Stepped x y (calls.Timeout now) a → StreamsBegin x y (calls.Timeout now) a
-timeout_begins x y now a s = left_of (Caused x y call a) (called x y.given call a).end (pend_more _ (Caused x y call a) _ _ (caused x y call a [] (λ is. cc) (λ is. cc) at.new at.more) at.pends)
+timeout_begins x y now a s = left_of (Caused x y call a) (called x y.given call a).end (pend_more _ (Caused x y call a) _ _ (caused x y call a [] (λ test is. cc) at.new at.more) at.pends)
   where
     call : Call
     call = calls.Timeout now
@@ -463,7 +579,7 @@ timeout_begins x y now a s = left_of (Caused x y call a) (called x y.given call 
         ∙ ap (λ (z : State). watch_moment (is_timely z call) x.terms (record w { clock = clock_behind w.clock (moment_of z false call) })) opened
 
     flies : Begun (λ q. IsPending x.end q) w.flight.flying w.flight.acked [] (at_time x.terms w now).flight.flying (at_time x.terms w now).flight.acked (timed_out_in states.Open x.policy x.end now).end
-    flies = timeout_flies (Begun (λ q. IsPending x.end q) w.flight.flying w.flight.acked []) (begun_loses (λ q. IsPending x.end q) w.flight.flying w.flight.acked []) (λ flying acked c pending timers e i. i)
+    flies = timeout_flies (Begun (λ q. IsPending x.end q) w.flight.flying w.flight.acked []) (begun_loses (λ q. IsPending x.end q) w.flight.flying w.flight.acked []) (λ flying acked c pending timers signals validation e i. i)
         x.policy x.terms w x.end now ((sight x y s.gives).stands opened) ((sight x y s.gives).watched.flight opened) (nothing_begun x y s.gives [])
 
     at : BegunAt (λ q. IsPending x.end q) w.flight.flying w.flight.acked [] (seen_of x y call a).behind.flight.flying (seen_of x y call a).behind.flight.acked (timed_out x.policy x.end now).end.streams (timed_out x.policy x.end now).end.waiting.frames
@@ -487,6 +603,8 @@ poll_begins x y now a s = polled_left (Caused x y call a) x.policy x.end now (wa
 asked_is : (x y : Party) (call : Call) (a : Answer) (c : Control) → call_asks call a c ≡ true → asks_for (seen_of x y call a) c ≡ true
 asked_is x y call a (LimitOf AllData) is = or_left (call_asks call a (LimitOf AllData)) (brings brings_data (seen_of x y call a)) is
 asked_is x y call a (LimitOf (StreamCount dir)) is = or_left (call_asks call a (LimitOf (StreamCount dir))) (brings may_end (seen_of x y call a)) is
+asked_is x y call a (NewId number) is = cc
+asked_is x y call a (Retirement number) is = or_left (uses_next call a) (brings is_new_id (seen_of x y call a)) is
 asked_is x y call a c is = is
 
 -- another call, but for how far bytes were written
@@ -500,6 +618,8 @@ other_begins x y call a apart silent other s = go (is_on_streams call) refl
     almost : (q : Thing) → IsPending x.end q → Almost x y call a q
     almost Ack is = inl is
     almost Ping is = inl is
+    almost Challenge is = inl is
+    almost Response is = inl is
     almost Probe is = inl is
     almost (Message m) is = inl is
     almost (Byte id o) is = inl is
@@ -512,13 +632,15 @@ other_begins x y call a apart silent other s = go (is_on_streams call) refl
     go : (b : Bool) → is_on_streams call ≡ b → Left (Almost x y call a) (called x y.given call a).end
     go true on = streams_left (Almost x y call a) x.policy x.end y.given start call a (λ c is. inr (inl (asked_is x y call a c is))) (λ id is. inr (inl is)) (λ id h is. sent_within (wrote x.told) x.end.streams (holds x y s.gives) id h is)
         (λ id h is none o above. inr (subst (λ (n : ℕ). n ≤ o) (written_is (wrote x.told id) h (half_holds (wrote x.told) x.end.streams (holds x y s.gives) id h is) none) above)) s.answer on
-    go false off = quiet_left (Almost x y call a) x.policy x.end y.given start call a off apart silent other
+    go false off = quiet_left (Almost x y call a) x.policy x.end y.given start call a (λ uses n. inr (inl (asked_is x y call a (Retirement n) uses))) off apart silent other
 
 -- ---- all of it
 
 begins : (x y : Party) (call : Call) (a : Answer) → Stepped x y call a → (q : Thing) → IsPending (called x y.given call a).end q → Caused x y call a q
 begins x y call a s Ack is = ack_begins x y call a s is
 begins x y call a s Ping is = ping_begins x y call a s is
+begins x y call a s Challenge is = (signals_begin x y call a s).0 is
+begins x y call a s Response is = (signals_begin x y call a s).1 is
 begins x y call a s Probe is = probe_begins x y call a s is
 begins x y call a s (Message m) is = call_queues m x.policy x.end y.given call a is
 begins x y (calls.Deliver delivery) a s (Byte id o) is = (left_is _ _ (delivery_begins x y delivery a s)).0 id o is
@@ -545,21 +667,25 @@ dir_same Bi = refl
 dir_same Uni = refl
 
 -- what a poll says waits no more
-flag_gone : (x y : Party) (now : ℕ) (a : Answer) → Stepped x y (calls.Poll now) a → (k : Flag) → stands (flag_says k) (sents_by x.end (calls.Poll now) a) ≡ true → flag k (called x y.given (calls.Poll now) a).end.waiting.frames ≡ true → ⊥
-flag_gone x y now a s k there set = both_ways (flag k (polled x.policy x.end now).end.waiting.frames)
-    ((polled_flags x.policy x.end now k s.opened).1 (ap (λ (b : Answer). stands (flag_says k) (sent_if (gave b) (sent_by x.end now))) (sym (poll_answer x.policy x.end now a s.answer s.served)) ∙ there)) set
+flag_gone : (x y : Party) (now : ℕ) (a : Answer) → Stepped x y (calls.Poll now) a → (k : Flag) → stands (flag_says k) (sents_by x.policy x.end (calls.Poll now) a) ≡ true → flag k (called x y.given (calls.Poll now) a).end.waiting ≡ true → ⊥
+flag_gone x y now a s k there set = both_ways (flag k (polled x.policy x.end now).end.waiting)
+    ((polled_flags x.policy x.end now k s.opened).1 (ap (λ (b : Answer). stands (flag_says k) (sent_if (gave b) (sent_by x.policy x.end now))) (sym (poll_answer x.policy x.end now a s.answer s.served)) ∙ there)) set
 
-gone_waits : (x y : Party) (call : Call) (a : Answer) → Stepped x y call a → (q : Thing) → HasGone (sents_by x.end call a) q → IsPending (called x y.given call a).end q → ⊥
-gone_waits x y call a s Ack there due = both_ways (called x y.given call a).end.acknowledging.due (call_answered (λ (p : Pending) (o : Option ℕ). p.due ≡ false) (λ p. refl) x.policy x.end y.given call a s.answer s.served there) due
-gone_waits x y (calls.Poll now) a s Ping there set = both_ways (stands is_ping (sents_by x.end (calls.Poll now) a))
-    (ap (λ (b : Answer). stands is_ping (sent_if (gave b) (sent_by x.end now))) (poll_answer x.policy x.end now a s.answer s.served) ∙ (polled_pinged x.policy x.end now s.opened set).0) there
+gone_waits : (x y : Party) (call : Call) (a : Answer) → Stepped x y call a → (q : Thing) → HasGone (sents_by x.policy x.end call a) q → IsPending (called x y.given call a).end q → ⊥
+gone_waits x y call a s Ack there due = both_ways (called x y.given call a).end.acknowledging.due (call_answered (λ (p : Pending) (o : Option ℕ). p.due ≡ false) (λ p. refl) x.policy x.end y.given call a (packets x y s.gives).owes s.answer s.served there) due
+gone_waits x y (calls.Poll now) a s Ping there set = both_ways (stands is_ping (sents_by x.policy x.end (calls.Poll now) a))
+    (ap (λ (b : Answer). stands is_ping (sent_if (gave b) (sent_by x.policy x.end now))) (poll_answer x.policy x.end now a s.answer s.served) ∙ (polled_pinged x.policy x.end now s.opened set).none) there
+gone_waits x y (calls.Poll now) a s Challenge there set = flag_gone x y now a s challenge there set
+gone_waits x y (calls.Poll now) a s Response there set = flag_gone x y now a s response there set
 gone_waits x y (calls.Poll now) a s (Frame (LimitOf AllData)) there set = flag_gone x y now a s all there set
 gone_waits x y (calls.Poll now) a s (Frame (LimitOf (StreamCount dir))) there set = flag_gone x y now a s (counts (is_one_way dir)) there (ap (λ (d : Dir). of d (called x y.given (calls.Poll now) a).end.waiting.frames.max_stream_id) (dir_same dir) ∙ set)
 gone_waits x y (calls.Poll now) a s (Frame Blocked) there set = flag_gone x y now a s blocked there set
-gone_waits x y (calls.Poll now) a s (Byte id o) there set = (polled_goes x.policy x.end now s.opened).0 id o (subst (λ (b : Answer). HoldsOffset (sent_if (gave b) (sent_by x.end now)) id o) (poll_answer x.policy x.end now a s.answer s.served) there) set
-gone_waits x y (calls.Poll now) a s (Fin id) there set = (polled_goes x.policy x.end now s.opened).1 id (subst (λ (b : Answer). HoldsEnd (sent_if (gave b) (sent_by x.end now)) id) (poll_answer x.policy x.end now a s.answer s.served) there) set
+gone_waits x y (calls.Poll now) a s (Byte id o) there set = (polled_goes x.policy x.end now s.opened).0 id o (subst (λ (b : Answer). HoldsOffset (sent_if (gave b) (sent_by x.policy x.end now)) id o) (poll_answer x.policy x.end now a s.answer s.served) there) set
+gone_waits x y (calls.Poll now) a s (Fin id) there set = (polled_goes x.policy x.end now s.opened).1 id (subst (λ (b : Answer). HoldsEnd (sent_if (gave b) (sent_by x.policy x.end now)) id) (poll_answer x.policy x.end now a s.answer s.served) there) set
 gone_waits x y (calls.Poll now) a s q there set = absurd there
 gone_waits x y call a s Ping there set = cc
+gone_waits x y call a s Challenge there set = cc
+gone_waits x y call a s Response there set = cc
 gone_waits x y call a s (Frame (LimitOf AllData)) there set = cc
 gone_waits x y call a s (Frame (LimitOf (StreamCount dir))) there set = cc
 gone_waits x y call a s (Frame Blocked) there set = cc
@@ -567,28 +693,25 @@ gone_waits x y call a s (Byte id o) there set = there.among
 gone_waits x y call a s (Fin id) there set = there.among
 gone_waits x y call a s q there set = absurd there
 
--- what goes at a call is what its end sends
-went_here : (x y : Party) (call : Call) (a : Answer) → Stepped x y call a → went (seen_of x y call a).before (seen_of x y call a).behind ≡ sents_by x.end call a
-went_here x y call a s = went_is (watch_of x y) (seen_of x y call a).behind (sents_by x.end call a) (
-    ap (λ (w : Watch). w.own) (sym (behind_is x y call a s)) ∙ (sight (called x y.given call a) y s.behind).own ∙ ap (λ (ss : List Sent). ss ++ sents_by x.end call a) (sym (sight x y s.gives).own))
-
 -- ---- the clause
 
 -- that a poll reads the window makes nothing wait
-reads_pends : (control : window.Control) (call : Call) (e : End) (q : Thing) → IsPending (reads_window control call e) q → IsPending e q
-reads_pends control (calls.Poll now) e Ack is = is
-reads_pends control (calls.Poll now) e Ping is = is
-reads_pends control (calls.Poll now) e Probe is = is
-reads_pends control (calls.Poll now) e (Message m) is = is
-reads_pends control (calls.Poll now) e (Byte id o) is = is
-reads_pends control (calls.Poll now) e (Fin id) is = is
-reads_pends control (calls.Poll now) e (Frame c) is = is
-reads_pends control call e q is = is
+reads_pends : (control : window.Control) (heard : Heard) (call : Call) (e : End) (q : Thing) → IsPending (reads_window control heard call e) q → IsPending e q
+reads_pends control heard (calls.Poll now) e Ack is = is
+reads_pends control heard (calls.Poll now) e Ping is = is
+reads_pends control heard (calls.Poll now) e Challenge is = is
+reads_pends control heard (calls.Poll now) e Response is = is
+reads_pends control heard (calls.Poll now) e Probe is = is
+reads_pends control heard (calls.Poll now) e (Message m) is = is
+reads_pends control heard (calls.Poll now) e (Byte id o) is = is
+reads_pends control heard (calls.Poll now) e (Fin id) is = is
+reads_pends control heard (calls.Poll now) e (Frame c) is = is
+reads_pends control heard call e q is = is
 
 -- and leaves the state
-reads_closing : (control : window.Control) (call : Call) (e : End) → (reads_window control call e).closing.state ≡ e.closing.state
-reads_closing control (calls.Poll now) e = refl
-reads_closing control call e = refl
+reads_closing : (control : window.Control) (heard : Heard) (call : Call) (e : End) → (reads_window control heard call e).closing.state ≡ e.closing.state
+reads_closing control heard (calls.Poll now) e = refl
+reads_closing control heard call e = refl
 
 -- what the observer knows behind a call
 watched_behind : (x y : Party) (call : Call) (a : Answer) → watch_of (called x y.given call a) y ≡ (seen_of x y call a).behind
@@ -629,7 +752,7 @@ module _ (r : Run) (end : World) (honest : IsHonest r) (run : IsRun r end) (side
   state =
       sym placed_here.state
       ∙ ap (λ (u : World). (end_at side u).closing.state) (one_behind r i placed_here.world front before_served placed_here.leads made.made.leads)
-      ∙ sym (reads_closing (control_at side front) call (end_at side front))
+      ∙ sym (reads_closing (control_at side front) (heard_at side front) call (end_at side front))
 
   told_more : until r side (suc i) ≡ until r side i ++ told_of call a x.end.closing.state ∷ []
   told_more =
@@ -647,8 +770,8 @@ module _ (r : Run) (end : World) (honest : IsHonest r) (run : IsRun r end) (side
   opened_stepped opened = record { joined = h.joined; answer = made.made.step.answer; served = made_served r i side call a front made.behind made.made; gives = h.gives; takes = h.takes; behind = h.behind; opened = opened }
 
   -- what is seen of these
-  abbrev seen_with : State → Watch → Watch → List Packet → List Packet → List ℕ → Seen
-  seen_with z before behind unanswered unanswered_behind arrivals = record {
+  abbrev seen_with : State → Watch → Watch → List Packet → List Packet → List ℕ → Option ℕ → Seen
+  seen_with z before behind unanswered unanswered_behind arrivals alive = record {
     told = until r side i;
     now = record { call = call; answer = a; state = z };
     before = before;
@@ -656,19 +779,21 @@ module _ (r : Run) (end : World) (honest : IsHonest r) (run : IsRun r end) (side
     unanswered = unanswered;
     unanswered_behind = unanswered_behind;
     arrivals = arrivals;
+    alive = alive;
     terms = terms_of (end_at side r.start);
   }
 
   -- what is seen in the run is seen so
   seen_same : seen_at r side i call a ≡ seen_of x y call a
   seen_same =
-      ap (λ z. seen_with z (watch r side i) (watch r side (suc i)) (wants r side i).packets (wants r side (suc i)).packets (debt r side i).arrivals) state
-      ∙ ap (λ b. seen_with x.end.closing.state b (watch r side (suc i)) (wants r side i).packets (wants r side (suc i)).packets (debt r side i).arrivals) h.seen
-      ∙ ap (λ b. seen_with x.end.closing.state (watch_of x y) b (wants r side i).packets (wants r side (suc i)).packets (debt r side i).arrivals) (h.seen_behind ∙ watched_behind x y call a)
-      ∙ ap (λ ps. seen_with x.end.closing.state (watch_of x y) v.behind ps (wants r side (suc i)).packets (debt r side i).arrivals) (ap (λ q. q.packets) (wants_same (until r side i)))
-      ∙ ap (λ ps. seen_with x.end.closing.state (watch_of x y) v.behind (wants_of x y).packets ps (debt r side i).arrivals)
+      ap (λ z. seen_with z (watch r side i) (watch r side (suc i)) (wants r side i).packets (wants r side (suc i)).packets (debt r side i).arrivals (wants r side i).alive) state
+      ∙ ap (λ b. seen_with x.end.closing.state b (watch r side (suc i)) (wants r side i).packets (wants r side (suc i)).packets (debt r side i).arrivals (wants r side i).alive) h.seen
+      ∙ ap (λ b. seen_with x.end.closing.state (watch_of x y) b (wants r side i).packets (wants r side (suc i)).packets (debt r side i).arrivals (wants r side i).alive) (h.seen_behind ∙ watched_behind x y call a)
+      ∙ ap (λ ps. seen_with x.end.closing.state (watch_of x y) v.behind ps (wants r side (suc i)).packets (debt r side i).arrivals (wants r side i).alive) (ap (λ q. q.packets) (wants_same (until r side i)))
+      ∙ ap (λ ps. seen_with x.end.closing.state (watch_of x y) v.behind (wants_of x y).packets ps (debt r side i).arrivals (wants r side i).alive)
       (ap (λ (ts : List Told). (folded (wants_told (lens_of r side)) ts (no_wants (watch_from (end_at side r.start) (given_of r side)))).packets) told_more ∙ ap (λ q. q.packets) (wants_same (called x y.given call a).told))
-      ∙ ap (λ ns. seen_with x.end.closing.state (watch_of x y) v.behind (wants_of x y).packets (wants_of (called x y.given call a) y).packets ns) debt_same
+      ∙ ap (λ ns. seen_with x.end.closing.state (watch_of x y) v.behind (wants_of x y).packets (wants_of (called x y.given call a) y).packets ns (wants r side i).alive) debt_same
+      ∙ ap (λ o. seen_with x.end.closing.state (watch_of x y) v.behind (wants_of x y).packets (wants_of (called x y.given call a) y).packets (debt_of x y).arrivals o) (ap (λ q. q.alive) (wants_same (until r side i)))
     where
       v : Seen
       v = seen_of x y call a
@@ -678,7 +803,7 @@ module _ (r : Run) (end : World) (honest : IsHonest r) (run : IsRun r end) (side
       let stepped = opened_stepped (ap (λ (e : End). e.closing.state) (sym left) ∙ opened) in
       let pending : IsPending (called x y.given call a).end q = subst (λ (e : End). IsPending e q) left is in
       elim (begins x y call a stepped q pending) [
-        | inl before ↦ still (reads_pends (control_at side front) call (end_at side front) q before) (λ gone. gone_waits x y call a stepped q
+        | inl before ↦ still (reads_pends (control_at side front) (heard_at side front) call (end_at side front) q before) (λ gone. gone_waits x y call a stepped q
             (subst (λ (ss : List Sent). HasGone ss q) (ap (λ (v : Seen). went v.before v.behind) seen_same ∙ went_here x y call a stepped) gone) pending)
         | inr cause ↦ new.begins (subst (λ (v : Seen). HasCause v q) (sym seen_same) cause)
       ]
@@ -688,9 +813,8 @@ module _ (r : Run) (end : World) (honest : IsHonest r) (run : IsRun r end) (side
   other_same = ap (λ (u : World). end_at (other_side side) u) made.made.step.others ∙ other_stays side front (end_at side made.behind) _ _ _
 
 pub waiting_begins : (r : Run) (end : World) → IsHonest r → IsRun r end → WaitingBegins r
-unfolding made
 waiting_begins r end honest run side i call a w v served here leads leads_behind =
-    let found = made_at Known known r end honest run i side call a here served in
+    let found : MadeAt r i side call a = made r end honest run side i call a served here in
     let before : w ≡ found.before = one_behind r i w found.before (served_before r.answers i served) leads found.made.leads in
     let behind : v ≡ found.behind = one_behind r (suc i) v found.behind served leads_behind found.leads in
     subst (λ (u : World). ((end_at side u).closing.state ≡ states.Open → BeginsAt (seen_at r side i call a) (end_at side w) (end_at side u)) × ((q : Thing) → IsPending (end_at (other_side side) u) q → IsPending (end_at (other_side side) w) q)) (sym behind)

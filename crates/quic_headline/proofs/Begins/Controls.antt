@@ -1,4 +1,4 @@
--- Which frames about streams wait behind a small step that didn't before it.
+-- Which control frames wait behind a small step that didn't before it.
 use Rattle.std.proofs.Common.{◌≡◌, ℕ, Bool, true, false, List, [], ◌∷◌, ◌++◌, refl, sym, ◌∙◌, subst, ◌⊎◌, inl, inr}
 use Rattle.std.specs.Prelude.{◌==◌}
 use Rattle.std.specs.List.{list_any}
@@ -10,17 +10,18 @@ use Rattle.std.proofs.lemmas.Bool.{or_left, or_right, or_cases, eq-eqb}
 use Rattle.std.proofs.lemmas.List.Folds.{list_any-append}
 use Rattle.quic_wire_core.specs.declared.stream_id.Dir.{Dir}
 use Rattle.quic_wire_core.specs.declared.stream_id.Dir.TheVariants.{Bi, Uni}
-use Rattle.quic_wire.specs.Value.{FrameValue, StopSendingValue, reset_stream, stop_sending, max_data, max_stream_data, data_blocked, stream_data_blocked}
+use Rattle.quic_wire_core.specs.declared.shared.IssuedCid.{IssuedCid}
+use Rattle.quic_wire.specs.Value.{FrameValue, StopSendingValue, reset_stream, stop_sending, max_stream_data, stream_data_blocked, new_connection_id, retire_connection_id}
 use Rattle.quic_streams_parts.specs.TableLaws.{nat_cmp-same}
 use Rattle.quic_streams_parts.specs.Dirs.{of}
 use Rattle.quic_retransmits.specs.Retransmits.{Retransmits, nothing_waits, merged, with_id, with_ids, has_id, others_of}
 use Rattle.quic_retransmits.specs.declared.retransmits.ControlKind.{ControlKind}
-use Rattle.quic_retransmits.specs.declared.retransmits.ControlKind.TheVariants.{ResetStream, StopSending, MaxData, MaxStreamData, MaxStreams, DataBlocked, StreamDataBlocked}
+use Rattle.quic_retransmits.specs.declared.retransmits.ControlKind.TheVariants.{ResetStream, StopSending, MaxData, MaxStreamData, MaxStreams, DataBlocked, StreamDataBlocked, NewConnectionId, RetireConnectionId}
 use Rattle.quic_streams_state.specs.Control.{without_first}
 use Rattle.quic_streams_laws.specs.ToldLaws.{first_is}
-use Rattle.quic_headline.specs.InFlight.{resets_in, stops_in, limits_in, blocked_in, again_in}
-use Rattle.quic_headline.specs.Duties.{AllData, StreamData, StreamCount, has_reset, has_stop}
-use Rattle.quic_headline.specs.Begins.{Control, ResetOf, StopOf, LimitOf, Blocked, BlockedOn, control_waits, says}
+use Rattle.quic_headline.specs.InFlight.{resets_in, stops_in, limits_in, blocked_in, new_ids_in, retirements_in, again_in}
+use Rattle.quic_headline.specs.Duties.{AllData, StreamData, StreamCount, has_reset, has_stop, has_retirement, has_new_id}
+use Rattle.quic_headline.specs.Begins.{Control, ResetOf, StopOf, LimitOf, Blocked, BlockedOn, NewId, Retirement, control_waits, says}
 
 -- ---- sets of ids
 
@@ -78,6 +79,8 @@ merged_one (LimitOf (StreamCount Bi)) p q is = or_cases p.max_stream_id.bi q.max
 merged_one (LimitOf (StreamCount Uni)) p q is = or_cases p.max_stream_id.uni q.max_stream_id.uni is
 merged_one Blocked p q is = or_cases p.data_blocked q.data_blocked is
 merged_one (BlockedOn id) p q is = has_one q.stream_data_blocked p.stream_data_blocked id is
+merged_one (NewId number) p q is = any_more (λ (c : IssuedCid). c.sequence == number) p.new_cids q.new_cids is
+merged_one (Retirement number) p q is = any_more (λ (n : ℕ). n == number) p.retire_cids q.retire_cids is
 
 -- nothing waits
 pub none_waits : (c : Control) → control_waits nothing_waits c ≡ false
@@ -89,6 +92,8 @@ none_waits (LimitOf (StreamCount Bi)) = refl
 none_waits (LimitOf (StreamCount Uni)) = refl
 none_waits Blocked = refl
 none_waits (BlockedOn id) = refl
+none_waits (NewId number) = refl
+none_waits (Retirement number) = refl
 
 -- without the first of a kind nothing more waits
 pub fewer_wait : (c : Control) (kind : ControlKind) (p : Retransmits) → control_waits (without_first kind p) c ≡ true → control_waits p c ≡ true
@@ -105,6 +110,8 @@ fewer_wait (LimitOf (StreamCount dir)) (MaxStreams other) p is = both dir other 
     both Uni Uni is = cc
 fewer_wait Blocked DataBlocked p is = cc
 fewer_wait (BlockedOn id) StreamDataBlocked p is = any_behind (λ (j : ℕ). is_at (nat_cmp id) j) p.stream_data_blocked is
+fewer_wait (NewId number) NewConnectionId p is = any_behind (λ (c : IssuedCid). c.sequence == number) p.new_cids is
+fewer_wait (Retirement number) RetireConnectionId p is = any_behind (λ (n : ℕ). n == number) p.retire_cids is
 fewer_wait c kind p is = is
 
 -- ---- what frames say
@@ -143,6 +150,24 @@ stops_said (stop_sending f ∷ fs) id is = elim (or_cases (f.id == id) (has_stop
 ]
 stops_said (f ∷ fs) id is = or_right (says (StopOf id) f) (list_any (says (StopOf id)) fs) (stops_said fs id is)
 
+-- an id of NEW_CONNECTION_ID frames
+new_ids_said : (fs : List FrameValue) (number : ℕ) → has_new_id number (new_ids_in fs) ≡ true → list_any (says (NewId number)) fs ≡ true
+new_ids_said [] number is = is
+new_ids_said (new_connection_id f ∷ fs) number is = elim (or_cases (f.sequence == number) (has_new_id number (new_ids_in fs)) is) [
+  | inl here ↦ or_left (f.sequence == number) (list_any (says (NewId number)) fs) here
+  | inr more ↦ or_right (f.sequence == number) (list_any (says (NewId number)) fs) (new_ids_said fs number more)
+]
+new_ids_said (f ∷ fs) number is = or_right (says (NewId number) f) (list_any (says (NewId number)) fs) (new_ids_said fs number is)
+
+-- and a number of RETIRE_CONNECTION_ID frames
+retirements_said : (fs : List FrameValue) (number : ℕ) → has_retirement number (retirements_in fs) ≡ true → list_any (says (Retirement number)) fs ≡ true
+retirements_said [] number is = is
+retirements_said (retire_connection_id n ∷ fs) number is = elim (or_cases (n == number) (has_retirement number (retirements_in fs)) is) [
+  | inl here ↦ or_left (n == number) (list_any (says (Retirement number)) fs) here
+  | inr more ↦ or_right (n == number) (list_any (says (Retirement number)) fs) (retirements_said fs number more)
+]
+retirements_said (f ∷ fs) number is = or_right (says (Retirement number) f) (list_any (says (Retirement number)) fs) (retirements_said fs number is)
+
 -- what has to be sent again of frames stands among them
 pub again_said : (c : Control) (fs : List FrameValue) → control_waits (again_in fs) c ≡ true → list_any (says c) fs ≡ true
 again_said (ResetOf id) fs is = resets_said fs id is
@@ -153,3 +178,5 @@ again_said (LimitOf (StreamCount Bi)) fs is = is
 again_said (LimitOf (StreamCount Uni)) fs is = is
 again_said Blocked fs is = is
 again_said (BlockedOn id) fs is = blocked_said fs id (has_in (blocked_in fs) id is)
+again_said (NewId number) fs is = new_ids_said fs number is
+again_said (Retirement number) fs is = retirements_said fs number is

@@ -1,4 +1,5 @@
--- What begins to wait where a datagram comes or a timer expires: what waited before, what is lost by it, and limits that its frames raise.
+-- What begins to wait where a datagram comes or a timer expires: what waited before, what is lost
+-- by it, limits that its frames raise, and ids for which they ask.
 use Rattle.std.proofs.Common.{◌≡◌, ℕ, ◌<◌, ◌≤◌, Bool, true, List, [], ◌∷◌, ◌++◌, append-nil, refl, sym, ap, ◌∙◌, subst, ◌⊎◌, inl, inr}
 use Rattle.std.specs.List.{list_any}
 use Rattle.std.proofs.lemmas.Bool.{or_left, or_right, both_ways}
@@ -10,12 +11,15 @@ use Rattle.quic_streams_parts.specs.Table.{Table}
 use Rattle.quic_retransmits.specs.Retransmits.{Retransmits, nothing_waits}
 use Rattle.quic_streams_state.specs.declared.state.StreamsState.{StreamsState}
 use Rattle.quic_machine.specs.End.{End}
-use Rattle.quic_machine.specs.FrameCases.{apart_same}
+use Rattle.quic_wire_core.specs.declared.shared.IssuedCid.{IssuedCid}
+use Rattle.quic_machine.specs.FrameCases.{apart_leaves}
+use Rattle.quic_machine.specs.Receive.{take_frame}
 use Rattle.quic_machine.specs.Tracking.{Carried, TrackedPacket, streams_in, retransmits_in}
 use Rattle.quic_headline.specs.Runs.{In}
 use Rattle.quic_headline.specs.Observer.{Sent}
-use Rattle.quic_headline.specs.Duties.{AllData, StreamCount}
-use Rattle.quic_headline.specs.Begins.{Control, LimitOf, control_waits, Thing, Byte, Fin, Frame, Bears, brings_data, may_end}
+use Rattle.quic_headline.specs.Duties.{AllData, StreamCount, has_new_id}
+use Rattle.quic_headline.specs.Waited.{is_path_challenge}
+use Rattle.quic_headline.specs.Begins.{Control, LimitOf, NewId, Retirement, control_waits, Thing, Byte, Fin, Frame, Bears, brings_data, is_retirement, is_new_id, may_end}
 use Rattle.quic_headline.proofs.Packets.Searches.{search_keeps}
 use Rattle.quic_headline.proofs.Packets.Invariant.{IsCarriedFrom, carried_stream, carried_again}
 use Rattle.quic_headline.proofs.Packets.Carried.{again_is}
@@ -25,11 +29,12 @@ use Rattle.quic_headline.proofs.Places.Told.{in_append}
 use Rattle.quic_headline.proofs.Halves.Arrived.{meta_in}
 use Rattle.quic_headline.proofs.Begins.Controls.{none_waits, again_said}
 use Rattle.quic_headline.proofs.Begins.Called.{IsRaised}
-use Rattle.quic_headline.proofs.Begins.Walk.{PendsAt, pend_more, CarriedIs, acked_pend, lost_pend, taken_pend}
+use Rattle.quic_headline.proofs.Begins.Apart.{apart_waits, leaves_pend}
+use Rattle.quic_headline.proofs.Begins.Walk.{PendsAt, pend_more, ids_pend, CarriedIs, acked_pend, lost_pend, taken_pend}
 
 -- ---- what a packet carried stands in its datagram
 
--- a frame about streams
+-- a control frame
 pub control_borne : (s : Sent) (c : Carried) → IsCarriedFrom c s.frames → (d : Control) → control_waits c.retransmits d ≡ true → Bears s (Frame d)
 control_borne s c from d waits = go (carried_again c s.frames from)
   where
@@ -49,7 +54,8 @@ meta_borne s m i = go (meta_in s.frames m i)
 
 -- ---- the causes
 
--- what waited at first, by these datagrams in flight and those acknowledged before, while these frames come
+-- what waited at first, by these datagrams in flight and those acknowledged before, while these
+-- frames come
 module _ (Start : Thing → Type 0) (flew before : List Sent) (frames : List FrameValue) where
   -- a datagram that bore it was in flight, and is neither still, nor was acknowledged since
   pub record Lost (flying new : List Sent) (q : Thing) : Type 0 where
@@ -59,10 +65,13 @@ module _ (Start : Thing → Type 0) (flew before : List Sent) (frames : List Fra
     pub unnamed : In sent new → ⊥
     pub bore : Bears sent q
 
-  -- a limit that frames raise
+  -- a limit that frames raise, an own id where one was retired, and a number to be retired where an
+  -- id of the peer came
   abbrev pub Raised : Thing → Type 0
   Raised (Frame (LimitOf AllData)) = list_any brings_data frames ≡ true
   Raised (Frame (LimitOf (StreamCount dir))) = list_any may_end frames ≡ true
+  Raised (Frame (NewId number)) = list_any is_retirement frames ≡ true
+  Raised (Frame (Retirement number)) = list_any is_new_id frames ≡ true
   Raised q = ⊥
 
   abbrev pub By : List Sent → List Sent → Thing → Type 0
@@ -91,7 +100,8 @@ module _ (Start : Thing → Type 0) (flew before : List Sent) (frames : List Fra
   }))
   by_fewer flying left new ss stays inside q (inr (inr raised)) = inr (inr raised)
 
-  -- what a packet carried is lost, whose datagram was in flight, and is neither still nor was acknowledged
+  -- what a packet carried is lost, whose datagram was in flight, and is neither still nor was
+  -- acknowledged
   carried_by : (flying new : List Sent) (s : Sent) (p : ℕ × TrackedPacket) → IsWaited s p → In s flew → (In s flying → ⊥) → (In s new → ⊥) → CarriedIs (By flying new) p.1.carried
   carried_by flying new s p waited there gone unnamed = record {
     metas = λ m i. (let borne = meta_borne s m (carried_stream p.1.carried s.frames waited.carried m i) in record { bytes = λ o from below. lost (Byte m.id o) (borne.0 o from below); fin = λ fin. lost (Fin m.id) (borne.1 fin) });
@@ -147,6 +157,16 @@ module _ (Start : Thing → Type 0) (flew before : List Sent) (frames : List Fra
   raised_by f among is flying new (LimitOf (StreamCount dir)) raised = inr (inr (one_passes may_end frames f among (data_ends f is)))
   raised_by f among is flying new c raised = absurd raised
 
+  -- ids that wait to be told are drawn, which keep their numbers
+  pub ids_begun : (flying acked : List Sent) (e : End) (ids : List IssuedCid) → ((n : ℕ) → has_new_id n ids ≡ true → has_new_id n e.waiting.frames.new_cids ≡ true) → Begun flying acked e → BegunAt flying acked e.streams (record e.waiting.frames { new_cids = ids })
+  ids_begun flying acked e ids same i = record {
+    new = i.new;
+    more = i.more;
+    inside = i.inside;
+    apart = i.apart;
+    pends = ids_pend (By flying i.new) e.streams e.waiting.frames ids e.waiting.frames.retire_cids (λ n is. i.pends.controls (NewId n) (same n is)) (λ n is. i.pends.controls (Retirement n) is) i.pends;
+  }
+
   pub begun_flies : Flies frames Begun
   begun_flies = record {
     losing = begun_loses;
@@ -169,5 +189,12 @@ module _ (Start : Thing → Type 0) (flew before : List Sent) (frames : List Fra
       pends = taken_pend (By flying i.new) f e on (λ is c raised. raised_by f among is flying i.new c raised) i.pends;
     };
     message = λ flying acked m e i. i;
-    apart = λ flying acked f e among is i. subst (Begun flying acked) (sym (apart_same f e is)) i;
+    apart = λ flying acked f e among is i. record {
+      new = i.new;
+      more = i.more;
+      inside = i.inside;
+      apart = i.apart;
+      pends = leaves_pend (By flying i.new) e (take_frame f e).end (is_path_challenge f) (is_retirement f) (is_new_id f) (apart_waits f e is) (apart_leaves (λ (x : End). x.streams ≡ e.streams) f e is (λ c. refl) (λ c most. refl))
+          (λ retires n. inr (inr (one_passes is_retirement frames f among retires))) (λ brings n. inr (inr (one_passes is_new_id frames f among brings))) i.pends;
+    };
   }

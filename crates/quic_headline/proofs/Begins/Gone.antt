@@ -23,8 +23,9 @@ use Rattle.quic_machine.specs.declared.run.Answer.TheVariants as answers
 use Rattle.quic_machine.specs.Policy.{Policy}
 use Rattle.quic_machine.specs.End.{End}
 use Rattle.quic_machine.specs.Poll.{Draft, Leaving, Polled, draft_as, polled, zeros_behind, ack_of}
-use Rattle.quic_machine.specs.PollCases.{ready_at, draft_at, by_poll_to, may_leave_at}
+use Rattle.quic_machine.specs.PollCases.{ready_at, draft_at, may_leave_at}
 use Rattle.quic_machine.specs.DraftLaws.{Writing, by_leave, MayLeave}
+use Rattle.quic_machine.specs.Validation.{challenge_frame, response_frame}
 use Rattle.quic_machine.specs.Puts as puts
 use Rattle.quic_machine.specs.Machine.{gave}
 use Rattle.quic_headline.specs.Runs.{In}
@@ -32,9 +33,10 @@ use Rattle.quic_headline.specs.Observer.{Sent, HoldsOffset, HoldsEnd}
 use Rattle.quic_headline.specs.Duties.{on_half}
 use Rattle.quic_headline.specs.Begins.{byte_waits, fin_waits}
 use Rattle.quic_headline.proofs.Packets.Probes.{by_going}
-use Rattle.quic_headline.proofs.Places.Parties.{sent_by, sent_if}
+use Rattle.quic_headline.proofs.Places.Parties.{sent_by, sent_if, sent_as}
 use Rattle.quic_headline.proofs.Places.Told.{in_append}
 use Rattle.quic_headline.proofs.Begins.Halves.{went_fewer}
+use Rattle.quic_headline.proofs.Packets.Sends.{by_sends}
 
 -- ---- a half
 
@@ -155,6 +157,8 @@ draft_rids leaving e may = by_leave AllRid keep leaving e may (λ id h there. re
     keep (puts.connection_close c) d may i = λ id h there. rid_more d.frames (connection_close c) id h (λ g same of_it. cc) (i id h there)
     keep (puts.application_close c) d may i = λ id h there. rid_more d.frames (application_close c) id h (λ g same of_it. cc) (i id h there)
     keep (puts.probes size) d may i = λ id h there. rid_more d.frames ping id h (λ g same of_it. cc) (i id h there)
+    keep (puts.challenge word) d may i = λ id h there. rid_more d.frames (challenge_frame word) id h (λ g same of_it. cc) (i id h there)
+    keep (puts.response r) d may i = λ id h there. rid_more d.frames (response_frame r) id h (λ g same of_it. cc) (i id h there)
     keep puts.ack d may i = λ id h there. rid_more d.frames (ack (ack_of d.end)) id h (λ g same of_it. cc) (i id h there)
 
 -- ---- a poll
@@ -177,11 +181,11 @@ no_padding f (suc count) (inr i) = no_padding f count i
 unpadded : (f : StreamValue) (fs : List FrameValue) (count : ℕ) → In (stream f) (fs ++ replicate count padding) → In (stream f) fs
 unpadded f fs count i = elim (in_append (stream f) fs (replicate count padding) i) [ inl old ↦ old | inr new ↦ absurd (no_padding f count new) ]
 
-drafted : (e : End) (now : ℕ) (s : Sent) (f : StreamValue) → In s (sent_by e now ∷ []) → In (stream f) s.frames → In (stream f) (draft_at e now).frames
+drafted : (e : End) (now : ℕ) (s : Sent) (f : StreamValue) → In s (sent_as e now (draft_at e now) ∷ []) → In (stream f) s.frames → In (stream f) (draft_at e now).frames
 drafted e now s f (inl is) carried = unpadded f (draft_at e now).frames (zeros_behind (draft_at e now)) (subst (λ (u : Sent). In (stream f) u.frames) is carried)
 drafted e now s f (inr none) carried = absurd none
 
-draft_goes : (e : End) (now : ℕ) → Goes (sent_by e now ∷ []) (draft_at e now).end
+draft_goes : (e : End) (now : ℕ) → Goes (sent_as e now (draft_at e now) ∷ []) (draft_at e now).end
 draft_goes e now = (
   (λ id o there waits. (let found = half_found (byte_waits o) (at (draft_at e now).end.streams.sending.halves.live id) waits in
       (all id found.0 found.1).bytes there.frame (drafted e now there.sent there.frame there.among there.carried) there.of_stream o there.from there.below found.2)),
@@ -192,11 +196,12 @@ draft_goes e now = (
     all : AllRid (draft_at e now)
     all = draft_rids (ready_at e now).leaving (ready_at e now).end (may_leave_at e now)
 
-pub polled_goes : (p : Policy) (e : End) (now : ℕ) → (polled p e now).end.closing.state ≡ states.Open → Goes (sent_if (gave (answers.Poll (polled p e now).answer)) (sent_by e now)) (polled p e now).end
-polled_goes p e now = by_poll_to p e now (λ (q : Polled). q.end.closing.state ≡ states.Open → Goes (sent_if (gave (answers.Poll q.answer)) (sent_by e now)) q.end) (record {
+pub polled_goes : (p : Policy) (e : End) (now : ℕ) → (polled p e now).end.closing.state ≡ states.Open → Goes (sent_if (gave (answers.Poll (polled p e now).answer)) (sent_by p e now)) (polled p e now).end
+polled_goes p e now = by_sends p e now (λ (q : Polled) (ss : List Sent). q.end.closing.state ≡ states.Open → Goes ss q.end) (record {
   silent = λ opened. ((λ id o there waits. there.among), (λ id there waits. there.among));
   failed = λ opened. ((λ id o there waits. there.among), (λ id there waits. there.among));
   nothing = λ is none opened. ((λ id o there waits. there.among), (λ id there waits. there.among));
-  closes = λ opened. cc;
-  gives = λ is may some. by_going (λ (x : End). x.closing.state ≡ states.Open → Goes (sent_by e now ∷ []) x) p (draft_at e now) (λ pacing opened. draft_goes e now);
+  repeats = λ is. ((λ opened. let clash : states.Closing ≡ states.Open = sym is ∙ opened in cc), λ f goes opened. let clash : states.Closing ≡ states.Open = sym is ∙ opened in cc);
+  closes = λ reason is bound. ((λ opened. cc), λ f goes opened. cc);
+  gives = λ is may some. by_going (λ (x : End). x.closing.state ≡ states.Open → Goes (sent_as e now (draft_at e now) ∷ []) x) p (draft_at e now) (λ pacing opened. draft_goes e now);
 })

@@ -1,4 +1,5 @@
--- Which bytes and ends of streams wait, as each small step leaves them: those that waited, that were written, or that are lost.
+-- Which bytes and ends of streams wait, as each small step leaves them: those that waited, that
+-- were written, or that are lost.
 use Rattle.std.proofs.Common.{◌≡◌, ℕ, zero, suc, ◌<◌, ◌≤◌, Bool, true, false, not, ◌||◌, ◌&&◌, length, take, List, [], ◌∷◌, Option, Some, None, Result, Ok, Err, refl, sym, ap, ◌∙◌, subst, inl, inr, arith, length-append}
 use Rattle.std.specs.Prelude.{◌==◌, ltb, leb}
 use Rattle.std.specs.Option.{is_none}
@@ -30,7 +31,8 @@ use Rattle.quic_streams_laws.specs.Written.{Wrote, IsOver, nothing_done, IsSendH
 use Rattle.quic_headline.specs.Duties.{on_half}
 use Rattle.quic_headline.specs.Begins.{Thing, Byte, Fin, byte_waits, fin_waits}
 
--- of a half that wasn't reset, each offset that waits, and an end that waits, is F; and B holds of its buffer
+-- of a half that wasn't reset, each offset that waits, and an end that waits, is F; and B holds of
+-- its buffer
 pub record PendsIn (B : Buffered → Type 0) (F : Thing → Type 0) (id : ℕ) (h : SendHalf) : Type 0 where
   pub lawful : B h.buffer
   pub bytes : h.reset ≡ None → (o : ℕ) → (is_lost h.buffer o || is_unsent h.buffer o) ≡ true → F (Byte id o)

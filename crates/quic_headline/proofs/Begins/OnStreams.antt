@@ -1,4 +1,5 @@
--- Which bytes and ends of streams wait behind a call on streams: those that waited, that were written, or that end.
+-- Which bytes and ends of streams wait behind a call on streams: those that waited, that were
+-- written, or that end.
 use Rattle.std.proofs.Common.{◌≡◌, ℕ, ◌≤◌, Bool, true, false, List, [], ◌∷◌, Option, Some, None, Result, Ok, Err, refl, sym, ap, ◌∙◌, subst, inl, inr}
 use Rattle.std.proofs.lemmas.Bool.{eq-eqb}
 use Rattle.quic_assembler.specs.declared.assembler.Chunk.{Chunk}

@@ -14,7 +14,7 @@ use Rattle.quic_machine.specs.Opens.{own_id_length}
 use Rattle.quic_machine.specs.CallCases.{is_delivery}
 use Rattle.quic_machine.specs.Machine.{gave}
 use Rattle.quic_headline.specs.Runs.{Told, Packet, and_told, acknowledged, names}
-use Rattle.quic_headline.specs.Observer.{Sent, Terms, asks_of, Flight, settled_by, after_ack, after_frames, after_packets, closes_of, and_flying, and_sent, and_all_sent, loss_due, is_past, expired_for, Watch, news, moment_of, clock_behind, sent_as, watch_sent, Lens, watch_given, is_timely, watch_moment, watch_told}
+use Rattle.quic_headline.specs.Observer.{Sent, next_number, Terms, asks_of, Flight, settled_by, after_ack, after_frames, after_packets, closes_of, and_flying, and_sent, and_all_sent, loss_due, is_past, expired_for, Watch, news, moment_of, clock_behind, sent_as, watch_sent, Lens, watch_given, is_timely, watch_moment, watch_told}
 use Rattle.quic_headline.proofs.Packets.Watching.{came_with, timed_with, came_quiet, none_comes}
 
 -- ---- fewer wait
@@ -56,7 +56,7 @@ all_fewer (s ∷ ss) f some = sent_fewer s f (all_fewer ss (and_sent s f) some)
 
 datagram_fewer : (taker : Policy) (ds : List (List ℕ)) (w : Watch) → Fewer w.flight (watch_sent taker ds w).flight
 datagram_fewer taker [] w some = some
-datagram_fewer taker (d ∷ ds) w some = all_fewer (sent_as (opened_packet taker.header taker.packet (own_id_length + 1) (acknowledged w.intake.took) d) (acknowledged w.intake.took) w.clock d) w.flight some
+datagram_fewer taker (d ∷ ds) w some = all_fewer (sent_as (opened_packet taker.header taker.packet (own_id_length + 1) (next_number w.own) d) (acknowledged w.intake.took) w.clock d) w.flight some
 
 given_fewer : (b : Bool) (l : Lens) (w : Watch) → Fewer w.flight (watch_given b l w).flight
 given_fewer true l w some = datagram_fewer l.taker w.left w some

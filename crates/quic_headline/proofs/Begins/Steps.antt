@@ -1,5 +1,5 @@
 -- What waits of streams, and beside their bytes, behind a poll and behind a call of an application.
-use Rattle.std.proofs.Common.{◌≡◌, ℕ, zero, suc, ◌<◌, ◌≤◌, Bool, true, false, List, [], ◌∷◌, Some, None, refl, sym, subst, inl, inr, arith}
+use Rattle.std.proofs.Common.{◌≡◌, ℕ, zero, suc, ◌<◌, ◌≤◌, Bool, true, false, List, [], ◌∷◌, Some, None, refl, sym, ◌∙◌, subst, inl, inr, arith}
 use Rattle.quic_send_buffer.specs.Buffered.{IsBuffered, written}
 use Rattle.quic_streams_parts.specs.SendHalf.{SendHalf}
 use Rattle.quic_streams_parts.specs.Table.{Table}
@@ -13,19 +13,24 @@ use Rattle.quic_machine.specs.declared.run.Answer.{Answer}
 use Rattle.quic_machine.specs.Policy.{Policy}
 use Rattle.quic_machine.specs.Parts.{Waiting}
 use Rattle.quic_machine.specs.Closing.{ticked}
-use Rattle.quic_machine.specs.End.{End, with_closing, streams_at}
+use Rattle.quic_machine.specs.End.{End, with_closing, streams_at, closed_by}
 use Rattle.quic_machine.specs.Tracking.{TrackedPacket}
-use Rattle.quic_machine.specs.Calls.{is_open}
+use Rattle.quic_machine.specs.Calls.{is_open, closed_in}
 use Rattle.quic_machine.specs.StreamCalls.{IsStreamAnswer, is_on_streams}
 use Rattle.quic_machine.specs.Poll.{Polled, Ready, polled, record_moved}
 use Rattle.quic_machine.specs.PollCases.{ready_at, draft_at, by_poll_to, may_leave_at}
 use Rattle.quic_machine.specs.InjectionCases.{by_injection}
 use Rattle.quic_machine.specs.LeaveCases.{by_event}
 use Rattle.quic_machine.specs.CallCases.{is_delivery, is_poll, is_timeout}
-use Rattle.quic_machine.specs.Machine.{IsAnswer, after_call}
+use Rattle.quic_machine.specs.IdFrames.{end_on_next_id}
+use Rattle.quic_machine.specs.Machine.{IsAnswer, after_call, says_last}
+use Rattle.quic_machine.specs.Receive.{exhausted}
+use Rattle.quic_machine.specs.declared.answers.State.{State}
+use Rattle.quic_headline.proofs.Packets.Apart.{by_next_id}
 use Rattle.quic_headline.specs.Runs.{In, ended_by}
 use Rattle.quic_headline.specs.Observer.{Sent}
-use Rattle.quic_headline.specs.Begins.{Control, control_waits, Thing, Byte, Fin, Frame, Bears}
+use Rattle.quic_headline.specs.Begins.{Control, Retirement, control_waits, Thing, Byte, Fin, Frame, Bears, uses_next}
+use Rattle.quic_headline.proofs.Packets.Closes.{by_closes}
 use Rattle.quic_headline.proofs.Packets.Probes.{by_ready, ready_state, by_going}
 use Rattle.quic_headline.proofs.Packets.Waited.{IsWaited, AreWaited}
 use Rattle.quic_headline.proofs.Halves.WordsCalls.{call_on_is}
@@ -34,6 +39,7 @@ use Rattle.quic_headline.proofs.Begins.Called.{call_asks, call_one}
 use Rattle.quic_headline.proofs.Begins.Halves.{Any, AllPend, pend_kept, pends_more}
 use Rattle.quic_headline.proofs.Begins.OnStreams.{calls_pend}
 use Rattle.quic_headline.proofs.Begins.Walk.{PendsAt, Pends, Sends, moved_pend, draft_pends}
+use Rattle.quic_headline.proofs.Begins.Apart.{next_waits, leaves_pend}
 use Rattle.quic_headline.proofs.Begins.Flights.{control_borne}
 
 -- what waits at an end is F
@@ -81,7 +87,8 @@ module _ (F : Thing → Type 0) (p : Policy) (e : End) (now : ℕ) (flying : Lis
     silent = λ opened. here e i;
     failed = λ opened. here e i;
     nothing = λ is none opened. record { controls = ready_pends.controls; halves = bare F g.end.streams ready_pends.halves };
-    closes = λ opened. cc;
+    repeats = λ is. by_closes p (with_closing e (ticked e.closing now)) (λ (q : Polled). q.end.closing.state ≡ states.Open → Left F q.end) (λ opened. let clash : states.Closing ≡ states.Open = sym is ∙ opened in cc) (λ f goes opened. let clash : states.Closing ≡ states.Open = sym is ∙ opened in cc);
+    closes = λ reason bound. by_closes p (closed_by reason (ready_at e now).end) (λ (q : Polled). q.end.closing.state ≡ states.Open → Left F q.end) (λ opened. cc) (λ f goes opened. cc);
     gives = λ is may some. by_going (λ (x : End). x.closing.state ≡ states.Open → Left F x) p (draft_at e now) (λ pacing opened. (
         let d : Sends F (draft_at e now) = draft_pends F g.leaving g.end (may_leave_at e now) ready_pends in
         record { controls = d.controls; halves = bare F (draft_at e now).end.streams d.halves }));
@@ -107,21 +114,30 @@ module _ (F : Thing → Type 0) (p : Policy) (e : End) (theirs : List (List ℕ)
         })
 
   -- any other, but a poll, a timeout and a delivery
-  pub quiet_left : (call : Call) (a : Answer) → is_on_streams call ≡ false → is_delivery call ≡ false → is_poll call ≡ false → is_timeout call ≡ false → Left F (after_call p e theirs call a)
-  quiet_left (calls.Inject injection) a off apart silent other = by_injection p e injection (Left F) (left_of F e i)
-  quiet_left calls.Event a off apart silent other = by_event e (Left F) (record { controls = i.controls; halves = bare F e.streams i.halves })
+  pub quiet_left : (call : Call) (a : Answer) → (uses_next call a ≡ true → (n : ℕ) → F (Frame (Retirement n))) → is_on_streams call ≡ false → is_delivery call ≡ false → is_poll call ≡ false → is_timeout call ≡ false → Left F (after_call p e theirs call a)
+  quiet_left (calls.Inject injection) a uses off apart silent other = by_injection p e (says_last a) injection (Left F) (left_of F e i) (λ now. left_of F (exhausted now e) i)
+  quiet_left (calls.Close close) a uses off apart silent other = go e.closing.state
+    where
+      go : (s : State) → Left F (closed_in s close.now close.error_code close.reason e)
+      go states.Open = left_of F (closed_in states.Open close.now close.error_code close.reason e) i
+      go states.Closing = left_of F e i
+      go states.Drained = left_of F e i
+      go states.Failed = left_of F e i
+  quiet_left calls.UseNextId a uses off apart silent other = left_of F (end_on_next_id e a)
+      (leaves_pend F e (end_on_next_id e a) false false (uses_next calls.UseNextId a) (next_waits e a) (by_next_id (λ (x : End). x.streams ≡ e.streams) e a refl (λ c. refl) (λ c most. refl)) (λ none n. cc) uses i)
+  quiet_left calls.Event a uses off apart silent other = by_event e (Left F) (record { controls = i.controls; halves = bare F e.streams i.halves })
       (λ told. record { controls = i.controls; halves = by_polled (AllPend Any F) (pend_kept Any F tt) e.streams (bare F e.streams i.halves) })
-  quiet_left (calls.Poll now) a off apart silent other = cc
-  quiet_left (calls.Timeout now) a off apart silent other = cc
-  quiet_left (calls.Deliver delivery) a off apart silent other = cc
-  quiet_left (calls.Open dir) a off apart silent other = cc
-  quiet_left (calls.Accept dir) a off apart silent other = cc
-  quiet_left (calls.Write id bytes) a off apart silent other = cc
-  quiet_left (calls.WriteChunks id chunks) a off apart silent other = cc
-  quiet_left (calls.Finish id) a off apart silent other = cc
-  quiet_left (calls.Reset id code) a off apart silent other = cc
-  quiet_left (calls.SetPriority id priority) a off apart silent other = cc
-  quiet_left (calls.Read read) a off apart silent other = cc
-  quiet_left (calls.Stop id code) a off apart silent other = cc
-  quiet_left (calls.ReceivedReset id) a off apart silent other = cc
-  quiet_left call a off apart silent other = record { controls = i.controls; halves = bare F e.streams i.halves }
+  quiet_left (calls.Poll now) a uses off apart silent other = cc
+  quiet_left (calls.Timeout now) a uses off apart silent other = cc
+  quiet_left (calls.Deliver delivery) a uses off apart silent other = cc
+  quiet_left (calls.Open dir) a uses off apart silent other = cc
+  quiet_left (calls.Accept dir) a uses off apart silent other = cc
+  quiet_left (calls.Write id bytes) a uses off apart silent other = cc
+  quiet_left (calls.WriteChunks id chunks) a uses off apart silent other = cc
+  quiet_left (calls.Finish id) a uses off apart silent other = cc
+  quiet_left (calls.Reset id code) a uses off apart silent other = cc
+  quiet_left (calls.SetPriority id priority) a uses off apart silent other = cc
+  quiet_left (calls.Read read) a uses off apart silent other = cc
+  quiet_left (calls.Stop id code) a uses off apart silent other = cc
+  quiet_left (calls.ReceivedReset id) a uses off apart silent other = cc
+  quiet_left call a uses off apart silent other = record { controls = i.controls; halves = bare F e.streams i.halves }

@@ -1,4 +1,5 @@
--- What waits of streams at an end, and beside their bytes, is F: each step of a datagram that comes, of losses, and of a datagram that goes, keeps that, where what it makes wait is F.
+-- What waits of streams at an end, and beside their bytes, is F: each step of a datagram that
+-- comes, of losses, and of a datagram that goes, keeps that, where what it makes wait is F.
 use Rattle.std.proofs.Common.{◌≡◌, ℕ, ◌<◌, ◌≤◌, Bool, true, List, [], ◌∷◌, refl, inl, inr}
 use Rattle.std.proofs.lemmas.Bool.{or_left, or_right}
 use Rattle.quic_wire.specs.Value.{FrameValue, stream, reset_stream, stop_sending, max_data, max_stream_data, max_streams}
@@ -14,6 +15,7 @@ use Rattle.quic_streams_laws.specs.Keeping.{KeepsBy}
 use Rattle.quic_streams_laws.specs.KeepingLaws.{by_stream, by_reset_frame, by_stop_sending, by_max_data, by_max_stream_data, by_max_streams, by_stream_lost, by_stream_acked, by_reset_acked, by_frame as by_half_frame}
 use Rattle.quic_streams_laws.specs.QuietLaws.{by_told}
 use Rattle.quic_machine.specs.End.{End}
+use Rattle.quic_wire_core.specs.declared.shared.IssuedCid.{IssuedCid}
 use Rattle.quic_machine.specs.Tracking.{Carried, TrackedPacket, dir_named}
 use Rattle.quic_machine.specs.Acked.{reset_acked, stream_acked, packets_acked, stream_lost, streams_lost, carried_lost, packets_lost}
 use Rattle.quic_machine.specs.Receive.{take_frame}
@@ -22,8 +24,8 @@ use Rattle.quic_machine.specs.Poll.{Draft, no_frames, draft_as, lazied_as, Leavi
 use Rattle.quic_machine.specs.DraftLaws.{Writing, by_leave, MayLeave}
 use Rattle.quic_machine.specs.Puts as puts
 use Rattle.quic_headline.specs.Runs.{In}
-use Rattle.quic_headline.specs.Duties.{AllData, StreamCount}
-use Rattle.quic_headline.specs.Begins.{Control, LimitOf, control_waits, Thing, Byte, Fin, Frame, brings_data}
+use Rattle.quic_headline.specs.Duties.{AllData, StreamData, StreamCount, has_retirement, has_new_id}
+use Rattle.quic_headline.specs.Begins.{Control, LimitOf, NewId, Retirement, control_waits, Thing, Byte, Fin, Frame, brings_data}
 use Rattle.quic_headline.proofs.Packets.Flying.{acked_keep}
 use Rattle.quic_headline.proofs.Grown.Flags.{Decides}
 use Rattle.quic_headline.proofs.Grown.Flags as limits
@@ -41,7 +43,8 @@ Tells r announced configured done all counts streams = data_grew r ≡ true → 
 pub decides : Decides Tells
 decides s t p q same i grew = or_right q.max_data (data_grew t.receiving) grew
 
--- what waits of these streams, and of this beside their bytes, is F; and where the limit on all data grew, it waits
+-- what waits of these streams, and of this beside their bytes, is F; and where the limit on all
+-- data grew, it waits
 pub record PendsAt (F : Thing → Type 0) (s : StreamsState) (p : Retransmits) : Type 0 where
   pub controls : (c : Control) → control_waits p c ≡ true → F (Frame c)
   pub halves : AllPend IsBuffered F s
@@ -54,6 +57,20 @@ Pends F e = PendsAt F e.streams e.waiting.frames
 -- where more is F
 pub pend_more : (F G : Thing → Type 0) (s : StreamsState) (p : Retransmits) → ((q : Thing) → F q → G q) → PendsAt F s p → PendsAt G s p
 pend_more F G s p more i = record { controls = λ c is. more (Frame c) (i.controls c is); halves = pends_more IsBuffered IsBuffered F G s (λ b x. x) more i.halves; grew = i.grew }
+
+-- with other ids that wait to be told, and other numbers to be retired, what waits is F where these
+-- are
+pub ids_pend : (F : Thing → Type 0) (s : StreamsState) (p : Retransmits) (ids : List IssuedCid) (retired : List ℕ) → ((n : ℕ) → has_new_id n ids ≡ true → F (Frame (NewId n))) → ((n : ℕ) → has_retirement n retired ≡ true → F (Frame (Retirement n)))
+    → PendsAt F s p → PendsAt F s (record p { new_cids = ids; retire_cids = retired })
+ids_pend F s p ids retired told retires i = record { controls = waits; halves = i.halves; grew = i.grew }
+  where
+    waits : (c : Control) → control_waits (record p { new_cids = ids; retire_cids = retired }) c ≡ true → F (Frame c)
+    waits (NewId n) is = told n is
+    waits (Retirement n) is = retires n is
+    waits (LimitOf AllData) is = i.controls (LimitOf AllData) is
+    waits (LimitOf (StreamData id)) is = i.controls (LimitOf (StreamData id)) is
+    waits (LimitOf (StreamCount dir)) is = i.controls (LimitOf (StreamCount dir)) is
+    waits c is = i.controls c is
 
 module _ (F : Thing → Type 0) where
   -- each small change of streams keeps what waits of their halves, where that of the half does

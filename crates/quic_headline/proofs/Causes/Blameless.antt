@@ -1,5 +1,7 @@
--- Where each packet passes at the other end, no end closes for a rule that the other broke, and each packet is taken, or comes to too many pieces.
+-- Where each packet passes at the other end, no end closes for a rule that the other broke, and
+-- each packet is taken, or comes to too many pieces.
 use Rattle.std.proofs.Common.{◌≡◌, ℕ, suc, ◌+◌, false, List, [], ◌∷◌, ◌++◌, Some, None, refl, sym, ap, ◌∙◌, subst, ◌⊎◌, inl, inr, arith}
+use Rattle.std.specs.Prelude.{slice_get}
 use Rattle.quic_wire_core.specs.declared.stream_id.Side.{Side}
 use Rattle.quic_wire_core.specs.StreamId.{other_side}
 use Rattle.quic_machine.specs.declared.answers.State.TheVariants as states
@@ -11,11 +13,13 @@ use Rattle.quic_machine.specs.declared.run.Answer.{Answer}
 use Rattle.quic_machine.specs.declared.run.Answer.TheVariants as answers
 use Rattle.quic_machine.specs.Policy.{Policy}
 use Rattle.quic_machine.specs.End.{End}
-use Rattle.quic_machine.specs.Receive.{Fault, too_many_pieces, error_of, reason_of}
+use Rattle.quic_machine.specs.Receive.{Fault, broke, too_many_pieces, closed_by_peer, error_of, reason_of}
 use Rattle.quic_machine.specs.FrameCases.{begun}
 use Rattle.quic_machine.specs.Machine.{World, after_call}
 use Rattle.quic_machine.specs.CallCases.{is_delivery}
 use Rattle.quic_machine.specs.Poll.{rests}
+use Rattle.quic_machine.specs.declared.answers.LostReason.{LostReason}
+use Rattle.quic_machine.specs.declared.answers.LostReason.TheVariants as reasons
 use Rattle.quic_headline.specs.Runs.{Run, Told, In, handed, AreServed}
 use Rattle.quic_headline.specs.Observer.{Sent}
 use Rattle.quic_headline.specs.Headline.{IsHonest, IsRun}
@@ -30,12 +34,14 @@ use Rattle.quic_headline.proofs.Halves.Wrote.{wrote}
 use Rattle.quic_headline.proofs.Halves.Ghosts.{Saying}
 use Rattle.quic_headline.proofs.Halves.ReadGroup.{ReadsHold}
 use Rattle.quic_headline.proofs.Causes.Crowded.{IsCrowdedBy, crowded, up_to}
-use Rattle.quic_headline.proofs.Causes.Judged.{IsNew, Judged, nothing, taken, refused, judged, crowd_is}
-use Rattle.quic_headline.proofs.Causes.Shown.{reason_shown, call_closes}
+use Rattle.quic_headline.proofs.Causes.Judged.{IsNew, Judged, nothing, exhausted, drained, taken, refused, judged, crowd_is}
+use Rattle.quic_headline.proofs.Causes.Shown.{reason_shown, call_closes, IsUnread}
 use Rattle.quic_headline.proofs.Causes.Pieces.{WhyPieces, Held, held}
-use Rattle.quic_headline.proofs.Channel.Passing.{PassesAt}
+use Rattle.quic_headline.proofs.Causes.Refused.{refused_not}
+use Rattle.quic_headline.proofs.Channel.Passing.{BreaksNone, PassesAt}
 
--- y takes from x: it is open, or closed for what nobody is to blame for, and each packet that came was taken, or came to too many pieces
+-- y takes from x: it is open, or closed for what nobody is to blame for, and each packet that came
+-- was taken, or came to too many pieces
 pub record Blameless (x y : Party) : Type 0 where
   pub reason : IsBlameless y.end.closing.reason
   pub judged : (c : PacketCame y.policy x.final y.told) → IsTakenOrCrowded y.policy x.final y.told c
@@ -94,11 +100,22 @@ module _ (p : Policy) (given : List (List ℕ)) (told : List Told) (t : Told) (w
 
 -- ---- a call
 
+-- an end that reads no packet closes for nothing that a peer did
+unread_blameless : (reason : LostReason) → IsUnread reason → IsBlameless (Some reason)
+unread_blameless reasons.NumberLimit is = tt
+unread_blameless reasons.KeyLimit is = tt
+unread_blameless reasons.Application is = tt
+unread_blameless reasons.Idle is = tt
+unread_blameless reason is = absurd is
+
 -- what an end says of itself behind a call that hands it nothing
 apart_blameless : (p : Policy) (e : End) (theirs : List (List ℕ)) (call : Call) (a : Answer) → is_delivery call ≡ false → IsBlameless e.closing.reason → IsBlameless (after_call p e theirs call a).closing.reason
 apart_blameless p e theirs call a apart i = elim (call_closes p e theirs call a apart) [
   | inl k ↦ subst IsBlameless (sym k.reason) i
-  | inr shut ↦ subst IsBlameless (sym shut.0) tt
+  | inr shut ↦ elim shut.reason [
+    | inl same ↦ subst IsBlameless (sym same) i
+    | inr other ↦ subst IsBlameless (sym other.1) (unread_blameless other.0 other.2)
+  ]
 ]
 
 module _ (B : Way) (rests : RestsOn B) (x y : Party) (delivery : Delivery) (a : Answer) (c : Calls B x y (calls.Deliver delivery) a) (b : Blameless y x) where
@@ -118,18 +135,32 @@ module _ (B : Way) (rests : RestsOn B) (x y : Party) (delivery : Delivery) (a : 
       crowded x.side (wrote y.told) x.told (came_to x y).took s.number s.frames e (rests.says y x c.takes s among) reads.reads reads.brought ((rests.pieces y x c.takes).come still_open) (up_to s.frames e many) in
       inr (ap (λ (u : Told). u.answer) call ∙ answer, crowd_is x y delivery a s crowd new h same call)
 
+  -- no rule is broken by it, nor did the peer close in it
+  many_only : (f : Fault) → BreaksNone f → a ≡ answers.Deliver (Closed (error_of f)) → after.closing.reason ≡ Some (reason_of f) → f ≡ too_many_pieces
+  many_only too_many_pieces none answer reason = refl
+  many_only (broke error) none answer reason = absurd none
+  many_only (closed_by_peer close) none answer reason = absurd (refused_not close (error_of (closed_by_peer close)) x.policy x.end delivery (slice_get y.given delivery.index) a c.answer answer reason)
+
   -- what a delivery leaves
   delivered : Judged x y delivery a after → Blameless y (called x y.given (calls.Deliver delivery) a)
   delivered (nothing k none) = record {
     reason = subst IsBlameless (sym k.reason) b.reason;
     judged = judged_more x.policy y.final x.told t b.judged (λ h same call. absurd (none h same call));
   }
+  delivered (exhausted none reason state) = record {
+    reason = subst IsBlameless (sym reason) tt;
+    judged = judged_more x.policy y.final x.told t b.judged (λ h same call. absurd (none h same call));
+  }
+  delivered (drained s among new still_open close fault answer reason state) = record {
+    reason = subst IsBlameless (sym reason) tt;
+    judged = judged_more x.policy y.final x.told t b.judged (λ h same call. inl (ap (λ (u : Told). u.answer) call ∙ answer));
+  }
   delivered (taken s among new still_open none answer k) = record {
     reason = subst IsBlameless (sym k.reason) b.reason;
     judged = judged_more x.policy y.final x.told t b.judged (λ h same call. inl (ap (λ (u : Told). u.answer) call ∙ answer));
   }
   delivered (refused s among new still_open f fault answer reason state) =
-      let only : f ≡ too_many_pieces = (rests.passes y x c.takes).passes s among still_open delivery.now f fault in
+      let only : f ≡ too_many_pieces = many_only f ((rests.passes y x c.takes).passes s among still_open delivery.now f fault) answer reason in
       record {
         reason = subst IsBlameless (sym (reason ∙ ap (λ (g : Fault). Some (reason_of g)) only)) tt;
         judged = judged_more x.policy y.final x.told t b.judged (λ h same call.

@@ -1,4 +1,5 @@
--- Each byte that waits on a stream came in a frame, and none waits where the stream is stopped or was reset.
+-- Each byte that waits on a stream came in a frame, and none waits where the stream is stopped or
+-- was reset.
 use Rattle.std.proofs.Common.{◌≡◌, ℕ, ◌<◌, ◌≤◌, ◌⊎◌, inl, inr, Bool, true, false, cond, List, [], Option, Some, None, refl, sym, ap, ◌∙◌, arith}
 use Rattle.std.specs.Prelude.{◌&&◌, ltb, if◌then◌else◌}
 use Rattle.std.specs.Option.{is_some, option_or}

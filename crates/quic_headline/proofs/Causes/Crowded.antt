@@ -1,12 +1,15 @@
--- Where a frame comes to too many pieces, more maximal runs of offsets of its stream arrived and weren't read than may wait.
+-- Where a frame comes to too many pieces, more maximal runs of offsets of its stream arrived and
+-- weren't read than may wait.
 use Rattle.std.proofs.Common.{◌≡◌, ℕ, ◌<◌, ◌≤◌, ◌^◌, Bool, true, false, not, nat_lt, nat_le, List, [], ◌∷◌, ◌++◌, map, Option, Some, None, Ok, refl, sym, ap, ◌∙◌, subst, ◌⊎◌, inl, inr}
 use Rattle.std.specs.Prelude.{◌&&◌, ◌||◌, if◌then◌else◌, Result, Err}
 use Rattle.std.specs.Option.{is_some}
+use Rattle.std.specs.declared.ops.Range.{Range}
 use Rattle.std.proofs.lemmas.Bool.{ltb-true, both_ways}
 use Rattle.quic_wire_core.specs.declared.stream_id.Side.{Side}
 use Rattle.quic_wire_core.specs.declared.stream_id.Side.TheVariants.{Client, Server}
 use Rattle.quic_wire_core.specs.StreamId.{dir_of, index_of}
-use Rattle.quic_wire.specs.Value.{FrameValue, AckValue, StreamValue, ack, stream, reset_stream, new_token, handshake_done, datagram}
+use Rattle.quic_wire_core.specs.TransportError.{ErrorValue}
+use Rattle.quic_wire.specs.Value.{FrameValue, AckValue, StreamValue, NewConnectionIdValue, ack, stream, reset_stream, new_token, handshake_done, datagram, connection_close, application_close, path_challenge, path_response, new_connection_id, retire_connection_id}
 use Rattle.quic_assembler.specs.declared.assembler.TheConstants.{MOST_PIECES}
 use Rattle.quic_assembler.specs.Arrived.{is_given, waits, runs_of}
 use Rattle.quic_assembler.proofs.Arrived.Lawful.{given_waits_not}
@@ -14,7 +17,11 @@ use Rattle.quic_streams_parts.specs.declared.answers.Breach.{Breach}
 use Rattle.quic_streams_parts.specs.declared.answers.Breach.TheVariants.{FlowControl, StreamLimit, StreamState, FinalSize, FrameEncoding, Pieces}
 use Rattle.quic_streams_parts.specs.Dirs.{is_own, is_two_way}
 use Rattle.quic_streams_parts.specs.RecvHalf.{RecvHalf, end_of, breaks_final, after_frame, has_too_many}
-use Rattle.quic_retransmits.specs.Retransmits.{Retransmits}
+use Rattle.quic_ids.specs.CidState.{retirement_answer}
+use Rattle.quic_ids.specs.CidQueue.{insert_answer}
+use Rattle.quic_ids.specs.declared.cid_queue.InsertError.{InsertError}
+use Rattle.quic_ids.specs.declared.cid_queue.InsertError.TheVariants as inserts
+use Rattle.quic_retransmits.specs.Retransmits.{Retransmits, can_retire}
 use Rattle.quic_streams_state.specs.declared.state.StreamsState.{StreamsState}
 use Rattle.quic_streams_state.specs.declared.taking.IdRule.{IdRule}
 use Rattle.quic_streams_state.specs.declared.taking.IdRule.TheVariants.{Free, ReceivingOf, SendingOf, NotOfOwn, Counting}
@@ -32,7 +39,8 @@ use Rattle.quic_streams_laws.specs.ContentLaws.{read_at, read_stream}
 use Rattle.quic_streams_laws.specs.Kept.{IsKeptHalf, IsKeptStatus, HoldsTaken, TakesMore}
 use Rattle.quic_streams_laws.specs.TakenLaws.{goes_on_kept, taken_stream}
 use Rattle.quic_machine.specs.End.{End, side_of}
-use Rattle.quic_machine.specs.Receive.{Fault, too_many_pieces, fault_of, fault_at, names_ungiven, Progress, message_judged, take_frame, unless_fault, take_items}
+use Rattle.quic_machine.specs.Ids.{frame_of, retires_for}
+use Rattle.quic_machine.specs.Receive.{Fault, too_many_pieces, fault_of, fault_at, names_ungiven, Progress, message_judged, retired_for, id_judged, retirement_judged, take_frame, unless_fault, take_items}
 use Rattle.quic_machine.specs.FrameCases.{passed, ack_taken, frames_leave}
 use Rattle.quic_messages.specs.Messages.{received_answer}
 use Rattle.quic_messages.specs.declared.errors.ReceivedError.{ReceivedError}
@@ -131,6 +139,21 @@ message_apart : (r : Result Bool ReceivedError) (m : List ℕ) (e : End) → (me
 message_apart (Ok first) m e is = cc
 message_apart (Err error) m e is = cc
 
+-- nor is one about connection ids
+numbers_apart : (b : Bool) (r : Range ℕ) (f : NewConnectionIdValue) (e : End) → (retired_for b r f e).fault ≡ Some too_many_pieces → ⊥
+numbers_apart true r f e is = cc
+numbers_apart false r f e is = cc
+
+id_apart : (r : Result (Option (Range ℕ)) InsertError) (f : NewConnectionIdValue) (e : End) → (id_judged r f e).fault ≡ Some too_many_pieces → ⊥
+id_apart (Ok None) f e is = cc
+id_apart (Ok (Some r)) f e is = numbers_apart (can_retire e.waiting.frames r.start r.end) r f e is
+id_apart (Err inserts.Retired) f e is = cc
+id_apart (Err inserts.ExceedsLimit) f e is = cc
+
+retirement_apart : (r : Result Bool ErrorValue) (n : ℕ) (e : End) → (retirement_judged r n e).fault ≡ Some too_many_pieces → ⊥
+retirement_apart (Ok more) n e is = cc
+retirement_apart (Err error) n e is = cc
+
 crowds : (f : FrameValue) (e : End) → (take_frame f e).fault ≡ Some too_many_pieces → Crowds f e
 crowds (stream g) e is = record { frame = g; is = refl; breach = pieces_of (stream_breach e.streams g) is }
 crowds (reset_stream g) e is = absurd (refusal_apart e.streams g.id g.final_size true (pieces_of (reset_breach e.streams g) is))
@@ -138,6 +161,12 @@ crowds (new_token t) e is = absurd (server_apart (side_of e) is)
 crowds handshake_done e is = absurd (server_apart (side_of e) is)
 crowds (datagram m) e is = absurd (message_apart (received_answer e.transport.datagram_receive_buffer_size m e.messages.queues) m e is)
 crowds (ack a) e is = absurd (ack_apart (names_ungiven a e) a e is)
+crowds (connection_close c) e is = cc
+crowds (application_close c) e is = cc
+crowds (path_challenge token) e is = cc
+crowds (path_response token) e is = cc
+crowds (new_connection_id f) e is = absurd (id_apart (retires_for (insert_answer e.ids.peer (frame_of f))) f e is)
+crowds (retire_connection_id n) e is = absurd (retirement_apart (retirement_answer e.ids.own n e.ids.limit) n e is)
 crowds f e is = absurd (rule_apart e.streams (id_rule f) (pieces_of (broken e.streams (id_rule f)) is))
 
 -- ---- the frames of a packet up to the one that comes to too many pieces
@@ -285,7 +314,8 @@ came_now p took f i o from below = record { frame = f; taken = record { packet =
 
 -- ---- a packet that comes to too many pieces
 
--- with its frames up to that one, more runs of its stream had arrived and not been read than may wait
+-- with its frames up to that one, more runs of its stream had arrived and not been read than may
+-- wait
 pub record IsCrowdedBy (told : List Told) (took : List Packet) (n : ℕ) (frames : List FrameValue) : Type 0 where
   pub front : List FrameValue
   pub frame : StreamValue

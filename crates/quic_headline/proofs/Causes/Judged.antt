@@ -1,4 +1,5 @@
--- What a delivery comes to: nothing that is new, or a packet that the other end sent, taken or refused; and what came stays so by more calls.
+-- What a delivery comes to: nothing that is new, or a packet that the other end sent, taken or
+-- refused; and what came stays so by more calls.
 use Rattle.std.proofs.Common.{◌≡◌, ℕ, suc, Bool, true, false, cond, List, [], ◌∷◌, ◌++◌, length, map, Option, Some, None, Ok, refl, sym, ap, ◌∙◌, subst, inl, inr, arith}
 use Rattle.std.specs.Prelude.{slice_get}
 use Rattle.std.proofs.lemmas.List.{append_assoc}
@@ -16,10 +17,13 @@ use Rattle.quic_machine.specs.declared.run.Answer.{Answer}
 use Rattle.quic_machine.specs.declared.run.Answer.TheVariants as answers
 use Rattle.quic_machine.specs.Policy.{Policy}
 use Rattle.quic_machine.specs.Closing.{Closing}
-use Rattle.quic_machine.specs.Receive.{Fault, error_of, reason_of, Outcome, asks_in, after_taken, received}
+use Rattle.quic_wire.specs.Close.{CloseValue}
+use Rattle.quic_machine.specs.declared.answers.LostReason.TheVariants as reasons
+use Rattle.quic_machine.specs.Receive.{Fault, closed_by_peer, error_of, reason_of, Outcome, asks_in, after_taken, received}
 use Rattle.quic_machine.specs.End.{End}
-use Rattle.quic_machine.specs.Machine.{IsAnswer, IsDelivered, after_delivered, after_call, fails}
+use Rattle.quic_machine.specs.Machine.{IsAnswer, IsDelivered, after_delivered, after_call, fails, says_last}
 use Rattle.quic_machine.specs.FrameCases.{begun}
+use Rattle.quic_machine.specs.IdFrames.{drawn}
 use Rattle.quic_headline.specs.Runs.{Told, Intake, In, frames_of, is_again, expected_behind, handed, opens_by_key, is_elsewhere, came_open, and_opened, and_handed}
 use Rattle.quic_headline.specs.Observer.{Sent}
 use Rattle.quic_headline.specs.Causes.{came_by, PacketCame, IsCrowded, CrowdCame, most_runs}
@@ -83,9 +87,14 @@ module _ (x y : Party) (delivery : Delivery) (a : Answer) where
     nothing : Keeps x.end after → ((h : CameThen) → h.before ≡ x.told → h.call ≡ now_told → ⊥) → Judged after
     -- one came, and was taken
     taken : (s : Sent) → In s y.sents → IsNew s → x.end.closing.state ≡ states.Open → (arrived x.end delivery.now s.number s.frames).fault ≡ None → a ≡ answers.Deliver Taken → Keeps x.end after → Judged after
+    -- none came, but it was the last that may not open
+    exhausted : ((h : CameThen) → h.before ≡ x.told → h.call ≡ now_told → ⊥) → after.closing.reason ≡ Some reasons.KeyLimit → after.closing.state ≡ states.Closing → Judged after
+    -- one came in which y closed: it was taken so far, and x is drained
+    drained : (s : Sent) → In s y.sents → IsNew s → x.end.closing.state ≡ states.Open → (close : CloseValue) → (arrived x.end delivery.now s.number s.frames).fault ≡ Some (closed_by_peer close) → a ≡ answers.Deliver Taken
+        → after.closing.reason ≡ Some (reasons.Peer close) → after.closing.state ≡ states.Drained → Judged after
     -- one came, and was refused
     refused : (s : Sent) → In s y.sents → IsNew s → x.end.closing.state ≡ states.Open → (f : Fault) → (arrived x.end delivery.now s.number s.frames).fault ≡ Some f → a ≡ answers.Deliver (Closed (error_of f))
-        → after.closing.reason ≡ Some (reason_of f) → after.closing.state ≡ states.Drained → Judged after
+        → after.closing.reason ≡ Some (reason_of f) → after.closing.state ≡ states.Closing → Judged after
 
   -- where the packet is crowded, it is so by what the lists say
   pub crowd_is : (s : Sent) → IsCrowdedBy x.told (came_to x y).took s.number s.frames → (n : IsNew s) → (h : CameThen) → h.before ≡ x.told → h.call ≡ now_told → IsCrowded x.policy y.final then h most_runs
@@ -97,7 +106,7 @@ module _ (x y : Party) (delivery : Delivery) (a : Answer) where
     many = rw (same, n.alone h same call, n.number) c.many;
   }
 
-  module _ (joined : AreJoined x y) (meets : Meets y x) (s : Sent) (among : In s y.sents) (d : List ℕ) (given : IsSent y.policy s d) (at_final : slice_get y.final delivery.index ≡ Some d) (is : a ≡ answers.Deliver (received x.policy x.end (delivered_by delivery) d).answer) where
+  module _ (joined : AreJoined x y) (meets : Meets y x) (s : Sent) (among : In s y.sents) (d : List ℕ) (given : IsSent y.policy s d) (at_final : slice_get y.final delivery.index ≡ Some d) (is : a ≡ answers.Deliver (received x.policy x.end (delivered_by (says_last a) delivery) d).answer) where
     abbrev i : Intake
     i = came_to x y
 
@@ -105,7 +114,7 @@ module _ (x y : Party) (delivery : Delivery) (a : Answer) where
     now = delivery.now
 
     abbrev arrival : Arrival
-    arrival = delivered_by delivery
+    arrival = delivered_by (says_last a) delivery
 
     abbrev n : ℕ
     n = s.number
@@ -116,12 +125,15 @@ module _ (x y : Party) (delivery : Delivery) (a : Answer) where
     -- what becomes of x, by an outcome and by what came then
     data Met (o : Outcome) (j : Intake) : Type 0 where
       met_nothing : Keeps x.end o.end → (x.end.closing.state ≡ states.Open → j ≡ i) → Met o j
+      met_last : x.end.closing.state ≡ states.Open → o.end.closing.reason ≡ Some reasons.KeyLimit → o.end.closing.state ≡ states.Closing → j ≡ i → Met o j
+      met_drained : x.end.closing.state ≡ states.Open → is_again n i.opened ≡ false → (close : CloseValue) → (arrived x.end now n frames).fault ≡ Some (closed_by_peer close) → o.answer ≡ Taken → o.end.closing.reason ≡ Some (reasons.Peer close) → o.end.closing.state ≡ states.Drained
+          → j ≡ with_taken i n frames → Met o j
       met_taken : x.end.closing.state ≡ states.Open → is_again n i.opened ≡ false → (arrived x.end now n frames).fault ≡ None → o.answer ≡ Taken → Keeps x.end o.end → j ≡ with_taken i n frames → Met o j
-      met_refused : x.end.closing.state ≡ states.Open → is_again n i.opened ≡ false → (f : Fault) → (arrived x.end now n frames).fault ≡ Some f → o.answer ≡ Closed (error_of f) → o.end.closing.reason ≡ Some (reason_of f) → o.end.closing.state ≡ states.Drained
+      met_refused : x.end.closing.state ≡ states.Open → is_again n i.opened ≡ false → (f : Fault) → (arrived x.end now n frames).fault ≡ Some f → o.answer ≡ Closed (error_of f) → o.end.closing.reason ≡ Some (reason_of f) → o.end.closing.state ≡ states.Closing
           → j ≡ with_refused i n frames → Met o j
 
-    keeps_taken : (codepoint : Option EcnCodepoint) → Keeps x.end (after_taken n (asks_in (map Ok frames)) codepoint (arrived x.end now n frames).end)
-    keeps_taken codepoint =
+    keeps_taken : (words : ℕ → ℕ) (codepoint : Option EcnCodepoint) → Keeps x.end (drawn words (after_taken n (asks_in (map Ok frames)) codepoint (arrived x.end now n frames).end))
+    keeps_taken words codepoint =
         let k = keeps_frames frames (begun x.end now n) in
         record { reason = ap (λ (c : Closing). c.reason) k.closing; state = ap (λ (c : Closing). c.state) k.closing }
 
@@ -129,8 +141,10 @@ module _ (x y : Party) (delivery : Delivery) (a : Answer) where
     cases = record {
       ignored = λ reason. met_nothing (record { reason = refl; state = refl }) (λ still. refl);
       noted = λ state reason. met_nothing (record { reason = refl; state = refl }) (λ still. refl);
-      takes = λ still_open new none mark. met_taken still_open new none refl (keeps_taken mark) refl;
-      refuses = λ still_open new f fault. met_refused still_open new f fault refl refl refl refl;
+      takes = λ words still_open new none mark. met_taken still_open new none refl (keeps_taken words mark) refl;
+      drains = λ words still_open new close fault. met_drained still_open new close fault refl refl refl refl;
+      exhausts = λ still_open. met_last still_open refl refl refl;
+      refuses = λ words still_open new f fault. met_refused still_open new f fault refl refl refl refl;
     }
 
     -- what came then
@@ -229,11 +243,13 @@ module _ (x y : Party) (delivery : Delivery) (a : Answer) where
       where
         go : Met (received x.policy x.end arrival d) next → Judged (received x.policy x.end arrival d).end
         go (met_nothing keeps none) = nothing keeps (none_new none)
+        go (met_last still_open reason state came) = exhausted (none_new (λ same. came)) reason state
+        go (met_drained still_open new close fault answer reason state came) = drained s among (is_new still_open new (ap (λ (j : Intake). length j.opened) came)) still_open close fault (is ∙ ap (λ r. answers.Deliver r) answer) reason state
         go (met_taken still_open new none answer keeps came) = taken s among (is_new still_open new (ap (λ (j : Intake). length j.opened) came)) still_open none (is ∙ ap (λ r. answers.Deliver r) answer) keeps
         go (met_refused still_open new f fault answer reason state came) = refused s among (is_new still_open new (ap (λ (j : Intake). length j.opened) came)) still_open f fault (is ∙ ap (λ r. answers.Deliver r) answer) reason state
 
   -- a delivery, by whether there is such a datagram
-  judged_at : AreJoined x y → Meets y x → fails a ≡ false → (o : Option (List ℕ)) → slice_get y.given delivery.index ≡ o → IsDelivered x.policy x.end delivery o a → Judged (after_delivered x.policy x.end delivery o)
+  judged_at : AreJoined x y → Meets y x → fails a ≡ false → (o : Option (List ℕ)) → slice_get y.given delivery.index ≡ o → IsDelivered x.policy x.end delivery o a → Judged (after_delivered x.policy x.end (delivered_by (says_last a) delivery) o)
   judged_at joined meets served None at is = nothing (record { reason = refl; state = refl }) (λ h same call. none h call)
     where
       none : (h : CameThen) → h.call ≡ now_told → ⊥

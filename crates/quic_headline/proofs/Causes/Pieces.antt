@@ -1,5 +1,6 @@
--- An end that closed for too many pieces had come to them: a group over what is read, and the clause.
-use Rattle.std.proofs.Common.{◌≡◌, ℕ, suc, ◌+◌, false, List, [], ◌∷◌, ◌++◌, Some, refl, sym, ap, ◌∙◌, subst, inl, inr, arith}
+-- An end that closed for too many pieces had come to them: a group over what is read, and the
+-- clause.
+use Rattle.std.proofs.Common.{◌≡◌, ℕ, suc, ◌+◌, false, List, [], ◌∷◌, ◌++◌, Some, refl, sym, ap, ◌∙◌, subst, inl, inr, arith, Option}
 use Rattle.quic_wire_core.specs.declared.stream_id.Side.{Side}
 use Rattle.quic_wire_core.specs.StreamId.{other_side}
 use Rattle.quic_wire.specs.Value.{FrameValue}
@@ -7,13 +8,14 @@ use Rattle.quic_config.specs.Transport.{Settings, parameters_of}
 use Rattle.quic_streams_laws.specs.KeepingLaws.{by_accept}
 use Rattle.quic_streams_laws.specs.Written.{HoldsWritten}
 use Rattle.quic_machine.specs.declared.answers.State.TheVariants as states
+use Rattle.quic_machine.specs.declared.answers.LostReason.{LostReason}
 use Rattle.quic_machine.specs.declared.answers.LostReason.TheVariants as reasons
 use Rattle.quic_machine.specs.declared.run.Call.{Call}
 use Rattle.quic_machine.specs.declared.run.Call.TheVariants as calls
 use Rattle.quic_machine.specs.declared.run.Delivery.{Delivery}
 use Rattle.quic_machine.specs.declared.run.Answer.{Answer}
 use Rattle.quic_machine.specs.End.{End}
-use Rattle.quic_machine.specs.Receive.{Fault, broke, too_many_pieces, reason_of, Outcome}
+use Rattle.quic_machine.specs.Receive.{Fault, broke, too_many_pieces, reason_of, Outcome, closed_by_peer}
 use Rattle.quic_machine.specs.Machine.{World, policy_at, after_call}
 use Rattle.quic_machine.specs.CallCases.{is_delivery}
 use Rattle.quic_machine.specs.FrameCases.{begun}
@@ -37,8 +39,8 @@ use Rattle.quic_headline.proofs.Halves.ReadCalls.{call_kept}
 use Rattle.quic_headline.proofs.Halves.ReadGroup.{ReadsHold}
 use Rattle.quic_headline.proofs.Causes.Come.{HasCome, come_kept, come_wider, come_kept_calls, come_first}
 use Rattle.quic_headline.proofs.Causes.Crowded.{IsCrowdedBy, crowded, up_to, frames_come, came_before, came_now}
-use Rattle.quic_headline.proofs.Causes.Judged.{Judged, nothing, taken, refused, judged, crowd_more, crowd_is}
-use Rattle.quic_headline.proofs.Causes.Shown.{reason_shown, call_closes}
+use Rattle.quic_headline.proofs.Causes.Judged.{Judged, nothing, exhausted, drained, taken, refused, judged, crowd_more, crowd_is}
+use Rattle.quic_headline.proofs.Causes.Shown.{reason_shown, call_closes, IsUnread}
 
 -- what these packets brought
 abbrev pub came_in : List Packet → ℕ → ℕ → Type 0
@@ -64,9 +66,11 @@ come_arrivals : (e : End) (now n : ℕ) (frames : List FrameValue) (i : Intake) 
 come_arrivals e now n frames i come = record {
   ignored = λ reason. come;
   noted = λ state reason still. (let clash : states.Closing ≡ states.Open = sym state ∙ still in cc);
-  takes = λ still_open new none mark still.
+  takes = λ words still_open new none mark still.
       frames_come (came_in (with_taken i n frames).took) frames (begun e now n) (λ f j. came_now p i.took f j) (come_wider (came_in i.took) (came_in (with_taken i n frames).took) e.streams (came_before p i.took) (come still_open));
-  refuses = λ still_open new f is still. cc;
+  drains = λ words still_open new close is still. cc;
+  refuses = λ words still_open new f is still. cc;
+  exhausts = λ still_open still. cc;
 }
   where
     p : Packet
@@ -76,6 +80,7 @@ come_arrivals e now n frames i come = record {
 fault_is : (f : Fault) → Some (reason_of f) ≡ Some reasons.Pieces → f ≡ too_many_pieces
 fault_is (broke error) is = cc
 fault_is too_many_pieces is = refl
+fault_is (closed_by_peer close) is = cc
 
 -- ---- the group
 
@@ -92,7 +97,7 @@ module _ (B : Way) (rests : RestsOn B) (x y : Party) (call : Call) (a : Answer) 
       open_before : is_delivery call ≡ false → (after_call x.policy x.end y.given call a).closing.state ≡ states.Open → x.end.closing.state ≡ states.Open
       open_before apart still = elim (call_closes x.policy x.end y.given call a apart) [
         | inl k ↦ sym k.state ∙ still
-        | inr shut ↦ (let clash : states.Drained ≡ states.Open = sym shut.1 ∙ still in cc)
+        | inr shut ↦ absurd (shut.shut still)
       ]
 
   -- a crowd that came before came still
@@ -107,6 +112,8 @@ crowd_now B rests x y delivery a c p is = go (judged x y delivery a c.joined (me
     go : Judged x y delivery a (after_call x.policy x.end y.given (calls.Deliver delivery) a) → CrowdCame x.policy y.final (x.told ++ told_of (calls.Deliver delivery) a x.end.closing.state ∷ [])
     go (nothing k none) = crowd_before B rests x y (calls.Deliver delivery) a c p (sym k.reason ∙ is)
     go (taken s among new still_open none answer k) = crowd_before B rests x y (calls.Deliver delivery) a c p (sym k.reason ∙ is)
+    go (exhausted none reason state) = let clash : ◌≡◌ {A = Option LostReason} (Some reasons.KeyLimit) (Some reasons.Pieces) = sym reason ∙ is in cc
+    go (drained s among new still_open close fault answer reason state) = let clash : ◌≡◌ {A = Option LostReason} (Some (reasons.Peer close)) (Some reasons.Pieces) = sym reason ∙ is in cc
     go (refused s among new still_open f fault answer reason state) =
         let too_many : (arrived x.end delivery.now s.number s.frames).fault ≡ Some too_many_pieces = fault ∙ ap (λ (g : Fault). Some g) (fault_is f (sym reason ∙ is)) in
         let e : End = begun x.end delivery.now s.number in
@@ -121,7 +128,10 @@ pieces_behind : (B : Way) (rests : RestsOn B) (x y : Party) (call : Call) (a : A
 pieces_behind B rests x y (calls.Deliver delivery) a c p is = crowd_now B rests x y delivery a c p is
 pieces_behind B rests x y call a c p is = elim (call_closes x.policy x.end y.given call a refl) [
   | inl k ↦ crowd_before B rests x y call a c p (sym k.reason ∙ is)
-  | inr shut ↦ (let clash : Some reasons.NumberLimit ≡ Some reasons.Pieces = sym shut.0 ∙ is in cc)
+  | inr shut ↦ elim shut.reason [
+    | inl same ↦ crowd_before B rests x y call a c p (sym same ∙ is)
+    | inr other ↦ (let same : Some other.0 ≡ Some reasons.Pieces = sym other.1 ∙ is in let alike : other.0 ≡ reasons.Pieces = cc in absurd (subst IsUnread alike other.2))
+  ]
 ]
 
 pub pieces_group : (B : Way) → RestsOn B → Group B WhyPieces

@@ -1,5 +1,5 @@
 -- An end that isn't open has a reason, or failed: each call keeps that, and so views show it.
-use Rattle.std.proofs.Common.{◌≡◌, ℕ, zero, suc, List, [], ◌∷◌, slice_get, Option, Some, None, sym, subst}
+use Rattle.std.proofs.Common.{◌≡◌, ℕ, zero, suc, List, [], ◌∷◌, slice_get, Option, Some, None, sym, subst, Bool, true, false, ◌∙◌, refl}
 use Rattle.quic_wire_core.specs.declared.stream_id.Side.{Side}
 use Rattle.quic_wire_core.specs.declared.stream_id.Side.TheVariants.{Client, Server}
 use Rattle.quic_machine.specs.declared.answers.State.{State}
@@ -11,15 +11,17 @@ use Rattle.quic_machine.specs.declared.run.Answer.{Answer}
 use Rattle.quic_machine.specs.declared.run.View.{View}
 use Rattle.quic_machine.specs.Policy.{Policy}
 use Rattle.quic_machine.specs.Closing.{ticked}
-use Rattle.quic_machine.specs.End.{End, with_closing}
+use Rattle.quic_machine.specs.End.{End, with_closing, closed_by}
 use Rattle.quic_machine.specs.Start.{AreStarted}
 use Rattle.quic_machine.specs.Poll.{Polled, Draft, polled, draft_as, lazied_as, Leaving, whole, nothing}
-use Rattle.quic_machine.specs.Timeouts.{Expiry, loss_judged}
+use Rattle.quic_time.specs.Timers.{has_come}
+use Rattle.quic_machine.specs.declared.run.Call.TheVariants as calls
+use Rattle.quic_machine.specs.Timeouts.{Expiry, expiry_at, loss_judged, close_expired, timed_out_in, timed_out}
 use Rattle.quic_machine.specs.Machine.{World, Policies, HasStopped, after_call, view_of, Follows}
 use Rattle.quic_machine.specs.DraftLaws.{Writing, by_leave, MayLeave}
 use Rattle.quic_machine.specs.Puts as puts
 use Rattle.quic_machine.specs.LeaveCases.{at_expiry, Expired, by_timers}
-use Rattle.quic_machine.specs.CallCases.{Plain, by_plain_call}
+use Rattle.quic_machine.specs.CallCases.{Plain, is_timeout, by_plain_call}
 use Rattle.quic_machine.specs.CallCases as cases
 use Rattle.quic_machine.specs.FrameCases.{Settling, Receives, named, acked_keeps, losses_keep, frame_keeps, frame_leaves, by_received, apart_leaves}
 use Rattle.quic_machine.specs.Steps as steps
@@ -32,6 +34,9 @@ use Rattle.quic_headline.proofs.Packets.Probes.{by_going}
 use Rattle.quic_headline.proofs.Places.Placed.{start_is}
 use Rattle.quic_headline.proofs.Timers.BothEnds.{AtBoth, IsKept, step_keeps}
 use Rattle.quic_machine.specs.LeaveCases as expiring
+use Rattle.quic_headline.proofs.Packets.Closes.{by_closes}
+use Rattle.quic_headline.proofs.Packets.Apart.{by_waits, by_next_id}
+use Rattle.quic_headline.proofs.Packets.Heard.{by_taken}
 
 -- ---- an end
 
@@ -49,9 +54,13 @@ receives : Receives IsExplained
 receives = record {
   notes = λ n e i. i;
   begins = λ now n e i. i;
-  frame = frame_keeps IsExplained (record { ack = λ rises a e i. acked_keeps IsExplained settling rises a (named a e) i; on_streams = λ f e on i. frame_leaves IsExplained f e on (λ t. i); apart = λ f e is i. apart_leaves IsExplained f e is (λ c. i); message = λ m e i. i });
-  takes = λ n asks mark e i. i;
+  frame = frame_keeps IsExplained (record { ack = λ rises a e i. acked_keeps IsExplained settling rises a (named a e) i; on_streams = λ f e on i. frame_leaves IsExplained f e on (λ t. i); apart = λ f e is i. apart_leaves IsExplained f e is (λ c. i) (λ c most. i); message = λ m e i. i });
+  takes = λ n asks mark e i. by_taken IsExplained n asks mark e (λ idle alive. i);
   closes = λ reason e i. tt;
+  drains = λ close e i. tt;
+  asks_close = λ e i. i;
+  exhausts = λ now e i. tt;
+  draws = λ words e i. i;
 }
 
 -- an acknowledgement that became due leaves it
@@ -76,7 +85,8 @@ polled_keeps p e now i = by_poll_to p e now (λ (q : Polled). IsExplained q.end)
   silent = i;
   failed = i;
   nothing = λ is none. ready_keeps e now i;
-  closes = tt;
+  repeats = λ is. by_closes p (with_closing e (ticked e.closing now)) (λ (q : Polled). IsExplained q.end) i (λ f goes. i);
+  closes = λ reason bound. by_closes p (closed_by reason (ready_at e now).end) (λ (q : Polled). IsExplained q.end) tt (λ f goes. tt);
   gives = λ is may some. by_going IsExplained p (draft_at e now) (λ pacing. draft_keeps (ready_at e now).leaving (ready_at e now).end (may_leave_at e now) (ready_keeps e now i));
 })
 
@@ -89,25 +99,51 @@ expires_keeps : (s : Expired) (e : End) → IsExplained e → IsExplained (expir
 expires_keeps expiring.of_acks e i = i
 expires_keeps s e i = i
 
-expired_keeps : (e : End) (now : ℕ) (expiry : Expiry) → IsExplained e → IsExplained (at_expiry e now expiry)
-expired_keeps e now expiry i = by_timers IsExplained IsExplained judged_keeps expires_keeps (λ f j. j) expiry (with_closing e (ticked e.closing now)) i
+expired_keeps : (words : ℕ → ℕ) (e : End) (now : ℕ) (expiry : Expiry) → IsExplained e → IsExplained (at_expiry words e now expiry)
+expired_keeps words e now expiry i = by_timers words IsExplained IsExplained judged_keeps expires_keeps (λ f j. j) (λ f j. tt) expiry (with_closing e (ticked e.closing now)) i
 
--- what any call leaves
-call_keeps : (p : Policy) (e : End) (theirs : List (List ℕ)) (call : Call) (a : Answer) → IsExplained e → IsExplained (after_call p e theirs call a)
-call_keeps p e theirs call a i = by_plain_call p e theirs IsExplained call a cases_keep
+-- what a call leaves that isn't a moment
+plain_keeps : (p : Policy) (e : End) (theirs : List (List ℕ)) (call : Call) (a : Answer) → is_timeout call ≡ false → IsExplained e → IsExplained (after_call p e theirs call a)
+plain_keeps p e theirs call a other i = by_plain_call p e theirs IsExplained call a cases_keep
   where
     cases_keep : Plain p e call IsExplained
-    cases_keep (cases.times now expiry) may = expired_keeps e now expiry i
+    cases_keep (cases.times now expiry) may = expired_keeps p.words e now expiry i
     cases_keep (cases.polls now) may = polled_keeps p e now i
     cases_keep (cases.hears arrival d) may = by_received IsExplained receives p e arrival d i
+    cases_keep (cases.closes reason f now) may = tt
+    cases_keep (cases.waits now b) may = let clash : ◌≡◌ {A = Bool} true false = sym may ∙ other in cc
+    cases_keep (cases.changes_id a) may = by_next_id IsExplained e a i (λ c. i) (λ c most. i)
     cases_keep c may = i
+
+-- an end that was closing for a reason is drained for it
+drains_for : (o : Option LostReason) → Explains states.Closing o → Explains states.Drained o
+drains_for (Some reason) i = tt
+drains_for None i = absurd i
+
+timed_keeps : (p : Policy) (e : End) (now : ℕ) → IsExplained e → IsExplained (timed_out p e now).end
+timed_keeps p e now i = go e.closing.state refl
+  where
+    waits : e.closing.state ≡ states.Closing → (b : Bool) → IsExplained (close_expired b (with_closing e (ticked e.closing now)))
+    waits here true = drains_for e.closing.reason (subst (λ (s : State). Explains s e.closing.reason) here i)
+    waits here false = i
+
+    go : (s : State) → e.closing.state ≡ s → IsExplained (timed_out_in s p e now).end
+    go states.Open here = expired_keeps p.words e now (expiry_at (ticked e.closing now).clock e.timers) i
+    go states.Closing here = waits here (has_come e.timers.close (ticked e.closing now).clock)
+    go states.Drained here = i
+    go states.Failed here = i
+
+-- what any call leaves
+pub call_keeps : (p : Policy) (e : End) (theirs : List (List ℕ)) (call : Call) (a : Answer) → IsExplained e → IsExplained (after_call p e theirs call a)
+call_keeps p e theirs (calls.Timeout now) a i = timed_keeps p e now i
+call_keeps p e theirs call a i = plain_keeps p e theirs call a refl i
 
 -- an end that stops has none
 stopped : (e next : End) → HasStopped e next → IsExplained next
 stopped e next is = subst (λ (s : State). Explains s next.closing.reason) (sym is.0) (subst (λ (o : Option LostReason). Explains states.Failed o) (sym is.1) tt)
 
 kept : IsKept IsExplained
-kept = record { call = call_keeps; shows = λ window e i. i; stops = stopped }
+kept = record { call = call_keeps; shows = λ window blocked e i. i; stops = stopped }
 
 -- ---- views
 

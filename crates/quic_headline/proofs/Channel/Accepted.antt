@@ -1,4 +1,5 @@
--- What the calls of an application wrote at an end was accepted, within the limit of all its streams.
+-- What the calls of an application wrote at an end was accepted, within the limit of all its
+-- streams.
 use Rattle.std.proofs.Common.{◌≡◌, ℕ, zero, suc, ◌+◌, ◌≤◌, Bool, true, false, List, length, take, length-take, Option, Some, None, Result, Ok, Err, refl, sym, subst, inl, inr, arith}
 use Rattle.std.specs.Prelude.{◌==◌, ◌&&◌, ◌||◌, not}
 use Rattle.std.proofs.lemmas.Bool.{cond_both, eqb-true}

@@ -1,4 +1,5 @@
--- The rules of limits and sizes, put together: what fits the streams of an end, and lets each frame of the other pass.
+-- The rules of limits and sizes, put together: what fits the streams of an end, and lets each frame
+-- of the other pass.
 use Rattle.std.proofs.Common.{◌≡◌, ℕ, ◌^◌, ◌<◌, ◌≤◌, Bool, true, false, arith}
 use Rattle.quic_wire.specs.Value.{FrameValue, stream, reset_stream}
 use Rattle.quic_streams_laws.specs.ReadsLaws.{stands_within}

@@ -1,4 +1,5 @@
--- What was read of a receiving half, and what waits on it, lies below the greatest offset that was seen, whatever comes, is read, or is stopped (RFC 9000, section 4.1).
+-- What was read of a receiving half, and what waits on it, lies below the greatest offset that was
+-- seen, whatever comes, is read, or is stopped (RFC 9000, section 4.1).
 use Rattle.std.proofs.Common.{◌≡◌, ℕ, ◌+◌, ◌-◌, ◌<◌, ◌≤◌, zero, suc, max, ltb, List, [], ◌∷◌, length, Bool, true, false, cond, Option, Some, None, refl, sym, ap, ◌∙◌, arith, ◌⊎◌, inl, inr}
 use Rattle.std.specs.Prelude.{◌||◌, not, if◌then◌else◌, slice_get}
 use Rattle.std.specs.Option.{is_some, option_or}

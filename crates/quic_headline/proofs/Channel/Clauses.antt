@@ -1,4 +1,5 @@
--- No end closes for a rule that the other broke, and each packet is taken or comes to too many pieces: in every run of two honest ends.
+-- No end closes for a rule that the other broke, and each packet is taken or comes to too many
+-- pieces: in every run of two honest ends.
 use Rattle.quic_machine.specs.Machine.{World}
 use Rattle.quic_headline.specs.Runs.{Run}
 use Rattle.quic_headline.specs.Causes.{NoBlame, TakenOrTooMany}

@@ -1,4 +1,5 @@
--- What the peer was told of counts, and how many streams it opened, changes only by frames that open a stream or tell a count: all else leaves both.
+-- What the peer was told of counts, and how many streams it opened, changes only by frames that
+-- open a stream or tell a count: all else leaves both.
 use Rattle.std.proofs.Common.{◌≡◌, ℕ, zero, suc, Bool, true, false, not, ◌==◌, List, [], ◌∷◌, length, take, Option, Some, None, Result, Ok, Err, refl, sym, subst}
 use Rattle.std.specs.Prelude.{nat_lt, if◌then◌else◌, ◌&&◌, ◌||◌}
 use Rattle.std.specs.Option.{is_some}
@@ -7,7 +8,7 @@ use Rattle.quic_wire_core.specs.declared.stream_id.Side.{Side}
 use Rattle.quic_wire_core.specs.declared.stream_id.Dir.{Dir}
 use Rattle.quic_wire_core.specs.declared.stream_id.Dir.TheVariants.{Bi, Uni}
 use Rattle.quic_wire_core.specs.StreamId.{dir_of}
-use Rattle.quic_wire.specs.Value.{FrameValue, StopSendingValue, StreamCountValue, ack, stream, reset_stream, stop_sending, max_data, max_stream_data, max_streams, datagram}
+use Rattle.quic_wire.specs.Value.{FrameValue, StopSendingValue, StreamCountValue, ack, stream, reset_stream, stop_sending, max_data, max_stream_data, max_streams, datagram, new_connection_id, retire_connection_id, path_response}
 use Rattle.quic_assembler.specs.declared.assembler.Chunk.{Chunk}
 use Rattle.quic_send_buffer.specs.declared.stream_meta.StreamMeta.{StreamMeta}
 use Rattle.quic_streams_parts.specs.declared.answers.Breach.{Breach}
@@ -53,10 +54,11 @@ use Rattle.quic_machine.specs.DraftLaws.{Writing, by_writing}
 use Rattle.quic_machine.specs.Puts as puts
 use Rattle.quic_machine.specs.LeaveCases.{by_expired, by_event}
 use Rattle.quic_machine.specs.CallCases.{is_delivery, asks_event, by_call}
-use Rattle.quic_machine.specs.FrameCases.{Settling, named, ack_taken, acked_keeps, losses_keep, message_leaves}
+use Rattle.quic_machine.specs.FrameCases.{Settling, named, ack_taken, acked_keeps, losses_keep, message_leaves, apart_leaves}
 use Rattle.quic_machine.specs.Steps as steps
 use Rattle.quic_machine.specs.Machine.{IsAnswer, after_call}
 use Rattle.quic_headline.specs.Runs.{OpensStream}
+use Rattle.quic_headline.proofs.Packets.Apart.{by_waits, by_next_id}
 use Rattle.quic_streams_laws.specs.QuietLaws.{by_tells}
 use Rattle.quic_headline.proofs.Halves.Words.{CallWords, call_with}
 use Rattle.quic_headline.proofs.Halves.WordsCalls.{call_on_is}
@@ -253,7 +255,10 @@ module _ (K : Side → Counts → Counts → Events → List ℕ → Type 0) (mo
         on_streams = λ on answer. cc;
         on_messages = λ on answer. i;
         pings = i;
-        times = λ now expiry set. by_expired e now (λ (f : End). Listed f.streams) (λ pending tracking timers runs packets. i) (λ pending timers runs. losses_keep (λ (x : End). Listed x.streams) settling (with_closing e (ticked e.closing now)) i) expiry;
+        closes = λ reason f now own. i;
+        waits = λ now b set. by_waits (λ (f : End). Listed f.streams) b (with_closing e (ticked e.closing now)) i i;
+        changes_id = λ uses answer. by_next_id (λ (f : End). Listed f.streams) e a i (λ c. i) (λ c most. i);
+        times = λ now expiry set. by_expired p.words e now (λ (f : End). Listed f.streams) (λ pending tracking timers waits asked runs packets. i) (λ pending timers waits asked runs. losses_keep (λ (x : End). Listed x.streams) settling (with_closing e (ticked e.closing now)) i) (λ x j. j) expiry;
         polls = λ now set. poll_counts p e now i;
         hears = λ arrival d set. cc;
         tells = λ asks. by_event e (λ (f : End). Listed f.streams) i (λ told. asked asks);
@@ -308,6 +313,9 @@ module _ (K : Side → Counts → Counts → Events → List ℕ → Type 0) (mo
       go true = i
       go false = acked_keeps (λ (x : End). Listed x.streams) settling (is_above e.numbers.largest_acked a.largest) a (named a e) i
   listed_frame (datagram m) e opens tells i = message_leaves (λ (x : End). Listed x.streams) m e i (λ left. i)
+  listed_frame (new_connection_id g) e opens tells i = apart_leaves (λ (x : End). Listed x.streams) (new_connection_id g) e tt (λ c. i) (λ c most. i)
+  listed_frame (retire_connection_id n) e opens tells i = apart_leaves (λ (x : End). Listed x.streams) (retire_connection_id n) e tt (λ c. i) (λ c most. i)
+  listed_frame (path_response token) e opens tells i = apart_leaves (λ (x : End). Listed x.streams) (path_response token) e tt (λ c. i) (λ c most. i)
   listed_frame f e opens tells i = i
 
 -- a fact of the same but for the streams that are blocked

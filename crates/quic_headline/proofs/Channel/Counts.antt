@@ -1,4 +1,5 @@
--- What each end knows of the other's streams: it may open no more than the other takes, and saw no more opened than the other opened; so each frame passes by its id.
+-- What each end knows of the other's streams: it may open no more than the other takes, and saw no
+-- more opened than the other opened; so each frame passes by its id.
 use Rattle.std.proofs.Common.{◌≡◌, ℕ, ◌+◌, ◌<◌, ◌≤◌, ◌^◌, Bool, true, false, not, List, Option, Some, None, refl, sym, ap, ◌∙◌, subst, inl, inr, arith}
 use Rattle.std.specs.Prelude.{if◌then◌else◌, ◌&&◌, ◌||◌, ◌==◌, nat_le, nat_lt}
 use Rattle.std.proofs.lemmas.Bool.{cond_both, ltb-true, lt-ltb, leb-true, leb-false}
@@ -74,7 +75,8 @@ own_other side id = go side (initiator_of id)
 
 -- ---- what is known of the other end's streams
 
--- Streams of the other side, which may be as many as these take, and of these saw no more opened than are.
+-- Streams of the other side, which may be as many as these take, and of these saw no more opened
+-- than are.
 abbrev pub KnowsCounts : StreamsState → Side → Counts → Counts → Type 0
 KnowsCounts s side limits remotes = (side ≡ other_side s.side) × ((d : Dir) → of d limits ≤ raised_count d s.opening) × ((d : Dir) → of d remotes ≤ of d s.opening.own)
 
@@ -166,8 +168,10 @@ module _ (B : Way) (rests : RestsOn B) where
       comes = λ delivery is s among. (let after = frames_know y.end.streams s.frames (begun x.end delivery.now s.number) (c.takes.1.given s among) k.counts in record {
         ignored = λ reason. k.counts;
         noted = λ state reason. k.counts;
-        takes = λ state new none mark. after;
-        refuses = λ state new f is. after;
+        takes = λ words state new none mark. after;
+        drains = λ words state new close is. after;
+        refuses = λ words state new f is. after;
+        exhausts = λ state. k.counts;
       });
     });
   }

@@ -1,4 +1,5 @@
--- Frames that an end may give: of streams that it knows, and counts that it keeps; and so they stay, since streams only open and counts only grow.
+-- Frames that an end may give: of streams that it knows, and counts that it keeps; and so they
+-- stay, since streams only open and counts only grow.
 use Rattle.std.proofs.Common.{◌≡◌, ℕ, zero, suc, ◌+◌, ◌≤◌, Bool, true, false, not, List, [], ◌∷◌, ◌++◌, replicate, Option, Some, None, refl, sym, ap, ◌∙◌, subst, inl, inr, arith}
 use Rattle.std.specs.Prelude.{◌&&◌, ◌||◌}
 use Rattle.std.proofs.lemmas.Bool.{and_parts, cond_both}
@@ -113,7 +114,8 @@ frames_grow fs e = frames_keep (λ (x : End). Grown e.streams x.streams) (frame_
 
 -- ---- what may be given
 
--- a frame of such a stream as its rule asks, or of a count that the end keeps; and none that it never gives
+-- a frame of such a stream as its rule asks, or of a count that the end keeps; and none that it
+-- never gives
 abbrev pub Given : StreamsState → FrameValue → Type 0
 Given s (max_streams f) = f.count ≤ raised_count (dir_named f.one_way) s.opening
 Given s (new_token t) = ⊥
@@ -189,7 +191,8 @@ fewer_stops : (s : StreamsState) (kind : ControlKind) (p : Retransmits) → Stop
 fewer_stops s StopSending p stops r i = stops r (in_others r p.stop_sending i)
 fewer_stops s kind p stops r i = stops r i
 
--- frames of a draft may be given by an end that has these streams, and the draft's streams are of the same ids and counts
+-- frames of a draft may be given by an end that has these streams, and the draft's streams are of
+-- the same ids and counts
 record Goes (s : StreamsState) (d : Draft) : Type 0 where
   shape : IsShaped d.end.streams
   back : Grown d.end.streams s
@@ -240,7 +243,8 @@ module _ (s : StreamsState) where
       zeros (suc n) (inl is) = subst (Given s) (sym is) tt
       zeros (suc n) (inr i) = zeros n i
 
--- the frames that an end gives at a moment, if what its tracked packets carried stops only such streams
+-- the frames that an end gives at a moment, if what its tracked packets carried stops only such
+-- streams
 pub polled_given : (e : End) (now : ℕ) → IsShaped e.streams → StopsHold e.streams e.waiting.frames → ((n : ℕ) (t : TrackedPacket) → In (n, t) e.tracking.packets → StopsHold e.streams t.carried.retransmits) → (f : FrameValue) → In f (frames_at e now) → Given e.streams f
 polled_given e now shape stops carried =
     let d : Draft = draft_at e now in

@@ -1,11 +1,12 @@
--- What an end heard of how far it may come, on all streams and on each, its peer lets it come: it sends no further than that (RFC 9000, sections 4.1, 19.9 and 19.10).
+-- What an end heard of how far it may come, on all streams and on each, its peer lets it come: it
+-- sends no further than that (RFC 9000, sections 4.1, 19.9 and 19.10).
 use Rattle.std.proofs.Common.{◌≡◌, ℕ, ◌≤◌, Bool, true, false, not, List, [], ◌++◌, length, Some, None, refl, sym, ap, ◌∙◌, subst, ◌⊎◌, inl, inr, arith}
 use Rattle.std.specs.Prelude.{◌&&◌, ◌||◌}
 use Rattle.std.specs.Option.{IsSome}
 use Rattle.std.proofs.lemmas.Bool.{cond_both}
 use Rattle.std.proofs.lemmas.List.{append-nil}
 use Rattle.quic_wire_core.specs.StreamId.{dir_of}
-use Rattle.quic_wire.specs.Value.{FrameValue, ack, stream, reset_stream, stop_sending, max_data, max_stream_data, max_streams, datagram}
+use Rattle.quic_wire.specs.Value.{FrameValue, ack, stream, reset_stream, stop_sending, max_data, max_stream_data, max_streams, datagram, new_connection_id, retire_connection_id, path_response}
 use Rattle.quic_send_buffer.specs.Buffered.{written}
 use Rattle.quic_streams_parts.specs.Dirs.{is_own, is_two_way}
 use Rattle.quic_streams_parts.specs.Table.{at}
@@ -33,12 +34,13 @@ use Rattle.quic_machine.specs.Receive.{is_above, names_ungiven, take_frame}
 use Rattle.quic_machine.specs.Poll.{Draft, composed, polled}
 use Rattle.quic_machine.specs.DraftLaws.{Writing, by_writing}
 use Rattle.quic_machine.specs.Puts as puts
-use Rattle.quic_machine.specs.FrameCases.{Settling, acked_keeps, losses_keep, named, ack_taken, message_leaves, passed, frames_leave}
+use Rattle.quic_machine.specs.FrameCases.{Settling, acked_keeps, losses_keep, named, ack_taken, message_leaves, passed, frames_leave, apart_leaves}
 use Rattle.quic_machine.specs.Steps as steps
 use Rattle.quic_machine.specs.LeaveCases.{by_expired, by_event}
 use Rattle.quic_machine.specs.CallCases.{is_delivery, by_call}
 use Rattle.quic_machine.specs.Machine.{IsAnswer, after_call}
 use Rattle.quic_headline.specs.Runs.{In, written_by, first_of}
+use Rattle.quic_headline.proofs.Packets.Apart.{by_waits, by_next_id}
 use Rattle.quic_streams_laws.specs.QuietLaws.{by_told}
 use Rattle.quic_headline.proofs.Halves.Wrote.{adds, or_false, first_none}
 use Rattle.quic_headline.proofs.Halves.Words.{CallWords, call_with}
@@ -49,7 +51,8 @@ use Rattle.quic_headline.proofs.Packets.Probes.{poll_state}
 
 -- ---- limits of one end that the other holds
 
--- the other lets come as far as a half of a stream may go, as far as one may at first, and as far as all streams may go
+-- the other lets come as far as a half of a stream may go, as far as one may at first, and as far
+-- as all streams may go
 abbrev pub Limits : StreamsState → StreamsState → Type 0
 Limits t s = EachSends (λ q limit. (id : ℕ) → Allows t id limit) (λ id. Unit {0}) (λ id h. Allows t id h.limit) (λ id. Unit {0}) s
 
@@ -139,7 +142,10 @@ module _ (t : StreamsState) where
         on_streams = λ on answer. cc;
         on_messages = λ on answer. i;
         pings = i;
-        times = λ now expiry set. by_expired e now (λ (f : End). Heard t f.streams) (λ pending tracking timers runs packets. i) (λ pending timers runs. losses_keep (λ (x : End). Heard t x.streams) settles (with_closing e (ticked e.closing now)) i) expiry;
+        closes = λ reason f now own. i;
+        waits = λ now b set. by_waits (λ (f : End). Heard t f.streams) b (with_closing e (ticked e.closing now)) i i;
+        changes_id = λ uses answer. by_next_id (λ (f : End). Heard t f.streams) e a i (λ c. i) (λ c most. i);
+        times = λ now expiry set. by_expired p.words e now (λ (f : End). Heard t f.streams) (λ pending tracking timers waits asked runs packets. i) (λ pending timers waits asked runs. losses_keep (λ (x : End). Heard t x.streams) settles (with_closing e (ticked e.closing now)) i) (λ x j. j) expiry;
         polls = λ now set. poll_heard p e now i;
         hears = λ arrival d set. cc;
         tells = λ asks. by_event e (λ (f : End). Heard t f.streams) i (λ told. by_polled (Heard t) heard_kept e.streams i);
@@ -161,6 +167,9 @@ module _ (t : StreamsState) where
       acked true = i
       acked false = acked_keeps (λ (x : End). Heard t x.streams) settles (is_above e.numbers.largest_acked a.largest) a (named a e) i
   frame_heard (datagram m) e told i = message_leaves (λ (x : End). Heard t x.streams) m e i (λ left. i)
+  frame_heard (new_connection_id g) e told i = apart_leaves (λ (x : End). Heard t x.streams) (new_connection_id g) e tt (λ c. i) (λ c most. i)
+  frame_heard (retire_connection_id n) e told i = apart_leaves (λ (x : End). Heard t x.streams) (retire_connection_id n) e tt (λ c. i) (λ c most. i)
+  frame_heard (path_response token) e told i = apart_leaves (λ (x : End). Heard t x.streams) (path_response token) e tt (λ c. i) (λ c most. i)
   frame_heard other e told i = i
 
   -- and several
@@ -178,7 +187,8 @@ heard_stays t u s stays i =
 
 -- ---- what was written
 
--- a stream that is over once a call is answered was so before, or nothing was written on it by the call
+-- a stream that is over once a call is answered was so before, or nothing was written on it by the
+-- call
 over_before : (id : ℕ) (call : Call) (a : Answer) (w : Wrote) → (written_by id call a ≡ []) ⊎ (IsOver (adds id call a w) → IsOver w)
 over_before id (calls.Write q bytes) a w = inr (over_same w)
   where
@@ -199,7 +209,8 @@ over_same id call a w g over = elim (over_before id call a w) [
   | inr was ↦ g.over (was over)
 ]
 
--- what an end wrote on a stream it may bring, where the other lets come what it heard; on one that is over, where it let come what was written before
+-- what an end wrote on a stream it may bring, where the other lets come what it heard; on one that
+-- is over, where it let come what was written before
 pub written_allowed : (t s : StreamsState) (w : Wrote) (id : ℕ) → StatusIs (w ≡ nothing_done) (λ h. IsSendHalf w h) (IsOver w) (sending_status s id) → Heard t s → (IsOver w → Allows t id (length w.bytes)) → Allows t id (length w.bytes)
 written_allowed t s w id holds i over = go (sending_status s id) refl holds
   where

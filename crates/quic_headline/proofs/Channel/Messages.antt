@@ -1,9 +1,10 @@
--- Each message that an end sends is one that the other takes: it is told how long they may be, and refuses longer ones (RFC 9221, section 3).
+-- Each message that an end sends is one that the other takes: it is told how long they may be, and
+-- refuses longer ones (RFC 9221, section 3).
 use Rattle.std.proofs.Common.{cond, ◌≡◌, ℕ, ◌-◌, min, Bool, true, false, ◌==◌, not, List, [], ◌∷◌, ◌++◌, length, replicate, zero, suc, Option, Some, None, Result, Ok, Err, refl, sym, ap, ◌∙◌, subst, inl, inr, arith}
 use Rattle.std.specs.Prelude.{if◌then◌else◌, nat_le, nat_lt, ◌||◌, is_none, is_ok, ◌+◌}
 use Rattle.std.specs.List.{filter, AllByRecursion}
 use Rattle.std.proofs.lemmas.Bool.{ltb-false, le-leb}
-use Rattle.quic_wire.specs.Value.{FrameValue, ack, padding, datagram}
+use Rattle.quic_wire.specs.Value.{FrameValue, ack, padding, datagram, new_connection_id, retire_connection_id, path_response}
 use Rattle.quic_config.specs.Transport.{TransportSettings, told_frame_size}
 use Rattle.quic_parameters.specs.Parameters.{ParameterValues}
 use Rattle.quic_streams_laws.specs.WrittenFrames.{all_append}
@@ -18,23 +19,28 @@ use Rattle.quic_machine.specs.declared.run.Answer.{Answer}
 use Rattle.quic_machine.specs.declared.run.Answer.TheVariants as answers
 use Rattle.quic_machine.specs.Policy.{Policy}
 use Rattle.quic_machine.specs.Closing.{ticked}
-use Rattle.quic_machine.specs.End.{End, with_closing}
+use Rattle.quic_machine.specs.declared.answers.State.TheVariants as states
+use Rattle.quic_machine.specs.End.{End, with_closing, closed_by}
 use Rattle.quic_machine.specs.Receive.{is_above, names_ungiven, message_judged, take_frame}
 use Rattle.quic_machine.specs.Parts.{current_mtu}
-use Rattle.quic_machine.specs.Poll.{zeros_behind, Draft, Polled, polled, draft_as, draft_of, Leaving, Ready}
+use Rattle.quic_machine.specs.Poll.{zeros_behind, Draft, Polled, polled, draft_as, Leaving}
 use Rattle.quic_machine.specs.DraftLaws.{Writing, by_leave, MayLeave}
 use Rattle.quic_machine.specs.Puts as puts
-use Rattle.quic_machine.specs.PollCases.{frames_padded, frames_at, by_poll, at_poll}
+use Rattle.quic_machine.specs.PollCases.{ready_at, draft_at, frames_at, ready_leaves, may_leave_at, by_poll, at_poll}
 use Rattle.quic_machine.specs.MessageCalls.{limits_of, after_on_messages}
-use Rattle.quic_machine.specs.FrameCases.{Settling, named, ack_taken, acked_keeps, losses_keep, by_received}
+use Rattle.quic_machine.specs.FrameCases.{Settling, named, ack_taken, acked_keeps, losses_keep, by_received, apart_leaves}
 use Rattle.quic_machine.specs.Steps as steps
 use Rattle.quic_machine.specs.LeaveCases.{by_expired, by_event}
 use Rattle.quic_machine.specs.CallCases.{by_call}
 use Rattle.quic_machine.specs.Machine.{IsAnswer, after_call, gave}
 use Rattle.quic_headline.specs.Runs.{In}
 use Rattle.quic_headline.specs.Observer.{Sent}
+use Rattle.quic_headline.proofs.Packets.Apart.{by_waits, by_next_id}
 use Rattle.quic_headline.proofs.Packets.Growth.{in_more}
 use Rattle.quic_headline.proofs.Packets.Entries.{IsControl, control_of}
+use Rattle.quic_headline.proofs.Packets.Closes.{by_closes}
+use Rattle.quic_headline.proofs.Packets.Group.{PacketsHold}
+use Rattle.quic_headline.proofs.Packets.Owing.{Owes, sent_fine}
 use Rattle.quic_headline.proofs.Packets.Stays.{placed_call}
 use Rattle.quic_headline.proofs.Places.Told.{in_append}
 use Rattle.quic_headline.proofs.Places.Steps.{poll_answer}
@@ -171,24 +177,34 @@ padded_taken window fs count all m i = elim (in_append (datagram m) fs (replicat
 abbrev pub AllTaken : Option ℕ → List Sent → Type 0
 AllTaken window sents = (s : Sent) → In s sents → FramesTaken window s.frames
 
--- what a poll leaves and gives
-pub poll_takes : (window : Option ℕ) (p : Policy) (e : End) (now : ℕ) → Waits window e → Waits window (polled p e now).end × AllTaken window (sent_if (gave (answers.Poll (polled p e now).answer)) (sent_by e now))
-poll_takes window p e now i = by_poll p e now (λ (q : Polled). Waits window q.end × AllTaken window (sent_if (gave (answers.Poll q.answer)) (sent_by e now))) (record {
-  silent = (i, λ s j. absurd j);
-  failed = (i, λ s j. absurd j);
-  nothing = λ c. (i, λ s j. absurd j);
-  closes = λ c. (i, λ s j. absurd j);
+-- what a poll leaves
+pub poll_leaves : (window : Option ℕ) (p : Policy) (e : End) (now : ℕ) → Waits window e → Waits window (polled p e now).end
+poll_leaves window p e now i = by_poll p e now (λ (q : Polled). Waits window q.end) (record {
+  silent = i;
+  failed = i;
+  repeats = λ is. by_closes p (with_closing e (ticked e.closing now)) (λ (q : Polled). Waits window q.end) i (λ f goes. i);
+  nothing = λ c. i;
+  closes = λ reason c bound. by_closes p (closed_by reason (at_poll e now c)) (λ (q : Polled). Waits window q.end) i (λ f goes. i);
   gives = λ leaving c left is may ready some. (
       let there : End = at_poll e now c in
-      let d : Draft = draft_as leaving there in
-      let frames_are : frames_at e now ≡ frames_padded d = ap (λ (g : Ready). frames_padded (draft_of g)) ready in
-      let draws = draft_draws window leaving there (may_leave e now leaving there ready) i in
-      (draws.waiting, λ s j m k. padded_taken window d.frames (zeros_behind d) draws.frames m (subst (In (datagram m)) frames_are (one s j m k))));
+      (draft_draws window leaving there (may_leave e now leaving there ready) i).waiting);
 })
+
+-- and what it gives
+poll_takes : (window : Option ℕ) (p : Policy) (e : End) (now : ℕ) → Owes e → Waits window e → AllTaken window (sent_if (gave (answers.Poll (polled p e now).answer)) (sent_by p e now))
+poll_takes window p e now owes i s among m carried =
+    sent_fine (λ f. (n : List ℕ) → datagram n ≡ f → is_taken window n ≡ true) (λ c n is. cc) (λ c n is. cc) (λ n is. cc) p e now owes taken s among (datagram m) carried m refl
   where
-    one : (s : Sent) → In s (sent_by e now ∷ []) → (m : List ℕ) → In (datagram m) s.frames → In (datagram m) (frames_at e now)
-    one s (inl is) m k = subst (λ (u : Sent). In (datagram m) u.frames) is k
-    one s (inr none) m k = absurd none
+    there : End
+    there = (ready_at e now).end
+
+    waits : Waits window there
+    waits = subst (λ (x : End). Waits window x) (sym (ready_leaves e now)) i
+
+    taken : e.closing.state ≡ states.Open → (f : FrameValue) → In f (frames_at e now) → (n : List ℕ) → datagram n ≡ f → is_taken window n ≡ true
+    taken is f among n same =
+        let d : Draft = draft_at e now in
+        padded_taken window d.frames (zeros_behind d) (draft_draws window (ready_at e now).leaving there (may_leave_at e now) waits).frames n (subst (λ (g : FrameValue). In g (frames_at e now)) (sym same) among)
 
 -- ---- what comes
 
@@ -218,6 +234,9 @@ module _ (window : Option ℕ) where
       go : (r : Result Bool ReceivedError) → Waits window (message_judged r m e).end
       go (Ok first) = subst (AreTaken window) (sym (received_leaves e.transport.datagram_receive_buffer_size m e.messages.queues)) i
       go (Err error) = i
+  frame_leaves (new_connection_id f) e i = apart_leaves (Waits window) (new_connection_id f) e tt (λ c. i) (λ c most. some_taken window (is_within most) e.messages.queues.outgoing i)
+  frame_leaves (retire_connection_id n) e i = apart_leaves (Waits window) (retire_connection_id n) e tt (λ c. i) (λ c most. some_taken window (is_within most) e.messages.queues.outgoing i)
+  frame_leaves (path_response token) e i = apart_leaves (Waits window) (path_response token) e tt (λ c. i) (λ c most. some_taken window (is_within most) e.messages.queues.outgoing i)
   frame_leaves f e i = i
 
   -- any call leaves it so
@@ -227,21 +246,29 @@ module _ (window : Option ℕ) where
     on_streams = λ on answer. i;
     on_messages = λ on answer. message_call_leaves window e sized i call a;
     pings = i;
-    times = λ now expiry set. by_expired e now (Waits window) (λ pending tracking timers runs packets. i) (λ pending timers runs. losses_keep (Waits window) settling (with_closing e (ticked e.closing now)) i) expiry;
-    polls = λ now set. (poll_takes window p e now i).0;
+    times = λ now expiry set. by_expired p.words e now (Waits window) (λ pending tracking timers waits asked runs packets. i) (λ pending timers waits asked runs. losses_keep (Waits window) settling (with_closing e (ticked e.closing now)) i) (λ x j. j) expiry;
+    closes = λ reason f now own. i;
+    waits = λ now b set. by_waits (Waits window) b (with_closing e (ticked e.closing now)) i i;
+    changes_id = λ uses answer. by_next_id (Waits window) e a i (λ c. i) (λ c most. some_taken window (is_within most) e.messages.queues.outgoing i);
+    polls = λ now set. poll_leaves window p e now i;
     hears = λ arrival d set. by_received (Waits window) (record {
       notes = λ n x j. j;
       begins = λ time n x j. j;
       frame = frame_leaves;
       takes = λ n asks mark x j. j;
       closes = λ reason x j. j;
+      drains = λ close x j. j;
+      asks_close = λ x j. j;
+      exhausts = λ now x j. j;
+      draws = λ words x j. j;
     }) p e arrival d i;
     tells = λ asks. by_event e (Waits window) i (λ was_told. i);
   })
 
 -- ---- the group
 
--- x was told how long messages may be that this takes, and what waits at x and what it sent is no longer
+-- x was told how long messages may be that this takes, and what waits at x and what it sent is no
+-- longer
 pub record FitsAt (window : Option ℕ) (x : Party) : Type 0 where
   pub told : IsTold window x.end
   pub waiting : AreTaken window x.end.messages.queues.outgoing
@@ -252,25 +279,25 @@ abbrev pub MessagesFit : Way
 MessagesFit x y = FitsAt y.end.transport.datagram_receive_buffer_size x
 
 -- x makes a call
-fits_on : (B : Way) (x y : Party) (call : Call) (a : Answer) → Calls B x y call a → MessagesFit x y → MessagesFit (called x y.given call a) y
-fits_on B x y call a c i = record {
+fits_on : (B : Way) → ((x y : Party) → B x y → PacketsHold x y) → (x y : Party) (call : Call) (a : Answer) → Calls B x y call a → MessagesFit x y → MessagesFit (called x y.given call a) y
+fits_on B packets x y call a c i = record {
   told = ap (λ (theirs : ParameterValues). theirs.max_datagram_frame_size) (placed_call x.policy x.end y.given call a).peer ∙ i.told;
-  waiting = call_leaves window x.policy x.end y.given call a (λ room m. sized_taken window x.end.peer_params.max_datagram_frame_size (current_mtu x.end.path) (length x.end.ids.active.id) room m i.told) i.waiting;
-  sent = λ s j. elim (in_append s x.sents (sents_by x.end call a) j) [ inl old ↦ i.sent s old | inr new ↦ goes call c.answer s new ];
+  waiting = call_leaves window x.policy x.end y.given call a (λ room m. sized_taken window x.end.peer_params.max_datagram_frame_size (current_mtu x.end.path) (length x.end.ids.peer.id) room m i.told) i.waiting;
+  sent = λ s j. elim (in_append s x.sents (sents_by x.policy x.end call a) j) [ inl old ↦ i.sent s old | inr new ↦ goes call c.answer s new ];
 }
   where
     window : Option ℕ
     window = y.end.transport.datagram_receive_buffer_size
 
-    goes : (k : Call) → IsAnswer x.policy x.end y.given k a → AllTaken window (sents_by x.end k a)
-    goes (calls.Poll now) is = subst (λ (b : Answer). AllTaken window (sent_if (gave b) (sent_by x.end now))) (sym (poll_answer x.policy x.end now a is c.served)) (poll_takes window x.policy x.end now i.waiting).1
+    goes : (k : Call) → IsAnswer x.policy x.end y.given k a → AllTaken window (sents_by x.policy x.end k a)
+    goes (calls.Poll now) is = subst (λ (b : Answer). AllTaken window (sent_if (gave b) (sent_by x.policy x.end now))) (sym (poll_answer x.policy x.end now a is c.served)) (poll_takes window x.policy x.end now (packets x y c.gives).owes i.waiting)
     goes k is = λ s j. absurd j
 
 -- so it is at each place
-pub messages_group : (B : Way) → Group B MessagesFit
-messages_group B = record {
+pub messages_group : (B : Way) → ((x y : Party) → B x y → PacketsHold x y) → Group B MessagesFit
+messages_group B packets = record {
   first = λ x y m there back. record { told = refl; waiting = tt; sent = λ s i. absurd i };
-  writer = λ x y call a c i back. fits_on B x y call a c i;
+  writer = λ x y call a c i back. fits_on B packets x y call a c i;
   reader = λ x y call a c there i. subst (λ (t : TransportSettings). FitsAt t.datagram_receive_buffer_size y) (sym (placed_call x.policy x.end y.given call a).transport) i;
   shows = λ x y here there b back i j. record { told = i.told; waiting = i.waiting; sent = i.sent };
 }

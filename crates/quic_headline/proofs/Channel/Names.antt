@@ -1,5 +1,6 @@
--- Each frame that an end gave is of streams that it knows and counts that it keeps, and STOP_SENDING that waits too: a group over what is written.
-use Rattle.std.proofs.Common.{◌≡◌, ℕ, Bool, true, false, List, ◌++◌, Some, subst, inl, inr, append-nil}
+-- Each frame that an end gave is of streams that it knows and counts that it keeps, and
+-- STOP_SENDING that waits too: a group over what is written.
+use Rattle.std.proofs.Common.{◌≡◌, ℕ, List, ◌++◌, Some, subst, inl, inr}
 use Rattle.std.proofs.lemmas.Bool.{and_parts}
 use Rattle.quic_wire.specs.Value.{FrameValue, StopSendingValue, stop_sending}
 use Rattle.quic_streams_parts.specs.RecvHalf.{RecvHalf}
@@ -13,12 +14,14 @@ use Rattle.quic_machine.specs.declared.run.Call.TheVariants as calls
 use Rattle.quic_machine.specs.declared.run.Answer.{Answer}
 use Rattle.quic_machine.specs.End.{End}
 use Rattle.quic_machine.specs.Receive.{Outcome}
-use Rattle.quic_machine.specs.Machine.{gave}
+use Rattle.quic_machine.specs.Machine.{IsAnswer, gave}
 use Rattle.quic_machine.specs.FrameCases.{begun, apart_leaves}
 use Rattle.quic_machine.specs.Poll.{rests}
 use Rattle.quic_headline.specs.Runs.{Packet, Intake, In}
 use Rattle.quic_headline.specs.Observer.{Sent}
-use Rattle.quic_headline.proofs.Packets.Growth.{in_more}
+use Rattle.quic_headline.proofs.Packets.Owing.{sent_fine}
+use Rattle.quic_headline.proofs.Places.Told.{in_append}
+use Rattle.quic_headline.proofs.Places.Steps.{poll_answer}
 use Rattle.quic_headline.proofs.Packets.Delivered.{Arrivals, arrived}
 use Rattle.quic_headline.proofs.Packets.Named.{TakesOn, frames_settle, tracked_carried}
 use Rattle.quic_headline.proofs.Packets.Group.{PacketsHold, meets}
@@ -52,8 +55,10 @@ module _ (B : Way) (rests : RestsOn B) (x y : Party) (call : Call) (a : Answer) 
     comes = λ delivery is s among. record {
       ignored = λ reason. grown_same x.end.streams;
       noted = λ state reason. grown_same x.end.streams;
-      takes = λ state new none mark. frames_grow s.frames (begun x.end delivery.now s.number);
-      refuses = λ state new f is. frames_grow s.frames (begun x.end delivery.now s.number);
+      takes = λ words state new none mark. frames_grow s.frames (begun x.end delivery.now s.number);
+      drains = λ words state new close is. frames_grow s.frames (begun x.end delivery.now s.number);
+      refuses = λ words state new f is. frames_grow s.frames (begun x.end delivery.now s.number);
+      exhausts = λ state. grown_same x.end.streams;
     };
   })
 
@@ -86,8 +91,10 @@ module _ (B : Way) (rests : RestsOn B) (x y : Party) (call : Call) (a : Answer) 
     arrivals_stop now s among = record {
       ignored = λ reason. stops_before;
       noted = λ state reason. stops_before;
-      takes = λ state new none mark. passed_stops;
-      refuses = λ state new f is. passed_stops;
+      takes = λ words state new none mark. passed_stops;
+      drains = λ words state new close is. passed_stops;
+      refuses = λ words state new f is. passed_stops;
+      exhausts = λ state. stops_before;
     }
       where
         took : List Packet
@@ -100,7 +107,7 @@ module _ (B : Way) (rests : RestsOn B) (x y : Party) (call : Call) (a : Answer) 
         back = rests.packets y x c.takes
 
         takes_on : TakesOn took x.sents s.frames (λ (e : End). StopsOf Known e.waiting.frames)
-        takes_on = record { settles = settles_stops Known took x.sents sent_known; names = λ a e i j. j; on_streams = λ f e i on j. frame_stops Known f e on j; message = λ m e j. j; apart = λ f e i apart j. apart_leaves (λ (g : End). StopsOf Known g.waiting.frames) f e apart (λ c. j) }
+        takes_on = record { settles = settles_stops Known took x.sents sent_known; names = λ a e i j. j; on_streams = λ f e i on j. frame_stops Known f e on j; message = λ m e j. j; apart = λ f e i apart j. apart_leaves (λ (g : End). StopsOf Known g.waiting.frames) f e apart (λ c. j) (λ c most. j) }
 
         passed_stops : StopsOf Known (arrived x.end now s.number s.frames).end.waiting.frames
         passed_stops = frames_settle took x.sents (record { taken = p.taken; rising = p.gives.rising }) s.frames (λ (e : End). StopsOf Known e.waiting.frames) takes_on (begun x.end now s.number)
@@ -117,19 +124,20 @@ module _ (B : Way) (rests : RestsOn B) (x y : Party) (call : Call) (a : Answer) 
     old_given : (s : Sent) → In s x.sents → (f : FrameValue) → In f s.frames → Given t f
     old_given s i f j = given_grows x.end.streams t grows_behind f (n.given s i f j)
 
-    more_given : (b : Bool) (now : ℕ) (s : Sent) → In s (x.sents ++ sent_if b (sent_by x.end now)) → (f : FrameValue) → In f s.frames → Given t f
-    more_given true now s i f j = elim (in_more s (sent_by x.end now) x.sents i) [
-      | inl old ↦ old_given s old f j
-      | inr new ↦ given_grows x.end.streams t grows_behind f (polled_given x.end now written.shape n.stops (λ k t among. tracked_stops (λ id. Receives x.end.streams id) (λ u i g j. n.given u i (stop_sending g) j) k t among) f (subst (λ (u : Sent). In f u.frames) new j))
-    ]
-    more_given false now s i f j = old_given s (subst (In s) (append-nil x.sents) i) f j
+    more_given : (k : Call) → IsAnswer x.policy x.end y.given k a → (s : Sent) → In s (sents_by x.policy x.end k a) → (f : FrameValue) → In f s.frames → Given x.end.streams f
+    more_given (calls.Poll now) is s i f j = sent_fine (Given x.end.streams) (λ c. tt) (λ c. tt) tt x.policy x.end now (rests.packets x y c.gives).owes
+        (λ opened. polled_given x.end now written.shape n.stops (λ k t among. tracked_stops (λ id. Receives x.end.streams id) (λ u i g j. n.given u i (stop_sending g) j) k t among))
+        s (subst (λ (b : Answer). In s (sent_if (gave b) (sent_by x.policy x.end now))) (poll_answer x.policy x.end now a is c.served) i) f j
+    more_given k is s i f j = absurd i
 
-    given_behind : (k : Call) → (s : Sent) → In s (x.sents ++ sents_by x.end k a) → (f : FrameValue) → In f s.frames → Given t f
-    given_behind (calls.Poll now) s i f j = more_given (gave a) now s i f j
-    given_behind k s i f j = old_given s (subst (In s) (append-nil x.sents) i) f j
+    given_behind : (s : Sent) → In s (x.sents ++ sents_by x.policy x.end call a) → (f : FrameValue) → In f s.frames → Given t f
+    given_behind s i f j = elim (in_append s x.sents (sents_by x.policy x.end call a) i) [
+      | inl old ↦ old_given s old f j
+      | inr new ↦ given_grows x.end.streams t grows_behind f (more_given call c.answer s new f j)
+    ]
 
     pub names_behind : NamesHold (called x y.given call a) y
-    names_behind = record { given = given_behind call; stops = stops_behind }
+    names_behind = record { given = given_behind; stops = stops_behind }
 
 pub names_group : (B : Way) → RestsOn B → Group B NamesHold
 names_group B rests = record {

@@ -1,4 +1,5 @@
--- The streams of the peer's that an end has are those that frames opened which came, and those below them (RFC 9000, sections 2.1 and 3.2).
+-- The streams of the peer's that an end has are those that frames opened which came, and those
+-- below them (RFC 9000, sections 2.1 and 3.2).
 use Rattle.std.proofs.Common.{◌≡◌, ℕ, ◌+◌, ◌<◌, ◌≤◌, ◌⊎◌, inl, inr, Bool, true, false, List, ◌∷◌, Option, Some, None, refl, sym, ◌∙◌, subst, arith}
 use Rattle.std.specs.Prelude.{nat_lt, nat_le, ◌&&◌, if◌then◌else◌}
 use Rattle.std.proofs.lemmas.Bool.{cond_both, ltb-true}
@@ -129,7 +130,8 @@ in_more (Some r) p q ps (inr i) = inr (inr i)
 
 -- ---- the group
 
--- the peer's streams at x are those that frames opened which came; while x is open, it closed at none of them
+-- the peer's streams at x are those that frames opened which came; while x is open, it closed at
+-- none of them
 record Holds (here : Side) (e : End) (j : Intake) : Type 0 where
   still : e.closing.state ≡ states.Open → j.part ≡ None
   reached : Reached (WasIn (came_in j)) here e.streams
@@ -154,16 +156,22 @@ module _ (B : Way) (packets : (x y : Party) → B x y → PacketsHold x y) (x y 
   arrives now s = record {
     ignored = λ reason. record { still = i.still; reached = i.reached };
     noted = λ state reason. record { still = i.still; reached = i.reached };
-    takes = λ state new none mark. record {
+    takes = λ words state new none mark. record {
       still = λ open_now. i.still state;
       reached = frames_reach (WasIn (came_in (with_taken came s.number s.frames))) x.side s.frames (begun x.end now s.number) (λ f j. record { packet = packet; was_taken = in_packets came.part packet (packet ∷ came.took) (inl refl); carried = j })
           (reached_wider (WasIn (came_in came)) (WasIn (came_in (with_taken came s.number s.frames))) x.side x.end.streams.side x.end.streams.opening.remote (was packet) i.reached);
     };
-    refuses = λ state new f fault. record {
+    drains = λ words state new close fault. record {
+      still = λ open_now. cc;
+      reached = frames_reach (WasIn (came_in (with_taken came s.number s.frames))) x.side s.frames (begun x.end now s.number) (λ f j. record { packet = packet; was_taken = in_packets came.part packet (packet ∷ came.took) (inl refl); carried = j })
+          (reached_wider (WasIn (came_in came)) (WasIn (came_in (with_taken came s.number s.frames))) x.side x.end.streams.side x.end.streams.opening.remote (was packet) i.reached);
+    };
+    refuses = λ words state new f fault. record {
       still = λ open_now. cc;
       reached = frames_reach (WasIn (came_in (with_refused came s.number s.frames))) x.side s.frames (begun x.end now s.number) (λ g j. record { packet = packet; was_taken = inl refl; carried = j })
           (reached_wider (WasIn (came_in came)) (WasIn (came_in (with_refused came s.number s.frames))) x.side x.end.streams.side x.end.streams.opening.remote (was_open (i.still state) packet) i.reached);
     };
+    exhausts = λ state. record { still = λ open_now. cc; reached = i.reached };
   }
     where
       packet : Packet
@@ -176,7 +184,7 @@ module _ (B : Way) (packets : (x y : Party) → B x y → PacketsHold x y) (x y 
       before : (after_call x.policy x.end y.given call a).closing.state ≡ states.Open → x.end.closing.state ≡ states.Open
       before open_now = elim (call_closes x.policy x.end y.given call a apart) [
         | inl k ↦ sym k.state ∙ open_now
-        | inr shut ↦ (let clash : states.Drained ≡ states.Open = sym shut.1 ∙ open_now in cc)
+        | inr shut ↦ absurd (shut.shut open_now)
       ]
 
   openers_step : Openers (called x y.given call a) y

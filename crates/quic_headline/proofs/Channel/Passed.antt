@@ -1,4 +1,5 @@
--- Each packet of an honest end passes at the other, where the limits that it was told are those that the other told: the parts put together, and the clauses.
+-- Each packet of an honest end passes at the other, where the limits that it was told are those
+-- that the other told: the parts put together, and the clauses.
 use Rattle.std.proofs.Common.{◌≡◌, ℕ, ◌≤◌}
 use Rattle.quic_machine.specs.declared.answers.State.TheVariants as states
 use Rattle.quic_machine.specs.Machine.{World}
@@ -16,6 +17,7 @@ use Rattle.quic_headline.proofs.Channel.Received.{Allows, Stays}
 use Rattle.quic_headline.proofs.Channel.Told.{stays_frame}
 use Rattle.quic_headline.proofs.Channel.Counts.{Ids, ids_group}
 use Rattle.quic_headline.proofs.Channel.Messages.{MessagesFit, messages_group}
+use Rattle.quic_headline.proofs.Channel.IdsAgree.{IdsAgree, agree_group}
 use Rattle.quic_headline.proofs.Channel.AllStreams.{size_in, AllStreams, all_streams_group}
 use Rattle.quic_headline.proofs.Channel.Assembled.{FitsOpen, sizes_stand}
 use Rattle.quic_headline.proofs.Channel.Passes.{passing_group}
@@ -33,7 +35,8 @@ writing = record {
   grows = λ x y call a c. grows_behind Before (λ x y h. h.1.0.0.0.0) x y call a c c.gives.1.0.0.0.1.0;
 }
 
--- What is known of limits: while y is open, it lets come what x was told of all streams, and what x wrote on each, and stays within what it told.
+-- What is known of limits: while y is open, it lets come what x was told of all streams, and what x
+-- wrote on each, and stays within what it told.
 pub record LimitsHold (W : Way) : Type 1 where
   pub group : Group Before W
   pub limit : (x y : Party) → W x y → y.end.closing.state ≡ states.Open → x.end.streams.sending.limit ≤ y.end.streams.receiving.announced
@@ -42,12 +45,17 @@ pub record LimitsHold (W : Way) : Type 1 where
 
 module _ (W : Way) (limits : LimitsHold W) where
   -- ids and messages, sums and limits
+  abbrev Names : Way
+  Names = And Ids (And MessagesFit IdsAgree)
+
   abbrev Parts : Way
-  Parts = And (And Ids MessagesFit) (And AllStreams W)
+  Parts = And Names (And AllStreams W)
 
   parts : Group Before Parts
-  parts = beside Before (And Ids MessagesFit) (And AllStreams W)
-      (beside Before Ids MessagesFit (ids_group Before (record { packets = writing.packets; written = writing.written }) (λ x y h. h.1.0.0.0.1.0.writes.keeps.few)) (messages_group Before)) (beside Before AllStreams W (all_streams_group Before writing) limits.group)
+  parts = beside Before Names (And AllStreams W)
+      (beside Before Ids (And MessagesFit IdsAgree) (ids_group Before (record { packets = writing.packets; written = writing.written }) (λ x y h. h.1.0.0.0.1.0.writes.keeps.few))
+      (beside Before MessagesFit IdsAgree (messages_group Before writing.packets) (agree_group Before writing.packets)))
+      (beside Before AllStreams W (all_streams_group Before writing) limits.group)
 
   sizes : SizesHold (And Before Parts) FitsOpen
   sizes = sizes_stand (And Before Parts) (record {
@@ -64,7 +72,7 @@ module _ (W : Way) (limits : LimitsHold W) where
   -- so each packet passes
   passing : blameless.IsPassing (And Parts PassesAt)
   passing = record {
-    group = both Before Parts PassesAt parts (passing_group (And Before Parts) (λ x y h. h.0.1.0.0.0.0) (λ x y h. h.1.0.0) (λ x y h. h.1.0.1) FitsOpen sizes);
+    group = both Before Parts PassesAt parts (passing_group (And Before Parts) (λ x y h. h.0.1.0.0.0.0) (λ x y h. h.1.0.0) (λ x y h. h.1.0.1.0) (λ x y h. h.1.0.1.1) FitsOpen sizes);
     passes = λ x y h. h.1.1;
   }
 

@@ -1,4 +1,5 @@
--- Each packet that an end gave passes at the other, where its frames pass by ids, by sizes and apart from streams: a group over all of these.
+-- Each packet that an end gave passes at the other, where its frames pass by ids, by sizes and
+-- apart from streams: a group over all of these.
 use Rattle.std.proofs.Common.{◌≡◌, refl, ◌∙◌}
 use Rattle.quic_wire.specs.Value.{FrameValue}
 use Rattle.quic_streams_state.specs.declared.state.StreamsState.{StreamsState}
@@ -13,9 +14,11 @@ use Rattle.quic_headline.proofs.Channel.Passing.{IdsPass, LetsPass, frames_pass,
 use Rattle.quic_headline.proofs.Channel.Given.{Grown, grown_same, frame_grows}
 use Rattle.quic_headline.proofs.Channel.Counts.{Ids, ids_stay, derived}
 use Rattle.quic_headline.proofs.Channel.Messages.{MessagesFit}
+use Rattle.quic_headline.proofs.Channel.IdSteps.{IdsGo, Comes, IdPasses, frame_go, id_passes}
+use Rattle.quic_headline.proofs.Channel.IdsAgree.{IdsAgree, from_now, each_comes, issued_near}
 use Rattle.quic_headline.proofs.Channel.Plain.{plain_pass, frame_next, frame_skipped, frame_transport}
 
-module _ (B : Way) (packets : (x y : Party) → B x y → PacketsHold x y) (ids : (x y : Party) → B x y → Ids x y) (messages : (x y : Party) → B x y → MessagesFit x y) (Fits : Party → Party → StreamsState → Type 0) (sizes : SizesHold B Fits) where
+module _ (B : Way) (packets : (x y : Party) → B x y → PacketsHold x y) (ids : (x y : Party) → B x y → Ids x y) (messages : (x y : Party) → B x y → MessagesFit x y) (agree : (x y : Party) → B x y → IdsAgree x y) (Fits : Party → Party → StreamsState → Type 0) (sizes : SizesHold B Fits) where
   module _ (x y : Party) (h : B x y) (back : B y x) (s : Sent) (among : In s x.sents) where
     -- what lets the frames of a packet pass at an end that has taken some of them
     record Lets (e : End) : Type 0 where
@@ -24,28 +27,37 @@ module _ (B : Way) (packets : (x y : Party) → B x y → PacketsHold x y) (ids 
       next : e.numbers.next ≡ y.end.numbers.next
       skipped : e.filter.last ≡ y.end.filter.last
       transport : e.transport ≡ y.end.transport
+      numbers : IdsGo x.end.ids.peer.active x.end.ids.own.issued y.end.ids.own.issued y.end.ids.peer.active e.ids
 
     abbrev passes_id : (f : FrameValue) → In f s.frames → (e : End) → Lets e → IdsPass e.streams f
     passes_id f i e l = ids_stay y.end.streams e.streams l.grown f ((ids x y h).1.ids s among f i)
+
+    -- what a frame says of connection ids
+    comes : (f : FrameValue) → In f s.frames → Comes x.end.ids.peer.active x.end.ids.own.issued y.end.ids.own.issued y.end.ids.peer.active f
+    comes f i = each_comes x y (agree x y h) s among f i
+
+    id_passes_at : (f : FrameValue) → In f s.frames → (e : End) → Lets e → IdPasses e f
+    id_passes_at f i e l = id_passes x.end.ids.peer.active x.end.ids.own.issued y.end.ids.own.issued y.end.ids.peer.active f e (issued_near x y (agree x y h)) (comes f i) l.numbers
 
     lets : LetsPass (λ f. In f s.frames) Lets
     lets = record {
       ids = λ f e i l. passes_id f i e l;
       sizes = λ f e i l. sizes.sizes x y h s among f i e.streams l.fits (passes_id f i e l);
-      plain = λ f e i l. plain_pass x y (packets x y h) (packets y x back) s among f i ((ids x y h).0.0.given s among f i) (messages x y h) e l.next l.skipped l.transport;
+      plain = λ f e i l. plain_pass x y (packets x y h) (packets y x back) s among f i ((ids x y h).0.0.given s among f i) (messages x y h) e l.next l.skipped l.transport (id_passes_at f i e l);
       stays = λ f e i l. record {
         grown = frame_grows y.end.streams f e l.grown;
         fits = sizes.stays x y h s among f i e l.fits (passes_id f i e l);
         next = frame_next f e ∙ l.next;
         skipped = frame_skipped f e ∙ l.skipped;
         transport = frame_transport f e ∙ l.transport;
+        numbers = frame_go x.end.ids.peer.active x.end.ids.own.issued y.end.ids.own.issued y.end.ids.peer.active f e (comes f i) l.numbers;
       };
     }
 
   pub passes_at : (x y : Party) → B x y → B y x → PassesAt x y
   passes_at x y h back = record {
     passes = λ s among still_open now fault is.
-        frames_pass (λ f. In f s.frames) (Lets x y h back s among) (lets x y h back s among) s.frames (begun y.end now s.number) (λ f i. i) (record { grown = grown_same y.end.streams; fits = sizes.holds x y h still_open; next = refl; skipped = refl; transport = refl }) fault is;
+        frames_pass (λ f. In f s.frames) (Lets x y h back s among) (lets x y h back s among) s.frames (begun y.end now s.number) (λ f i. i) (record { grown = grown_same y.end.streams; fits = sizes.holds x y h still_open; next = refl; skipped = refl; transport = refl; numbers = from_now x.end.ids.peer.active x.end.ids.own.issued y.end.ids (agree y x back).stands.go }) fault is;
   }
 
   -- so it is at each place

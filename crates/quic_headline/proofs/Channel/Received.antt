@@ -1,4 +1,5 @@
--- What has come on the streams of an end is within what its peer was told, and how far this may come never falls, whatever is done about what the end sends (RFC 9000, section 4.1).
+-- What has come on the streams of an end is within what its peer was told, and how far this may
+-- come never falls, whatever is done about what the end sends (RFC 9000, section 4.1).
 use Rattle.std.proofs.Common.{◌≡◌, ℕ, ◌+◌, ◌≤◌, ◌∷◌, Bool, true, false, Option, Some, None, refl, sym, ap, ◌∙◌, subst, arith, inl, inr}
 use Rattle.std.specs.Prelude.{◌&&◌, ◌||◌, not, if◌then◌else◌}
 use Rattle.std.specs.List.{sum_by}
@@ -33,7 +34,8 @@ use Rattle.quic_headline.proofs.Channel.Below.{IsBelow, new_below, told_below}
 
 -- ---- how far the peer may come on a stream
 
--- by the receiving half: as far as the peer was told, on one that isn't in use yet as far as at first; what comes for one that is done isn't refused
+-- by the receiving half: as far as the peer was told, on one that isn't in use yet as far as at
+-- first; what comes for one that is done isn't refused
 abbrev pub AllowsIn : Side → Receiving → ℕ → ℕ → Type 0
 AllowsIn side r id n = HalfIs (n ≤ r.stream_window) (λ (h : RecvHalf). n ≤ h.announced) (Unit {0}) (at r.halves.live id) (has_place side r.halves.places id)
 
@@ -81,7 +83,8 @@ goes_on_below = record { opens = λ id i. tt; comes = λ id window i. new_below 
 below_kept : KeepsBy (λ r id old new. IsBelow old → IsBelow new) (λ s id old new. Unit {0}) (λ s id n old new. Unit {0}) (AllReceiving StatusBelow)
 below_kept = each_kept StatusBelow goes_on_below
 
--- what comes, is read or is stopped of a half where all lies below what was seen, and where the final size is known, that is what was seen
+-- what comes, is read or is stopped of a half where all lies below what was seen, and where the
+-- final size is known, that is what was seen
 abbrev pub Comes : Receiving → ℕ → RecvHalf → RecvHalf → Type 0
 Comes r id old new = IsBelow old → EndsThere old → ReceivesOn r old new × IsBelow new
 

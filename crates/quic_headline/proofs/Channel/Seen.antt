@@ -1,4 +1,5 @@
--- What an end saw of all streams is the sum of what it saw of each, which is no more than was written there.
+-- What an end saw of all streams is the sum of what it saw of each, which is no more than was
+-- written there.
 use Rattle.std.proofs.Common.{◌≡◌, ℕ, ◌+◌, ◌-◌, ◌^◌, ◌<◌, ◌≤◌, max, Bool, true, false, Option, Some, None, refl, sym, ap, ◌∙◌, subst, inl, inr, arith}
 use Rattle.std.specs.Prelude.{◌==◌, ◌&&◌, ◌||◌, not, if◌then◌else◌}
 use Rattle.std.specs.List.{sum_by}

@@ -1,4 +1,5 @@
--- Limits and final sizes: a frame that says what was written agrees with the final size of its stream, and passes where the limits let it come.
+-- Limits and final sizes: a frame that says what was written agrees with the final size of its
+-- stream, and passes where the limits let it come.
 use Rattle.std.proofs.Common.{◌≡◌, ℕ, ◌+◌, ◌-◌, ◌^◌, ◌<◌, ◌≤◌, max, Bool, true, false, length, Option, Some, None, refl, arith}
 use Rattle.std.specs.Prelude.{nat_lt, nat_le, ◌==◌}
 use Rattle.std.proofs.lemmas.Bool.{le-ltb, lt-leb, eq-eqb, ltb-false}
@@ -27,7 +28,8 @@ use Rattle.quic_headline.proofs.Channel.AllStreams.{ids, as_many, size_in, SeenO
 
 -- ---- final sizes
 
--- bytes up to an offset of what was written, with the end only where that is all of it, agree with the final size
+-- bytes up to an offset of what was written, with the end only where that is all of it, agree with
+-- the final size
 sizes_agree : (w : Wrote) (r : Reads) (h : RecvHalf) → IsRecvHalf w r h → (end : ℕ) (fin : Bool) → end ≤ length w.bytes → (fin ≡ true → end ≡ length w.bytes) → breaks_final h.final h.seen end fin ≡ false
 sizes_agree w r h i end fin fits last = go h.final refl fin refl
   where

@@ -1,4 +1,5 @@
--- STOP_SENDING that waits at an end is for streams of which something is known, where it is added for such streams alone and what was lost was: after each call, and what comes.
+-- STOP_SENDING that waits at an end is for streams of which something is known, where it is added
+-- for such streams alone and what was lost was: after each call, and what comes.
 use Rattle.std.proofs.Common.{◌≡◌, ℕ, Bool, true, false, List, [], ◌∷◌, Option, Some, None, Result, Ok, Err, refl, sym, subst, inl, inr}
 use Rattle.std.specs.Prelude.{if◌then◌else◌, ◌==◌}
 use Rattle.std.specs.Option.{is_some}
@@ -32,7 +33,7 @@ use Rattle.quic_machine.specs.Policy.{Policy}
 use Rattle.quic_machine.specs.Tracking.{Carried, TrackedPacket, and_again, carried_in}
 use Rattle.quic_machine.specs.Calls.{is_open, after_nexts}
 use Rattle.quic_machine.specs.StreamCalls.{if_ok, after_on_streams}
-use Rattle.quic_machine.specs.End.{End, streams_at}
+use Rattle.quic_machine.specs.End.{End, streams_at, with_closing}
 use Rattle.quic_machine.specs.Receive.{take_frame}
 use Rattle.quic_machine.specs.Poll.{Draft, composed}
 use Rattle.quic_machine.specs.DraftLaws.{Writing, by_writing}
@@ -47,6 +48,8 @@ use Rattle.quic_machine.specs.FrameCases.{OnStreams}
 use Rattle.quic_machine.specs.Steps as steps
 use Rattle.quic_headline.specs.Runs.{Packet, In}
 use Rattle.quic_headline.specs.Observer.{Sent}
+use Rattle.quic_machine.specs.Closing.{ticked}
+use Rattle.quic_headline.proofs.Packets.Apart.{by_waits, by_next_id}
 use Rattle.quic_headline.proofs.Packets.Growth.{in_more}
 use Rattle.quic_headline.proofs.Packets.Named.{SettlesOn}
 use Rattle.quic_headline.proofs.Places.Told.{in_append}
@@ -184,7 +187,10 @@ module _ (Q : ℕ → Type 0) where
     on_streams = λ on answer. calls_stops (is_open e.closing.state) (streams_at e) call a known i;
     on_messages = λ on answer. i;
     pings = i;
-    times = λ now expiry set. by_expired e now (λ (f : End). StopsOf Q f.waiting.frames) (λ pending tracking timers runs packets. i) (λ pending timers runs. expiry_stays (λ (t : Streams). StopsOf Q t.pending) e now (losing e.tracking.packets carried) i pending timers) expiry;
+    closes = λ reason f now own. i;
+    waits = λ now b set. by_waits (λ (f : End). StopsOf Q f.waiting.frames) b (with_closing e (ticked e.closing now)) i i;
+    changes_id = λ uses answer. by_next_id (λ (f : End). StopsOf Q f.waiting.frames) e a i (λ c. i) (λ c most. i);
+    times = λ now expiry set. by_expired p.words e now (λ (f : End). StopsOf Q f.waiting.frames) (λ pending tracking timers waits asked runs packets. i) (λ pending timers waits asked runs. expiry_stays (λ (t : Streams). StopsOf Q t.pending) e now (losing e.tracking.packets carried) i pending timers waits asked) (λ x j. j) expiry;
     polls = λ now set. poll_streams (λ (t : Streams). StopsOf Q t.pending) p e now composed_stops i (ready_stays (λ (t : Streams). StopsOf Q t.pending) e now (losing e.tracking.packets carried) i);
     hears = λ arrival d set. cc;
     tells = λ asks. by_event e (λ (f : End). StopsOf Q f.waiting.frames) i (λ told. i);

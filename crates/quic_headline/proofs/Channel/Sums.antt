@@ -1,4 +1,5 @@
--- Sums over all streams: what an application wrote on each is no more than all that its calls wrote.
+-- Sums over all streams: what an application wrote on each is no more than all that its calls
+-- wrote.
 use Rattle.std.proofs.Common.{◌≡◌, ℕ, zero, suc, ◌+◌, ◌<◌, ◌≤◌, Bool, List, [], ◌∷◌, ◌++◌, length, take, Ok, refl, sym, ap, inl, inr, arith}
 use Rattle.std.specs.Prelude.{◌==◌, if◌then◌else◌}
 use Rattle.std.proofs.lemmas.Bool.{cases_eq, cases_lt, ne_eqb, eq-eqb}

@@ -1,5 +1,6 @@
--- How far an end told its peer that it may come, on all streams and on each, the peer may come at it, whatever it does later (RFC 9000, sections 4.1, 19.9 and 19.10).
-use Rattle.std.proofs.Common.{◌≡◌, ℕ, zero, suc, ◌≤◌, List, [], ◌∷◌, ◌++◌, replicate, Option, Some, sym, ap, subst, inl, inr, arith}
+-- How far an end told its peer that it may come, on all streams and on each, the peer may come at
+-- it, whatever it does later (RFC 9000, sections 4.1, 19.9 and 19.10).
+use Rattle.std.proofs.Common.{◌≡◌, ◌⊎◌, ℕ, zero, suc, ◌≤◌, List, [], ◌∷◌, ◌++◌, replicate, Option, Some, sym, ap, subst, inl, inr, arith}
 use Rattle.quic_wire.specs.Value.{FrameValue, padding, stream, max_data, max_stream_data}
 use Rattle.quic_streams_parts.specs.Table.{at}
 use Rattle.quic_streams_parts.specs.TableLaws.{at-put}
@@ -18,12 +19,14 @@ use Rattle.quic_machine.specs.declared.run.Call.TheVariants as calls
 use Rattle.quic_machine.specs.declared.run.Answer.{Answer}
 use Rattle.quic_machine.specs.declared.run.Answer.TheVariants as answers
 use Rattle.quic_machine.specs.Policy.{Policy}
-use Rattle.quic_machine.specs.End.{End}
+use Rattle.quic_machine.specs.Closing.{ticked}
+use Rattle.quic_machine.specs.End.{End, with_closing, closed_by}
 use Rattle.quic_machine.specs.Receive.{Outcome, take_frame}
-use Rattle.quic_machine.specs.Poll.{zeros_behind, Draft, Polled, polled, draft_as, draft_of, Leaving, Ready}
-use Rattle.quic_machine.specs.DraftLaws.{Writing, by_leave, MayLeave}
+use Rattle.quic_machine.specs.Poll.{zeros_behind, Draft, polled, draft_as, Leaving}
+use Rattle.quic_machine.specs.Poll as poll
+use Rattle.quic_machine.specs.DraftLaws.{Writing, by_leave, MayLeave, IsClose}
 use Rattle.quic_machine.specs.Puts as puts
-use Rattle.quic_machine.specs.PollCases.{frames_padded, frames_at, by_poll, at_poll}
+use Rattle.quic_machine.specs.PollCases.{ready_at, draft_at, frames_at, may_leave_at}
 use Rattle.quic_machine.specs.FrameCases.{begun, passed, frames_keep}
 use Rattle.quic_machine.specs.Machine.{IsAnswer, after_call, gave}
 use Rattle.quic_headline.specs.Runs.{In, Intake}
@@ -31,9 +34,11 @@ use Rattle.quic_headline.specs.Observer.{Sent}
 use Rattle.quic_headline.proofs.Packets.Growth.{in_more}
 use Rattle.quic_headline.proofs.Packets.Delivered.{Arrivals}
 use Rattle.quic_headline.proofs.Packets.Group.{meets}
+use Rattle.quic_headline.proofs.Packets.Sends.{GivesClose, by_sends}
+use Rattle.quic_headline.proofs.Packets.Owing.{Owes, error_owes, close_is, close_alone, closes_fine}
 use Rattle.quic_headline.proofs.Places.Told.{in_append}
 use Rattle.quic_headline.proofs.Places.Steps.{poll_answer}
-use Rattle.quic_headline.proofs.Places.Parties.{Party, called, came_to, sent_by, sent_if, sents_by}
+use Rattle.quic_headline.proofs.Places.Parties.{Party, called, came_to, sent_as, sent_by, sent_if, sents_by}
 use Rattle.quic_headline.proofs.Places.Groups.{Way, Calls}
 use Rattle.quic_headline.proofs.Places.Coming.{by_coming}
 use Rattle.quic_headline.proofs.Halves.Ghosts.{wrote, IsWriting}
@@ -41,7 +46,7 @@ use Rattle.quic_headline.proofs.Halves.QuietSteps.{frame_quiet, sent_within}
 use Rattle.quic_headline.proofs.Halves.ReadCalls.{IsKept, call_kept}
 use Rattle.quic_headline.proofs.Channel.Below.{frame_below, reset_below, read_below, begun_below, stopped_below}
 use Rattle.quic_headline.proofs.Channel.Received.{Allows, Stays, stays_self, stays_then, stays_kept}
-use Rattle.quic_headline.proofs.Packets.Probes.{may_leave}
+use Rattle.quic_headline.proofs.Packets.Probes.{ready_state, by_going}
 
 -- ---- calls and frames
 
@@ -141,24 +146,32 @@ padded_told s fs count all f i = elim (in_append f fs (replicate count padding) 
 abbrev pub AllTold : StreamsState → List Sent → Type 0
 AllTold s sents = (t : Sent) → In t sents → (f : FrameValue) → In f t.frames → IsTold s f
 
+-- a close tells nothing, nor does PADDING
+close_told : (s : StreamsState) (f : FrameValue) → IsClose f ⊎ (f ≡ padding) → IsTold s f
+close_told s = closes_fine (IsTold s) (λ c. tt) (λ c. tt) tt
+
 -- what a poll gives is told at the end that it leaves
-poll_told : (p : Policy) (e : End) (now : ℕ) → Stays e.streams e.streams → AllTold (polled p e now).end.streams (sent_if (gave (answers.Poll (polled p e now).answer)) (sent_by e now))
-poll_told p e now i = by_poll p e now (λ (q : Polled). AllTold q.end.streams (sent_if (gave (answers.Poll q.answer)) (sent_by e now))) (record {
+poll_told : (p : Policy) (e : End) (now : ℕ) → Owes e → Stays e.streams e.streams → AllTold (polled p e now).end.streams (sent_if (gave (answers.Poll (polled p e now).answer)) (sent_by p e now))
+poll_told p e now owes i = by_sends p e now (λ q sents. AllTold q.end.streams sents) (record {
   silent = λ t j. absurd j;
   failed = λ t j. absurd j;
-  nothing = λ c t j. absurd j;
-  closes = λ c t j. absurd j;
-  gives = λ leaving c left is may ready some t j f k. (
-      let there : End = at_poll e now c in
-      let d : Draft = draft_as leaving there in
-      let frames_are : frames_at e now ≡ frames_padded d = ap (λ (g : Ready). frames_padded (draft_of g)) ready in
-      let among : In f (frames_at e now) = one t j f k in
-      padded_told d.end.streams d.frames (zeros_behind d) (draft_tells e.streams leaving there (may_leave e now leaving there ready) i).frames f (subst (In f) frames_are among));
+  nothing = λ is none t j. absurd j;
+  repeats = λ is. closing (with_closing e (ticked e.closing now)) owes;
+  closes = λ reason is bound. closing (closed_by reason (ready_at e now).end) (error_owes reason (ready_at e now).end);
+  gives = λ is bound some. by_going (λ (x : End). AllTold x.streams (sent_as e now (draft_at e now) ∷ [])) p (draft_at e now) (λ going. one (draft_at e now).end.streams (sent_as e now (draft_at e now)) all);
 })
   where
-    one : (t : Sent) → In t (sent_by e now ∷ []) → (f : FrameValue) → In f t.frames → In f (frames_at e now)
-    one t (inl is) f k = subst (λ (u : Sent). In f u.frames) is k
-    one t (inr none) f k = absurd none
+    one : (s : StreamsState) (t : Sent) → ((f : FrameValue) → In f t.frames → IsTold s f) → AllTold s (t ∷ [])
+    one s t told u (inl is) f k = told f (subst (λ (v : Sent). In f v.frames) is k)
+    one s t told u (inr none) f k = absurd none
+
+    all : (f : FrameValue) → In f (frames_at e now) → IsTold (draft_at e now).end.streams f
+    all =
+        let d : Draft = draft_at e now in
+        padded_told d.end.streams d.frames (zeros_behind d) (draft_tells e.streams (ready_at e now).leaving (ready_at e now).end (may_leave_at e now) (subst (Stays e.streams) (sym (ready_state e now)) i)).frames
+
+    closing : (x : End) → Owes x → GivesClose p e now (λ q sents. AllTold q.end.streams sents) x
+    closing x due = ((λ t j. absurd j), (λ f goes. one x.streams (sent_as e now (draft_as (poll.closing f) x)) (λ g among. close_told x.streams g (close_alone x f (close_is p x due f goes) g among))))
 
 -- ---- a call
 
@@ -176,17 +189,19 @@ module _ (B : Way) (w : IsWriting B) (x y : Party) (call : Call) (a : Answer) (c
       arrivals now n fs = record {
         ignored = λ reason. here;
         noted = λ state reason. here;
-        takes = λ state new none mark. stays_frames x.end.streams fs (begun x.end now n) here;
-        refuses = λ state new f is. stays_frames x.end.streams fs (begun x.end now n) here;
+        takes = λ words state new none mark. stays_frames x.end.streams fs (begun x.end now n) here;
+        drains = λ words state new close is. stays_frames x.end.streams fs (begun x.end now n) here;
+        refuses = λ words state new f is. stays_frames x.end.streams fs (begun x.end now n) here;
+        exhausts = λ state. here;
       }
 
   -- and what it gave is told
-  pub told_call : AllTold x.end.streams x.sents → AllTold (called x y.given call a).end.streams (x.sents ++ sents_by x.end call a)
-  told_call before t i = elim (in_append t x.sents (sents_by x.end call a) i) [
+  pub told_call : AllTold x.end.streams x.sents → AllTold (called x y.given call a).end.streams (x.sents ++ sents_by x.policy x.end call a)
+  told_call before t i = elim (in_append t x.sents (sents_by x.policy x.end call a) i) [
     | inl old ↦ λ f k. told_stays x.end.streams (called x y.given call a).end.streams f stays_call (before t old f k)
     | inr new ↦ go call c.answer t new
   ]
     where
-      go : (k : Call) → IsAnswer x.policy x.end y.given k a → AllTold (after_call x.policy x.end y.given k a).streams (sents_by x.end k a)
-      go (calls.Poll now) is = subst (λ (b : Answer). AllTold (polled x.policy x.end now).end.streams (sent_if (gave b) (sent_by x.end now))) (sym (poll_answer x.policy x.end now a is c.served)) (poll_told x.policy x.end now here)
+      go : (k : Call) → IsAnswer x.policy x.end y.given k a → AllTold (after_call x.policy x.end y.given k a).streams (sents_by x.policy x.end k a)
+      go (calls.Poll now) is = subst (λ (b : Answer). AllTold (polled x.policy x.end now).end.streams (sent_if (gave b) (sent_by x.policy x.end now))) (sym (poll_answer x.policy x.end now a is c.served)) (poll_told x.policy x.end now (w.packets x y c.gives).owes here)
       go k is = λ t j. absurd j

@@ -1,4 +1,5 @@
--- What an end wrote, and its limits, stay within what the other lets come, at each place of a run: a group over what is written and read (RFC 9000, section 4.1).
+-- What an end wrote, and its limits, stay within what the other lets come, at each place of a run:
+-- a group over what is written and read (RFC 9000, section 4.1).
 use Rattle.std.proofs.Common.{◌≡◌, ℕ, ◌≤◌, Bool, true, false, List, [], ◌∷◌, ◌++◌, length, None, refl, sym, ap, ◌∙◌, subst, arith}
 use Rattle.std.specs.Prelude.{if◌then◌else◌, ◌&&◌}
 use Rattle.quic_wire_core.specs.declared.stream_id.Dir.{Dir}
@@ -48,7 +49,7 @@ module _ (B : Way) (w : IsWriting B) (x y : Party) (call : Call) (a : Answer) (c
     none = λ delivery is. i.heard;
     comes = λ delivery is s among. (
         let all : Heard y.end.streams (passed s.frames (begun x.end delivery.now s.number)).end.streams = frames_heard y.end.streams s.frames (begun x.end delivery.now s.number) (λ f j. i.told s among f j) i.heard in
-        record { ignored = λ reason. i.heard; noted = λ state reason. i.heard; takes = λ state new none mark. all; refuses = λ state new f fault. all });
+        record { ignored = λ reason. i.heard; noted = λ state reason. i.heard; takes = λ words state new none mark. all; drains = λ words state new close fault. all; refuses = λ words state new f fault. all; exhausts = λ state. i.heard });
   })
 
   -- what it writes is within that

@@ -1,5 +1,5 @@
--- What each word about a half that receives may leave: all as it was, the half with another value, or the half done, once all of it was read, it was reset, or it was
--- stopped.
+-- What each word about a half that receives may leave: all as it was, the half with another value,
+-- or the half done, once all of it was read, it was reset, or it was stopped.
 use Rattle.std.proofs.Common.{◌≡◌, ℕ, Bool, true, false, not, Option, Some, None, Result, Ok, Err, refl, ap, ◌∙◌, inl, inr, ◌⊎◌}
 use Rattle.std.specs.Prelude.{◌&&◌, ◌||◌}
 use Rattle.std.specs.Option.{is_some}

@@ -1,4 +1,5 @@
--- So it is at each place of an honest run: each limit that an end said is within its windows of what was consumed.
+-- So it is at each place of an honest run: each limit that an end said is within its windows of
+-- what was consumed.
 use Rattle.std.proofs.Common.{◌≡◌, ℕ, Bool, true, false, List, [], ◌∷◌, ◌++◌, None, refl, sym, ap, ◌∙◌, subst, inl, inr}
 use Rattle.quic_wire_core.specs.StreamId.{other_side}
 use Rattle.quic_wire.specs.Value.{FrameValue, StreamValue, stream}
@@ -52,7 +53,8 @@ use Rattle.quic_headline.proofs.Credit.Said.{IsKnown, poll_within, poll_uses}
 
 -- ---- the group
 
--- y reads what x writes: while y is open, it consumed what the lists say or less; and what it said is within its windows of that
+-- y reads what x writes: while y is open, it consumed what the lists say or less; and what it said
+-- is within its windows of that
 pub record Credits (x y : Party) : Type 0 where
   pub still : y.end.closing.state ≡ states.Open → Of (Uses y.made.streams.receiving.window y.made.streams.receiving.stream_window (usage (came_to y x).took y.told)) y.end.streams
   pub said : (s : Sent) → In s y.sents → (f : FrameValue) → In f s.frames → StaysWithin y.made.streams.receiving.window y.made.streams.receiving.stream_window (came_to y x).took y.told f
@@ -100,16 +102,18 @@ module _ (B : Way) (w : IsWriting B) (within : (x y : Party) → B x y → Withi
       open_before : x.end.closing.state ≡ states.Open
       open_before = elim (call_closes x.policy x.end y.given call a apart) [
         | inl k ↦ sym k.state ∙ still
-        | inr shut ↦ (let clash : states.Drained ≡ states.Open = sym shut.1 ∙ still in cc)
+        | inr shut ↦ absurd (shut.shut still)
       ]
 
   comes_uses : (now : ℕ) (s : Sent) → Arrivals x.end now s.number s.frames (came_to x y) (λ (o : Outcome) (j : Intake). After o.end j)
   comes_uses now s = record {
     ignored = λ reason still. told_more x.end.streams (i.still still);
     noted = λ state reason still. (let clash : states.Closing ≡ states.Open = sym state ∙ still in cc);
-    takes = λ state new none mark still. frames_count wide each_wide x.end.streams later s.frames (begun x.end now s.number) (λ f among. frame_said p packets (x.told ++ t ∷ []) f among) here
+    takes = λ words state new none mark still. frames_count wide each_wide x.end.streams later s.frames (begun x.end now s.number) (λ f among. frame_said p packets (x.told ++ t ∷ []) f among) here
         (grown wide each_wide (usage packets x.told) later (uses_then (usage packets x.told) (usage packets (x.told ++ t ∷ [])) later (told_uses packets x.told t) (packet_uses p packets (x.told ++ t ∷ []))) x.end.streams (i.still state));
-    refuses = λ state new f is still. cc;
+    drains = λ words state new close is still. cc;
+    refuses = λ words state new f is still. cc;
+    exhausts = λ state still. cc;
   }
     where
       p : Packet
@@ -128,19 +132,19 @@ module _ (B : Way) (w : IsWriting B) (within : (x y : Party) → B x y → Withi
   -- ---- what was said
 
   abbrev Said : End → Intake → Type 0
-  Said e j = (s : Sent) → In s (x.sents ++ sents_by x.end call a) → (f : FrameValue) → In f s.frames → StaysWithin wide each_wide j.took (x.told ++ t ∷ []) f
+  Said e j = (s : Sent) → In s (x.sents ++ sents_by x.policy x.end call a) → (f : FrameValue) → In f s.frames → StaysWithin wide each_wide j.took (x.told ++ t ∷ []) f
 
   -- what was said before stays within
   said_before : (s : Sent) → In s x.sents → (f : FrameValue) → In f s.frames → StaysWithin wide each_wide packets (x.told ++ t ∷ []) f
   said_before s old f among = within_told wide each_wide packets x.told t f (i.said s old f among)
 
   -- a call but a poll says nothing
-  now_said : (k : Call) → IsAnswer x.policy x.end y.given k a → (s : Sent) → In s (sents_by x.end k a) → (f : FrameValue) → In f s.frames → StaysWithin wide each_wide packets x.told f
-  now_said (calls.Poll now) is s new f among = poll_within wide each_wide packets x.told x.end.streams done x.policy x.end now known s (subst (λ (b : Answer). In s (sent_if (gave b) (sent_by x.end now))) (poll_answer x.policy x.end now a is c.served) new) f among
+  now_said : (k : Call) → IsAnswer x.policy x.end y.given k a → (s : Sent) → In s (sents_by x.policy x.end k a) → (f : FrameValue) → In f s.frames → StaysWithin wide each_wide packets x.told f
+  now_said (calls.Poll now) is s new f among = poll_within wide each_wide packets x.told x.end.streams done x.policy x.end now (w.packets x y c.gives).owes known s (subst (λ (b : Answer). In s (sent_if (gave b) (sent_by x.policy x.end now))) (poll_answer x.policy x.end now a is c.served) new) f among
   now_said k is s new f among = absurd new
 
   all_said : Said x.end (came_to x y)
-  all_said s there f among = elim (in_append s x.sents (sents_by x.end call a) there) [
+  all_said s there f among = elim (in_append s x.sents (sents_by x.policy x.end call a) there) [
     | inl old ↦ said_before s old f among
     | inr new ↦ within_told wide each_wide packets x.told t f (now_said call c.answer s new f among)
   ]
@@ -152,8 +156,10 @@ module _ (B : Way) (w : IsWriting B) (within : (x y : Party) → B x y → Withi
     comes = λ delivery is s among. record {
       ignored = λ reason. all_said;
       noted = λ state reason. all_said;
-      takes = λ state new none mark q there f k. within_packet wide each_wide (record { number = s.number; frames = s.frames }) packets (x.told ++ t ∷ []) f (all_said q there f k);
-      refuses = λ state new f is. all_said;
+      takes = λ words state new none mark q there f k. within_packet wide each_wide (record { number = s.number; frames = s.frames }) packets (x.told ++ t ∷ []) f (all_said q there f k);
+      drains = λ words state new close fault q there f k. within_packet wide each_wide (record { number = s.number; frames = s.frames }) packets (x.told ++ t ∷ []) f (all_said q there f k);
+      refuses = λ words state new f is. all_said;
+      exhausts = λ state. all_said;
     };
   })
 

@@ -1,4 +1,5 @@
--- What an end consumed of each stream is no more than what the lists of a run say, whatever is called and whichever frames come.
+-- What an end consumed of each stream is no more than what the lists of a run say, whatever is
+-- called and whichever frames come.
 use Rattle.std.proofs.Common.{◌≡◌, ℕ, ◌+◌, ◌≤◌, Bool, true, false, not, ◌&&◌, ◌||◌, List, [], ◌∷◌, ◌++◌, length, Option, Some, None, Result, Ok, Err, refl, sym, ap, ◌∙◌, subst, arith, ◌⊎◌, inl, inr}
 use Rattle.std.specs.Prelude.{◌==◌, if◌then◌else◌, nat_lt}
 use Rattle.std.specs.Option.{is_some}
@@ -65,7 +66,8 @@ use Rattle.quic_headline.proofs.Credit.Lists.{Usage, usage, used_on, UsesMore, u
 abbrev pub IsSized : RecvHalf → Type 0
 IsSized h = (is_some h.final ≡ true) ⊎ (is_some h.reset ≡ true)
 
--- of a half in use: what was seen of it came, it was stopped and reset only where the lists say so, and something came where its final size is known
+-- of a half in use: what was seen of it came, it was stopped and reset only where the lists say so,
+-- and something came where its final size is known
 pub record IsCounted (u : Usage) (id : ℕ) (h : RecvHalf) : Type 0 where
   pub seen : h.seen ≤ u.top id
   pub halted : h.stopped ≡ true → u.halted id ≡ true
@@ -76,7 +78,8 @@ pub record IsCounted (u : Usage) (id : ℕ) (h : RecvHalf) : Type 0 where
 abbrev pub IsReadUp : Usage → ℕ → Type 0
 IsReadUp u id = (u.ended id || (u.halted id || u.cut id)) ≡ true
 
--- of one that is done: as much came, and was consumed; nothing more is read of it, and something came
+-- of one that is done: as much came, and was consumed; nothing more is read of it, and something
+-- came
 abbrev pub IsSpent : Usage → ℕ → ℕ → Type 0
 IsSpent u id m = (m ≤ u.top id) × (m ≤ used_on u id) × IsReadUp u id × (u.listed id ≡ true)
 

@@ -1,4 +1,5 @@
--- So it is of counts: each that an end said in MAX_STREAMS is at most as many as it lets its peer have at once, past those that are done.
+-- So it is of counts: each that an end said in MAX_STREAMS is at most as many as it lets its peer
+-- have at once, past those that are done.
 use Rattle.std.proofs.Common.{◌≡◌, ℕ, ◌+◌, ◌≤◌, Bool, true, false, cond, not, ◌&&◌, ◌||◌, List, [], ◌∷◌, ◌++◌, Option, Some, None, refl, sym, ap, ◌∙◌, subst, arith, inl, inr}
 use Rattle.std.specs.Option.{is_some}
 use Rattle.std.proofs.lemmas.Bool.{and_from, and_parts, or_cases, or_left, or_right, not_from_false}
@@ -218,7 +219,7 @@ module _ (w : IsWriting N) (x y : Party) (call : Call) (a : Answer) (c : Calls N
     none = λ delivery is. i.counts;
     comes = λ delivery is s among. (
         let all : CountsDone (passed s.frames (begun x.end delivery.now s.number)).end.streams = frames_keep (λ (e : End). CountsDone e.streams) done_frame s.frames (begun x.end delivery.now s.number) i.counts in
-        record { ignored = λ reason. i.counts; noted = λ state reason. i.counts; takes = λ state new none mark. all; refuses = λ state new f fault. all });
+        record { ignored = λ reason. i.counts; noted = λ state reason. i.counts; takes = λ words state new none mark. all; drains = λ words state new close fault. all; refuses = λ words state new f fault. all; exhausts = λ state. i.counts });
   })
 
   -- what is said of counts
@@ -251,6 +252,8 @@ module _ (w : IsWriting N) (x y : Party) (call : Call) (a : Answer) (c : Calls N
     sent = λ fair s id room h found k. k;
     limits = goes_within;
     pads = tt;
+    challenges = λ word. tt;
+    responses = λ r. tt;
     pings = tt;
     connection_closes = λ c. tt;
     application_closes = λ c. tt;
@@ -260,17 +263,17 @@ module _ (w : IsWriting N) (x y : Party) (call : Call) (a : Answer) (c : Calls N
   }
 
   -- a call but a poll says nothing, and a poll no more than that
-  now_said : (k : Call) → IsAnswer x.policy x.end y.given k a → (s : Sent) → In s (sents_by x.end k a) → (f : FrameValue) → In f s.frames → Within packets x.told f
-  now_said (calls.Poll now) is s new f among = poll_fine AsThere (Within packets x.told) fine x.policy x.end now (λ open_here. (open_here, refl, c.gives.1.1.says.configured)) s (subst (λ (b : Answer). In s (sent_if (gave b) (sent_by x.end now))) (poll_answer x.policy x.end now a is c.served) new) f among
+  now_said : (k : Call) → IsAnswer x.policy x.end y.given k a → (s : Sent) → In s (sents_by x.policy x.end k a) → (f : FrameValue) → In f s.frames → Within packets x.told f
+  now_said (calls.Poll now) is s new f among = poll_fine AsThere (Within packets x.told) fine x.policy x.end now (w.packets x y c.gives).owes (λ open_here. (open_here, refl, c.gives.1.1.says.configured)) s (subst (λ (b : Answer). In s (sent_if (gave b) (sent_by x.policy x.end now))) (poll_answer x.policy x.end now a is c.served) new) f among
   now_said k is s new f among = absurd new
 
   abbrev Said : End → Intake → Type 0
-  Said e j = (s : Sent) → In s (x.sents ++ sents_by x.end call a) → (f : StreamCountValue) → In (max_streams f) s.frames → f.count ≤ bound j.took (x.told ++ t ∷ []) f.one_way
+  Said e j = (s : Sent) → In s (x.sents ++ sents_by x.policy x.end call a) → (f : StreamCountValue) → In (max_streams f) s.frames → f.count ≤ bound j.took (x.told ++ t ∷ []) f.one_way
 
   all_said : Said x.end (came_to x y)
   all_said s among f carried =
       let more = told_over x.side (dir_named f.one_way) packets x.told t in
-      elim (in_append s x.sents (sents_by x.end call a) among) [
+      elim (in_append s x.sents (sents_by x.policy x.end call a) among) [
         | inl old ↦ (let was = i.said s old f carried in omega (arith, more, was))
         | inr new ↦ (let now : f.count ≤ bound packets x.told f.one_way = now_said call c.answer s new (max_streams f) carried in omega (arith, more, now))
       ]
@@ -282,11 +285,16 @@ module _ (w : IsWriting N) (x y : Party) (call : Call) (a : Answer) (c : Calls N
     comes = λ delivery is s among. record {
       ignored = λ reason. all_said;
       noted = λ state reason. all_said;
-      takes = λ state new none mark q there f carried. (
+      takes = λ words state new none mark q there f carried. (
           let was = all_said q there f carried in
           let more = packet_over x.side (dir_named f.one_way) (record { number = s.number; frames = s.frames }) packets (x.told ++ t ∷ []) in
           omega (arith, was, more));
-      refuses = λ state new f is. all_said;
+      drains = λ words state new close fault q there f carried. (
+          let was = all_said q there f carried in
+          let more = packet_over x.side (dir_named f.one_way) (record { number = s.number; frames = s.frames }) packets (x.told ++ t ∷ []) in
+          omega (arith, was, more));
+      refuses = λ words state new f is. all_said;
+      exhausts = λ state. all_said;
     };
   })
 

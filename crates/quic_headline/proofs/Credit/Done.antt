@@ -1,4 +1,5 @@
--- How many streams of its peer's an end counts as done: no more than there are whose halves are done both ways, each once (RFC 9000, section 4.6).
+-- How many streams of its peer's an end counts as done: no more than there are whose halves are
+-- done both ways, each once (RFC 9000, section 4.6).
 use Rattle.std.proofs.Common.{◌≡◌, ℕ, ◌+◌, ◌<◌, ◌≤◌, Bool, true, false, ◌==◌, not, ◌&&◌, ◌||◌, Option, Some, None, refl, sym, ap, ◌∙◌, subst, arith, inl, inr}
 use Rattle.std.specs.Prelude.{if◌then◌else◌}
 use Rattle.std.proofs.lemmas.Bool.{cases_eq, and_parts, or_cases, both_ways, not-true, false_from_ne_true, eq-eqb, ne_eqb, cond-true, cond-false, cond_both}
@@ -36,7 +37,8 @@ use Rattle.quic_headline.proofs.Channel.AllStreams.{ids}
 
 -- ---- which streams are
 
--- of a stream that isn't one of these, the half that receives may have come any way; of one that is, it is done
+-- of a stream that isn't one of these, the half that receives may have come any way; of one that
+-- is, it is done
 abbrev pub IsLeft : Bool → Status RecvHalf → Type 0
 IsLeft b unknown = b ≡ false
 IsLeft b fresh = b ≡ false
@@ -56,7 +58,8 @@ mark false = 0
 abbrev pub marked : (ℕ → Bool) → Dir → ℕ → ℕ
 marked both dir id = mark (same_dir (dir_of id) dir && both id)
 
--- no more streams count as done than these: they are the peer's, their halves that receive are done, and so are those that send, where they run both ways
+-- no more streams count as done than these: they are the peer's, their halves that receive are
+-- done, and so are those that send, where they run both ways
 pub record CountsDone (s : StreamsState) : Type 0 where
   pub few : AreFew s
   pub both : ℕ → Bool

@@ -1,4 +1,5 @@
--- What holds of the frames that go into a datagram, where something is known of the streams that each of them leaves known, and from which it follows of each limit.
+-- What holds of the frames that go into a datagram, where something is known of the streams that
+-- each of them leaves known, and from which it follows of each limit.
 use Rattle.std.proofs.Common.{◌≡◌, ℕ, zero, suc, Bool, List, [], ◌∷◌, ◌++◌, replicate, Some, sym, subst, inl, inr}
 use Rattle.quic_wire.specs.Value.{FrameValue, AckValue, StreamValue, padding, ack, ping, stream, datagram, ConnectionCloseValue, ApplicationCloseValue, connection_close, application_close}
 use Rattle.quic_streams_parts.specs.Table.{at}
@@ -11,14 +12,17 @@ use Rattle.quic_machine.specs.declared.answers.State.TheVariants as states
 use Rattle.quic_machine.specs.declared.run.Answer.TheVariants as answers
 use Rattle.quic_machine.specs.Policy.{Policy}
 use Rattle.quic_machine.specs.End.{End}
-use Rattle.quic_machine.specs.Poll.{Polled, Draft, ack_of, zeros_behind, composed, polled, draft_as, Leaving}
-use Rattle.quic_machine.specs.PollCases.{ready_at, draft_at, frames_padded, by_poll_to, may_leave_at}
+use Rattle.quic_machine.specs.Poll.{Draft, ack_of, zeros_behind, composed, polled, draft_as, Leaving}
+use Rattle.quic_machine.specs.PollCases.{ready_at, draft_at, may_leave_at}
 use Rattle.quic_machine.specs.DraftLaws.{Writing, by_writing, by_leave, MayLeave}
+use Rattle.quic_paths.specs.Responses.{Response}
+use Rattle.quic_machine.specs.Validation.{challenge_frame, response_frame}
 use Rattle.quic_machine.specs.Puts as puts
 use Rattle.quic_machine.specs.Machine.{gave}
 use Rattle.quic_headline.specs.Runs.{In}
 use Rattle.quic_headline.specs.Observer.{Sent}
 use Rattle.quic_headline.proofs.Packets.Probes.{ready_state, poll_state}
+use Rattle.quic_headline.proofs.Packets.Owing.{Owes, sent_fine}
 use Rattle.quic_headline.proofs.Places.Parties.{sent_by, sent_if}
 use Rattle.quic_headline.proofs.Places.Told.{in_append}
 
@@ -28,6 +32,8 @@ pub record AreFine (Known : StreamsState → Type 0) (Fine : FrameValue → Type
   pub sent : (fair : Bool) (s : StreamsState) (id room : ℕ) (h : SendHalf) → at s.sending.halves.live id ≡ Some h → Known s → Known (after_frame_sent fair s id h room)
   pub limits : (p : Retransmits) (s : StreamsState) (f : FrameValue) → Known s → Goes p s f → Fine f
   pub pads : Fine padding
+  pub challenges : (word : ℕ) → Fine (challenge_frame word)
+  pub responses : (r : Response) → Fine (response_frame r)
   pub pings : Fine ping
   pub connection_closes : (c : ConnectionCloseValue) → Fine (connection_close c)
   pub application_closes : (c : ApplicationCloseValue) → Fine (application_close c)
@@ -65,28 +71,20 @@ module _ (Known : StreamsState → Type 0) (Fine : FrameValue → Type 0) (k : A
   writing (puts.stream id h room) d (found, first, some, is, counts) j = (k.sent d.end.transport.send_fairness d.end.streams id room h found j.0, and_fine d.frames (stream (frame_of id h room)) j.1 (k.streams (frame_of id h room)))
   writing (puts.connection_close c) d may j = (j.0, and_fine d.frames (connection_close c) j.1 (k.connection_closes c))
   writing (puts.application_close c) d may j = (j.0, and_fine d.frames (application_close c) j.1 (k.application_closes c))
+  writing (puts.challenge word) d may j = (j.0, and_fine d.frames (challenge_frame word) j.1 (k.challenges word))
+  writing (puts.response r) d may j = (j.0, and_fine d.frames (response_frame r) j.1 (k.responses r))
   writing p d may j = (j.0, and_fine d.frames _ j.1 k.pings)
 
   draft_is : (leaving : Leaving) (e : End) → MayLeave leaving e → Known e.streams → DraftIs (draft_as leaving e)
   draft_is leaving e due known = by_leave DraftIs writing leaving e due (known, λ f i. absurd i)
 
   -- what a poll gives is fine, where so much is known of an end that is open
-  pub poll_fine : (p : Policy) (e : End) (now : ℕ) → (e.closing.state ≡ states.Open → Known e.streams) → (t : Sent) → In t (sent_if (gave (answers.Poll (polled p e now).answer)) (sent_by e now)) → (f : FrameValue) → In f t.frames → Fine f
-  poll_fine p e now known = by_poll_to p e now (λ (q : Polled). (t : Sent) → In t (sent_if (gave (answers.Poll q.answer)) (sent_by e now)) → (f : FrameValue) → In f t.frames → Fine f) (record {
-    silent = λ t i. absurd i;
-    failed = λ t i. absurd i;
-    nothing = λ is none t i. absurd i;
-    closes = λ t i. absurd i;
-    gives = λ is numbered some t i f j. (
-        let d : Draft = draft_at e now in
-        let ready : Known (ready_at e now).end.streams = subst Known (sym (ready_state e now)) (known is) in
-        let all : DraftIs d = draft_is (ready_at e now).leaving (ready_at e now).end (may_leave_at e now) ready in
-        padded_fine d.frames (zeros_behind d) all.1 f (one t i f j));
-  })
-    where
-      one : (t : Sent) → In t (sent_by e now ∷ []) → (f : FrameValue) → In f t.frames → In f (frames_padded (draft_at e now))
-      one t (inl is) f j = subst (λ (s : Sent). In f s.frames) is j
-      one t (inr none) f j = absurd none
+  pub poll_fine : (p : Policy) (e : End) (now : ℕ) → Owes e → (e.closing.state ≡ states.Open → Known e.streams) → (t : Sent) → In t (sent_if (gave (answers.Poll (polled p e now).answer)) (sent_by p e now)) → (f : FrameValue) → In f t.frames → Fine f
+  poll_fine p e now owes known = sent_fine Fine k.connection_closes k.application_closes k.pads p e now owes (λ is. (
+      let d : Draft = draft_at e now in
+      let ready : Known (ready_at e now).end.streams = subst Known (sym (ready_state e now)) (known is) in
+      let all : DraftIs d = draft_is (ready_at e now).leaving (ready_at e now).end (may_leave_at e now) ready in
+      padded_fine d.frames (zeros_behind d) all.1))
 
   composed_known : (e : End) → Known e.streams → Known (composed e).end.streams
   composed_known e known = (by_writing DraftIs writing e (known, λ f i. absurd i)).0

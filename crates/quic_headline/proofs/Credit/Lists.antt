@@ -1,4 +1,5 @@
--- What the lists of a run say was consumed: of each stream, and of all; it only grows as more is told and more packets come.
+-- What the lists of a run say was consumed: of each stream, and of all; it only grows as more is
+-- told and more packets come.
 use Rattle.std.proofs.Common.{◌≡◌, ℕ, ◌+◌, ◌≤◌, max, Bool, true, false, List, [], ◌∷◌, ◌++◌, length, Option, Some, None, refl, sym, ap, ◌∙◌, subst, arith, ◌⊎◌, inl, inr}
 use Rattle.std.specs.Prelude.{◌==◌, ◌||◌, if◌then◌else◌}
 use Rattle.std.specs.List.{list_any, sum_by}
@@ -18,8 +19,8 @@ use Rattle.quic_headline.proofs.Channel.Sums.{sum_none}
 
 -- ---- one stream
 
--- of each stream: how far it came, how many bytes were read, whether it was stopped, whether its reset came, whether its end was read, and whether it is among those of
--- which something came
+-- of each stream: how far it came, how many bytes were read, whether it was stopped, whether its
+-- reset came, whether its end was read, and whether it is among those of which something came
 pub record Usage : Type 0 where
   pub top : ℕ → ℕ
   pub read : ℕ → ℕ

@@ -31,6 +31,7 @@ use Rattle.quic_headline.specs.Runs.{Told, Packet, In, reads, bytes_of}
 use Rattle.quic_headline.specs.Observer.{Sent}
 use Rattle.quic_headline.specs.Credit.{streams_of, consumed_on, all_consumed, StaysWithin}
 use Rattle.quic_headline.proofs.Places.Order.{bytes_same}
+use Rattle.quic_headline.proofs.Packets.Owing.{Owes}
 use Rattle.quic_headline.proofs.Places.Parties.{sent_by, sent_if}
 use Rattle.quic_headline.proofs.Halves.Ghosts.{read}
 use Rattle.quic_headline.proofs.Channel.AllStreams.{ids}
@@ -136,6 +137,8 @@ module _ (wide each_wide : ℕ) (packets : List Packet) (ts : List Told) (before
     };
     limits = goes_within;
     pads = tt;
+    challenges = λ word. tt;
+    responses = λ r. tt;
     pings = tt;
     connection_closes = λ c. tt;
     application_closes = λ c. tt;
@@ -145,8 +148,8 @@ module _ (wide each_wide : ℕ) (packets : List Packet) (ts : List Told) (before
   }
 
   -- what a poll gives stays within, where all is known of an end that is open
-  pub poll_within : (p : Policy) (e : End) (now : ℕ) → (e.closing.state ≡ states.Open → IsKnown e.streams) → (t : Sent) → In t (sent_if (gave (answers.Poll (polled p e now).answer)) (sent_by e now)) → (f : FrameValue) → In f t.frames → StaysWithin wide each_wide packets ts f
-  poll_within p e now k = poll_fine IsKnown (StaysWithin wide each_wide packets ts) fine p e now k
+  pub poll_within : (p : Policy) (e : End) (now : ℕ) → Owes e → (e.closing.state ≡ states.Open → IsKnown e.streams) → (t : Sent) → In t (sent_if (gave (answers.Poll (polled p e now).answer)) (sent_by p e now)) → (f : FrameValue) → In f t.frames → StaysWithin wide each_wide packets ts f
+  poll_within p e now owes k = poll_fine IsKnown (StaysWithin wide each_wide packets ts) fine p e now owes k
 
   -- and it leaves as much known
   pub poll_uses : (p : Policy) (e : End) (now : ℕ) → IsKnown e.streams → Of K (polled p e now).end.streams

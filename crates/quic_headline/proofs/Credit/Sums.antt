@@ -1,4 +1,5 @@
--- What an end consumed of all streams is the sum of what it consumed of each, with a fact of each half that receives, and one of what each that is done came to.
+-- What an end consumed of all streams is the sum of what it consumed of each, with a fact of each
+-- half that receives, and one of what each that is done came to.
 use Rattle.std.proofs.Common.{◌≡◌, ℕ, ◌+◌, ◌<◌, Bool, true, false, ◌==◌, not, ◌&&◌, ◌||◌, Option, Some, None, refl, sym, ap, ◌∙◌, subst, arith, ◌⊎◌, inl, inr}
 use Rattle.std.specs.List.{sum_by}
 use Rattle.std.specs.Map.{values_of}
@@ -25,7 +26,8 @@ use Rattle.quic_headline.proofs.Channel.AllStreams.{ids}
 use Rattle.quic_headline.proofs.Channel.Received.{Stays}
 use Rattle.quic_headline.proofs.Unread.Walk.{Of}
 
--- of a half that was never in use N is known, of one in use Q, and of one that is done, by its final size, D
+-- of a half that was never in use N is known, of one in use Q, and of one that is done, by its
+-- final size, D
 pub record SumsTo (N : ℕ → Type 0) (Q : ℕ → RecvHalf → Type 0) (D : ℕ → ℕ → Type 0) (side : Side) (r : Receiving) (announced configured : Counts) : Type 0 where
   pub final : ℕ → ℕ
   pub sum : consumed r ≡ sum_below ids (λ j. on_stream credit final side r.halves j)

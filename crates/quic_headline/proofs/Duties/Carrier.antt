@@ -1,4 +1,5 @@
--- What stands in one of a list: lists in two parts, tables of packets with one more, and lists from whose front one after another goes.
+-- What stands in one of a list: lists in two parts, tables of packets with one more, and lists from
+-- whose front one after another goes.
 use Rattle.std.proofs.Common.{◌≡◌, ℕ, ◌<◌, Bool, true, false, not, cond, List, [], ◌∷◌, ◌++◌, filter, Option, Some, None, refl, sym, ap, ◌∙◌, subst, ◌⊎◌, inl, inr, arith}
 use Rattle.std.specs.BTreeMap.{is_at}
 use Rattle.std.specs.List.{list_any}
@@ -121,7 +122,8 @@ ready_new e now number new = by_ready (λ (x : End). IsNew x.tracking.packets nu
   | inr same ↦ (λ is. new p.0 p.1 among (sym (ap (λ (x : ℕ × TrackedPacket). x.0) same) ∙ is))
 ]) (λ moment pacing discovery x i. i)
 
--- what stands in a packet that goes, or in tracked ones, stands in what is tracked then, where none of the tail has it: one of the tail may be forgotten
+-- what stands in a packet that goes, or in tracked ones, stands in what is tracked then, where none
+-- of the tail has it: one of the tail may be forgotten
 pub any_sent : (P : ℕ × TrackedPacket → Type 0) (t : Tracking) (n : ℕ) (p : TrackedPacket) → IsNew t.packets n → ((q : ℕ × TrackedPacket) → In q t.packets → is_behind t.greatest_asking q.0 ≡ true → P q → ⊥) → P (n, p) ⊎ AnyIn P t.packets → AnyIn P (after_sent t n p).packets
 any_sent P t n p new none i =
     let kept : Table TrackedPacket = without_packet (forgotten t p) t.packets in
@@ -134,7 +136,8 @@ any_sent P t n p new none i =
 
 -- ---- one after another
 
--- What each of a list carries is acknowledged or lost, and leaves L where it is good: then so does what they carry together.
+-- What each of a list carries is acknowledged or lost, and leaves L where it is good: then so does
+-- what they carry together.
 module _ (S U X : Type 0) (C : X → U → Type 0) (Good : X → Type 0) (L : (U → Type 0) → S → Type 0) (more : (F G : U → Type 0) (s : S) → ((u : U) → F u → G u) → L F s → L G s) (step : X → S → S)
     (one : (F : U → Type 0) (x : X) (s : S) → Good x → L (λ u. C x u ⊎ F u) s → L F (step x s)) (all : List X → S → S) (none : (s : S) → all [] s ≡ s) (first : (x : X) (xs : List X) (s : S) → all (x ∷ xs) s ≡ all xs (step x s)) where
   pub all_leave : (F : U → Type 0) (xs : List X) (s : S) → ((x : X) → In x xs → Good x) → L (λ u. AnyIn (λ x. C x u) xs ⊎ F u) s → L F (all xs s)

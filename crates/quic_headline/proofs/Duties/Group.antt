@@ -49,6 +49,7 @@ use Rattle.quic_headline.proofs.Duties.Carrier.{IsNew}
 use Rattle.quic_headline.proofs.Duties.Tail.{AskBefore, next_new, before_call}
 use Rattle.quic_headline.proofs.Duties.UnderWay.{InPackets, Fly, TrackedEnds, arrivals_fly, call_fly}
 use Rattle.quic_headline.proofs.Duties.Listed.{Listed, ResetOf, StopOf, listed_in, ListedStands, came_on, arrivals_stand, call_resets, call_stands}
+use Rattle.quic_headline.proofs.Duties.OfIds.{IdOwed, NoneAsked, call_asks_none, call_owed, arrivals_owed, first_owed}
 use Rattle.quic_headline.proofs.Duties.Halts.{Halts, halts_first, halts_call}
 use Rattle.quic_headline.proofs.Duties.Stopped.{AreAsked, asked_more, asked_frame, asked_call, asked_first}
 use Rattle.quic_headline.proofs.Duties.Lasting.{Knows, knows_lasts, call_lasts}
@@ -64,10 +65,14 @@ pub record Flying (x y : Party) : Type 0 where
   pub halts : Halts x y
   pub stops : AreAsked (λ id. ListedStands (came_to y x).took (StopOf id) x.end) x.end.streams
   pub limits : (what : Limited) (value : ℕ) → WasGiven x.sents (limit_frame what value) → Stated (came_to y x).took x.sents what value x.end
+  -- what it owes of ids, where none of its frames asks for retirements
+  pub ids : (what : Listed) → IdOwed what x.end.ids → ListedStands (came_to y x).took what x.end
+  pub none_asked : NoneAsked x.sents
   -- what was sent since the last datagram that asks doesn't ask
   pub asked : AskBefore x.sents x.end.tracking.greatest_asking
 
--- What that rests on: the packets between both ends, what was written, that what waits may go, and that the limits which an end said don't fall.
+-- What that rests on: the packets between both ends, what was written, that what waits may go, and
+-- that the limits which an end said don't fall.
 pub record IsReadied (B : Way) : Type 1 where
   pub packets : (x y : Party) → B x y → PacketsHold x y
   pub writes : (x y : Party) → B x y → WritesHold x y
@@ -89,7 +94,7 @@ none_reset : (id : ℕ) (call : Call) (a : Answer) → is_on_streams call ≡ fa
 none_reset id (calls.Reset s code) a off some = cc
 none_reset id call a off some = cc
 
-module _ (B : Way) (b : IsReadied B) (x y : Party) (call : Call) (a : Answer) (c : Calls B x y call a) (i : Flying x y) where
+module _ (B : Way) (b : IsReadied B) (x y : Party) (call : Call) (a : Answer) (c : Calls B x y call a) (i : Flying x y) (back : Flying y x) where
   gives : PacketsHold x y
   gives = b.packets x y c.gives
 
@@ -136,6 +141,15 @@ module _ (B : Way) (b : IsReadied B) (x y : Party) (call : Call) (a : Answer) (c
         (λ ak carried k named. takes.named s ak k among carried named) gives.tracked was;
   })
 
+  -- what is owed of ids
+  ids_call : (what : Listed) → IdOwed what (called x y.given call a).end.ids → ListedStands took what (called x y.given call a).end
+  ids_call what = by_coming x y a c.joined c.served (meets y x takes) (λ (e : End) (j : Intake). IdOwed what e.ids → ListedStands took what e) call c.answer (record {
+    apart = λ apart owed. elim (call_owed took what x.policy x.end y.given call a apart owed) [ inl before ↦ old_listed what (i.ids what before) | inr now ↦ now ];
+    none = λ delivery is. i.ids what;
+    comes = λ delivery is s among. arrivals_owed took what x.sents (record { taken = gives.taken; rising = gives.gives.rising }) x.end delivery.now s.number s.frames (came_to x y)
+        (λ ak carried k named. takes.named s ak k among carried named) (λ f j. back.none_asked s among f j) gives.tracked (i.ids what);
+  })
+
   -- a new reset waits
   new_reset : (id : ℕ) → IsSome (reset_by id call a) → ListedStands took (ResetOf id) (called x y.given call a).end
   new_reset id some = go (is_on_streams call) refl
@@ -160,14 +174,14 @@ module _ (B : Way) (b : IsReadied B) (x y : Party) (call : Call) (a : Answer) (c
     none = λ delivery is. asks_still;
     comes = λ delivery is s among. (
         let after : AreAsked Asks (passed s.frames (started x.end delivery.now s.number)).end.streams = frames_keep (λ (e : End). AreAsked Asks e.streams) (λ f e j. asked_frame Asks f e j) s.frames (started x.end delivery.now s.number) asks_still in
-        record { ignored = λ reason. asks_still; noted = λ closing reason. asks_still; takes = λ open_there fresh fine mark. after; refuses = λ open_there fresh f fault. after });
+        record { ignored = λ reason. asks_still; noted = λ closing reason. asks_still; takes = λ words open_there fresh fine mark. after; drains = λ words open_there fresh close fault. after; refuses = λ words open_there fresh f fault. after; exhausts = λ open_there. asks_still });
   })
 
   -- ---- limits
 
   -- what the call sends
   abbrev sends : List Sent
-  sends = sents_by x.end call a
+  sends = sents_by x.policy x.end call a
 
   -- what was said before is somewhere where more was sent
   further : (what : Limited) (value : ℕ) (e : End) → Stated took x.sents what value e → Stated took (x.sents ++ sends) what value e
@@ -178,10 +192,10 @@ module _ (B : Way) (b : IsReadied B) (x y : Party) (call : Call) (a : Answer) (c
   told_stays = (b.within y x c.takes).stays
 
   -- a limit that was said before, behind a call but a delivery
-  apart_on : (what : Limited) (value : ℕ) → WasGiven x.sents (limit_frame what value) → (k : Call) → is_delivery k ≡ false → IsAnswer x.policy x.end y.given k a → Stated took (x.sents ++ sents_by x.end k a) what value (after_call x.policy x.end y.given k a)
+  apart_on : (what : Limited) (value : ℕ) → WasGiven x.sents (limit_frame what value) → (k : Call) → is_delivery k ≡ false → IsAnswer x.policy x.end y.given k a → Stated took (x.sents ++ sents_by x.policy x.end k a) what value (after_call x.policy x.end y.given k a)
   apart_on what value said (calls.Poll now) apart is = record {
     knows = call_lasts (Knows what) (knows_lasts what) x.policy x.end y.given (calls.Poll now) a within apart is was.knows;
-    stand = subst (λ (o : Answer). LimitStands took (x.sents ++ sent_if (gave o) (sent_by x.end now)) what value (polled x.policy x.end now).end) (sym (poll_answer x.policy x.end now a is c.served))
+    stand = subst (λ (o : Answer). LimitStands took (x.sents ++ sent_if (gave o) (sent_by x.policy x.end now)) what value (polled x.policy x.end now).end) (sym (poll_answer x.policy x.end now a is c.served))
         (polled_stands took x.sents what value x.policy x.end now gives.ascends i.asked new ((b.within y x c.takes).told said.sent said.among (limit_frame what value) said.carried) ((b.names x y c.gives).given said.sent said.among (limit_frame what value) said.carried) told_stays was.knows was.stand);
   }
     where
@@ -211,17 +225,19 @@ module _ (B : Way) (b : IsReadied B) (x y : Party) (call : Call) (a : Answer) (c
         record {
           ignored = λ reason. further what value _ (all.ignored reason);
           noted = λ state reason. further what value _ (all.noted state reason);
-          takes = λ state new none mark. further what value _ (all.takes state new none mark);
-          refuses = λ state new f is. further what value _ (all.refuses state new f is);
+          takes = λ words state new none mark. further what value _ (all.takes words state new none mark);
+          drains = λ words state new close is. further what value _ (all.drains words state new close is);
+          refuses = λ words state new f is. further what value _ (all.refuses words state new f is);
+          exhausts = λ state. further what value _ (all.exhausts state);
         });
   })
 
   -- a new one is under way
-  new_limit : (what : Limited) (value : ℕ) (k : Call) → IsAnswer x.policy x.end y.given k a → (t : Sent) → In t (sents_by x.end k a) → In (limit_frame what value) t.frames → Stated took (x.sents ++ sents_by x.end k a) what value (after_call x.policy x.end y.given k a)
+  new_limit : (what : Limited) (value : ℕ) (k : Call) → IsAnswer x.policy x.end y.given k a → (t : Sent) → In t (sents_by x.policy x.end k a) → In (limit_frame what value) t.frames → Stated took (x.sents ++ sents_by x.policy x.end k a) what value (after_call x.policy x.end y.given k a)
   new_limit what value (calls.Poll now) is t among carried =
       let same = poll_answer x.policy x.end now a is c.served in
-      let says = polled_says took x.sents what value x.policy x.end now gives.ascends i.asked new told_stays.shape t (subst (λ (o : Answer). In t (sent_if (gave o) (sent_by x.end now))) same among) carried in
-      record { knows = says.0; stand = subst (λ (o : Answer). LimitStands took (x.sents ++ sent_if (gave o) (sent_by x.end now)) what value (polled x.policy x.end now).end) (sym same) says.1 }
+      let says = polled_says took x.sents what value x.policy x.end now gives.ascends i.asked new gives.owes told_stays.shape t (subst (λ (o : Answer). In t (sent_if (gave o) (sent_by x.policy x.end now))) same among) carried in
+      record { knows = says.0; stand = subst (λ (o : Answer). LimitStands took (x.sents ++ sent_if (gave o) (sent_by x.policy x.end now)) what value (polled x.policy x.end now).end) (sym same) says.1 }
   new_limit what value k is t among carried = absurd among
 
   said_limit : (what : Limited) (value : ℕ) → WasGiven (x.sents ++ sends) (limit_frame what value) → Stated took (x.sents ++ sends) what value (called x y.given call a).end
@@ -234,7 +250,9 @@ module _ (B : Way) (b : IsReadied B) (x y : Party) (call : Call) (a : Answer) (c
   flying_call = record {
     fly = fly_call;
     limits = said_limit;
-    asked = before_call x.policy x.end y.given call a x.sents c.answer c.served gives.gives.below i.asked;
+    ids = ids_call;
+    none_asked = call_asks_none x.policy x.end y.given call a x.sents c.answer c.served gives.owes i.none_asked;
+    asked = before_call x.policy x.end y.given call a x.sents gives.owes c.answer c.served gives.gives.below i.asked;
     halts = halts_call B (readied_writing B b) x y call a c i.halts;
     stops = stops_call;
     resets = λ id some. go id (reset id x.told) refl (subst (λ (o : Option ℕ). IsSome o) (reset_more id x.told (told_of call a x.end.closing.state)) some);
@@ -262,6 +280,8 @@ flying_first x y m =
       halts = halts_first x y;
       stops = asked_first (λ id. ListedStands (came_to (begun_as y x) (begun_as x y)).took (StopOf id) (begun_as x y).end) x y;
       limits = λ what value said. absurd said.among;
+      ids = first_owed (came_to (begun_as y x) (begun_as x y)).took x y;
+      none_asked = λ s among. absurd among;
       asked = λ s among. absurd among;
     }
 
@@ -269,9 +289,11 @@ flying_first x y m =
 pub flying_group : (B : Way) → IsReadied B → Group B Flying
 flying_group B b = record {
   first = λ x y m there back. flying_first x y m;
-  writer = λ x y call a c i back. flying_call B b x y call a c i;
+  writer = λ x y call a c i back. flying_call B b x y call a c i back;
   reader = λ x y call a c back i. record {
     fly = i.fly;
+    ids = λ what owed. came_on (came_to x y).took (came_to (called x y.given call a) y).took what y.end (took_more x.policy y.final x.told (told_of call a x.end.closing.state) nothing_came) (i.ids what owed);
+    none_asked = i.none_asked;
     asked = i.asked;
     halts = record { halted = i.halts.halted };
     stops = asked_more (λ id. ListedStands (came_to x y).took (StopOf id) y.end) (λ id. ListedStands (came_to (called x y.given call a) y).took (StopOf id) y.end) y.end.streams
@@ -284,6 +306,8 @@ flying_group B b = record {
   };
   shows = λ x y here there above below i j. record {
     fly = i.fly;
+    ids = i.ids;
+    none_asked = i.none_asked;
     resets = i.resets;
     halts = record { halted = i.halts.halted };
     stops = i.stops;

@@ -1,4 +1,5 @@
--- What of an end's streams is in flight stands somewhere: what each word about streams makes of that.
+-- What of an end's streams is in flight stands somewhere: what each word about streams makes of
+-- that.
 use Rattle.std.proofs.Common.{◌≡◌, ℕ, Bool, true, false, Option, Some, None, refl, sym, ap, ◌∙◌, subst, ◌⊎◌, inl, inr}
 use Rattle.std.specs.Option.{is_some}
 use Rattle.std.proofs.lemmas.Bool.{cond_both, cases_eq}

@@ -1,5 +1,5 @@
--- What holds of the receiving half of a stream by how far it has come, whatever comes, is read or is stopped, lasts; and so it is of
--- limits: that one was said, and that it matters no more.
+-- What holds of the receiving half of a stream by how far it has come, whatever comes, is read or
+-- is stopped, lasts; and so it is of limits: that one was said, and that it matters no more.
 use Rattle.std.proofs.Common.{◌≡◌, ℕ, Bool, true, false, not, ◌||◌, List, Option, Some, refl}
 use Rattle.std.specs.Prelude.{if◌then◌else◌}
 use Rattle.std.specs.Option.{is_some}

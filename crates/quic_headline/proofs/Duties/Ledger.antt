@@ -9,6 +9,7 @@ use Rattle.std.proofs.lemmas.List.{length-drop}
 use Rattle.quic_wire_core.specs.declared.stream_id.Side.{Side}
 use Rattle.quic_wire_core.specs.StreamId.{other_side}
 use Rattle.quic_recovery_core.specs.PendingAcks.{can_send}
+use Rattle.quic_wire_core.specs.declared.shared.IssuedCid.{IssuedCid}
 use Rattle.quic_wire.specs.Value.{StopSendingValue}
 use Rattle.quic_send_buffer.specs.Buffered.{is_acknowledged, is_lost, is_unsent, is_in_flight, has_unsent}
 use Rattle.quic_send_buffer.specs.Buffered as buffered
@@ -19,7 +20,7 @@ use Rattle.std.specs.BTreeMap.{is_at}
 use Rattle.quic_streams_parts.specs.Queue.{Place, place_cmp, is_any as is_any_queued}
 use Rattle.quic_streams_parts.specs.SendHalf.{SendHalf, has_pending}
 use Rattle.quic_streams_parts.specs.RecvHalf.{RecvHalf, takes_limits}
-use Rattle.quic_retransmits.specs.declared.retransmits.ControlKind.TheVariants.{ResetStream, StopSending, MaxData, MaxStreamData, MaxStreams}
+use Rattle.quic_retransmits.specs.declared.retransmits.ControlKind.TheVariants.{ResetStream, StopSending, MaxData, MaxStreamData, MaxStreams, NewConnectionId, RetireConnectionId}
 use Rattle.quic_retransmits.specs.Retransmits.{Retransmits, has_id, is_any}
 use Rattle.quic_streams_halves.specs.Halves.{status_from, has_place}
 use Rattle.quic_streams_state.specs.declared.state.StreamsState.{StreamsState}
@@ -40,7 +41,7 @@ use Rattle.quic_machine.specs.RunLaws.{one_run}
 use Rattle.quic_headline.specs.Runs.{Run, Packet, Intake, AreServed, until, written, ended, EndHasArrived}
 use Rattle.quic_headline.specs.Unread.{stopped}
 use Rattle.quic_headline.specs.Observer.{Sent, Watch, took, sents_until}
-use Rattle.quic_headline.specs.Duties.{Limited, AllData, StreamData, StreamCount, Duty, Offset, Fin, Reset, Stop, Limit, limit_frame, limit_waits, Matters, IsSaid, lacks_size, IsOwed, on_half, is_due, IsInFlight, IsSomewhere, DutiesStand}
+use Rattle.quic_headline.specs.Duties.{Limited, AllData, StreamData, StreamCount, Duty, Offset, Fin, Reset, Stop, Retire, NewId, Limit, limit_frame, limit_waits, Matters, IsSaid, lacks_size, IsOwed, on_half, is_due, IsInFlight, IsSomewhere, DutiesStand}
 use Rattle.quic_headline.specs.Headline.{IsHonest}
 use Rattle.quic_headline.proofs.Packets.Group.{PacketsHold}
 use Rattle.quic_headline.proofs.Packets.Sight.{Sight}
@@ -56,7 +57,7 @@ use Rattle.quic_headline.proofs.Duties.Flies.{FliesIn}
 use Rattle.quic_headline.proofs.Duties.UnderWay.{InPackets}
 use Rattle.quic_headline.proofs.Duties.Lasting.{WasUsed, Ends}
 use Rattle.quic_headline.proofs.Duties.Limits.{LimitStands}
-use Rattle.quic_headline.proofs.Duties.Listed.{Listed, ResetOf, StopOf, listed_in, ListedStands, reset_has_come, stop_has_come}
+use Rattle.quic_headline.proofs.Duties.Listed.{Listed, ResetOf, StopOf, RetireOf, NewIdOf, listed_in, ListedStands, reset_has_come, stop_has_come, retirement_has_come, id_has_come}
 use Rattle.quic_headline.proofs.Duties.Halts.{IsHalted}
 use Rattle.quic_headline.proofs.Duties.Stopped.{IsAsked}
 use Rattle.quic_headline.proofs.Duties.Group.{Flying}
@@ -92,6 +93,8 @@ any_listed f (x ∷ xs) is = refl
 not_empty : (what : Listed) (p : Retransmits) (s : StreamsState) → listed_in what p ≡ true → not (is_empty p s) ≡ true
 not_empty (ResetOf id) p s is = ap not (fills ResetStream p s (any_listed (λ (r : ℕ × ℕ). r.0 == id) p.reset_stream is))
 not_empty (StopOf id) p s is = ap not (fills StopSending p s (any_listed (λ (x : StopSendingValue). x.id == id) p.stop_sending is))
+not_empty (RetireOf number) p s is = ap not (fills RetireConnectionId p s (any_listed (λ (n : ℕ). n == number) p.retire_cids is))
+not_empty (NewIdOf number) p s is = ap not (fills NewConnectionId p s (any_listed (λ (cid : IssuedCid). cid.sequence == number) p.new_cids is))
 
 pub listed_queued : (e : End) (what : Listed) → listed_in what e.waiting.frames ≡ true → waits e ≡ true
 listed_queued e what is =
@@ -240,6 +243,18 @@ module _ (x y : Party) (writes : WritesHold x y) (packets : PacketsHold x y) (ar
   stop_somewhere id (inr (inl flies)) = inr (inl flies)
   stop_somewhere id (inr (inr here)) = inr (inr (stop_has_come (came_to y x).took id here))
 
+  -- a retirement
+  retirement_somewhere : (number : ℕ) → ListedStands (came_to y x).took (RetireOf number) x.end → Somewhere (Retire number)
+  retirement_somewhere number (inl waits) = inl (record { due = waits; queued = listed_queued x.end (RetireOf number) waits })
+  retirement_somewhere number (inr (inl flies)) = inr (inl flies)
+  retirement_somewhere number (inr (inr here)) = inr (inr (retirement_has_come (came_to y x).took number here))
+
+  -- an id
+  id_somewhere : (number : ℕ) → ListedStands (came_to y x).took (NewIdOf number) x.end → Somewhere (NewId number)
+  id_somewhere number (inl waits) = inl (record { due = waits; queued = listed_queued x.end (NewIdOf number) waits })
+  id_somewhere number (inr (inl flies)) = inr (inl flies)
+  id_somewhere number (inr (inr here)) = inr (inr (id_has_come (came_to y x).took number here))
+
   -- that of a stream that was stopped, and whose final size isn't known
   stop_stands : (id : ℕ) → stopped id x.told ≡ true → lacks_size (at x.end.streams.receiving.halves.live id) ≡ true → ListedStands (came_to y x).took (StopOf id) x.end
   stop_stands id halted lacks = go (at x.end.streams.receiving.halves.live id) (receives_on x.end.streams.side id && is_opened x.end.streams id) (has_place x.end.streams.side x.end.streams.receiving.halves.places id) (flying.halts.halted.each id) (flying.stops.each id) lacks
@@ -264,6 +279,8 @@ module _ (x y : Party) (writes : WritesHold x y) (packets : PacketsHold x y) (ar
       (λ settled. elim settled [ inl all ↦ inr (inr (end_at_last id all.end)) | inr some ↦ settled_free id (Somewhere (Fin id)) some owed.0 ])
   duty_somewhere (Reset id) owed = reset_somewhere id (flying.resets id owed)
   duty_somewhere (Stop id) owed = stop_somewhere id (stop_stands id owed.0 owed.1)
+  duty_somewhere (Retire number) owed = retirement_somewhere number (flying.ids (RetireOf number) owed)
+  duty_somewhere (NewId number) owed = id_somewhere number (flying.ids (NewIdOf number) owed)
   duty_somewhere (Limit what value) owed = limit_somewhere what value owed
 
 -- ---- the clause

@@ -1,5 +1,6 @@
--- A limit that was said waits to be said anew, stands in a datagram that is tracked, or came, each no less than it was said; or it matters
--- no more. Each frame that comes keeps that, and calls take nothing off what waits.
+-- A limit that was said waits to be said anew, stands in a datagram that is tracked, or came, each
+-- no less than it was said; or it matters no more. Each frame that comes keeps that, and calls take
+-- nothing off what waits.
 use Rattle.std.proofs.Common.{◌≡◌, ℕ, ◌≤◌, Bool, true, false, not, cond, List, [], ◌∷◌, filter, Option, Some, None, Ok, refl, sym, ap, ◌∙◌, subst, ◌⊎◌, inl, inr, length}
 use Rattle.std.specs.Ordering.{nat_cmp}
 use Rattle.std.specs.BTreeMap.{is_at}
@@ -10,6 +11,7 @@ use Rattle.quic_send_buffer.specs.declared.stream_meta.StreamMeta.{StreamMeta}
 use Rattle.quic_streams_parts.specs.Table.{Table}
 use Rattle.quic_streams_parts.specs.TableLaws.{nat_cmp-same}
 use Rattle.quic_streams_parts.specs.Dirs.{Counts, Flags, of}
+use Rattle.quic_wire_core.specs.declared.shared.IssuedCid.{IssuedCid}
 use Rattle.quic_retransmits.specs.Retransmits.{Retransmits, merged, has_id}
 use Rattle.quic_streams_state.specs.declared.state.StreamsState.{StreamsState}
 use Rattle.quic_streams_state.specs.State.{Streams, Receiving, streams_of}
@@ -27,7 +29,7 @@ use Rattle.quic_machine.specs.Calls.{after_nexts}
 use Rattle.quic_machine.specs.StreamCalls.{after_on_streams}
 use Rattle.quic_machine.specs.Acked.{stream_lost, streams_lost, carried_lost, packets_lost, verdict, losses_detected, measured, sampled, without_acked, after_named, losses_taken}
 use Rattle.quic_machine.specs.Receive.{is_above, names_ungiven, take_frame, Outcome}
-use Rattle.quic_machine.specs.FrameCases.{OnStreams, Settling, named, ack_taken, acked_keeps, begun, passed, frames_leave, by_marks, apart_same}
+use Rattle.quic_machine.specs.FrameCases.{OnStreams, Settling, named, ack_taken, acked_keeps, begun, passed, frames_leave, by_marks, Apart, with_apart, apart_leaves}
 use Rattle.quic_machine.specs.FrameCases as cases
 use Rattle.quic_machine.specs.Steps as steps
 use Rattle.quic_headline.specs.Runs.{Packet, Intake, In}
@@ -56,6 +58,16 @@ Waits what t = KeptIn (WaitsIn what) t
 
 abbrev pub IsWaiting : Limited → Streams → Type 0
 IsWaiting what t = limit_waits t.pending what ≡ true
+
+-- ids that wait to be told of and to be retired change none of that
+limit_apart : (what : Limited) (r : Retransmits) (new_cids : List IssuedCid) (retire_cids : List ℕ) → limit_waits (record r { new_cids = new_cids; retire_cids = retire_cids }) what ≡ limit_waits r what
+limit_apart AllData r new_cids retire_cids = refl
+limit_apart (StreamData id) r new_cids retire_cids = refl
+limit_apart (StreamCount dir) r new_cids retire_cids = refl
+
+pub limit_more : {X : Type 0} (what : Limited) (e : End) (c : Apart) → (limit_waits e.waiting.frames what ≡ true) ⊎ X → (limit_waits (with_apart e c).waiting.frames what ≡ true) ⊎ X
+limit_more what e c (inl waits) = inl (limit_apart what e.waiting.frames c.new_cids c.retire_cids ∙ waits)
+limit_more what e c (inr more) = inr more
 
 waits_in : (what : Limited) (t : Streams) → IsWaiting what t → Waits what t
 waits_in AllData t is = is
@@ -120,7 +132,7 @@ module _ (what : Limited) where
     ack = λ rises a x v. acked_keeps (λ (y : End). Waits what (streams_at y)) settles rises a (named a x) v;
     on_streams = λ g x on v. frame_keeps (WaitsIn what) (decides what) g x on v;
     message = λ m x v. v;
-    apart = λ g x is v. subst (λ (y : End). Waits what (streams_at y)) (sym (cases.apart_same g x is)) v;
+    apart = λ g x is v. cases.apart_leaves (λ (y : End). Waits what (streams_at y)) g x is (λ c. v) (λ c most. v);
   }) f e (waits_in what (streams_at e) is))
 
 -- ---- what a datagram carries
@@ -171,7 +183,8 @@ losses_wait what (p ∷ ps) e i = losses_wait what ps (carried_lost p.1.carried 
 
 -- ---- where a limit is
 
--- a limit that is under way, no less than a value, in a datagram of which it is said again if that is lost: no probe took that
+-- a limit that is under way, no less than a value, in a datagram of which it is said again if that
+-- is lost: no probe took that
 pub record FliesFrom (own : List Sent) (packets : Table TrackedPacket) (what : Limited) (value : ℕ) : Type 0 where
   pub limit : ℕ
   pub flies : IsInFlight own packets (limit_frame what limit)
@@ -297,7 +310,7 @@ module _ (took : List Packet) (own : List Sent) (what : Limited) (value : ℕ) (
       go (inr (inr (inl flies))) = by_frame f e (λ h p. LimitStands took own what value p.end) (λ a is. ack_flies (names_ungiven a e) a e (g.takes a (inl is)) flies)
           (λ other on. inr (inr (inl (subst (λ (t : Tracking). FliesFrom own t.packets what value) (sym (frame_tracks f e on)) flies))))
           (λ other m same. subst (LimitStands took own what value) (sym same) (inr (inr (inl flies))))
-          (λ other apart. subst (LimitStands took own what value) (sym (apart_same f e apart)) (inr (inr (inl flies))))
+          (λ other apart. inr (inr (inl (apart_leaves (λ (x : End). FliesFrom own x.tracking.packets what value) f e apart (λ c. flies) (λ c most. flies)))))
       go (inr (inr (inr came))) = inr (inr (inr came))
 
   frames_stand : (fs : List FrameValue) (e : End) → Going fs e → (over : List FrameValue) × Going over (passed fs e).end
@@ -313,8 +326,10 @@ module _ (took : List Packet) (own : List Sent) (what : Limited) (value : ℕ) (
   arrivals_stated e now n frames came takes i = record {
     ignored = λ reason. i;
     noted = λ state reason. record { knows = i.knows; stand = i.stand };
-    takes = λ state new none mark. record { knows = after.1.knows; stand = after.1.stand };
-    refuses = λ state new f is. record { knows = after.1.knows; stand = after.1.stand };
+    takes = λ words state new none mark. record { knows = after.1.knows; stand = after.1.stand };
+    drains = λ words state new close is. record { knows = after.1.knows; stand = after.1.stand };
+    refuses = λ words state new f is. record { knows = after.1.knows; stand = after.1.stand };
+    exhausts = λ state. record { knows = i.knows; stand = i.stand };
   }
     where
       after : (over : List FrameValue) × Going over (arrived e now n frames).end

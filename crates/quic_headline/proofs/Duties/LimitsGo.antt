@@ -1,4 +1,5 @@
--- What a poll makes of limits that were said: one that waits goes, no less than it was said before; and each that goes is under way.
+-- What a poll makes of limits that were said: one that waits goes, no less than it was said before;
+-- and each that goes is under way.
 use Rattle.std.proofs.Common.{◌≡◌, ℕ, zero, suc, ◌≤◌, Bool, true, false, List, [], ◌∷◌, ◌++◌, length, replicate, Option, Some, None, refl, sym, ap, ◌∙◌, subst, ◌⊎◌, inl, inr, arith}
 use Rattle.std.specs.Prelude.{map, if◌then◌else◌, ◌&&◌}
 use Rattle.std.specs.Ordering.{nat_cmp}
@@ -39,9 +40,10 @@ use Rattle.quic_machine.specs.declared.run.Answer.TheVariants as answers
 use Rattle.quic_machine.specs.Policy.{Policy}
 use Rattle.quic_machine.specs.Closing.{ticked}
 use Rattle.quic_machine.specs.Tracking.{Tracking, TrackedPacket, is_behind, after_sent, without_record}
-use Rattle.quic_machine.specs.End.{End, with_closing, streams_at, number_of}
+use Rattle.quic_machine.specs.End.{End, with_closing, streams_at, number_of, closed_by}
 use Rattle.quic_machine.specs.Calls.{is_open}
 use Rattle.quic_machine.specs.Poll.{zeros_behind, Polled, Draft, no_frames, ack_of, with_signal_frames, with_control_frames, with_asking, with_ack, ack_fits, ack_if, composed_if, composed, asking, frame_room, lazied, packet_of, tracked, record_moved, polled, with_message_frames, goes, draft_as, whole, Leaving, nothing}
+use Rattle.quic_machine.specs.Poll as poll
 use Rattle.quic_machine.specs.DraftLaws.{Writing, by_streams, by_messages, by_leave, MayLeave, by_signals}
 use Rattle.quic_machine.specs.Puts.{with_half_frame}
 use Rattle.quic_machine.specs.Puts as puts
@@ -52,12 +54,13 @@ use Rattle.quic_machine.specs.Machine.{IsAnswer, after_call, gave}
 use Rattle.quic_headline.specs.Runs.{Packet, In}
 use Rattle.quic_headline.specs.Observer.{Sent}
 use Rattle.quic_headline.specs.Duties.{Limited, AllData, StreamData, StreamCount, limit_frame, limit_waits, AnyIn, LimitHasArrived}
+use Rattle.quic_headline.proofs.Packets.Apart.{by_waits, by_next_id}
 use Rattle.quic_headline.proofs.Packets.Growth.{in_more}
 use Rattle.quic_headline.proofs.Packets.Ascending.{Ascends}
 use Rattle.quic_headline.proofs.Packets.Probes.{by_ready, ready_state, draft_streams, by_going}
 use Rattle.quic_headline.proofs.Packets.Given.{draft_number}
 use Rattle.quic_headline.proofs.Places.Told.{in_left, in_right, in_append}
-use Rattle.quic_headline.proofs.Places.Parties.{sent_by, sent_if}
+use Rattle.quic_headline.proofs.Places.Parties.{sent_by, sent_if, sent_as}
 use Rattle.quic_headline.proofs.Halves.QuietSteps.{composed_quiet}
 use Rattle.quic_headline.proofs.Channel.Received.{Stays, stays_kept}
 use Rattle.quic_headline.proofs.Channel.Told.{IsTold}
@@ -66,7 +69,10 @@ use Rattle.quic_headline.proofs.Channel.Given as given
 use Rattle.quic_headline.proofs.Duties.Carrier.{any_member, any_there, any_put, any_sent, IsNew, ready_new}
 use Rattle.quic_headline.proofs.Duties.Tail.{AskBefore, sent_quiet, ready_before}
 use Rattle.quic_headline.proofs.Duties.Lasting.{WasUsed, Knows, Ends, knows_lasts, ends_lasts, lasting, told_lasts, call_lasts}
-use Rattle.quic_headline.proofs.Duties.Limits.{merged_left, merged_right, carried_waits, call_waits, FliesFrom, LimitStands, still, detected_more}
+use Rattle.quic_headline.proofs.Duties.Limits.{limit_more, merged_left, merged_right, carried_waits, call_waits, FliesFrom, LimitStands, still, detected_more}
+use Rattle.quic_headline.proofs.Packets.Sends.{by_sends}
+use Rattle.quic_headline.proofs.Packets.Owing.{Owes, close_is, error_owes}
+use Rattle.quic_machine.specs.DraftLaws.{IsClose}
 
 -- ---- frames of control
 
@@ -252,7 +258,8 @@ module _ (e : End) (what : Limited) (value : ℕ) (told : IsTold e.streams (limi
       go true = asking_moved (with_ack (no_frames e)) (record { streams = refl; waits = refl })
       go false = late (ack_fits (with_asking (no_frames e))) (with_asking (no_frames e)) (asking_moved (no_frames e) (record { streams = refl; waits = refl }))
 
--- so it is of what goes, where that is composed, or is a due ACK, a probe of a size or a close alone, and where nothing goes
+-- so it is of what goes, where that is composed, or is a due ACK, a probe of a size or a close
+-- alone, and where nothing goes
 draft_moved : (e : End) (what : Limited) (value : ℕ) → IsTold e.streams (limit_frame what value) → Given e.streams (limit_frame what value) → Stays e.streams e.streams → AllReceiving (Knows what) e.streams
     → limit_waits e.waiting.frames what ≡ true → (leaving : Leaving) → IsMoved what value (draft_as leaving e)
 draft_moved e what value told may stays knows was whole = composed_moved (lazied e) what value told may stays knows was
@@ -410,7 +417,7 @@ module _ (took : List Packet) (own : List Sent) (what : Limited) (value : ℕ) w
     tracks : Goes → (ready_at e now).end.tracking ≡ d.end.tracking
     tracks some = sym (composes (ready_at e now).leaving r (may_go some)).tracking
 
-    number : Goes → (sent_by e now).number ≡ number_of d.end
+    number : Goes → (sent_as e now d).number ≡ number_of d.end
     number some = sym (draft_number (ready_at e now).leaving r (may_go some) ∙ ap (λ (x : End). number_of x) (ready_leaves e now))
 
     fresh_number : Goes → IsNew d.end.tracking.packets (number_of d.end)
@@ -421,13 +428,14 @@ module _ (took : List Packet) (own : List Sent) (what : Limited) (value : ℕ) w
 
     -- a limit that was said before
     pub polled_stands : IsTold e.streams (limit_frame what value) → Given e.streams (limit_frame what value) → Stays e.streams e.streams → AllReceiving (Knows what) e.streams → LimitStands took own what value e
-        → LimitStands took (own ++ sent_if (gave (answers.Poll (polled p e now).answer)) (sent_by e now)) what value (polled p e now).end
-    polled_stands told may stays knows i = by_poll_to p e now (λ (q : Polled). LimitStands took (own ++ sent_if (gave (answers.Poll q.answer)) (sent_by e now)) what value q.end) (record {
+        → LimitStands took (own ++ sent_if (gave (answers.Poll (polled p e now).answer)) (sent_by p e now)) what value (polled p e now).end
+    polled_stands told may stays knows i = by_sends p e now (λ (q : Polled) (ss : List Sent). LimitStands took (own ++ ss) what value q.end) (record {
       silent = stands_more took own [] what value e i;
       failed = stands_more took own [] what value e i;
       nothing = λ is none. stands_more took own [] what value (ready_at e now).end (ready_stands i);
-      closes = stands_more took own [] what value (ready_at e now).end (ready_stands i);
-      gives = λ is_open numbered some. by_going (LimitStands took (own ++ sent_by e now ∷ []) what value) p d (λ pacing. given_stands d (sent_by e now) (number some) refl (asked some) (fresh_number some) (draft some (ready_stands i)));
+      repeats = λ is. (stands_more took own [] what value e i, λ f goes. stands_more took own (_ ∷ []) what value e i);
+      closes = λ reason is bound. (stands_more took own [] what value (ready_at e now).end (ready_stands i), λ f goes. stands_more took own (_ ∷ []) what value (ready_at e now).end (ready_stands i));
+      gives = λ is_open numbered some. by_going (LimitStands took (own ++ sent_as e now d ∷ []) what value) p d (λ pacing. given_stands d (sent_as e now d) (number some) refl (asked some) (fresh_number some) (draft some (ready_stands i)));
     })
       where
         draft : Goes → LimitStands took own what value (ready_at e now).end → IsMoved what value d ⊎ FliesFrom own d.end.tracking.packets what value ⊎ LimitHasArrived took what value
@@ -438,22 +446,35 @@ module _ (took : List Packet) (own : List Sent) (what : Limited) (value : ℕ) w
         draft some (inr (inr more)) = inr (subst (λ (x : Tracking). FliesFrom own x.packets what value ⊎ LimitHasArrived took what value) (tracks some) more)
 
     -- one that goes
-    pub polled_says : IsShaped e.streams → (t : Sent) → In t (sent_if (gave (answers.Poll (polled p e now).answer)) (sent_by e now)) → In (limit_frame what value) t.frames
-        → AllReceiving (Knows what) (polled p e now).end.streams × LimitStands took (own ++ sent_if (gave (answers.Poll (polled p e now).answer)) (sent_by e now)) what value (polled p e now).end
-    polled_says shape t = by_poll_to p e now (λ (q : Polled). In t (sent_if (gave (answers.Poll q.answer)) (sent_by e now)) → In (limit_frame what value) t.frames
-        → AllReceiving (Knows what) q.end.streams × LimitStands took (own ++ sent_if (gave (answers.Poll q.answer)) (sent_by e now)) what value q.end) (record {
-          silent = λ i said. absurd i;
-          failed = λ i said. absurd i;
-          nothing = λ is none i said. absurd i;
-          closes = λ i said. absurd i;
-          gives = λ is_open numbered some i said. by_going (λ (x : End). AllReceiving (Knows what) x.streams × LimitStands took (own ++ sent_by e now ∷ []) what value x) p d (λ pacing. sends some (among i said));
-        })
+    pub polled_says : Owes e → IsShaped e.streams → (t : Sent) → In t (sent_if (gave (answers.Poll (polled p e now).answer)) (sent_by p e now)) → In (limit_frame what value) t.frames
+        → AllReceiving (Knows what) (polled p e now).end.streams × LimitStands took (own ++ sent_if (gave (answers.Poll (polled p e now).answer)) (sent_by p e now)) what value (polled p e now).end
+    polled_says owes shape t = by_sends p e now (λ (q : Polled) (ss : List Sent). In t ss → In (limit_frame what value) t.frames → AllReceiving (Knows what) q.end.streams × LimitStands took (own ++ ss) what value q.end) (record {
+      silent = λ i said. absurd i;
+      failed = λ i said. absurd i;
+      nothing = λ is none i said. absurd i;
+      repeats = λ is. (let x : End = with_closing e (ticked e.closing now) in ((λ i said. absurd i), λ f goes i said. absurd (beside f (close_is p x owes f goes) (sent_as e now (draft_as (poll.closing f) x)) (zeros_behind (draft_as (poll.closing f) x)) refl i said)));
+      closes = λ reason is bound. (let x : End = closed_by reason (ready_at e now).end in ((λ i said. absurd i), λ f goes i said. absurd (beside f (close_is p x (error_owes reason (ready_at e now).end) f goes) (sent_as e now (draft_as (poll.closing f) x)) (zeros_behind (draft_as (poll.closing f) x)) refl i said)));
+      gives = λ is_open numbered some i said. by_going (λ (x : End). AllReceiving (Knows what) x.streams × LimitStands took (own ++ sent_as e now d ∷ []) what value x) p d (λ pacing. sends some (among i said));
+    })
       where
-        among : In t (sent_by e now ∷ []) → In (limit_frame what value) t.frames → In (limit_frame what value) (sent_by e now).frames
+        -- no limit goes beside a close
+        no_limit : (l : Limited) (f : FrameValue) → IsClose f → limit_frame l value ≡ f → ⊥
+        no_limit AllData f is same = subst IsClose (sym same) is
+        no_limit (StreamData id) f is same = subst IsClose (sym same) is
+        no_limit (StreamCount dir) f is same = subst IsClose (sym same) is
+
+        beside : (f : FrameValue) → IsClose f → (s : Sent) (count : ℕ) → s.frames ≡ f ∷ replicate count padding → In t (s ∷ []) → In (limit_frame what value) t.frames → ⊥
+        beside f is s count frames (inr none) said = none
+        beside f is s count frames (inl same) said = elim (subst (λ (fs : List FrameValue). In (limit_frame what value) fs) (ap (λ (u : Sent). u.frames) same ∙ frames) said) [
+          | inl here ↦ no_limit what f is here
+          | inr behind ↦ not_padding what value _ behind
+        ]
+
+        among : In t (sent_as e now d ∷ []) → In (limit_frame what value) t.frames → In (limit_frame what value) (sent_as e now d).frames
         among (inl is) said = subst (λ (u : Sent). In (limit_frame what value) u.frames) is said
         among (inr none) said = absurd none
 
-        sends : Goes → In (limit_frame what value) (sent_by e now).frames → AllReceiving (Knows what) d.end.streams × LimitStands took (own ++ sent_by e now ∷ []) what value (tracked d)
+        sends : Goes → In (limit_frame what value) (sent_as e now d).frames → AllReceiving (Knows what) d.end.streams × LimitStands took (own ++ sent_as e now d ∷ []) what value (tracked d)
         sends some said =
             let here : In (limit_frame what value) d.frames =
             elim (in_append (limit_frame what value) d.frames (replicate (zeros_behind d) padding) said) [
@@ -462,7 +483,7 @@ module _ (took : List Packet) (own : List Sent) (what : Limited) (value : ℕ) w
             ] in
             let known : AllReceiving (Knows what) d.end.streams = said_known what value d (draft_sees (ready_at e now).leaving r (may_go some) (subst (λ t. IsShaped t) state shape)) here in (
               known,
-              given_stands d (sent_by e now) (number some) refl (asked some) (fresh_number some) (inl (inr (inr (record { limit = value; said = here; enough = omega arith })))),
+              given_stands d (sent_as e now d) (number some) refl (asked some) (fresh_number some) (inl (inr (inr (record { limit = value; said = here; enough = omega arith })))),
             )
 
 -- ---- any call
@@ -478,8 +499,11 @@ call_stated took own what value p e theirs call a within apart other is i = go i
       on_streams = λ on answer. elim more [ inl waits ↦ inr (inl (call_waits what (is_open e.closing.state) (streams_at e) call a waits)) | inr far ↦ inr (inr far) ];
       on_messages = λ on answer. inr more;
       pings = inr more;
-      times = λ now expiry set. by_expired e now (λ (f : End). LimitStands took own what value f) (λ pending tracking timers runs packets.
-          inr (subst (λ (t : Table TrackedPacket). (limit_waits e.waiting.frames what ≡ true) ⊎ FliesFrom own t what value ⊎ LimitHasArrived took what value) (sym packets) more)) (λ pending timers runs. detected_more took own what value (with_closing e (ticked e.closing now)) more) expiry;
+      closes = λ reason f now own. inr more;
+      waits = λ now b set. by_waits (λ (f : End). LimitStands took own what value f) b (with_closing e (ticked e.closing now)) (inr more) (inr more);
+      changes_id = λ uses answer. by_next_id (λ (f : End). LimitStands took own what value f) e a (inr more) (λ c. inr (limit_more what e c more)) (λ c most. inr (limit_more what e c more));
+      times = λ now expiry set. by_expired p.words e now (λ (f : End). LimitStands took own what value f) (λ pending tracking timers waits asked runs packets.
+          inr (subst (λ (t : Table TrackedPacket). (limit_waits e.waiting.frames what ≡ true) ⊎ FliesFrom own t what value ⊎ LimitHasArrived took what value) (sym packets) more)) (λ pending timers waits asked runs. detected_more took own what value (with_closing e (ticked e.closing now)) more) (λ x j. j) expiry;
       polls = λ now set. cc;
       hears = λ arrival d set. cc;
       tells = λ asks. by_event e (λ (f : End). LimitStands took own what value f) (inr more) (λ told. inr more);

@@ -1,22 +1,32 @@
--- What waits in a list and goes as a frame of its own, RESET_STREAM and STOP_SENDING, waits, stands in
--- a packet that is tracked, or has come: each call keeps that.
-use Rattle.std.proofs.Common.{◌≡◌, ℕ, Bool, true, false, ◌||◌, ◌==◌, List, [], ◌∷◌, ◌++◌, length, Option, Some, None, Result, Ok, Err, refl, sym, ap, ◌∙◌, subst, ◌⊎◌, inl, inr}
-use Rattle.std.specs.Prelude.{if◌then◌else◌, map}
+-- What waits in a list and goes as a frame of its own, RESET_STREAM, STOP_SENDING,
+-- RETIRE_CONNECTION_ID and NEW_CONNECTION_ID, waits, stands in a packet that is tracked, or has
+-- come: each call keeps that.
+use Rattle.std.proofs.Common.{◌≡◌, ℕ, zero, suc, Bool, true, false, ◌||◌, ◌==◌, List, [], ◌∷◌, ◌-◌, ◌++◌, length, map, Option, Some, None, Result, Ok, Err, refl, sym, ap, ◌∙◌, subst, ◌⊎◌, inl, inr}
+use Rattle.std.specs.Prelude.{if◌then◌else◌, map, nat_le, set, slice_get}
+use Rattle.std.specs.declared.ops.Range.{Range}
 use Rattle.std.specs.Option.{IsSome, is_some, option_map}
-use Rattle.std.specs.List.{list_any}
+use Rattle.std.specs.List.{list_any, range_with_len}
 use Rattle.std.proofs.lemmas.Bool.{both_ways, or_parts, or_cases, or_left, or_right, eqb-true, eq-eqb}
 use Rattle.std.proofs.lemmas.List.Folds.{list_any-append}
-use Rattle.quic_wire.specs.Value.{FrameValue, AckValue, ResetStreamValue, StopSendingValue, ack, stream, reset_stream, stop_sending, max_data, max_stream_data, max_streams, asks, datagram}
+use Rattle.std.proofs.lemmas.Option.{same_Some}
+use Rattle.quic_wire.specs.Value.{FrameValue, AckValue, ResetStreamValue, StopSendingValue, NewConnectionIdValue, ack, new_connection_id, retire_connection_id, path_response, stream, reset_stream, stop_sending, max_data, max_stream_data, max_streams, asks, datagram}
 use Rattle.quic_send_buffer.specs.declared.stream_meta.StreamMeta.{StreamMeta}
 use Rattle.quic_streams_parts.specs.declared.answers.UpdateError.{UpdateError}
 use Rattle.quic_streams_parts.specs.declared.answers.UpdateError.TheVariants as update_errors
 use Rattle.quic_streams_parts.specs.Table.{Table, at}
 use Rattle.quic_streams_parts.specs.SendHalf.{SendHalf, frame_of}
 use Rattle.quic_streams_parts.specs.RecvHalf.{RecvHalf}
-use Rattle.quic_retransmits.specs.Retransmits.{Retransmits, nothing_waits, merged}
+use Rattle.quic_wire_core.specs.TransportError.{ErrorValue}
+use Rattle.quic_wire_core.specs.declared.shared.IssuedCid.{IssuedCid}
+use Rattle.quic_ids.specs.CidState.{retirement_answer}
+use Rattle.quic_ids.specs.CidQueue.{insert_answer}
+use Rattle.quic_ids.specs.declared.cid_queue.InsertError.{InsertError}
+use Rattle.quic_ids.specs.declared.cid_queue.InsertError.TheVariants as inserts
+use Rattle.quic_paths.specs.Paths.{is_asked}
+use Rattle.quic_retransmits.specs.Retransmits.{Retransmits, nothing_waits, merged, others_of, most_retirements, can_retire, after_retire}
 use Rattle.quic_streams_state.specs.declared.state.StreamsState.{StreamsState}
 use Rattle.quic_retransmits.specs.declared.retransmits.ControlKind.{ControlKind}
-use Rattle.quic_retransmits.specs.declared.retransmits.ControlKind.TheVariants.{ResetStream, StopSending}
+use Rattle.quic_retransmits.specs.declared.retransmits.ControlKind.TheVariants.{ResetStream, StopSending, NewConnectionId, RetireConnectionId}
 use Rattle.quic_streams_state.specs.State.{Streams, Sending, streams_of, sending_half, receiving_half}
 use Rattle.quic_streams_state.specs.Sends.{reset_half}
 use Rattle.quic_streams_state.specs.Limits.{decided, settled}
@@ -24,7 +34,7 @@ use Rattle.quic_streams_state.specs.Acked.{after_stream_acked, after_reset_acked
 use Rattle.quic_streams_state.specs.Taking.{after_stream, after_reset_frame}
 use Rattle.quic_streams_state.specs.Writing.{after_write, after_write_chunks, after_reset, reset_at, is_reset_at, after_set_priority}
 use Rattle.quic_streams_state.specs.Reading.{told_bytes, after_read_begun, after_finalize, with_stop, stopped_if, stopped_at, stop_answer, is_closed_at, after_stop, after_received_reset}
-use Rattle.quic_streams_state.specs.Control.{Entry, reset_frame, reset_entry, stop_entry, waiting, without_first, control_frames, kind_of, Goes}
+use Rattle.quic_streams_state.specs.Control.{Entry, reset_frame, reset_entry, stop_entry, new_id_entry, retire_entry, told_id, waiting, without_first, control_frames, kind_of, Goes}
 use Rattle.quic_streams_state.specs.Control as control
 use Rattle.quic_streams_laws.specs.KindLaws.{GoesFirst, first_others, without_of}
 use Rattle.quic_streams_laws.specs.QuietLaws.{told_sending}
@@ -37,16 +47,21 @@ use Rattle.quic_machine.specs.declared.run.Answer.TheVariants as answers
 use Rattle.quic_machine.specs.Policy.{Policy}
 use Rattle.quic_machine.specs.Closing.{ticked}
 use Rattle.quic_machine.specs.Tracking.{Tracking, TrackedPacket, Carried, retransmits_in, without_record, names, acked_by, is_lost, lost_by, after_detection}
-use Rattle.quic_machine.specs.End.{End, with_closing, with_streams, streams_at, number_of}
+use Rattle.quic_machine.specs.End.{End, with_closing, with_streams, with_ids, with_frames, words_drawn, streams_at, number_of, closed_by}
 use Rattle.quic_machine.specs.Calls.{after_nexts, is_open}
 use Rattle.quic_machine.specs.StreamCalls.{IsStreamAnswer, if_ok, after_on_streams}
 use Rattle.quic_machine.specs.Acked.{without_known, reset_acked, resets_acked, stream_acked, streams_acked, packet_acked, packets_acked, stream_lost, streams_lost, carried_lost, packets_lost, verdict, losses_detected, measured, sampled, without_acked, after_named, losses_taken}
-use Rattle.quic_machine.specs.Receive.{is_above, names_ungiven, take_frame, Outcome}
+use Rattle.quic_machine.specs.Receive.{is_above, names_ungiven, take_frame, Outcome, after_taken, asks_in, drained_at, reason_of, retired_for, id_judged, retirement_judged}
+use Rattle.quic_machine.specs.MessageCalls.{most_message}
+use Rattle.quic_machine.specs.Sizes.{without_longer_if, shortened}
+use Rattle.quic_machine.specs.Validation.{word_of, validated_if}
+use Rattle.quic_machine.specs.Ids.{Drawing, words_behind, words_of_id, drawn_id, undrawn_id, drawn_one, drawn_places, retired, may_issue, frame_of as id_frame_of, retires_for, retires_for_next, next_used}
+use Rattle.quic_machine.specs.IdFrames.{retiring, with_taken_up, issued, issued_if, next_id_taken, end_on_next_id, drawn}
 use Rattle.quic_machine.specs.Poll.{Polled, Draft, no_frames, ack_of, with_signal_frames, with_control_frames, with_asking, with_ack, ack_fits, ack_if, composed_if, composed, asking, frame_room, lazied, packet_of, tracked, record_moved, polled, with_message, with_message_frames, goes, draft_as, whole, Leaving, nothing}
 use Rattle.quic_machine.specs.DraftLaws.{by_streams, by_messages, MayLeave, by_signals}
 use Rattle.quic_machine.specs.Puts.{with_half_frame}
 use Rattle.quic_machine.specs.PollCases.{ready_at, ready_leaves, draft_at, by_poll_to, composes, may_leave_at}
-use Rattle.quic_machine.specs.FrameCases.{OnStreams, named, ack_taken, begun, passed, frames_leave, by_marks, apart_same}
+use Rattle.quic_machine.specs.FrameCases.{OnStreams, named, ack_taken, begun, passed, frames_leave, by_marks, IsApart}
 use Rattle.quic_machine.specs.CallCases.{is_delivery, by_call}
 use Rattle.quic_machine.specs.LeaveCases.{by_expired, by_event}
 use Rattle.quic_machine.specs.Machine.{after_call}
@@ -54,7 +69,7 @@ use Rattle.quic_headline.specs.Runs.{Packet, Intake, In, reset_by, ResetHasArriv
 use Rattle.quic_headline.specs.Observer.{Sent}
 use Rattle.quic_headline.specs.Amounts.{stops_stream, was_stopped}
 use Rattle.quic_headline.specs.InFlight.{again_in}
-use Rattle.quic_headline.specs.Duties.{AnyIn, has_reset, has_stop}
+use Rattle.quic_headline.specs.Duties.{AnyIn, has_reset, has_stop, has_retirement, has_new_id, WasRetired, WasToldId}
 use Rattle.quic_headline.proofs.Packets.Searches.{by_losses}
 use Rattle.quic_headline.proofs.Packets.Invariant.{IsCarriedFrom, AreTracked, carried_again}
 use Rattle.quic_headline.proofs.Packets.Ascending.{Ascends}
@@ -70,23 +85,39 @@ use Rattle.quic_headline.proofs.Halves.PileCalls.{write_same, chunks_same, final
 use Rattle.quic_headline.proofs.Duties.Carrier.{any_is, any_either, any_member, any_put, any_sent, IsNew, ready_new}
 use Rattle.quic_headline.proofs.Duties.Tail.{AskBefore, Quiet, tail_quiet, ready_before}
 use Rattle.quic_machine.specs.Sizes.{search_acked}
+use Rattle.quic_headline.proofs.Packets.Closes.{by_closes}
+use Rattle.quic_headline.proofs.Packets.Apart.{by_waits}
 
 -- ---- what waits in a list
 
--- RESET_STREAM of a stream, or STOP_SENDING of one
+-- RESET_STREAM of a stream, or STOP_SENDING of one; the retirement of a number, or the id of one
 pub data Listed : Type 0 where
   ResetOf : (id : ℕ) → Listed
   StopOf : (id : ℕ) → Listed
+  RetireOf : (number : ℕ) → Listed
+  NewIdOf : (number : ℕ) → Listed
 
 -- whether a frame resets a stream
 abbrev pub resets_stream : ℕ → FrameValue → Bool
 resets_stream id (reset_stream f) = f.id == id
 resets_stream id f = false
 
+-- whether a frame retires a number
+abbrev pub retires_number : ℕ → FrameValue → Bool
+retires_number number (retire_connection_id n) = n == number
+retires_number number f = false
+
+-- whether a frame tells of the id of a number
+abbrev pub tells_number : ℕ → FrameValue → Bool
+tells_number number (new_connection_id f) = f.sequence == number
+tells_number number f = false
+
 -- whether a frame says it
 abbrev pub says : Listed → FrameValue → Bool
 says (ResetOf id) = resets_stream id
 says (StopOf id) = stops_stream id
+says (RetireOf number) = retires_number number
+says (NewIdOf number) = tells_number number
 
 -- whether one of some does
 abbrev pub said : Listed → List FrameValue → Bool
@@ -96,6 +127,8 @@ said what frames = list_any (says what) frames
 abbrev pub listed_in : Listed → Retransmits → Bool
 listed_in (ResetOf id) r = has_reset id r.reset_stream
 listed_in (StopOf id) r = has_stop id r.stop_sending
+listed_in (RetireOf number) r = has_retirement number r.retire_cids
+listed_in (NewIdOf number) r = has_new_id number r.new_cids
 
 -- it stood in a packet that was taken
 pub record Came (took : List Packet) (what : Listed) : Type 0 where
@@ -117,54 +150,95 @@ ListedStands took what e = (listed_in what e.waiting.frames ≡ true) ⊎ AnyIn 
 pub nothing_listed : (what : Listed) → listed_in what nothing_waits ≡ false
 nothing_listed (ResetOf id) = refl
 nothing_listed (StopOf id) = refl
+nothing_listed (RetireOf number) = refl
+nothing_listed (NewIdOf number) = refl
 
 -- where the same waits
 same_listed : (what : Listed) (p q : Retransmits) → SamePile p q → listed_in what q ≡ listed_in what p
 same_listed (ResetOf id) p q same = ap (has_reset id) same.resets
 same_listed (StopOf id) p q same = ap (has_stop id) same.stops
+same_listed (RetireOf number) p q same = ap (has_retirement number) same.retired
+same_listed (NewIdOf number) p q same = ap (has_new_id number) same.ids
 
 -- where limits are decided
 decided_listed : (what : Listed) (s : StreamsState) (p : Retransmits) → listed_in what (decided s p) ≡ listed_in what p
 decided_listed (ResetOf id) s p = refl
 decided_listed (StopOf id) s p = refl
+decided_listed (RetireOf number) s p = refl
+decided_listed (NewIdOf number) s p = refl
 
 -- what waits, and what waits again
 merged_listed : (what : Listed) (p lost : Retransmits) → listed_in what (merged p lost) ≡ (listed_in what p || listed_in what lost)
 merged_listed (ResetOf id) p lost = list_any-append (λ (r : ℕ × ℕ). r.0 == id) p.reset_stream lost.reset_stream
 merged_listed (StopOf id) p lost = list_any-append (λ (s : StopSendingValue). s.id == id) p.stop_sending lost.stop_sending
+merged_listed (RetireOf number) p lost = list_any-append (λ (n : ℕ). n == number) p.retire_cids lost.retire_cids
+merged_listed (NewIdOf number) p lost = list_any-append (λ (cid : IssuedCid). cid.sequence == number) p.new_cids lost.new_cids
 
 -- a reset waits besides
 reset_added : (what : Listed) (p : Retransmits) (r : ℕ × ℕ) → listed_in what p ≡ true → listed_in what (record p { reset_stream = p.reset_stream ++ r ∷ [] }) ≡ true
 reset_added (ResetOf id) p r is = list_any-append (λ (x : ℕ × ℕ). x.0 == id) p.reset_stream (r ∷ []) ∙ or_left (has_reset id p.reset_stream) (has_reset id (r ∷ [])) is
 reset_added (StopOf id) p r is = is
+reset_added (RetireOf number) p r is = is
+reset_added (NewIdOf number) p r is = is
 
 -- or a stop
 stop_added : (what : Listed) (p : Retransmits) (s : StopSendingValue) → listed_in what p ≡ true → listed_in what (record p { stop_sending = p.stop_sending ++ s ∷ [] }) ≡ true
 stop_added (ResetOf id) p s is = is
 stop_added (StopOf id) p s is = list_any-append (λ (x : StopSendingValue). x.id == id) p.stop_sending (s ∷ []) ∙ or_left (has_stop id p.stop_sending) (has_stop id (s ∷ [])) is
+stop_added (RetireOf number) p s is = is
+stop_added (NewIdOf number) p s is = is
+
+-- or retirements
+retired_added : (what : Listed) (p : Retransmits) (ns : List ℕ) → listed_in what p ≡ true → listed_in what (record p { retire_cids = p.retire_cids ++ ns }) ≡ true
+retired_added (ResetOf id) p ns is = is
+retired_added (StopOf id) p ns is = is
+retired_added (RetireOf number) p ns is = list_any-append (λ (n : ℕ). n == number) p.retire_cids ns ∙ or_left (has_retirement number p.retire_cids) (has_retirement number ns) is
+retired_added (NewIdOf number) p ns is = is
+
+-- or an id
+told_added : (what : Listed) (p : Retransmits) (c : IssuedCid) → listed_in what p ≡ true → listed_in what (record p { new_cids = p.new_cids ++ c ∷ [] }) ≡ true
+told_added (ResetOf id) p c is = is
+told_added (StopOf id) p c is = is
+told_added (RetireOf number) p c is = is
+told_added (NewIdOf number) p c is = list_any-append (λ (cid : IssuedCid). cid.sequence == number) p.new_cids (c ∷ []) ∙ or_left (has_new_id number p.new_cids) (has_new_id number (c ∷ [])) is
 
 -- what frames say has to be sent again
 pub again_says : (what : Listed) (fs : List FrameValue) → listed_in what (again_in fs) ≡ said what fs
 again_says (ResetOf id) [] = refl
 again_says (StopOf id) [] = refl
+again_says (RetireOf number) [] = refl
+again_says (NewIdOf number) [] = refl
 again_says (ResetOf id) (reset_stream f ∷ fs) = ap (λ (b : Bool). (f.id == id) || b) (again_says (ResetOf id) fs)
 again_says (StopOf id) (stop_sending f ∷ fs) = ap (λ (b : Bool). (f.id == id) || b) (again_says (StopOf id) fs)
+again_says (RetireOf number) (retire_connection_id n ∷ fs) = ap (λ (b : Bool). (n == number) || b) (again_says (RetireOf number) fs)
+again_says (NewIdOf number) (new_connection_id f ∷ fs) = ap (λ (b : Bool). (f.sequence == number) || b) (again_says (NewIdOf number) fs)
 again_says (ResetOf id) (f ∷ fs) = again_says (ResetOf id) fs
 again_says (StopOf id) (f ∷ fs) = again_says (StopOf id) fs
+again_says (RetireOf number) (f ∷ fs) = again_says (RetireOf number) fs
+again_says (NewIdOf number) (f ∷ fs) = again_says (NewIdOf number) fs
 
 -- a frame that goes says what waited first
 first_listed : (what : Listed) (p : Retransmits) (s : StreamsState) (f : FrameValue) → Goes p s f → listed_in what p ≡ (says what f || listed_in what (without_of (kind_of f) p))
 first_listed (ResetOf id) p s (reset_stream f) goes = ap (has_reset id) (first_others p.reset_stream (f.id, f.code) goes.1)
 first_listed (StopOf id) p s (stop_sending f) goes = ap (has_stop id) (first_others p.stop_sending f goes)
+first_listed (RetireOf number) p s (retire_connection_id n) goes = ap (has_retirement number) (first_others p.retire_cids n goes)
+first_listed (NewIdOf number) p s (new_connection_id f) goes =
+    ap (has_new_id number) (first_others p.new_cids goes.0 goes.1) ∙ ap (λ (g : NewConnectionIdValue). (g.sequence == number) || has_new_id number (others_of p.new_cids)) (sym goes.2)
 first_listed (ResetOf id) p s f goes = refl
 first_listed (StopOf id) p s f goes = refl
+first_listed (RetireOf number) p s f goes = refl
+first_listed (NewIdOf number) p s f goes = refl
 
 -- a frame that says it asks for an acknowledgement
 says_asks : (what : Listed) (f : FrameValue) → says what f ≡ true → asks f ≡ true
 says_asks (ResetOf id) (reset_stream f) is = refl
 says_asks (StopOf id) (stop_sending f) is = refl
+says_asks (RetireOf number) (retire_connection_id n) is = refl
+says_asks (NewIdOf number) (new_connection_id f) is = refl
 says_asks (ResetOf id) f is = cc
 says_asks (StopOf id) f is = cc
+says_asks (RetireOf number) f is = cc
+says_asks (NewIdOf number) f is = cc
 
 -- the frame that resets a stream
 frame_resets : (fs : List FrameValue) (id : ℕ) → said (ResetOf id) fs ≡ true → (f : ResetStreamValue) × In (reset_stream f) fs × (f.id ≡ id)
@@ -182,6 +256,34 @@ reset_has_come took id came = let found = frame_resets came.packet.frames id cam
 -- and a stop
 pub stop_has_come : (took : List Packet) (id : ℕ) → Came took (StopOf id) → was_stopped id took ≡ true
 stop_has_come took id came = any_is (λ (p : Packet). list_any (stops_stream id) p.frames) came.packet took came.was_taken came.carried
+
+-- a frame that retires a number
+frame_retires : (fs : List FrameValue) (number : ℕ) → said (RetireOf number) fs ≡ true → In (retire_connection_id number) fs
+frame_retires [] number is = cc
+frame_retires (retire_connection_id n ∷ fs) number is = elim (or_cases (n == number) (said (RetireOf number) fs) is) [
+  | inl here ↦ inl (ap (λ (k : ℕ). retire_connection_id k) (sym (eqb-true n number here)))
+  | inr more ↦ inr (frame_retires fs number more)
+]
+frame_retires (f ∷ fs) number is = inr (frame_retires fs number is)
+
+-- one that tells of the id of a number
+frame_tells : (fs : List FrameValue) (number : ℕ) → said (NewIdOf number) fs ≡ true → (f : NewConnectionIdValue) × In (new_connection_id f) fs × (f.sequence ≡ number)
+frame_tells [] number is = cc
+frame_tells (new_connection_id f ∷ fs) number is = elim (or_cases (f.sequence == number) (said (NewIdOf number) fs) is) [
+  | inl here ↦ (f, inl refl, eqb-true f.sequence number here)
+  | inr more ↦ (let rest = frame_tells fs number more in (rest.0, inr rest.1, rest.2))
+]
+frame_tells (f ∷ fs) number is = let rest = frame_tells fs number is in (rest.0, inr rest.1, rest.2)
+
+-- a retirement that came
+pub retirement_has_come : (took : List Packet) (number : ℕ) → Came took (RetireOf number) → WasRetired took number
+retirement_has_come took number came = record { packet = came.packet; was_taken = came.was_taken; carried = frame_retires came.packet.frames number came.carried }
+
+-- and an id
+pub id_has_come : (took : List Packet) (number : ℕ) → Came took (NewIdOf number) → (id : List ℕ) × WasToldId took number id
+id_has_come took number came =
+    let found = frame_tells came.packet.frames number came.carried in
+    (found.0.id, record { packet = came.packet; was_taken = came.was_taken; frame = found.0; carried = found.1; of_number = found.2; is = refl })
 
 -- what came stays so
 pub came_on : (old later : List Packet) (what : Listed) (e : End) → ((packet : Packet) → In packet old → In packet later) → ListedStands old what e → ListedStands later what e
@@ -264,6 +366,104 @@ module _ (what : Listed) where
       one (inr (inl here)) = inl (same ∙ or_right (listed_in what e.waiting.frames) (listed_in what c.retransmits) here)
       one (inr (inr more)) = inr more
 
+-- ---- ids
+
+-- ids that are drawn have the numbers of those that waited
+set_same : (number : ℕ) (xs : List IssuedCid) (place : ℕ) (words : ℕ → ℕ) (c : IssuedCid) → slice_get xs place ≡ Some c → has_new_id number (set xs place (drawn_id words c.sequence)) ≡ has_new_id number xs
+set_same number [] place words c is = cc
+set_same number (x ∷ xs) zero words c is = ap (λ (y : IssuedCid). (y.sequence == number) || has_new_id number xs) (sym (same_Some x c is))
+set_same number (x ∷ xs) (suc place) words c is = ap (λ (b : Bool). (x.sequence == number) || b) (set_same number xs place words c is)
+
+one_same : (number : ℕ) (o : Option IssuedCid) (place : ℕ) (words : ℕ → ℕ) (d : Drawing) → slice_get d.waiting place ≡ o → has_new_id number (drawn_one o place words d).waiting ≡ has_new_id number d.waiting
+one_same number None place words d is = refl
+one_same number (Some c) place words d is = set_same number d.waiting place words c is
+
+pub places_same : (number : ℕ) (places : List ℕ) (words : ℕ → ℕ) (d : Drawing) → has_new_id number (drawn_places places words d).waiting ≡ has_new_id number d.waiting
+places_same number [] words d = refl
+places_same number (place ∷ places) words d =
+    places_same number places (words_behind words_of_id words) (drawn_one (slice_get d.waiting place) place words d) ∙ one_same number (slice_get d.waiting place) place words d refl
+
+drawn_waits : (what : Listed) (words : ℕ → ℕ) (e : End) → listed_in what e.waiting.frames ≡ true → listed_in what (drawn words e).waiting.frames ≡ true
+drawn_waits (ResetOf id) words e is = is
+drawn_waits (StopOf id) words e is = is
+drawn_waits (RetireOf number) words e is = is
+drawn_waits (NewIdOf number) words e is = places_same number e.ids.undrawn (words_behind (words_drawn e) words) (record { living = e.ids.living; waiting = e.waiting.frames.new_cids }) ∙ is
+
+module _ (took : List Packet) (what : Listed) where
+  -- where it waits still
+  more_waits : (e : End) (r : Retransmits) → (listed_in what e.waiting.frames ≡ true → listed_in what r ≡ true) → ListedStands took what e → ListedStands took what (with_frames e r)
+  more_waits e r more (inl waits) = inl (more waits)
+  more_waits e r more (inr rest) = inr rest
+
+  pub drawn_stands : (words : ℕ → ℕ) (e : End) → ListedStands took what e → ListedStands took what (drawn words e)
+  drawn_stands words e (inl waits) = inl (drawn_waits what words e waits)
+  drawn_stands words e (inr rest) = inr rest
+
+  -- messages that are dropped leave it
+  lasts_stand : (o : Option ℕ) (e : End) → ListedStands took what e → ListedStands took what (without_longer_if o e)
+  lasts_stand None e i = i
+  lasts_stand (Some most) e i = i
+
+  pub shortened_stands : (b : Bool) (e : End) → ListedStands took what e → ListedStands took what (shortened b e)
+  shortened_stands true e i = lasts_stand (most_message e) e i
+  shortened_stands false e i = i
+
+  retiring_stands : (r : Range ℕ) (e : End) → ListedStands took what e → ListedStands took what (retiring r e)
+  retiring_stands r e i = more_waits e (after_retire e.waiting.frames r.start r.end) (retired_added what e.waiting.frames (range_with_len r.start (r.end - r.start))) i
+
+  -- a frame apart from streams leaves it
+  pub apart_stands : (f : FrameValue) (e : End) → IsApart f → ListedStands took what e → ListedStands took what (take_frame f e).end
+  apart_stands (ack a) e apart i = absurd apart
+  apart_stands (stream f) e apart i = absurd apart
+  apart_stands (reset_stream f) e apart i = absurd apart
+  apart_stands (stop_sending f) e apart i = absurd apart
+  apart_stands (max_data limit) e apart i = absurd apart
+  apart_stands (max_stream_data f) e apart i = absurd apart
+  apart_stands (max_streams f) e apart i = absurd apart
+  apart_stands (datagram m) e apart i = absurd apart
+  apart_stands (new_connection_id f) e apart i = go (retires_for (insert_answer e.ids.peer (id_frame_of f)))
+    where
+      retires : (b : Bool) (r : Range ℕ) → ListedStands took what (retired_for b r f e).end
+      retires true r = shortened_stands _ (retiring r (with_taken_up f e)) (retiring_stands r (with_taken_up f e) i)
+      retires false r = i
+
+      late : (b : Bool) → ListedStands took what (with_frames e (if b then e.waiting.frames else record e.waiting.frames { retire_cids = e.waiting.frames.retire_cids ++ f.sequence ∷ [] }))
+      late true = i
+      late false = more_waits e (record e.waiting.frames { retire_cids = e.waiting.frames.retire_cids ++ f.sequence ∷ [] }) (retired_added what e.waiting.frames (f.sequence ∷ [])) i
+
+      go : (r : Result (Option (Range ℕ)) InsertError) → ListedStands took what (id_judged r f e).end
+      go (Ok None) = shortened_stands _ (with_taken_up f e) i
+      go (Ok (Some r)) = retires (can_retire e.waiting.frames r.start r.end) r
+      go (Err inserts.Retired) = late (nat_le most_retirements (length e.waiting.frames.retire_cids) || list_any (λ m. m == f.sequence) e.waiting.frames.retire_cids)
+      go (Err inserts.ExceedsLimit) = i
+  apart_stands (retire_connection_id n) e apart i = go (retirement_answer e.ids.own n e.ids.limit)
+    where
+      left : End
+      left = with_ids e (retired n e.ids)
+
+      issues : (b : Bool) → ListedStands took what (issued_if b left)
+      issues true = more_waits e (issued left).waiting.frames (told_added what e.waiting.frames (undrawn_id left.ids.own.issued)) i
+      issues false = i
+
+      go : (r : Result Bool ErrorValue) → ListedStands took what (retirement_judged r n e).end
+      go (Ok more) = issues (may_issue e.ids n)
+      go (Err error) = i
+  apart_stands (path_response token) e apart i = go (is_asked e.validation.challenge (word_of token))
+    where
+      go : (b : Bool) → ListedStands took what (validated_if b e)
+      go true = i
+      go false = i
+  apart_stands f e apart i = i
+
+  -- so does the change to the next id of the peer
+  pub next_stands : (e : End) (a : Answer) → ListedStands took what e → ListedStands took what (end_on_next_id e a)
+  next_stands e (answers.UseNextId (Ok done)) i = go (retires_for_next e.ids)
+    where
+      go : (o : Option (Range ℕ)) → ListedStands took what (next_id_taken o e)
+      go None = i
+      go (Some r) = shortened_stands _ (retiring r (with_ids e (next_used e.ids))) (retiring_stands r (with_ids e (next_used e.ids)) i)
+  next_stands e a i = i
+
 module _ (took : List Packet) (what : Listed) where
   -- losses that are detected
   detected_stands : (e : End) → ListedStands took what e → ListedStands took what (losses_detected e)
@@ -327,16 +527,16 @@ module _ (took : List Packet) (what : Listed) where
     ack_stands false a e takes tracked i = named_stands (acked_by a e.tracking.packets) (is_above e.numbers.largest_acked a.largest) a (named a e) refl (named_carried took sents stands a e.tracking.packets takes tracked) i
 
     -- over the frames of a packet
-    record Going (left : List FrameValue) (e : End) : Type 0 where
-      takes : (a : AckValue) → In (ack a) left → NamesTaken took a
-      tracked : AreTracked sents e.tracking.packets
-      stand : ListedStands took what e
+    pub record Going (left : List FrameValue) (e : End) : Type 0 where
+      pub takes : (a : AckValue) → In (ack a) left → NamesTaken took a
+      pub tracked : AreTracked sents e.tracking.packets
+      pub stand : ListedStands took what e
 
     -- any frame
-    frame_stands : (f : FrameValue) (left : List FrameValue) (e : End) → Going (f ∷ left) e → ListedStands took what (take_frame f e).end
+    pub frame_stands : (f : FrameValue) (left : List FrameValue) (e : End) → Going (f ∷ left) e → ListedStands took what (take_frame f e).end
     frame_stands f left e g = by_frame f e (λ h p. ListedStands took what p.end) (λ a is. ack_stands (names_ungiven a e) a e (g.takes a (inl is)) g.tracked g.stand)
         (λ other on. frame_waits f e on g.stand) (λ other m same. subst (ListedStands took what) (sym same) g.stand)
-        (λ other apart. subst (ListedStands took what) (sym (apart_same f e apart)) g.stand)
+        (λ other apart. apart_stands took what f e apart g.stand)
 
     frames_stand : (fs : List FrameValue) (e : End) → ((a : AckValue) → In (ack a) fs → NamesTaken took a) → AreTracked sents e.tracking.packets → ListedStands took what e → ListedStands took what (passed fs e).end
     frames_stand fs e takes tracked i = (frames_leave Going (λ f left x g. record {
@@ -347,8 +547,11 @@ module _ (took : List Packet) (what : Listed) where
 
     -- each case of a delivery
     pub arrivals_stand : (e : End) (now n : ℕ) (frames : List FrameValue) (came : Intake) → ((a : AckValue) → In (ack a) frames → NamesTaken took a) → AreTracked sents e.tracking.packets → ListedStands took what e → Arrivals e now n frames came (λ (o : Outcome) (j : Intake). ListedStands took what o.end)
-    arrivals_stand e now n frames came takes tracked i = record { ignored = λ reason. i; noted = λ state reason. i; takes = λ state new none mark. after; refuses = λ state new f is. after }
+    arrivals_stand e now n frames came takes tracked i = record { ignored = λ reason. i; noted = λ state reason. i; takes = λ words state new none mark. draws words (after_taken n (asks_in (map Ok frames)) mark (arrived e now n frames).end) after; drains = λ words state new close is. draws words (drained_at n close (arrived e now n frames).end) after; refuses = λ words state new f is. draws words (closed_by (reason_of f) (arrived e now n frames).end) after; exhausts = λ state. i }
       where
+        draws : (words : ℕ → ℕ) (x : End) → ListedStands took what x → ListedStands took what (drawn words x)
+        draws words x j = drawn_stands took what words x j
+
         after : ListedStands took what (arrived e now n frames).end
         after = frames_stand frames (begun e now n) takes tracked i
 
@@ -368,6 +571,22 @@ stop_due c e es [] is none = cc
 stop_due c e es (r ∷ rs) is none =
     let entry : stop_entry r ≡ e = cc in
     let no : Some (stop_sending r) ≡ None = ap (λ (x : Entry). x.frame c.state) entry ∙ none in
+    cc
+
+-- a retirement has one
+retire_due : (c : control.Draft) (e : Entry) (es : List Entry) (rs : List ℕ) → map retire_entry rs ≡ e ∷ es → e.frame c.state ≡ None → ⊥
+retire_due c e es [] is none = cc
+retire_due c e es (r ∷ rs) is none =
+    let entry : retire_entry r ≡ e = cc in
+    let no : Some (retire_connection_id r) ≡ None = ap (λ (x : Entry). x.frame c.state) entry ∙ none in
+    cc
+
+-- and an id
+id_due : (c : control.Draft) (e : Entry) (es : List Entry) (rs : List IssuedCid) → map new_id_entry rs ≡ e ∷ es → e.frame c.state ≡ None → ⊥
+id_due c e es [] is none = cc
+id_due c e es (r ∷ rs) is none =
+    let entry : new_id_entry r ≡ e = cc in
+    let no : Some (new_connection_id (told_id r)) ≡ None = ap (λ (x : Entry). x.frame c.state) entry ∙ none in
     cc
 
 module _ (s : StreamsState) (p : Retransmits) (ready : AreReady s.sending.halves.live p) (what : Listed) where
@@ -392,8 +611,12 @@ module _ (s : StreamsState) (p : Retransmits) (ready : AreReady s.sending.halves
   dropped : (it : Listed) (kind : ControlKind) (c : control.Draft) (e : Entry) (es : List Entry) → waiting kind c.pending ≡ e ∷ es → e.frame c.state ≡ None → Moved c → listed_in it c.pending ≡ true → listed_in it (without_first kind c.pending) ≡ true
   dropped (ResetOf id) ResetStream c e es is none m waits = absurd (first_due c e es is none m)
   dropped (StopOf id) StopSending c e es is none m waits = absurd (stop_due c e es c.pending.stop_sending is none)
+  dropped (RetireOf number) RetireConnectionId c e es is none m waits = absurd (retire_due c e es c.pending.retire_cids is none)
+  dropped (NewIdOf number) NewConnectionId c e es is none m waits = absurd (id_due c e es c.pending.new_cids is none)
   dropped (ResetOf id) kind c e es is none m waits = waits
   dropped (StopOf id) kind c e es is none m waits = waits
+  dropped (RetireOf number) kind c e es is none m waits = waits
+  dropped (NewIdOf number) kind c e es is none m waits = waits
 
   -- a frame that goes
   goes_listed : (kind : ControlKind) (c : control.Draft) (f : FrameValue) → GoesFirst kind c.pending c.state f → listed_in what c.pending ≡ (says what f || listed_in what (without_first kind c.pending))
@@ -464,7 +687,8 @@ module _ (e : End) (ready : AreReady e.streams.sending.halves.live e.waiting.fra
       go true = asking_moved (with_ack (no_frames e)) (record { streams = refl; waits = refl })
       go false = late (ack_fits (with_asking (no_frames e))) (with_asking (no_frames e)) (asking_moved (no_frames e) (record { streams = refl; waits = refl }))
 
--- so it is of what goes, where that is composed, or is a due ACK, a probe of a size or a close alone, and where nothing goes
+-- so it is of what goes, where that is composed, or is a due ACK, a probe of a size or a close
+-- alone, and where nothing goes
 draft_moved : (e : End) (ready : AreReady e.streams.sending.halves.live e.waiting.frames) (what : Listed) (was : listed_in what e.waiting.frames ≡ true) → (leaving : Leaving) → IsMoved e ready what was (draft_as leaving e)
 draft_moved e ready what was whole = composed_moved (lazied e) ready what was
 draft_moved e ready what was other = inl was
@@ -511,7 +735,8 @@ module _ (took : List Packet) (sents : List Sent) (what : Listed) where
       silent = i;
       failed = i;
       nothing = λ is none. ready_stands i;
-      closes = ready_stands i;
+      repeats = λ is. by_closes p (with_closing e (ticked e.closing now)) (λ (q : Polled). ListedStands took what q.end) i (λ f goes. i);
+      closes = λ reason bound. by_closes p (closed_by reason (ready_at e now).end) (λ (q : Polled). ListedStands took what q.end) (ready_stands i) (λ f goes. ready_stands i);
       gives = λ is may some. by_going (ListedStands took what) p (draft_at e now) (λ pacing. gives some);
     })
       where
@@ -635,7 +860,10 @@ module _ (took : List Packet) (sents : List Sent) (what : Listed) where
     on_streams = λ on answer. elim i [ inl waits ↦ inl (call_waits what (is_open e.closing.state) (streams_at e) call a waits) | inr more ↦ inr more ];
     on_messages = λ on answer. i;
     pings = i;
-    times = λ now expiry set. by_expired e now (ListedStands took what) (λ pending tracking timers runs packets. rw packets i) (λ pending timers runs. detected_stands took what (with_closing e (ticked e.closing now)) i) expiry;
+    closes = λ reason f now own. i;
+    waits = λ now b set. by_waits (ListedStands took what) b (with_closing e (ticked e.closing now)) i i;
+    changes_id = λ uses answer. next_stands took what e a i;
+    times = λ now expiry set. by_expired p.words e now (ListedStands took what) (λ pending tracking timers waits asked runs packets. rw packets i) (λ pending timers waits asked runs. detected_stands took what (with_closing e (ticked e.closing now)) i) (λ x j. j) expiry;
     polls = λ now set. polled_stands took sents what e now ascends were before new p (ready now) i;
     hears = λ arrival d set. cc;
     tells = λ asks. by_event e (ListedStands took what) i (λ told. i);

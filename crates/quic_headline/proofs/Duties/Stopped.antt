@@ -1,5 +1,5 @@
--- Of each stream that an end stopped and whose final size it doesn't know, F holds: where that is that
--- STOP_SENDING of it waits, is under way, or came, each call keeps it.
+-- Of each stream that an end stopped and whose final size it doesn't know, F holds: where that is
+-- that STOP_SENDING of it waits, is under way, or came, each call keeps it.
 use Rattle.std.proofs.Common.{◌≡◌, ℕ, Bool, true, false, List, Option, Some, None, refl, sym, ap, subst, inl, inr}
 use Rattle.std.specs.Prelude.{if◌then◌else◌, ◌&&◌}
 use Rattle.std.specs.Option.{is_some}
@@ -36,8 +36,8 @@ use Rattle.quic_headline.proofs.Duties.Listed.{StopOf, listed_in, stop_added_by}
 
 -- ---- what is known
 
--- of a half in use: one that was reset has a final size, and where it is stopped and has none, F holds
--- of its stream
+-- of a half in use: one that was reset has a final size, and where it is stopped and has none, F
+-- holds of its stream
 abbrev pub IsAsked : (ℕ → Type 0) → ℕ → Status RecvHalf → Type 0
 IsAsked F id unknown = Unit {0}
 IsAsked F id fresh = Unit {0}

@@ -1,7 +1,10 @@
--- What was sent since the last datagram that asks asks for nothing: a packet that is forgotten carried nothing that has to reach the peer.
-use Rattle.std.proofs.Common.{◌≡◌, ℕ, ◌<◌, Bool, true, false, List, [], ◌∷◌, ◌++◌, Option, Some, None, refl, sym, ap, ◌∙◌, subst, inl, inr, arith, length}
+-- What was sent since the last datagram that asks asks for nothing: a packet that is forgotten
+-- carried nothing that has to reach the peer.
+use Rattle.std.proofs.Common.{◌≡◌, ℕ, ◌<◌, replicate, Bool, true, false, List, [], ◌∷◌, ◌++◌, Option, Some, None, refl, sym, ap, ◌∙◌, subst, inl, inr, arith, length}
 use Rattle.std.proofs.lemmas.Bool.{le-ltb}
-use Rattle.quic_wire.specs.Value.{AckValue}
+use Rattle.std.specs.List.{list_any}
+use Rattle.quic_wire.specs.Value.{FrameValue, AckValue, asks, padding, connection_close, application_close}
+use Rattle.quic_machine.specs.DraftLaws.{IsClose}
 use Rattle.quic_streams_parts.specs.Table.{Table}
 use Rattle.quic_machine.specs.Arrival.{Arrival}
 use Rattle.quic_machine.specs.declared.run.Call.{Call}
@@ -11,7 +14,7 @@ use Rattle.quic_machine.specs.declared.run.Answer.TheVariants as answers
 use Rattle.quic_machine.specs.Policy.{Policy}
 use Rattle.quic_machine.specs.Closing.{ticked}
 use Rattle.quic_machine.specs.Tracking.{Tracking, TrackedPacket, is_behind, asking_sent, acked_by}
-use Rattle.quic_machine.specs.End.{End, with_closing, number_of}
+use Rattle.quic_machine.specs.End.{End, with_closing, closed_by, number_of}
 use Rattle.quic_machine.specs.Acked.{sampled, measured, without_acked, after_named, losses_taken}
 use Rattle.quic_machine.specs.Receive.{received}
 use Rattle.quic_machine.specs.Poll.{Polled, Draft, asking, polled, goes, tracked, Ready}
@@ -31,10 +34,14 @@ use Rattle.quic_headline.proofs.Packets.Probes.{by_ready, by_going}
 use Rattle.quic_headline.proofs.Packets.Given.{allocated_near, draft_number}
 use Rattle.quic_headline.proofs.Packets.Flying.{asking_padded}
 use Rattle.quic_headline.proofs.Places.Told.{in_append}
-use Rattle.quic_headline.proofs.Places.Parties.{sent_by, sent_if, sents_by}
+use Rattle.quic_headline.proofs.Places.Parties.{sent_by, sent_if, sents_by, sent_as}
 use Rattle.quic_headline.proofs.Places.Steps.{poll_answer}
 use Rattle.quic_headline.proofs.Duties.Carrier.{IsNew, number_new}
 use Rattle.quic_machine.specs.LeaveCases as expiring
+use Rattle.quic_headline.proofs.Packets.Apart.{by_waits, by_next_id}
+use Rattle.quic_headline.proofs.Packets.Sends.{by_sends}
+use Rattle.quic_headline.proofs.Packets.Owing.{Owes, close_is, error_owes}
+use Rattle.quic_headline.proofs.Packets.Bare.{close_bare, asks_not}
 
 -- those that ask aren't above the greatest that asks
 abbrev pub AskBefore : List Sent → Option ℕ → Type 0
@@ -86,16 +93,20 @@ received_stays greatest = by_received (Stays greatest) (record {
   frame = frame_keeps (Stays greatest) (record {
     ack = λ rises a x i. named_stays greatest (acked_by a x.tracking.packets) rises a (named a x) i;
     on_streams = λ f x on i. frame_leaves (Stays greatest) f x on (λ streams. i);
-    apart = λ f x is i. apart_leaves (Stays greatest) f x is (λ c. i);
+    apart = λ f x is i. apart_leaves (Stays greatest) f x is (λ c. i) (λ c most. i);
     message = λ m x i. i;
   });
   takes = λ n asks mark x i. i;
   closes = λ reason x i. i;
+  drains = λ close x i. i;
+  asks_close = λ x i. i;
+  exhausts = λ now x i. i;
+  draws = λ words x i. i;
 })
 
 -- and timers that expire
-expired_stays : (e : End) (now : ℕ) (expiry : Expiry) → Stays e.tracking.greatest_asking (at_expiry e now expiry)
-expired_stays e now expiry = by_timers Here Here judges each (λ f i. i) expiry (with_closing e (ticked e.closing now)) refl
+expired_stays : (words : ℕ → ℕ) (e : End) (now : ℕ) (expiry : Expiry) → Stays e.tracking.greatest_asking (at_expiry words e now expiry)
+expired_stays words e now expiry = by_timers words Here Here judges each (λ f i. i) (λ f i. i) expiry (with_closing e (ticked e.closing now)) refl
   where
     Here : End → Type 0
     Here = Stays e.tracking.greatest_asking
@@ -113,9 +124,12 @@ other_stays : (p : Policy) (e : End) (theirs : List (List ℕ)) (call : Call) (a
 other_stays p e theirs call a apart = by_plain_call p e theirs (Stays e.tracking.greatest_asking) call a keep
   where
     keep : Plain p e call (Stays e.tracking.greatest_asking)
-    keep (cases.times now expiry) may = expired_stays e now expiry
+    keep (cases.times now expiry) may = expired_stays p.words e now expiry
     keep (cases.polls now) is = cc
     keep (cases.hears arrival d) may = received_stays e.tracking.greatest_asking p e arrival d refl
+    keep (cases.closes reason f now) may = refl
+    keep (cases.waits now b) may = by_waits (Stays e.tracking.greatest_asking) b (with_closing e (ticked e.closing now)) refl refl
+    keep (cases.changes_id a) may = by_next_id (Stays e.tracking.greatest_asking) e a refl (λ c. refl) (λ c most. refl)
     keep c may = refl
 
 -- ---- a datagram goes
@@ -138,6 +152,16 @@ before_sent sents s false n now t number is below before u i asks = elim (in_app
   | inr last ↦ elim last [ inl same ↦ (let clash : true ≡ false = sym asks ∙ ap asks_of same ∙ is in cc) | inr none ↦ absurd none ]
 ]
 
+-- a close doesn't ask, nor does PADDING beside it
+before_close : (sents : List Sent) (f : FrameValue) → IsClose f → (count : ℕ) (s : Sent) (greatest : Option ℕ) → s.frames ≡ f ∷ replicate count padding → AskBefore sents greatest → AskBefore (sents ++ s ∷ []) greatest
+before_close sents f is count s greatest frames before u i asked = elim (in_append u sents (s ∷ []) i) [
+  | inl old ↦ before u old asked
+  | inr last ↦ elim last [
+    | inl same ↦ (let clash : true ≡ false = sym asked ∙ ap asks_of same ∙ ap (λ (fs : List FrameValue). list_any asks fs) frames ∙ close_bare asks refl asks_not f is count in cc)
+    | inr none ↦ absurd none
+  ]
+]
+
 -- none is
 before_none : (sents : List Sent) (greatest : Option ℕ) → AskBefore sents greatest → AskBefore (sents ++ []) greatest
 before_none sents greatest before u i = elim (in_append u sents [] i) [ inl old ↦ before u old | inr none ↦ absurd none ]
@@ -147,33 +171,40 @@ pub ready_before : (sents : List Sent) (e : End) (now : ℕ) → AskBefore sents
 ready_before sents e now before = by_ready (λ (x : End). AskBefore sents x.tracking.greatest_asking) e now before before (λ q i. before) (λ moment pacing discovery x i. i)
 
 -- after a poll
-before_polled : (p : Policy) (e : End) (now : ℕ) (sents : List Sent) → ((s : Sent) → In s sents → s.number < e.numbers.next) → AskBefore sents e.tracking.greatest_asking
-    → AskBefore (sents ++ sent_if (gave (answers.Poll (polled p e now).answer)) (sent_by e now)) (polled p e now).end.tracking.greatest_asking
-before_polled p e now sents below before =
-    by_poll_to p e now (λ (q : Polled). AskBefore (sents ++ sent_if (gave (answers.Poll q.answer)) (sent_by e now)) q.end.tracking.greatest_asking) (record {
+before_polled : (p : Policy) (e : End) (now : ℕ) (sents : List Sent) → Owes e → ((s : Sent) → In s sents → s.number < e.numbers.next) → AskBefore sents e.tracking.greatest_asking
+    → AskBefore (sents ++ sent_if (gave (answers.Poll (polled p e now).answer)) (sent_by p e now)) (polled p e now).end.tracking.greatest_asking
+before_polled p e now sents owes below before =
+    by_sends p e now (λ (q : Polled) (ss : List Sent). AskBefore (sents ++ ss) q.end.tracking.greatest_asking) (record {
       silent = before_none sents e.tracking.greatest_asking before;
       failed = before_none sents e.tracking.greatest_asking before;
       nothing = λ is none. before_none sents (ready_at e now).end.tracking.greatest_asking ready;
-      closes = before_none sents (ready_at e now).end.tracking.greatest_asking ready;
-      gives = λ is may some. by_going (λ (x : End). AskBefore (sents ++ sent_by e now ∷ []) x.tracking.greatest_asking) p (draft_at e now) (λ pacing. gives some);
+      repeats = λ is. (
+        before_none sents e.tracking.greatest_asking before,
+        λ f goes. (let x : End = with_closing e (ticked e.closing now) in before_close sents f (close_is p x owes f goes) _ _ e.tracking.greatest_asking refl before),
+      );
+      closes = λ reason is bound. (
+        before_none sents (ready_at e now).end.tracking.greatest_asking ready,
+        λ f goes. (let x : End = (ready_at e now).end in before_close sents f (close_is p (closed_by reason x) (error_owes reason x) f goes) _ _ x.tracking.greatest_asking refl ready),
+      );
+      gives = λ is may some. by_going (λ (x : End). AskBefore (sents ++ sent_as e now (draft_at e now) ∷ []) x.tracking.greatest_asking) p (draft_at e now) (λ pacing. gives some);
     })
   where
     ready : AskBefore sents (ready_at e now).end.tracking.greatest_asking
     ready = ready_before sents e now before
 
-    gives : goes (ready_at e now) ≡ true → AskBefore (sents ++ sent_by e now ∷ []) (tracked (draft_at e now)).tracking.greatest_asking
+    gives : goes (ready_at e now) ≡ true → AskBefore (sents ++ sent_as e now (draft_at e now) ∷ []) (tracked (draft_at e now)).tracking.greatest_asking
     gives some =
         let g : Ready = ready_at e now in
         let d : Draft = draft_at e now in
         let number : number_of e ≡ number_of d.end = sym (draft_number g.leaving g.end (may_leave_at e now) ∙ ap (λ (x : End). number_of x) (ready_leaves e now)) in
         let near = (allocated_near e.filter e.numbers.next).0 in
         let here : AskBefore sents d.end.tracking.greatest_asking = subst (λ (t : Tracking). AskBefore sents t.greatest_asking) (sym (composes g.leaving g.end (may_leave_at e now)).tracking) ready in
-        before_sent sents (sent_by e now) (asking d.frames) (number_of d.end) d.end.closing.clock _ number (asking_padded d.frames _) (λ u i. (let less = below u i in omega arith)) here
+        before_sent sents (sent_as e now d) (asking d.frames) (number_of d.end) d.end.closing.clock _ number (asking_padded d.frames _) (λ u i. (let less = below u i in omega arith)) here
 
 -- any call that lacks no memory
-pub before_call : (p : Policy) (e : End) (theirs : List (List ℕ)) (call : Call) (a : Answer) (sents : List Sent) → IsAnswer p e theirs call a → fails a ≡ false → ((s : Sent) → In s sents → s.number < e.numbers.next) → AskBefore sents e.tracking.greatest_asking
-    → AskBefore (sents ++ sents_by e call a) (after_call p e theirs call a).tracking.greatest_asking
-before_call p e theirs (calls.Poll now) a sents is served below before =
-    subst (λ (x : Answer). AskBefore (sents ++ sent_if (gave x) (sent_by e now)) (polled p e now).end.tracking.greatest_asking) (sym (poll_answer p e now a is served)) (before_polled p e now sents below before)
-before_call p e theirs call a sents is served below before =
+pub before_call : (p : Policy) (e : End) (theirs : List (List ℕ)) (call : Call) (a : Answer) (sents : List Sent) → Owes e → IsAnswer p e theirs call a → fails a ≡ false → ((s : Sent) → In s sents → s.number < e.numbers.next) → AskBefore sents e.tracking.greatest_asking
+    → AskBefore (sents ++ sents_by p e call a) (after_call p e theirs call a).tracking.greatest_asking
+before_call p e theirs (calls.Poll now) a sents owes is served below before =
+    subst (λ (x : Answer). AskBefore (sents ++ sent_if (gave x) (sent_by p e now)) (polled p e now).end.tracking.greatest_asking) (sym (poll_answer p e now a is served)) (before_polled p e now sents owes below before)
+before_call p e theirs call a sents owes is served below before =
     before_none sents (after_call p e theirs call a).tracking.greatest_asking (subst (AskBefore sents) (sym (other_stays p e theirs call a refl)) before)

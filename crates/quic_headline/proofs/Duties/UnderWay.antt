@@ -16,7 +16,7 @@ use Rattle.quic_machine.specs.declared.run.Answer.{Answer}
 use Rattle.quic_machine.specs.Policy.{Policy}
 use Rattle.quic_machine.specs.Closing.{ticked}
 use Rattle.quic_machine.specs.Tracking.{Tracking, TrackedPacket, Carried, dir_named, streams_in, without_record, names, acked_by, not_acked_by, is_lost, lost_by, kept_by}
-use Rattle.quic_machine.specs.End.{End, with_closing, streams_at, number_of}
+use Rattle.quic_machine.specs.End.{End, with_closing, streams_at, number_of, closed_by}
 use Rattle.quic_machine.specs.Calls.{is_open}
 use Rattle.quic_machine.specs.StreamCalls.{is_on_streams}
 use Rattle.quic_machine.specs.Acked.{without_known, resets_acked, stream_acked, streams_acked, packet_acked, packets_acked, stream_lost, streams_lost, carried_lost, packets_lost, verdict, losses_detected, measured, sampled, without_acked, after_named, losses_taken}
@@ -48,6 +48,8 @@ use Rattle.quic_headline.proofs.Duties.InStreams.{AllFly, all_more, fly_kept, fl
 use Rattle.quic_headline.proofs.Duties.Carrier.{any_either, any_front, any_behind, any_put, any_sent, IsNew, ready_new, all_leave}
 use Rattle.quic_headline.proofs.Duties.Tail.{AskBefore, Quiet, tail_quiet, ready_before}
 use Rattle.quic_machine.specs.Sizes.{search_acked}
+use Rattle.quic_headline.proofs.Packets.Closes.{by_closes}
+use Rattle.quic_headline.proofs.Packets.Apart.{by_waits, by_next_id}
 
 -- ---- where it stands
 
@@ -197,7 +199,7 @@ module _ (done : ℕ → Wrote) where
   frame_fly f e small ends i = by_frame f e (λ g p. Fly done p.end) (λ a is. ack_fly (names_ungiven a e) a e ends i)
       (λ other on. subst (λ (t : Tracking). AllFly (InPackets t.packets) done (take_frame f e).end.streams) (sym (frame_tracks f e on)) (frame_stands (InPackets e.tracking.packets) f e on small i))
       (λ other m same. subst (Fly done) (sym same) i)
-      (λ other apart. apart_leaves (Fly done) f e apart (λ c. i))
+      (λ other apart. apart_leaves (Fly done) f e apart (λ c. i) (λ c most. i))
 
   -- over the frames of a packet
   record Going (left : List FrameValue) (e : End) : Type 0 where
@@ -214,7 +216,7 @@ module _ (done : ℕ → Wrote) where
 
   -- each case of a delivery
   pub arrivals_fly : (e : End) (now n : ℕ) (frames : List FrameValue) (came : Intake) → ((f : FrameValue) → In f frames → IsSmallLimit f) → TrackedEnds e.tracking.packets → Fly done e → Arrivals e now n frames came (λ (o : Outcome) (j : Intake). Fly done o.end)
-  arrivals_fly e now n frames came small ends i = record { ignored = λ reason. i; noted = λ state reason. i; takes = λ state new none mark. after; refuses = λ state new f is. after }
+  arrivals_fly e now n frames came small ends i = record { ignored = λ reason. i; noted = λ state reason. i; takes = λ words state new none mark. after; drains = λ words state new close is. after; refuses = λ words state new f is. after; exhausts = λ state. i }
     where
       after : Fly done (arrived e now n frames).end
       after = frames_fly frames (begun e now n) small ends i
@@ -298,7 +300,8 @@ module _ (done : ℕ → Wrote) (sents : List Sent) (e : End) (now : ℕ) (ascen
     silent = i;
     failed = i;
     nothing = λ is none. ready_fly i;
-    closes = ready_fly i;
+    repeats = λ is. by_closes p (with_closing e (ticked e.closing now)) (λ (q : Polled). Fly done q.end) i (λ f goes. i);
+    closes = λ reason bound. by_closes p (closed_by reason (ready_at e now).end) (λ (q : Polled). Fly done q.end) (ready_fly i) (λ f goes. ready_fly i);
     gives = λ is may some. by_going (Fly done) p (draft_at e now) (λ pacing. gives some);
   })
     where
@@ -336,7 +339,10 @@ call_fly done sents p e theirs call a apart is ascends were before new ends i = 
       on_streams = λ on answer. cc;
       on_messages = λ on answer. i;
       pings = i;
-      times = λ now expiry set. by_expired e now (Fly done) (λ pending tracking timers runs packets. subst (λ (t : Table TrackedPacket). AllFly (InPackets t) done e.streams) (sym packets) i) (λ pending timers runs. detected_fly done (with_closing e (ticked e.closing now)) ends i) expiry;
+      closes = λ reason f now own. i;
+      waits = λ now b set. by_waits (Fly done) b (with_closing e (ticked e.closing now)) i i;
+      changes_id = λ uses answer. by_next_id (Fly done) e a i (λ c. i) (λ c most. i);
+      times = λ now expiry set. by_expired p.words e now (Fly done) (λ pending tracking timers waits asked runs packets. subst (λ (t : Table TrackedPacket). AllFly (InPackets t) done e.streams) (sym packets) i) (λ pending timers waits asked runs. detected_fly done (with_closing e (ticked e.closing now)) ends i) (λ x j. j) expiry;
       polls = λ now set. polled_fly done sents e now ascends were before new p i;
       hears = λ arrival d set. cc;
       tells = λ asks. by_event e (Fly done) i (λ told. by_polled (AllFly F done) (fly_kept F done) e.streams i);

@@ -9,7 +9,7 @@ use Rattle.std.proofs.lemmas.Bool.{cond_both, cases_eq, cases_Bool, or_cases, or
 use Rattle.std.proofs.lemmas.List.Folds.{list_any-append}
 use Rattle.quic_wire_core.specs.declared.stream_id.Side.{Side}
 use Rattle.quic_wire_core.specs.declared.stream_id.Dir.{Dir}
-use Rattle.quic_wire.specs.Value.{FrameValue, StreamLimitValue, ack, stream, reset_stream, stop_sending, max_data, max_stream_data, max_streams, datagram}
+use Rattle.quic_wire.specs.Value.{FrameValue, StreamLimitValue, ack, stream, reset_stream, stop_sending, max_data, max_stream_data, max_streams, datagram, new_connection_id, retire_connection_id, path_response}
 use Rattle.quic_send_buffer.specs.Buffered.{IsBuffered, is_fully_acked}
 use Rattle.quic_send_buffer.proofs.Buffered.Calls.{ack_lawful, loss_lawful}
 use Rattle.quic_streams_parts.specs.declared.answers.Breach.{Breach}
@@ -47,7 +47,7 @@ use Rattle.quic_machine.specs.Closing.{Closing}
 use Rattle.quic_machine.specs.Tracking.{dir_named}
 use Rattle.quic_machine.specs.End.{End}
 use Rattle.quic_machine.specs.Receive.{is_above, names_ungiven, take_frame}
-use Rattle.quic_machine.specs.FrameCases.{Settling, acked_keeps, named, ack_taken, passed as all_taken, frames_taken, message_leaves}
+use Rattle.quic_machine.specs.FrameCases.{Settling, acked_keeps, named, ack_taken, passed as all_taken, frames_taken, message_leaves, apart_leaves}
 use Rattle.quic_machine.specs.Steps as steps
 use Rattle.quic_headline.specs.Events.{tells_writable}
 use Rattle.quic_headline.proofs.Channel.Counted.{listed_frame}
@@ -356,6 +356,9 @@ module _ (first : ℕ → ℕ) (id w : ℕ) where
       acked true = i
       acked false = acked_keeps (λ (x : End). Between x.streams) between_settle (is_above e.numbers.largest_acked a.largest) a (named a e) i
   between_frame (datagram m) e i = message_leaves (λ (x : End). Between x.streams) m e i (λ left. i)
+  between_frame (new_connection_id g) e i = apart_leaves (λ (x : End). Between x.streams) (new_connection_id g) e tt (λ c. i) (λ c most. i)
+  between_frame (retire_connection_id n) e i = apart_leaves (λ (x : End). Between x.streams) (retire_connection_id n) e tt (λ c. i) (λ c most. i)
+  between_frame (path_response token) e i = apart_leaves (λ (x : End). Between x.streams) (path_response token) e tt (λ c. i) (λ c most. i)
   between_frame f e i = i
 
   -- ---- the stream's limit grows

@@ -1,6 +1,6 @@
 -- Where an application is told nothing next while messages wait, it was told that they came: at
 -- each place of an honest run.
-use Rattle.std.proofs.Common.{◌≡◌, ℕ, ◌+◌, ◌<◌, ◌≤◌, inl, inr, Bool, true, false, List, [], ◌∷◌, length, Some, None, refl, sym, ap, ◌∙◌, subst, arith}
+use Rattle.std.proofs.Common.{◌≡◌, ℕ, ◌+◌, ◌<◌, ◌≤◌, inl, inr, Bool, true, false, List, [], ◌∷◌, length, Some, None, refl, sym, ap, ◌∙◌, subst, arith, ◌⊎◌}
 use Rattle.std.specs.Prelude.{nat_lt, ◌-◌, ◌&&◌, drop, if◌then◌else◌}
 use Rattle.std.proofs.lemmas.Bool.{or_parts, lt-ltb, ltb-true, ltb-false}
 use Rattle.quic_wire_core.specs.StreamId.{other_side}
@@ -22,7 +22,7 @@ use Rattle.quic_machine.specs.Machine.{World, after_call}
 use Rattle.quic_headline.specs.Runs.{Run, Told, Intake, and_told, folded}
 use Rattle.quic_headline.specs.Observer.{Sent, news}
 use Rattle.quic_headline.specs.Headline.{IsHonest, IsRun}
-use Rattle.quic_headline.specs.Events.{messages_brought, tells_messages, unread_behind, told_behind, Mail, no_mail, mail_behind, mail_told, mail, MessagesAreTold}
+use Rattle.quic_headline.specs.Events.{messages_brought, tells_messages, unread_behind, told_behind, Mail, no_mail, mail_behind, mail_told, mail, MessagesAreTold, messages_of}
 use Rattle.quic_headline.proofs.Packets.Delivered.{Arrivals, with_taken, with_refused}
 use Rattle.quic_headline.proofs.Packets.Group.{PacketsHold, meets}
 use Rattle.quic_headline.proofs.Packets.Intakes.{folded_more}
@@ -36,6 +36,9 @@ use Rattle.quic_headline.proofs.Places.Theorems.{ready}
 use Rattle.quic_headline.proofs.Halves.Ready.{Ready}
 use Rattle.quic_headline.proofs.Timers.Still.{was_open}
 use Rattle.quic_headline.proofs.Events.Messages.{receives, call_leaves, frames_tell, Brings, frames_bring}
+use Rattle.quic_headline.proofs.Packets.Owing.{AreCloses, IsAlone, closed_alone}
+use Rattle.quic_machine.specs.DraftLaws.{IsClose}
+use Rattle.quic_wire.specs.Value.{FrameValue, datagram, padding}
 
 -- ---- what waits
 
@@ -82,6 +85,16 @@ module _ (p : Policy) (e : End) (theirs : List (List ℕ)) (n : ℕ) (told : Boo
 
 -- ---- what comes
 
+-- closes and PADDING bring no message
+closes_bring : (fs : List FrameValue) → AreCloses fs → messages_of fs ≡ 0
+closes_bring [] all = refl
+closes_bring (f ∷ fs) all = first f (all f (inl refl)) ∙ closes_bring fs (λ g i. all g (inr i))
+  where
+    first : (g : FrameValue) → IsClose g ⊎ (g ≡ padding) → messages_of (g ∷ fs) ≡ messages_of fs
+    first (datagram m) (inl close) = absurd close
+    first (datagram m) (inr same) = cc
+    first g either = refl
+
 module _ (e : End) (i : Intake) (n : ℕ) (told : Bool) (h : MailHolds n told e) where
   -- what waits behind a packet
   abbrev Behind : End → Intake → Type 0
@@ -97,14 +110,22 @@ module _ (e : End) (i : Intake) (n : ℕ) (told : Bool) (h : MailHolds n told e)
   none_more : (f : End) (j : Intake) → news i j ≡ [] → MailHolds n (nat_lt 0 n && told) f → Behind f j
   none_more f j none holds = (let zero : messages_brought (news i j) ≡ 0 = ap messages_brought none in subst (λ (k : ℕ). MailHolds k (nat_lt 0 n && told) f) (omega arith) holds)
 
-  mail_arrives : (now : ℕ) (s : Sent) → Arrivals e now s.number s.frames i (λ (o : Outcome) (j : Intake). Behind o.end j)
-  mail_arrives now s = record {
+  mail_arrives : (now : ℕ) (s : Sent) → IsAlone s.frames → Arrivals e now s.number s.frames i (λ (o : Outcome) (j : Intake). Behind o.end j)
+  mail_arrives now s alone = record {
     ignored = λ reason. none_more e i (none_new i) same;
     noted = λ state reason. none_more _ i (none_new i) (record { fewer = λ open_now. h.fewer open_now; waits = same.waits });
-    takes = λ state new none mark. taken state none _ refl refl;
-    refuses = λ state new f fault. none_more _ (with_refused i s.number s.frames) (none_new i) (record { fewer = λ open_now. cc; waits = λ some not. frames_tell s.frames (begun e now s.number) (same.waits some not) });
+    takes = λ words state new none mark. taken state none _ refl refl;
+    drains = λ words state new close is. none_brought _ (closed_alone s.frames (begun e now s.number) close alone is) (record { fewer = λ open_now. cc; waits = λ some not. frames_tell s.frames (begun e now s.number) (same.waits some not) });
+    refuses = λ words state new f fault. none_more _ (with_refused i s.number s.frames) (none_new i) (record { fewer = λ open_now. cc; waits = λ some not. frames_tell s.frames (begun e now s.number) (same.waits some not) });
+    exhausts = λ state. none_more _ i (none_new i) (record { fewer = λ open_now. cc; waits = same.waits });
   }
     where
+      -- a packet in which the peer closes brings none
+      none_brought : (f : End) → AreCloses s.frames → MailHolds n (nat_lt 0 n && told) f → Behind f (with_taken i s.number s.frames)
+      none_brought f closes holds =
+          let zero : messages_brought (news i (with_taken i s.number s.frames)) ≡ 0 = ap messages_brought (one_new i s.number s.frames) ∙ ap (λ (k : ℕ). k + 0) (closes_bring s.frames closes) in
+          subst (λ (k : ℕ). MailHolds k (nat_lt 0 n && told) f) (omega arith) holds
+
       taken : e.closing.state ≡ states.Open → (passed s.frames (begun e now s.number)).fault ≡ None → (f : End) → f.messages.queues.incoming ≡ (passed s.frames (begun e now s.number)).end.messages.queues.incoming → f.messages.to_tell ≡ (passed s.frames (begun e now s.number)).end.messages.to_tell
           → Behind f (with_taken i s.number s.frames)
       taken state none f same_messages same_told =
@@ -163,7 +184,7 @@ module _ (B : Way) (packets : (x y : Party) → B x y → PacketsHold x y) (x y 
   next_call call a c h = by_coming x y a c.joined c.served (meets y x (packets y x c.takes)) (λ (e : End) (j : Intake). MailHolds ((mail_of x y).unread + messages_brought (news (came_to x y) j)) (nat_lt 0 (mail_of x y).unread && (mail_of x y).told) e) call c.answer (record {
     apart = λ apart. none_more x.end (came_to x y) (mail_of x y).unread (mail_of x y).told h.holds (after_call x.policy x.end y.given call a) (came_to x y) (none_new (came_to x y)) (other_holds x.policy x.end y.given (mail_of x y).unread (mail_of x y).told h.holds call a apart refl refl);
     none = λ delivery is. none_more x.end (came_to x y) (mail_of x y).unread (mail_of x y).told h.holds x.end (came_to x y) (none_new (came_to x y)) (same x.end (came_to x y) (mail_of x y).unread (mail_of x y).told h.holds);
-    comes = λ delivery is s among. mail_arrives x.end (came_to x y) (mail_of x y).unread (mail_of x y).told h.holds delivery.now s;
+    comes = λ delivery is s among. mail_arrives x.end (came_to x y) (mail_of x y).unread (mail_of x y).told h.holds delivery.now s ((packets y x c.takes).alone s among);
   })
 
   mailed_step : (call : Call) (a : Answer) → Calls B x y call a → Mailed x y → Mailed (called x y.given call a) y

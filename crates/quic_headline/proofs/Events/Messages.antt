@@ -1,7 +1,7 @@
 -- The messages of an end that wait to be received, and how often it is to be told that they came.
 use Rattle.std.proofs.Common.{◌≡◌, ℕ, ◌+◌, ◌<◌, ◌≤◌, ◌⊎◌, inl, inr, Bool, true, false, nat_le, List, [], ◌∷◌, ◌++◌, length, Option, Some, None, Result, Ok, Err, refl, sym, ap, ◌∙◌, subst, arith}
 use Rattle.std.specs.Prelude.{◌==◌, if◌then◌else◌}
-use Rattle.quic_wire.specs.Value.{FrameValue, ack, datagram}
+use Rattle.quic_wire.specs.Value.{FrameValue, ack, datagram, new_connection_id, retire_connection_id, path_response}
 use Rattle.quic_messages.specs.declared.errors.ReceivedError.{ReceivedError}
 use Rattle.quic_messages.specs.declared.errors.ReceivedError.TheVariants as received_errors
 use Rattle.quic_messages.specs.Messages.{Messages, bytes_of, left_for, with_message, is_taken, received_answer, after_received}
@@ -11,19 +11,21 @@ use Rattle.quic_machine.specs.declared.run.Answer.{Answer}
 use Rattle.quic_machine.specs.declared.run.Answer.TheVariants as answers
 use Rattle.quic_machine.specs.Closing.{ticked}
 use Rattle.quic_machine.specs.Policy.{Policy}
-use Rattle.quic_machine.specs.End.{End, with_closing}
+use Rattle.quic_machine.specs.End.{End, with_closing, closed_by}
 use Rattle.quic_machine.specs.Receive.{is_above, names_ungiven, told_of_message, message_taken, message_judged, take_frame}
 use Rattle.quic_machine.specs.Poll.{Polled, Draft, polled, draft_as, Leaving}
 use Rattle.quic_machine.specs.MessageCalls.{is_on_messages, limits_of}
 use Rattle.quic_machine.specs.Machine.{after_call}
 use Rattle.quic_machine.specs.DraftLaws.{Writing, by_leave, MayLeave}
 use Rattle.quic_machine.specs.Puts as puts
-use Rattle.quic_machine.specs.FrameCases.{Settling, losses_keep, named, ack_taken, acked_keeps, passed, frames_keep, frames_taken}
+use Rattle.quic_machine.specs.FrameCases.{Settling, losses_keep, named, ack_taken, acked_keeps, passed, frames_keep, frames_taken, apart_leaves}
 use Rattle.quic_machine.specs.Steps as steps
 use Rattle.quic_machine.specs.LeaveCases.{by_expired}
 use Rattle.quic_machine.specs.PollCases.{by_poll, at_poll}
 use Rattle.quic_machine.specs.CallCases.{is_delivery, asks_event, by_call}
 use Rattle.quic_headline.specs.Events.{messages_of}
+use Rattle.quic_headline.proofs.Packets.Apart.{by_waits, by_next_id}
+use Rattle.quic_headline.proofs.Packets.Closes.{by_closes}
 use Rattle.quic_headline.proofs.Messages.Counted.{sent_leaves}
 use Rattle.quic_headline.proofs.Packets.Probes.{may_leave}
 
@@ -56,7 +58,8 @@ module _ (P : List (List ℕ) → ℕ → Type 0) where
     silent = here;
     failed = here;
     nothing = λ c. here;
-    closes = λ c. here;
+    repeats = λ is. by_closes p (with_closing e (ticked e.closing now)) (λ (q : Polled). Of q.end) here (λ f goes. here);
+    closes = λ reason c bound. by_closes p (closed_by reason (at_poll e now c)) (λ (q : Polled). Of q.end) here (λ f goes. here);
     gives = λ leaving c left is may ready some.
         let x : End = at_poll e now c in
         drafted leaving x (may_leave e now leaving x ready) here;
@@ -69,7 +72,10 @@ module _ (P : List (List ℕ) → ℕ → Type 0) where
     on_streams = λ on answer. here;
     on_messages = λ on answer. cc;
     pings = here;
-    times = λ now expiry set. by_expired e now (λ (f : End). Of f) (λ pending tracking timers runs packets. here) (λ pending timers runs. losses_keep (λ (f : End). Of f) settles (with_closing e (ticked e.closing now)) here) expiry;
+    times = λ now expiry set. by_expired p.words e now (λ (f : End). Of f) (λ pending tracking timers waits asked runs packets. here) (λ pending timers waits asked runs. losses_keep (λ (f : End). Of f) settles (with_closing e (ticked e.closing now)) here) (λ x j. j) expiry;
+    closes = λ reason f now own. here;
+    waits = λ now b set. by_waits (λ (f : End). Of f) b (with_closing e (ticked e.closing now)) here here;
+    changes_id = λ uses answer. by_next_id (λ (f : End). Of f) e a here (λ c. here) (λ c most. here);
     polls = λ now set. polled_leaves p e now here;
     hears = λ arrival d set. cc;
     tells = λ asks. cc;
@@ -94,6 +100,9 @@ module _ (P : List (List ℕ) → ℕ → Type 0) where
       go : (r : Result Bool ReceivedError) → Of (message_judged r m e).end
       go (Ok first) = takes m first refl here
       go (Err error) = here
+  frame_leaves (new_connection_id f) e here takes = apart_leaves (λ (x : End). Of x) (new_connection_id f) e tt (λ c. here) (λ c most. here)
+  frame_leaves (retire_connection_id n) e here takes = apart_leaves (λ (x : End). Of x) (retire_connection_id n) e tt (λ c. here) (λ c most. here)
+  frame_leaves (path_response token) e here takes = apart_leaves (λ (x : End). Of x) (path_response token) e tt (λ c. here) (λ c most. here)
   frame_leaves f e here takes = here
 
 -- ---- messages that come

@@ -178,8 +178,10 @@ module _ (B : Way) (b : IsHearing B) (dir : Dir) (x y : Party) where
       arrives now s = record {
         ignored = λ reason is. (is, inl refl);
         noted = λ state reason is. (is, inl refl);
-        takes = λ state new none mark is. ((all now s is).1, inr (state, (all now s is).0));
-        refuses = λ state new f fault is. ((all now s is).1, inl refl);
+        takes = λ words state new none mark is. ((all now s is).1, inr (state, (all now s is).0));
+        drains = λ words state new close fault is. ((all now s is).1, inr (state, (all now s is).0));
+        refuses = λ words state new f fault is. ((all now s is).1, inl refl);
+        exhausts = λ state is. (is, inl refl);
       }
 
   -- one that is opened was opened by a packet that was taken, while the end is open

@@ -10,7 +10,7 @@ use Rattle.std.proofs.lemmas.List.Folds.{list_any-append}
 use Rattle.quic_wire_core.specs.declared.stream_id.Side.{Side}
 use Rattle.quic_wire_core.specs.declared.stream_id.Dir.{Dir}
 use Rattle.quic_wire_core.specs.StreamId.{other_side}
-use Rattle.quic_wire.specs.Value.{FrameValue, StreamValue, ResetStreamValue, stream, reset_stream}
+use Rattle.quic_wire.specs.Value.{FrameValue, StreamValue, ResetStreamValue, stream, reset_stream, padding}
 use Rattle.quic_streams_parts.specs.declared.answers.StreamEvent.{StreamEvent}
 use Rattle.quic_streams_parts.specs.declared.answers.StreamEvent.TheVariants as stream_events
 use Rattle.quic_streams_parts.specs.Dirs.{Counts, of, is_own}
@@ -37,15 +37,16 @@ use Rattle.quic_machine.specs.declared.run.Answer.{Answer}
 use Rattle.quic_machine.specs.declared.run.Answer.TheVariants as answers
 use Rattle.quic_spaces.specs.Numbers.{number_opened}
 use Rattle.quic_machine.specs.Calls.{tells_message, tells_of, streams_told, end_tells, message_told, others_told}
-use Rattle.quic_machine.specs.Closing.{Closing}
+use Rattle.quic_machine.specs.Closing.{Closing, close_asked}
 use Rattle.quic_machine.specs.Tracking.{dir_named}
-use Rattle.quic_machine.specs.End.{End, with_numbers, closed_by}
-use Rattle.quic_machine.specs.Receive.{Fault, Outcome, reason_of, take_frame, take_items, unless_fault}
+use Rattle.quic_machine.specs.End.{End, with_numbers, closed_by, with_closing}
+use Rattle.quic_machine.specs.Receive.{Fault, Outcome, reason_of, take_frame, take_items, unless_fault, exhausted, closed_by_peer}
 use Rattle.quic_machine.specs.FrameCases as frame_cases
 use Rattle.quic_machine.specs.FrameCases.{begun, frames_keep}
 use Rattle.quic_machine.specs.Steps as steps
 use Rattle.quic_machine.specs.CallCases.{asks_event}
 use Rattle.quic_machine.specs.Machine.{World, after_call}
+use Rattle.quic_machine.specs.IdFrames.{drawn}
 use Rattle.quic_headline.specs.Runs.{Run, Told, Packet, Intake, In, OpensStream, and_told, folded, finished}
 use Rattle.quic_headline.specs.Observer.{Sent, news}
 use Rattle.quic_headline.specs.Headline.{IsHonest, IsRun}
@@ -75,6 +76,10 @@ use Rattle.quic_headline.proofs.Unread.OpeningLasts.{lasts_any}
 use Rattle.quic_headline.proofs.Unread.OpeningStatus.{IsDoneStatus, ReceivesNoMore, done_lasts}
 use Rattle.quic_headline.proofs.Unread.Taken.{gone_there, no_fault, kept_before, unbroken_none}
 use Rattle.quic_headline.proofs.Unread.Walk.{Of}
+use Rattle.quic_headline.proofs.Packets.Owing.{IsAlone, closed_alone}
+use Rattle.quic_headline.proofs.Packets.Bare.{closes_none}
+use Rattle.quic_machine.specs.DraftLaws.{IsClose}
+use Rattle.quic_wire.specs.Close.{CloseValue}
 
 -- ---- what is to be told
 
@@ -318,7 +323,7 @@ frames_open : (frames : List FrameValue) (e : End) → StaysOpen e → StaysOpen
 frames_open frames e is = frames_keep StaysOpen (frame_cases.frame_keeps StaysOpen (record {
   ack = λ rises a x i. frame_cases.acked_keeps StaysOpen open_settles rises a (frame_cases.named a x) i;
   on_streams = λ f x on i. frame_cases.frame_leaves StaysOpen f x on (λ t. i);
-  apart = λ f x is i. frame_cases.apart_leaves StaysOpen f x is (λ c. i);
+  apart = λ f x is i. frame_cases.apart_leaves StaysOpen f x is (λ c. i) (λ c most. i);
   message = λ m x i. i;
 })) frames e is
 
@@ -492,12 +497,14 @@ module _ (B : Way) (b : IsReadying B) (id : ℕ) (x y : Party) (call : Call) (a 
       here = unhalted_at (usage came.took x.told) id _ (at x.end.streams.receiving.halves.live id) (receives_on x.end.streams.side id && is_opened x.end.streams id) (has_place x.end.streams.side x.end.streams.receiving.halves.places id)
           (λ halted. not_up (or_right (finished id x.told) (stopped id x.told || was_reset id came.took) (or_left (stopped id x.told) (was_reset id came.took) halted))) (uses.sums.each id)
 
-  arrives : (now : ℕ) (s : Sent) → Arrivals x.end now s.number s.frames came (λ (o : Outcome) (j : Intake). Shows o.end j)
-  arrives now s = record {
+  arrives : (now : ℕ) (s : Sent) → IsAlone s.frames → Arrivals x.end now s.number s.frames came (λ (o : Outcome) (j : Intake). Shows o.end j)
+  arrives now s alone = record {
     ignored = λ reason. quiet x.end came (none_new came) (λ has. has);
-    noted = λ state reason. quiet (with_numbers x.end (number_opened x.end.numbers s.number)) came (none_new came) (λ has. has);
-    takes = λ state new none mark. (frames_have id s.frames (begun x.end now s.number), λ is reads alive. taken state none is reads (alive (frames_open s.frames (begun x.end now s.number) state)), λ is reads. taken_reset state none is reads);
-    refuses = λ state new f fault. quiet (closed_by (reason_of f) (frame_cases.passed s.frames (begun x.end now s.number)).end) (with_refused came s.number s.frames) (none_new came) (frames_have id s.frames (begun x.end now s.number));
+    noted = λ state reason. quiet (with_closing (with_numbers x.end (number_opened x.end.numbers s.number)) (close_asked x.end.closing)) came (none_new came) (λ has. has);
+    takes = λ words state new none mark. (frames_have id s.frames (begun x.end now s.number), λ is reads alive. taken state none is reads (alive (frames_open s.frames (begun x.end now s.number) state)), λ is reads. taken_reset state none is reads);
+    drains = λ words state new close is. (frames_have id s.frames (begun x.end now s.number), (λ brought reads alive. absurd (both_ways _ (none_brought close is) brought)), λ reset reads. absurd (both_ways _ (none_reset close is) reset));
+    refuses = λ words state new f fault. quiet (drawn words (closed_by (reason_of f) (frame_cases.passed s.frames (begun x.end now s.number)).end)) (with_refused came s.number s.frames) (none_new came) (frames_have id s.frames (begun x.end now s.number));
+    exhausts = λ state. quiet (exhausted now x.end) came (none_new came) (λ has. has);
   }
     where
       packet : Packet
@@ -505,6 +512,24 @@ module _ (B : Way) (b : IsReadying B) (id : ℕ) (x y : Party) (call : Call) (a 
 
       later : List Told
       later = x.told ++ t ∷ []
+
+      -- a packet in which the peer closes brings nothing of streams
+      none_of : (test : FrameValue → Bool) → test padding ≡ false → ((f : FrameValue) → IsClose f → test f ≡ false) → (close : CloseValue) → (frame_cases.passed s.frames (begun x.end now s.number)).fault ≡ Some (closed_by_peer close) → (list_any test s.frames || false) ≡ false
+      none_of test pads each close is = ap (λ (b : Bool). b || false) (closes_none test pads each s.frames (closed_alone s.frames (begun x.end now s.number) close alone is))
+
+      brings_not : (f : FrameValue) → IsClose f → brings_of id f ≡ false
+      brings_not (stream f) close = absurd close
+      brings_not f close = refl
+
+      resets_not : (f : FrameValue) → IsClose f → resets_stream id f ≡ false
+      resets_not (reset_stream f) close = absurd close
+      resets_not f close = refl
+
+      none_brought : (close : CloseValue) → (frame_cases.passed s.frames (begun x.end now s.number)).fault ≡ Some (closed_by_peer close) → brings id (news came (with_taken came s.number s.frames)) ≡ false
+      none_brought close is = ap (brings id) (one_new came s.number s.frames) ∙ none_of (brings_of id) refl brings_not close is
+
+      none_reset : (close : CloseValue) → (frame_cases.passed s.frames (begun x.end now s.number)).fault ≡ Some (closed_by_peer close) → was_reset id (news came (with_taken came s.number s.frames)) ≡ false
+      none_reset close is = ap (was_reset id) (one_new came s.number s.frames) ∙ none_of (resets_stream id) refl resets_not close is
 
       taken : x.end.closing.state ≡ states.Open → (frame_cases.passed s.frames (begun x.end now s.number)).fault ≡ None → brings id (news came (with_taken came s.number s.frames)) ≡ true → is_reading x.side id came.took (packet ∷ came.took) (x.told ++ t ∷ []) ≡ true
           → (ReceivesNoMore id (frame_cases.passed s.frames (begun x.end now s.number)).end.streams → ⊥) → HasReadable id (frame_cases.passed s.frames (begun x.end now s.number)).end.streams
@@ -542,7 +567,7 @@ module _ (B : Way) (b : IsReadying B) (id : ℕ) (x y : Party) (call : Call) (a 
   shows still = by_coming x y a c.joined c.served (meets y x (b.packets y x c.takes)) Shows call c.answer (record {
     apart = λ apart. quiet (after_call x.policy x.end y.given call a) came (none_new came) (flagged_call (Has id) (has_more id) x.policy x.end y.given call a apart c.answer (λ asks. cc));
     none = λ delivery is. quiet x.end came (none_new came) (λ has. has);
-    comes = λ delivery is s among. arrives delivery.now s;
+    comes = λ delivery is s among. arrives delivery.now s ((b.packets y x c.takes).alone s among);
   })
 
   -- an open end behind the call isn't done with it where it is read on

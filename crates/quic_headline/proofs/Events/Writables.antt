@@ -150,7 +150,7 @@ module _ (B : Way) (b : IsAwaiting B) (id : ℕ) (x y : Party) (call : Call) (a 
   open_before : is_delivery call ≡ false → IsOpen (after_call x.policy x.end y.given call a) → IsOpen x.end
   open_before apart still = elim (call_closes x.policy x.end y.given call a apart) [
     | inl k ↦ sym k.state ∙ still
-    | inr shut ↦ (let clash : states.Drained ≡ states.Open = sym shut.1 ∙ still in cc)
+    | inr shut ↦ absurd (shut.shut still)
   ]
 
   -- each case of a delivery
@@ -158,8 +158,10 @@ module _ (B : Way) (b : IsAwaiting B) (id : ℕ) (x y : Party) (call : Call) (a 
   arrives now s = record {
     ignored = λ reason. quiet x.end (λ still. still) (λ tells. tells);
     noted = λ state reason still. (let clash : states.Closing ≡ states.Open = sym state ∙ still in cc);
-    takes = λ state new none mark still. (state, taken state none);
-    refuses = λ state new f fault still. cc;
+    takes = λ words state new none mark still. (state, taken state none);
+    drains = λ words state new close fault still. cc;
+    refuses = λ words state new f fault still. cc;
+    exhausts = λ state still. cc;
   }
     where
       packet : Packet

@@ -63,7 +63,14 @@ grown_call B w x y call a c i = by_coming x y a c.joined c.served (meets y x (w.
   none = λ delivery is. i;
   comes = λ delivery is s among. (
       let after : Waits (streams_at (passed s.frames (begun x.end delivery.now s.number)).end) = frames_wait s.frames (begun x.end delivery.now s.number) i in
-      record { ignored = λ reason. i; noted = λ state reason. i; takes = λ state new none mark. after; refuses = λ state new f fault. after });
+      record {
+        ignored = λ reason. i;
+        noted = λ state reason. i;
+        takes = λ words state new none mark. record { all = record { bytes = after.all.bytes; counts = after.all.counts }; each = after.each };
+        drains = λ words state new close fault. record { all = record { bytes = after.all.bytes; counts = after.all.counts }; each = after.each };
+        refuses = λ words state new f fault. record { all = record { bytes = after.all.bytes; counts = after.all.counts }; each = after.each };
+        exhausts = λ state. i;
+      });
 })
 
 pub grown_group : (B : Way) → IsWriting B → Group B GrownWait

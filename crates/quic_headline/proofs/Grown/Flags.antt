@@ -1,5 +1,5 @@
--- Words about streams leave how far the peer was told that it may come on all of them, and how many it may open, with what was used up of
--- both and what waits to be told; or limits are decided anew.
+-- Words about streams leave how far the peer was told that it may come on all of them, and how many
+-- it may open, with what was used up of both and what waits to be told; or limits are decided anew.
 use Rattle.std.proofs.Common.{◌≡◌, ℕ, zero, suc, ◌+◌, Bool, true, false, not, ◌==◌, List, [], length, take, Option, Some, None, Result, Ok, Err, refl}
 use Rattle.std.specs.Prelude.{nat_lt, if◌then◌else◌}
 use Rattle.std.specs.Option.{is_some}
@@ -54,8 +54,9 @@ pub record LimitsAlike (p q : Retransmits) : Type 0 where
 alike : (p : Retransmits) → LimitsAlike p p
 alike p = record { bytes = refl; counts = refl; streams = refl }
 
--- a fact of what is received; of how many streams the peer was told that it may open, may have open at once, and are done; and of what
--- waits to be told: MAX_DATA, MAX_STREAMS, and MAX_STREAM_DATA of these streams
+-- a fact of what is received; of how many streams the peer was told that it may open, may have open
+-- at once, and are done; and of what waits to be told: MAX_DATA, MAX_STREAMS, and MAX_STREAM_DATA
+-- of these streams
 module _ (K : Receiving → Counts → Counts → Counts → Bool → Flags → List ℕ → Type 0) where
   abbrev pub Kept : StreamsState → Retransmits → Type 0
   Kept s p = K s.receiving s.opening.announced s.opening.configured s.opening.done p.max_data p.max_stream_id p.max_stream_data

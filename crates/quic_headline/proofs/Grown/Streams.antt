@@ -1,4 +1,5 @@
--- Where the limit of a stream grew, something is so of the stream: each small change keeps that which lets no other limit grow.
+-- Where the limit of a stream grew, something is so of the stream: each small change keeps that
+-- which lets no other limit grow.
 use Rattle.std.proofs.Common.{◌≡◌, ℕ, ◌+◌, Bool, true, false, not, Option, Some, None, refl, sym, ap, ◌∙◌, subst, ◌⊎◌, inl, inr, arith}
 use Rattle.std.specs.Prelude.{max, min, nat_le, ◌&&◌, ◌||◌, if◌then◌else◌}
 use Rattle.std.specs.Option.{is_some}
@@ -140,7 +141,8 @@ reset_grows_not window h code size = go h.stopped (is_some h.reset)
 
 -- ---- a limit that is told
 
--- the peer is told of the limit of a stream: it grew no more, and of the others something is so still
+-- the peer is told of the limit of a stream: it grew no more, and of the others something is so
+-- still
 pub told_once : (G H : ℕ → Type 0) (s : StreamsState) (id : ℕ) → ((j : ℕ) → (j ≡ id → ⊥) → G j → H j) → Grown G s → Grown H (record s { receiving = limit_told s.receiving id })
 told_once G H s id others i = record { shape = by_limit_told IsShaped shape_any s id i.shape; each = go (at s.receiving.halves.live id) refl }
   where

@@ -1,4 +1,5 @@
--- Each limit that grew waits to be told: each call of an end keeps that, each frame, and each poll, by which limits are told.
+-- Each limit that grew waits to be told: each call of an end keeps that, each frame, and each poll,
+-- by which limits are told.
 use Rattle.std.proofs.Common.{◌≡◌, ℕ, ◌+◌, ◌-◌, ◌^◌, Bool, true, false, nat_le, List, [], ◌∷◌, length, Option, Some, None, Result, Ok, Err, refl, sym, ap, ◌∙◌, subst, ◌⊎◌, inl, inr, arith}
 use Rattle.std.specs.Prelude.{min, map, if◌then◌else◌}
 use Rattle.std.specs.List.{sum_by}
@@ -54,6 +55,7 @@ use Rattle.quic_machine.specs.Steps as steps
 use Rattle.quic_machine.specs.CallCases.{is_delivery, by_call}
 use Rattle.quic_machine.specs.LeaveCases.{by_expired, by_event}
 use Rattle.quic_machine.specs.Machine.{IsAnswer, after_call}
+use Rattle.quic_headline.proofs.Packets.Apart.{by_waits, by_next_id}
 use Rattle.quic_headline.proofs.Packets.Probes.{ready_streams, poll_streams}
 use Rattle.quic_headline.proofs.Halves.QuietSteps.{on_streams_quiet, frame_quiet}
 use Rattle.quic_headline.proofs.Grown.Streams.{Grown, grown_more, grown_kept, frame_grows_not, reset_grows_not, told_once}
@@ -187,7 +189,7 @@ frames_wait fs e w = frames_keep (λ (x : End). Waits (streams_at x)) (cases.fra
   ack = λ rises a x v. acked_keeps (λ (y : End). Waits (streams_at y)) settles rises a (named a x) v;
   on_streams = on_streams_waits;
   message = λ m x v. v;
-  apart = λ f x is v. subst (λ (y : End). Waits (streams_at y)) (sym (cases.apart_same f x is)) v;
+  apart = λ f x is v. cases.apart_leaves (λ (y : End). Waits (streams_at y)) f x is (λ c. record { all = record { bytes = v.all.bytes; counts = v.all.counts }; each = v.each }) (λ c most. record { all = record { bytes = v.all.bytes; counts = v.all.counts }; each = v.each });
 })) fs e w
 
 -- ---- frames that go
@@ -321,7 +323,10 @@ call_grown p e theirs call a within apart is w = by_call p e theirs (λ (f : End
   on_streams = λ on answer. call_waits e within (is_open e.closing.state) call a (answer is) w;
   on_messages = λ on answer. w;
   pings = w;
-  times = λ now expiry set. by_expired e now (λ (f : End). Waits (streams_at f)) (λ pending tracking timers runs packets. w) (λ pending timers runs. losses_keep (λ (f : End). Waits (streams_at f)) settles (with_closing e (ticked e.closing now)) w) expiry;
+  closes = λ reason f now own. w;
+  waits = λ now b set. by_waits (λ (f : End). Waits (streams_at f)) b (with_closing e (ticked e.closing now)) w w;
+  changes_id = λ uses answer. by_next_id (λ (f : End). Waits (streams_at f)) e a w (λ c. record { all = record { bytes = w.all.bytes; counts = w.all.counts }; each = w.each }) (λ c most. record { all = record { bytes = w.all.bytes; counts = w.all.counts }; each = w.each });
+  times = λ now expiry set. by_expired p.words e now (λ (f : End). Waits (streams_at f)) (λ pending tracking timers waits asked runs packets. w) (λ pending timers waits asked runs. losses_keep (λ (f : End). Waits (streams_at f)) settles (with_closing e (ticked e.closing now)) w) (λ x j. j) expiry;
   polls = λ now set. poll_streams Waits p e now composed_waits w (ready_streams Waits e now w (λ n t among. settles (steps.again t.carried) e w));
   hears = λ arrival d set. cc;
   tells = λ asks. by_event e (λ (f : End). Waits (streams_at f)) w (λ told.

@@ -1,4 +1,5 @@
--- What was acknowledged of the streams of an end the other end took, and all of each stream that is to be told finished.
+-- What was acknowledged of the streams of an end the other end took, and all of each stream that is
+-- to be told finished.
 use Rattle.std.proofs.Common.{◌≡◌, ℕ, ◌+◌, Bool, true, false, List, [], ◌∷◌, length, refl, sym, subst, inl, inr, arith}
 use Rattle.quic_wire.specs.Value.{FrameValue, StreamValue, AckValue, ack, stream}
 use Rattle.quic_send_buffer.specs.declared.stream_meta.StreamMeta.{StreamMeta}
@@ -96,7 +97,8 @@ module _ (old new : List Packet) (stays : (packet : Packet) → In packet old �
 abbrev pub Arrives : Way
 Arrives x y = FinishedHave (OffsetIn (came_to y x).took) (EndIn (came_to y x).took) (wrote x.told) x.end.streams
 
--- What that rests on: the packets between both ends; what was sent says what was done; and one call more is one word more of what was done.
+-- What that rests on: the packets between both ends; what was sent says what was done; and one call
+-- more is one word more of what was done.
 pub record IsSpoken (B : Way) : Type 1 where
   pub packets : (x y : Party) → B x y → PacketsHold x y
   pub says : (x y : Party) → B x y → Saying x y

@@ -1,4 +1,5 @@
--- All streams of an end hold what was written on them, after each frame that comes, and after what an ACK frame acknowledges or lets count as lost.
+-- All streams of an end hold what was written on them, after each frame that comes, and after what
+-- an ACK frame acknowledges or lets count as lost.
 use Rattle.std.proofs.Common.{◌≡◌, ℕ, true, List, refl}
 use Rattle.quic_wire.specs.Value.{FrameValue, stream, reset_stream, stop_sending, max_data, max_stream_data, max_streams}
 use Rattle.quic_send_buffer.specs.declared.stream_meta.StreamMeta.{StreamMeta}

@@ -1,8 +1,9 @@
--- What a packet that comes brings to the streams: what was written, stream by stream, and each frame of it is kept.
+-- What a packet that comes brings to the streams: what was written, stream by stream, and each
+-- frame of it is kept.
 use Rattle.std.proofs.Common.{◌≡◌, ℕ, true, false, List, [], ◌∷◌, ◌++◌, Option, Some, None, refl, sym, ap, ◌∙◌, subst, inl, inr, ◌⊎◌}
 use Rattle.std.proofs.lemmas.List.{append_assoc, append-nil}
 use Rattle.quic_wire_core.specs.declared.stream_id.Side.{Side}
-use Rattle.quic_wire.specs.Value.{FrameValue, StreamValue, stream, reset_stream, stop_sending, max_stream_data}
+use Rattle.quic_wire.specs.Value.{FrameValue, StreamValue, stream, reset_stream, stop_sending, max_stream_data, padding}
 use Rattle.quic_streams_parts.specs.declared.answers.Breach.{Breach}
 use Rattle.quic_streams_parts.specs.Dirs.{is_own}
 use Rattle.quic_streams_parts.specs.RecvHalf.{end_of}
@@ -24,6 +25,8 @@ use Rattle.quic_machine.specs.End.{End}
 use Rattle.quic_machine.specs.Receive.{fault_of, take_frame}
 use Rattle.quic_machine.specs.FrameCases.{passed, frames_keep, frames_leave, frames_taken}
 use Rattle.quic_headline.specs.Runs.{In, OpensStream}
+use Rattle.quic_machine.specs.DraftLaws.{IsClose}
+use Rattle.quic_headline.proofs.Packets.Owing.{AreCloses, closes_fine}
 use Rattle.quic_headline.proofs.Places.Told.{in_append}
 use Rattle.quic_headline.proofs.Halves.Ghosts.{SaysOf}
 use Rattle.quic_headline.proofs.Halves.QuietSteps.{frame_quiet}
@@ -179,6 +182,21 @@ frames_bring side were more frames e one none i =
       is = append_assoc g.front (f ∷ []) left ∙ g.is;
       holds = frame_brings side (so_far were g.front) (so_far were (g.front ++ f ∷ [])) f x (by_part g.front f) right g.holds;
     }
+
+-- a close brings nothing, nor does what goes beside it
+close_brings_not : (f : FrameValue) → IsClose f ⊎ (f ≡ padding) → (id : ℕ) → OpensStream f id → ⊥
+close_brings_not = closes_fine (λ f. (id : ℕ) → OpensStream f id → ⊥) (λ c id none. none) (λ c id none. none) (λ id none. none)
+
+close_is_no_stream : (f : FrameValue) → IsClose f ⊎ (f ≡ padding) → (g : StreamValue) → stream g ≡ f → ⊥
+close_is_no_stream = closes_fine (λ f. (g : StreamValue) → stream g ≡ f → ⊥) (λ c g same. cc) (λ c g same. cc) (λ g same. cc)
+
+-- so what was brought is that of a packet that has closes alone
+pub closed_brings : (side : Side) (were more : FrameValue → Type 0) (frames : List FrameValue) (s : StreamsState) → AreCloses frames → ((g : FrameValue) → more g → were g ⊎ In g frames) → Brought side were s → Brought side more s
+closed_brings side were more frames s closes one i = record {
+  taken = taken_fewer (λ g. were (stream g)) (λ g. more (stream g)) s (λ g m. elim (one (stream g) m) [ inl was ↦ was | inr among ↦ absurd (close_is_no_stream (stream g) (closes (stream g) among) g refl) ]) i.taken;
+  of_side = i.of_side;
+  opened = λ f id m opens theirs. elim (one f m) [ inl was ↦ i.opened f id was opens theirs | inr among ↦ absurd (close_brings_not f (closes f among) id opens) ];
+}
 
 -- ---- what was accepted stays
 

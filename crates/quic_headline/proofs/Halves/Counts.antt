@@ -1,4 +1,5 @@
--- The parameters of a peer are in range, as they are read: it lets no more than 2^60 streams of a kind be opened (RFC 9000, sections 4.6 and 18.2).
+-- The parameters of a peer are in range, as they are read: it lets no more than 2^60 streams of a
+-- kind be opened (RFC 9000, sections 4.6 and 18.2).
 use Rattle.std.proofs.Common.{◌≡◌, ℕ, zero, suc, ◌≤◌, ◌^◌, Bool, true, false, cond, ltb, List, [], ◌∷◌, length, set, Option, Some, None, Result, Ok, Err, refl, sym, ◌∙◌, subst, ◌⊎◌, inl, inr}
 use Rattle.std.specs.Prelude.{is_some, ◌||◌}
 use Rattle.std.proofs.lemmas.Bool.{cases_eq, ltb-false}

@@ -1,4 +1,5 @@
--- The limit on all streams that the peer told is below 2^62, as each number of a frame is (RFC 9000, sections 16 and 19.9).
+-- The limit on all streams that the peer told is below 2^62, as each number of a frame is (RFC
+-- 9000, sections 16 and 19.9).
 use Rattle.std.proofs.Common.{ℕ, zero, suc, ◌<◌, ◌^◌, Bool, true, false, not, ◌&&◌, ◌==◌, List, [], length, take, Option, None, Some, Result, Ok, Err, refl, sym, subst, inl, inr, arith}
 use Rattle.std.specs.Prelude.{if◌then◌else◌}
 use Rattle.quic_wire.specs.Value.{FrameValue, AckValue}
@@ -145,7 +146,7 @@ settling s e i = i
 
 -- a frame with a small limit
 small_frame : (f : FrameValue) (e : End) → IsSmallLimit f → SmallAt e → SmallAt (take_frame f e).end
-small_frame f e small i = by_kind f e (λ (g : FrameValue) (r : Progress). SmallAt r.end) (λ a is. ack_case (names_ungiven a e) a) (λ apart on. frame_on (λ done s. HasSmallLimit s) small_words ended_all f e on small i) (λ apart m same. subst SmallAt (sym same) i) (λ other apart. apart_leaves SmallAt f e apart (λ c. i))
+small_frame f e small i = by_kind f e (λ (g : FrameValue) (r : Progress). SmallAt r.end) (λ a is. ack_case (names_ungiven a e) a) (λ apart on. frame_on (λ done s. HasSmallLimit s) small_words ended_all f e on small i) (λ apart m same. subst SmallAt (sym same) i) (λ unack apart. apart_leaves SmallAt f e apart (λ c. i) (λ c most. i))
   where
     ack_case : (b : Bool) (a : AckValue) → SmallAt (ack_taken b a e).end
     ack_case true a = i
@@ -160,8 +161,10 @@ small_arrivals : (e : End) (now n : ℕ) (frames : List FrameValue) (came : Inta
 small_arrivals e now n frames came small i = record {
   ignored = λ reason. i;
   noted = λ state reason. i;
-  takes = λ state new none mark. small_frames frames (begun e now n) small i;
-  refuses = λ state new f is. small_frames frames (begun e now n) small i;
+  takes = λ words state new none mark. small_frames frames (begun e now n) small i;
+  drains = λ words state new close is. small_frames frames (begun e now n) small i;
+  refuses = λ words state new f is. small_frames frames (begun e now n) small i;
+  exhausts = λ state. i;
 }
 
 -- ---- the group

@@ -1,4 +1,5 @@
--- The end of a stream is told only where it ended and all of it was read: at each `next` of a run that told one.
+-- The end of a stream is told only where it ended and all of it was read: at each `next` of a run
+-- that told one.
 use Rattle.std.proofs.Common.{◌≡◌, ℕ, Bool, false, List, [], ◌∷◌, ◌++◌, None, Ok, refl, sym, ap, ◌∙◌, subst, inl, inr}
 use Rattle.std.specs.Prelude.{◌==◌, if◌then◌else◌}
 use Rattle.std.proofs.lemmas.Bool.{eqb-true, cases_Bool}
@@ -27,7 +28,8 @@ use Rattle.quic_headline.proofs.Places.Parties.{told_of}
 use Rattle.quic_headline.proofs.Halves.Ghosts.{read}
 use Rattle.quic_headline.proofs.Halves.Reading.{AtNext, reads_of, read_nexts, begun_reads, nexts_here, begun_here, begins, next_on, at_next}
 
--- where the end of a stream was told, it had ended, and the chunks of the nexts before have all of it
+-- where the end of a stream was told, it had ended, and the chunks of the nexts before have all of
+-- it
 abbrev pub EndsRight : (ℕ → Wrote) → List runs.Told → Type 0
 EndsRight done told = (id : ℕ) (front behind : List Next) → nexts id told ≡ front ++ Ok None ∷ behind → TellsRight (done id) (reads_of (chunks_of front) false) told_end
 

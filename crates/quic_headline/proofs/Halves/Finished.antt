@@ -1,4 +1,5 @@
--- What was acknowledged of streams arrived, and of those that are to be told finished all of it: it stays with each word about streams, and over packets.
+-- What was acknowledged of streams arrived, and of those that are to be told finished all of it: it
+-- stays with each word about streams, and over packets.
 use Rattle.std.proofs.Common.{◌≡◌, ℕ, true, List, refl, sym, ◌∙◌, subst, inl, inr}
 use Rattle.quic_sets.specs.Runs.{Has}
 use Rattle.quic_wire.specs.Value.{FrameValue, AckValue, ack}
@@ -106,7 +107,8 @@ module _ (old new : ℕ → ℕ → Type 0) (end_old end_new : ℕ → Type 0) (
 
 -- ---- over packets that come
 
--- What frames said arrived, where packets that carried them were taken; and those that were sent had the end only where there is one.
+-- What frames said arrived, where packets that carried them were taken; and those that were sent
+-- had the end only where there is one.
 pub record Brought (took : List Packet) (sents : List Sent) (arrived : ℕ → ℕ → Type 0) (end_arrived : ℕ → Type 0) (wrote : ℕ → Wrote) : Type 0 where
   pub came : (c : Carried) (m : StreamMeta) → WasCarried took c → In m c.stream_frames → MetaArrived arrived end_arrived wrote m
   pub ended : (c : Carried) (m : StreamMeta) → IsCarriedBy sents c → In m c.stream_frames → m.fin ≡ true → (wrote m.id).ended ≡ true
@@ -126,7 +128,7 @@ module _ (took : List Packet) (sents : List Sent) (stands : Stands took sents) (
   -- so do all frames of a packet, taken or refused, whose ACK frames name packets that were taken
   pub finished_arrivals : (e : End) (now n : ℕ) (frames : List FrameValue) (came : Intake) → ((a : AckValue) → In (ack a) frames → NamesTaken took a) → ((f : FrameValue) → In f frames → IsSmallLimit f) → AreTracked sents e.tracking.packets → Holds e
       → Arrivals e now n frames came (λ (o : Outcome) (i : Intake). Holds o.end)
-  finished_arrivals e now n frames came names small tracked i = record { ignored = λ reason. i; noted = λ state reason. i; takes = λ state new none mark. after; refuses = λ state new f is. after }
+  finished_arrivals e now n frames came names small tracked i = record { ignored = λ reason. i; noted = λ state reason. i; takes = λ words state new none mark. after; drains = λ words state new close is. after; refuses = λ words state new f is. after; exhausts = λ state. i }
     where
       after : Holds (frames_arrived e now n frames).end
       after = frames_settle took sents stands frames Holds (record {
@@ -134,5 +136,5 @@ module _ (took : List Packet) (sents : List Sent) (stands : Stands took sents) (
         names = λ a x among h. h;
         on_streams = λ f x among on h. frame_on (FinishedHave arrived end_arrived) (finished_words arrived end_arrived) wrote f x on (small f among) h;
         message = λ m x h. h;
-        apart = λ f x among apart h. apart_leaves Holds f x apart (λ c. h);
+        apart = λ f x among apart h. apart_leaves Holds f x apart (λ c. h) (λ c most. h);
       }) (begun e now n) names tracked i

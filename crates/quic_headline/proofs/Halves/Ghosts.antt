@@ -1,4 +1,5 @@
--- What was done on the streams of an end, and read of them, by what was told at it; and that what it sent says so.
+-- What was done on the streams of an end, and read of them, by what was told at it; and that what
+-- it sent says so.
 use Rattle.std.specs.Prelude.{ℕ, not, List}
 use Rattle.quic_wire.specs.Value.{FrameValue, stream, reset_stream}
 use Rattle.quic_machine.specs.declared.run.Call.{Call}
@@ -19,7 +20,8 @@ wrote told id = record { bytes = written id told; ended = ended id told; reset =
 abbrev pub read : List Told → ℕ → Reads
 read told id = record { chunks = reads id told; unordered = not (only_in_order id told) }
 
--- a frame says what was done on its stream: what it brings of the bytes and the end, or how it was reset
+-- a frame says what was done on its stream: what it brings of the bytes and the end, or how it was
+-- reset
 abbrev pub SaysOf : (ℕ → Wrote) → FrameValue → Type 0
 SaysOf done (stream f) = IsStreamOf (done f.id) f
 SaysOf done (reset_stream f) = IsResetOf (done f.id) f
@@ -29,8 +31,8 @@ SaysOf done f = Unit {0}
 abbrev pub Saying : Way
 Saying x y = (s : Sent) → In s x.sents → (f : FrameValue) → In f s.frames → SaysOf (wrote x.told) f
 
--- What reading rests on: the packets between the ends; the one that gives holds what was written at it, and says so; and what is done on a stream only grows by a
--- call.
+-- What reading rests on: the packets between the ends; the one that gives holds what was written at
+-- it, and says so; and what is done on a stream only grows by a call.
 pub record IsWriting (B : Way) : Type 1 where
   pub packets : (x y : Party) → B x y → PacketsHold x y
   pub written : (x y : Party) → B x y → HoldsWritten (wrote x.told) x.end.streams

@@ -125,7 +125,8 @@ module _ (r : ℕ × ℕ) where
     | inr apart ↦ record { half = u.half; found = at-without-apart s.sending.halves.live id r.0 apart ∙ u.found; size = u.size; reset = u.reset; code = u.code }
   ]
 
-  -- each small change keeps it, where nothing is written on it, and no half of it that was reset is done
+  -- each small change keeps it, where nothing is written on it, and no half of it that was reset is
+  -- done
   pub in_use_kept : KeepsWhere (λ q id old new. Unit {0}) (λ s id old new. StaysReset old new) (λ s id n old new. (id ≡ r.0 → ⊥)) (λ s dir. Unit {0}) (λ id. Unit {0}) (λ id h. (is_some h.reset ≡ true → id ≡ r.0 → ⊥)) (λ s limit. Unit {0}) InUse
   in_use_kept (changes.changes_sending id old new) s (is, on, same) u = with_kept s id old new is on u
   in_use_kept (changes.queues id old new b) s (is, on, has) u = with_kept s id old (requeued_at old.place b s.sending.queue id new).half is (λ some. requeued_reset old.place b s.sending.queue id new ∙ on some) u

@@ -1,4 +1,5 @@
--- What is written on the streams between two ends, and what waits to go of them, as one group over the packets: what an end composes has a form.
+-- What is written on the streams between two ends, and what waits to go of them, as one group over
+-- the packets: what an end composes has a form.
 use Rattle.std.proofs.Common.{ℕ, ◌<◌, ◌^◌, sym, subst}
 use Rattle.quic_machine.specs.End.{End}
 use Rattle.quic_machine.specs.PollCases.{ready_at}

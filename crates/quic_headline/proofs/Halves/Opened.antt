@@ -1,4 +1,5 @@
--- Streams of the peer's stay opened, and a frame that is for one opens it (RFC 9000, sections 2.1 and 3.2).
+-- Streams of the peer's stay opened, and a frame that is for one opens it (RFC 9000, sections 2.1
+-- and 3.2).
 use Rattle.std.proofs.Common.{◌≡◌, ℕ, ◌+◌, Bool, true, false, not, ◌&&◌, ◌||◌, Option, Some, None, refl, sym, ap, ◌∙◌, subst, arith}
 use Rattle.std.specs.Prelude.{nat_lt, if◌then◌else◌, ◌==◌}
 use Rattle.std.specs.Option.{is_some}

@@ -1,15 +1,18 @@
--- RESET_STREAM and STOP_SENDING that wait or are under way: each stream's reset stands there once, of a half in use that was reset, and all have a form.
+-- RESET_STREAM and STOP_SENDING that wait or are under way: each stream's reset stands there once,
+-- of a half in use that was reset, and all have a form.
 use Rattle.std.proofs.Common.{◌≡◌, ℕ, ◌+◌, ◌<◌, ◌≤◌, ◌^◌, ◌==◌, Bool, true, false, cond, List, [], ◌∷◌, ◌++◌, filter, Option, refl, sym, ap, ◌∙◌, subst, inl, inr, arith}
 use Rattle.std.specs.Prelude.{if◌then◌else◌, not}
 use Rattle.std.proofs.lemmas.Bool.{eq-eqb}
-use Rattle.quic_wire.specs.Value.{FrameValue, StopSendingValue, reset_stream, stop_sending}
+use Rattle.quic_wire_core.specs.declared.shared.IssuedCid.{IssuedCid}
+use Rattle.quic_wire.specs.Value.{FrameValue, StopSendingValue, reset_stream, stop_sending, new_connection_id, retire_connection_id}
+use Rattle.quic_wire.specs.Writing.{Fits}
 use Rattle.quic_streams_parts.specs.Table.{Table}
 use Rattle.quic_streams_parts.specs.SendHalf.{SendHalf}
 use Rattle.quic_retransmits.specs.Retransmits.{Retransmits, others_of}
 use Rattle.quic_retransmits.specs.declared.retransmits.ControlKind.{ControlKind}
-use Rattle.quic_retransmits.specs.declared.retransmits.ControlKind.TheVariants.{ResetStream, StopSending}
+use Rattle.quic_retransmits.specs.declared.retransmits.ControlKind.TheVariants.{ResetStream, StopSending, NewConnectionId, RetireConnectionId}
 use Rattle.quic_streams_state.specs.declared.state.StreamsState.{StreamsState}
-use Rattle.quic_streams_state.specs.Control.{without_first, kind_of, Goes}
+use Rattle.quic_streams_state.specs.Control.{without_first, kind_of, told_id, Goes}
 use Rattle.quic_streams_laws.specs.KindLaws.{GoesFirst, first_others, without_of}
 use Rattle.quic_machine.specs.Tracking.{TrackedPacket}
 use Rattle.quic_headline.specs.Runs.{In}
@@ -62,11 +65,15 @@ part_of live resets some stops few fewer among less p = record {
   small = λ s i. p.small s (less s i);
 }
 
--- nothing waits that has no frame yet
+-- nothing waits that has no frame, or whose frame has no form
 pub record NothingElse (p : Retransmits) : Type 0 where
-  pub no_ids : p.new_cids ≡ []
-  pub no_retired : p.retire_cids ≡ []
+  pub ids : (cid : IssuedCid) → In cid p.new_cids → Fits (new_connection_id (told_id cid))
+  pub retired : (n : ℕ) → In n p.retire_cids → n < 2 ^ 62
   pub no_frequency : p.ack_frequency ≡ false
+
+-- so it is of nothing at all
+pub nothing_else : (p : Retransmits) → p.new_cids ≡ [] → p.retire_cids ≡ [] → p.ack_frequency ≡ false → NothingElse p
+nothing_else p ids retired frequency = record { ids = λ cid i. absurd (subst (In cid) ids i); retired = λ n i. absurd (subst (In n) retired i); no_frequency = frequency }
 
 -- the same resets and stops wait
 pub record SamePile (p q : Retransmits) : Type 0 where
@@ -77,7 +84,7 @@ pub record SamePile (p q : Retransmits) : Type 0 where
   pub frequency : q.ack_frequency ≡ p.ack_frequency
 
 pub else_same : (p q : Retransmits) → SamePile p q → NothingElse p → NothingElse q
-else_same p q same n = record { no_ids = same.ids ∙ n.no_ids; no_retired = same.retired ∙ n.no_retired; no_frequency = same.frequency ∙ n.no_frequency }
+else_same p q same n = record { ids = λ cid i. n.ids cid (subst (In cid) same.ids i); retired = λ m i. n.retired m (subst (In m) same.retired i); no_frequency = same.frequency ∙ n.no_frequency }
 
 -- ---- packets
 
@@ -126,19 +133,26 @@ stops_among f s (p ∷ ps) i = go (f p) i (stops_among f s ps)
 
 -- ---- a frame that goes
 
+-- the others of a list stand in it
+others_in : {X : Type 0} (x : X) (xs : List X) → In x (others_of xs) → In x xs
+others_in x [] i = i
+others_in x (y ∷ xs) i = inr i
+
 -- what goes in a frame waited first
 pub record Moves (p q : Retransmits) (f : FrameValue) : Type 0 where
   pub resets : p.reset_stream ≡ resets_in (f ∷ []) ++ q.reset_stream
   pub stops : p.stop_sending ≡ stops_in (f ∷ []) ++ q.stop_sending
-  pub ids : q.new_cids ≡ p.new_cids
-  pub retired : q.retire_cids ≡ p.retire_cids
+  pub ids : (cid : IssuedCid) → In cid q.new_cids → In cid p.new_cids
+  pub retired : (n : ℕ) → In n q.retire_cids → In n p.retire_cids
   pub frequency : q.ack_frequency ≡ p.ack_frequency
 
 -- once it went: RESET_STREAM and STOP_SENDING stood first, and no other frame resets or stops
 moves : (p : Retransmits) (s : StreamsState) (f : FrameValue) → Goes p s f → Moves p (without_of (kind_of f) p) f
-moves p s (reset_stream f) goes = record { resets = first_others p.reset_stream (f.id, f.code) goes.1; stops = refl; ids = refl; retired = refl; frequency = refl }
-moves p s (stop_sending f) goes = record { resets = refl; stops = first_others p.stop_sending f goes; ids = refl; retired = refl; frequency = refl }
-moves p s f goes = record { resets = refl; stops = refl; ids = refl; retired = refl; frequency = refl }
+moves p s (reset_stream f) goes = record { resets = first_others p.reset_stream (f.id, f.code) goes.1; stops = refl; ids = λ cid i. i; retired = λ n i. i; frequency = refl }
+moves p s (stop_sending f) goes = record { resets = refl; stops = first_others p.stop_sending f goes; ids = λ cid i. i; retired = λ n i. i; frequency = refl }
+moves p s (new_connection_id f) goes = record { resets = refl; stops = refl; ids = λ cid i. others_in cid p.new_cids i; retired = λ n i. i; frequency = refl }
+moves p s (retire_connection_id m) goes = record { resets = refl; stops = refl; ids = λ cid i. i; retired = λ n i. others_in n p.retire_cids i; frequency = refl }
+moves p s f goes = record { resets = refl; stops = refl; ids = λ cid i. i; retired = λ n i. i; frequency = refl }
 
 -- the frame of the first that waits of a kind
 pub goes_moves : (kind : ControlKind) (p : Retransmits) (s : StreamsState) (f : FrameValue) → GoesFirst kind p s f → Moves p (without_first kind p) f
@@ -149,19 +163,24 @@ pub record Fewer (p q : Retransmits) : Type 0 where
   pub times_less : (id : ℕ) → times id q.reset_stream ≤ times id p.reset_stream
   pub resets : (r : ℕ × ℕ) → In r q.reset_stream → In r p.reset_stream
   pub stops : (s : StopSendingValue) → In s q.stop_sending → In s p.stop_sending
-  pub ids : q.new_cids ≡ p.new_cids
-  pub retired : q.retire_cids ≡ p.retire_cids
+  pub ids : (cid : IssuedCid) → In cid q.new_cids → In cid p.new_cids
+  pub retired : (n : ℕ) → In n q.retire_cids → In n p.retire_cids
   pub frequency : q.ack_frequency ≡ p.ack_frequency
-
-others_in : {X : Type 0} (x : X) (xs : List X) → In x (others_of xs) → In x xs
-others_in x [] i = i
-others_in x (y ∷ xs) i = inr i
 
 others_times : (id : ℕ) (rs : List (ℕ × ℕ)) → times id (others_of rs) ≤ times id rs
 others_times id [] = omega arith
 others_times id (r ∷ rs) = omega arith
 
 pub without_fewer : (kind : ControlKind) (p : Retransmits) → Fewer p (without_first kind p)
-without_fewer ResetStream p = record { times_less = λ id. others_times id p.reset_stream; resets = λ r i. others_in r p.reset_stream i; stops = λ s i. i; ids = refl; retired = refl; frequency = refl }
-without_fewer StopSending p = record { times_less = λ id. omega arith; resets = λ r i. i; stops = λ s i. others_in s p.stop_sending i; ids = refl; retired = refl; frequency = refl }
-without_fewer kind p = record { times_less = λ id. omega arith; resets = λ r i. i; stops = λ s i. i; ids = refl; retired = refl; frequency = refl }
+without_fewer ResetStream p = record { times_less = λ id. others_times id p.reset_stream; resets = λ r i. others_in r p.reset_stream i; stops = λ s i. i; ids = λ cid i. i; retired = λ n i. i; frequency = refl }
+without_fewer StopSending p = record { times_less = λ id. omega arith; resets = λ r i. i; stops = λ s i. others_in s p.stop_sending i; ids = λ cid i. i; retired = λ n i. i; frequency = refl }
+without_fewer NewConnectionId p = record { times_less = λ id. omega arith; resets = λ r i. i; stops = λ s i. i; ids = λ cid i. others_in cid p.new_cids i; retired = λ n i. i; frequency = refl }
+without_fewer RetireConnectionId p = record { times_less = λ id. omega arith; resets = λ r i. i; stops = λ s i. i; ids = λ cid i. i; retired = λ n i. others_in n p.retire_cids i; frequency = refl }
+without_fewer kind p = record { times_less = λ id. omega arith; resets = λ r i. i; stops = λ s i. i; ids = λ cid i. i; retired = λ n i. i; frequency = refl }
+
+-- nothing else waits behind what went, or was dropped
+pub moved_else : (p q : Retransmits) (f : FrameValue) → Moves p q f → NothingElse p → NothingElse q
+moved_else p q f m n = record { ids = λ cid i. n.ids cid (m.ids cid i); retired = λ k i. n.retired k (m.retired k i); no_frequency = m.frequency ∙ n.no_frequency }
+
+pub fewer_else : (p q : Retransmits) → Fewer p q → NothingElse p → NothingElse q
+fewer_else p q f n = record { ids = λ cid i. n.ids cid (f.ids cid i); retired = λ k i. n.retired k (f.retired k i); no_frequency = f.frequency ∙ n.no_frequency }

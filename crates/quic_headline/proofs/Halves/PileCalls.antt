@@ -1,4 +1,5 @@
--- What calls leave of RESET_STREAM and STOP_SENDING that wait: a reset adds its stream's once, and a stop adds one that has a form.
+-- What calls leave of RESET_STREAM and STOP_SENDING that wait: a reset adds its stream's once, and
+-- a stop adds one that has a form.
 use Rattle.std.proofs.Common.{◌≡◌, ℕ, ◌+◌, ◌<◌, ◌≤◌, ◌^◌, ◌==◌, Bool, true, false, List, [], ◌∷◌, ◌++◌, length, Option, Some, None, Result, Ok, Err, refl, sym, ap, ◌∙◌, subst, ◌⊎◌, inl, inr, arith}
 use Rattle.std.specs.Prelude.{if◌then◌else◌, not, ◌&&◌, ◌||◌}
 use Rattle.std.specs.Option.{is_some}
@@ -40,7 +41,7 @@ use Rattle.quic_machine.specs.End.{End, with_closing, streams_at, with_streams}
 use Rattle.quic_machine.specs.Calls.{AreNexts, after_nexts, is_open}
 use Rattle.quic_machine.specs.StreamCalls.{IsStreamAnswer, if_ok, after_on_streams}
 use Rattle.quic_machine.specs.Machine.{IsAnswer, after_call}
-use Rattle.quic_machine.specs.CallCases.{by_call}
+use Rattle.quic_machine.specs.CallCases.{is_delivery, by_call}
 use Rattle.quic_machine.specs.LeaveCases.{at_losses, by_expired, at_event, by_event}
 use Rattle.quic_recovery_core.specs.PendingAcks.{Pending}
 use Rattle.quic_time.specs.Timers.{Timers}
@@ -49,10 +50,13 @@ use Rattle.quic_machine.specs.Acked.{losses_detected}
 use Rattle.quic_headline.proofs.Packets.Ascending.{Ascends}
 use Rattle.quic_headline.specs.Runs.{In}
 use Rattle.quic_headline.specs.Headline.{CodeIsSmall}
+use Rattle.quic_machine.specs.Validation.{Asked}
+use Rattle.quic_headline.proofs.Packets.Apart.{by_waits}
 use Rattle.quic_headline.proofs.Places.Told.{in_left, in_right, in_append}
 use Rattle.quic_headline.proofs.Halves.InUse.{InUse, in_use_kept, requeued_reset}
+use Rattle.quic_headline.proofs.Halves.KnownIds.{AreWritten}
 use Rattle.quic_headline.proofs.Halves.Pile.{times, times_append, NothingElse, SamePile, resets_of, stops_of}
-use Rattle.quic_headline.proofs.Halves.PileSteps.{HoldsAll, same_pile, both, all_on, again_all, losses_hold, received_holds}
+use Rattle.quic_headline.proofs.Halves.PileSteps.{HoldsAll, same_pile, both, all_on, again_all, losses_hold, next_holds}
 use Rattle.quic_headline.proofs.Halves.PilePolls.{polled_holds}
 
 -- ---- writes
@@ -179,7 +183,7 @@ module _ (e : End) (h : HoldsAll e) where
         ];
         small = h.holds.pile.small;
       });
-      others = rw is (let o = h.holds.others in record { no_ids = o.no_ids; no_retired = o.no_retired; no_frequency = o.no_frequency });
+      others = rw is (let o = h.holds.others in record { ids = o.ids; retired = o.retired; no_frequency = o.no_frequency });
     };
     carried = h.carried;
   }
@@ -275,7 +279,7 @@ module _ (e : End) (h : HoldsAll e) where
     where
       stopped : (half : RecvHalf) → receiving_half e.streams id ≡ Some half → (o : Option ℕ) → KeptBy e (settled (stopped_if (is_some half.final) e.streams id half) (with_stop o id code e.waiting.frames)) → HoldsAll (with_streams e (settled (stopped_if (is_some half.final) e.streams id half) (with_stop o id code e.waiting.frames)))
       stopped half is (Some reset) kept = all_on e _ kept (record { resets = refl; stops = refl; ids = refl; retired = refl; frequency = refl }) h
-      stopped half is None kept = stop_added _ (record { id = id; code = code }) kept (opened half is, small) refl refl (let o = h.holds.others in record { no_ids = o.no_ids; no_retired = o.no_retired; no_frequency = o.no_frequency })
+      stopped half is None kept = stop_added _ (record { id = id; code = code }) kept (opened half is, small) refl refl (let o = h.holds.others in record { ids = o.ids; retired = o.retired; no_frequency = o.no_frequency })
 
       either : (half : RecvHalf) → receiving_half e.streams id ≡ Some half → (b : Bool) → KeptBy e (if b then streams_of e.streams e.waiting.frames else settled (stopped_if (is_some half.final) e.streams id half) (with_stop half.reset id code e.waiting.frames))
           → HoldsAll (with_streams e (if b then streams_of e.streams e.waiting.frames else settled (stopped_if (is_some half.final) e.streams id half) (with_stop half.reset id code e.waiting.frames)))
@@ -376,26 +380,29 @@ module _ (wrote : ℕ → Wrote) (e : End) (holds : HoldsWritten wrote e.streams
   call_holds (calls.ReceivedReset id) a small is = leaves _ (λ r u. by_received_reset (InUse r) (in_use_kept r) e.streams e.waiting.frames id u) (received_reset_same e.streams e.waiting.frames id)
   call_holds call a small is = absurd is
 
--- any call
-pub step_holds : (p : Policy) (e : End) (theirs : List (List ℕ)) (call : Call) (a : Answer) (wrote : ℕ → Wrote) → HoldsWritten wrote e.streams → AreFew e.streams → CodeIsSmall call → IsAnswer p e theirs call a → Ascends e → HoldsAll e → HoldsAll (after_call p e theirs call a)
-step_holds p e theirs call a wrote holds few small is ascends h = by_call p e theirs HoldsAll call a (record {
+-- any call that is no delivery
+pub step_holds : (p : Policy) (e : End) (theirs : List (List ℕ)) (call : Call) (a : Answer) (wrote : ℕ → Wrote) → HoldsWritten wrote e.streams → AreFew e.streams → CodeIsSmall call → IsAnswer p e theirs call a → is_delivery call ≡ false → AreWritten e.ids.peer → Ascends e → HoldsAll e → HoldsAll (after_call p e theirs call a)
+step_holds p e theirs call a wrote holds few small is other w ascends h = by_call p e theirs HoldsAll call a (record {
   same = h;
   on_streams = λ on answer. call_holds wrote e holds few h (is_open e.closing.state) call a small (answer is);
   on_messages = λ on answer. again_all e _ refl refl refl h;
   pings = again_all e _ refl refl refl h;
-  times = λ now expiry set. by_expired e now HoldsAll (λ pending tracking timers runs packets. again_all e _ refl refl packets h) (λ pending timers runs. expired now pending timers) expiry;
+  times = λ now expiry set. by_expired p.words e now HoldsAll (λ pending tracking timers waits asked runs packets. again_all e _ refl refl packets h) (λ pending timers waits asked runs. expired now pending timers waits asked) (λ x j. again_all x _ refl refl refl j) expiry;
+  closes = λ reason f now own. again_all e _ refl refl refl h;
+  waits = λ now b set. by_waits HoldsAll b (with_closing e (ticked e.closing now)) (again_all e _ refl refl refl h) (again_all e _ refl refl refl h);
   polls = λ now set. polled_holds p e now ascends h;
-  hears = λ arrival d set. received_holds p e arrival d h;
+  changes_id = λ uses answer. next_holds e a w h;
+  hears = λ arrival d set. cc;
   tells = λ asks. by_event e HoldsAll (again_all e _ refl refl refl h) (λ told. told_holds told);
 })
   where
-    expired : (now : ℕ) (pending : Pending) (timers : Timers) → HoldsAll (at_losses e now pending timers)
-    expired now pending timers =
+    expired : (now : ℕ) (pending : Pending) (timers : Timers) (waits : Bool) (asked : Asked) → HoldsAll (at_losses e now pending timers waits asked)
+    expired now pending timers waits asked =
         let begins : End = with_closing e (ticked e.closing now) in
-        again_all (losses_detected begins) (at_losses e now pending timers) refl refl refl (losses_hold begins (again_all e begins refl refl refl h))
+        again_all (losses_detected begins) (at_losses e now pending timers waits asked) refl refl refl (losses_hold begins (again_all e begins refl refl refl h))
 
     told_holds : (told : Bool) → HoldsAll (at_event e told)
     told_holds told = record {
-      holds = record { pile = record { once = h.holds.pile.once; reset = λ r i. by_polled (InUse r) (in_use_kept r) e.streams (h.holds.pile.reset r i); small = h.holds.pile.small }; others = record { no_ids = h.holds.others.no_ids; no_retired = h.holds.others.no_retired; no_frequency = h.holds.others.no_frequency } };
+      holds = record { pile = record { once = h.holds.pile.once; reset = λ r i. by_polled (InUse r) (in_use_kept r) e.streams (h.holds.pile.reset r i); small = h.holds.pile.small }; others = record { ids = h.holds.others.ids; retired = h.holds.others.retired; no_frequency = h.holds.others.no_frequency } };
       carried = h.carried;
     }

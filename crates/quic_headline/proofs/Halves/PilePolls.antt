@@ -1,21 +1,25 @@
--- What an end gives moves RESET_STREAM and STOP_SENDING from what waits to what a tracked packet carried.
-use Rattle.std.proofs.Common.{◌≡◌, ℕ, ◌+◌, ◌≤◌, Bool, true, false, cond, Option, Some, None, List, [], ◌∷◌, ◌++◌, refl, sym, ap, ◌∙◌, subst, inl, inr, arith}
+-- What an end gives moves RESET_STREAM and STOP_SENDING from what waits to what a tracked packet
+-- carried.
+use Rattle.std.proofs.Common.{◌≡◌, ℕ, ◌+◌, ◌<◌, ◌≤◌, ◌^◌, Bool, true, false, cond, Option, Some, None, List, [], ◌∷◌, ◌++◌, refl, sym, ap, ◌∙◌, subst, inl, inr, arith}
 use Rattle.std.specs.Ordering.{nat_cmp, match_ordering}
 use Rattle.std.specs.BTreeMap.{is_at}
 use Rattle.std.specs.declared.cmp.Ordering.{Ordering}
 use Rattle.std.specs.declared.cmp.Ordering.TheVariants.{Less, Equal, Greater}
 use Rattle.std.proofs.lemmas.List.{append-nil}
-use Rattle.quic_wire.specs.Value.{FrameValue, StopSendingValue, stream, reset_stream, stop_sending}
+use Rattle.quic_wire_core.specs.declared.shared.IssuedCid.{IssuedCid}
+use Rattle.quic_wire.specs.Value.{FrameValue, NewConnectionIdValue, StopSendingValue, stream, reset_stream, stop_sending, new_connection_id, retire_connection_id}
+use Rattle.quic_wire.specs.Writing.{Fits}
 use Rattle.quic_streams_parts.specs.Table.{Table, put, added, without}
 use Rattle.quic_streams_parts.specs.SendHalf.{SendHalf, frame_of}
-use Rattle.quic_retransmits.specs.Retransmits.{Retransmits}
+use Rattle.quic_retransmits.specs.Retransmits.{Retransmits, first_of}
 use Rattle.quic_streams_state.specs.State.{Sending}
-use Rattle.quic_streams_state.specs.Control.{without_first}
+use Rattle.quic_streams_state.specs.declared.state.StreamsState.{StreamsState}
+use Rattle.quic_streams_state.specs.Control.{without_first, told_id, issued_in, Goes}
 use Rattle.quic_streams_laws.specs.KeepingLaws.{by_frame}
 use Rattle.quic_machine.specs.Policy.{Policy}
 use Rattle.quic_machine.specs.Tracking.{Tracking, TrackedPacket, Carried, without_packet, forgotten, without_record, carried_in}
 use Rattle.quic_machine.specs.Closing.{ticked}
-use Rattle.quic_machine.specs.End.{End, with_closing, with_ping, number_of}
+use Rattle.quic_machine.specs.End.{End, with_closing, with_ping, number_of, closed_by}
 use Rattle.quic_machine.specs.Acked.{again}
 use Rattle.quic_machine.specs.Poll.{Polled, Draft, packet_of, tracked, record_moved, polled, goes, draft_as, Leaving}
 use Rattle.quic_machine.specs.PollCases.{ready_at, draft_at, by_poll_to, composes, may_leave_at}
@@ -23,14 +27,15 @@ use Rattle.quic_streams_laws.specs.QuietLaws.{told_sending}
 use Rattle.quic_machine.specs.DraftLaws.{Writing, by_leave, MayLeave}
 use Rattle.quic_machine.specs.Puts as puts
 use Rattle.quic_headline.specs.Runs.{In}
-use Rattle.quic_headline.specs.InFlight.{resets_in, stops_in}
+use Rattle.quic_headline.specs.InFlight.{resets_in, stops_in, new_ids_in, retirements_in}
+use Rattle.quic_headline.proofs.Packets.Closes.{by_closes}
 use Rattle.quic_headline.proofs.Packets.Carried.{carried_same}
 use Rattle.quic_headline.proofs.Packets.TrackedSteps.{in_sent, asking_packets}
 use Rattle.quic_headline.proofs.Packets.Probes.{in_put, by_ready, by_going, after_going, with_pacer}
 use Rattle.quic_headline.proofs.Packets.Ascending.{Splits, put_splits, Ascends}
 use Rattle.quic_headline.proofs.Places.Told.{in_left, in_right, in_append}
 use Rattle.quic_headline.proofs.Halves.InUse.{InUse, in_use_kept}
-use Rattle.quic_headline.proofs.Halves.Pile.{times, times_append, IsPile, part_of, NothingElse, resets_of, stops_of, Moves, goes_moves, without_fewer}
+use Rattle.quic_headline.proofs.Halves.Pile.{times, times_append, IsPile, part_of, NothingElse, nothing_else, resets_of, stops_of, Moves, goes_moves, moved_else, without_fewer, fewer_else}
 use Rattle.quic_headline.proofs.Halves.PileSteps.{CarryNothingElse, Holds, HoldsAll, holds_part, again_step, again_all}
 
 -- ---- frames
@@ -104,7 +109,7 @@ module _ (resets : List (ℕ × ℕ)) (stops : List StopSendingValue) where
                 (λ r i. elim (in_append r (without_first kind w).reset_stream (resets_in d.frames ++ resets) i) [ inl x ↦ in_left r w.reset_stream (resets_in d.frames ++ resets) (less.resets r x) | inr x ↦ in_right r w.reset_stream (resets_in d.frames ++ resets) x ])
                 (λ s i. elim (in_append s (without_first kind w).stop_sending (stops_in d.frames ++ stops) i) [ inl x ↦ in_left s w.stop_sending (stops_in d.frames ++ stops) (less.stops s x) | inr x ↦ in_right s w.stop_sending (stops_in d.frames ++ stops) x ])
                 g.pile;
-            others = record { no_ids = less.ids ∙ g.others.no_ids; no_retired = less.retired ∙ g.others.no_retired; no_frequency = less.frequency ∙ g.others.no_frequency };
+            others = fewer_else w (without_first kind w) less g.others;
           }
       keep (puts.control kind f) d is g =
           let w : Retransmits = d.end.waiting.frames in
@@ -112,13 +117,76 @@ module _ (resets : List (ℕ × ℕ)) (stops : List StopSendingValue) where
           let same = told_sending f d.end.streams in
           record {
             pile = subst (λ (q : Sending). IsPile q.halves.live ((without_first kind w).reset_stream ++ (resets_in (d.frames ++ f ∷ []) ++ resets)) ((without_first kind w).stop_sending ++ (stops_in (d.frames ++ f ∷ []) ++ stops))) (sym same) (moved d (without_first kind w) f m g);
-            others = record { no_ids = m.ids ∙ g.others.no_ids; no_retired = m.retired ∙ g.others.no_retired; no_frequency = m.frequency ∙ g.others.no_frequency };
+            others = moved_else w (without_first kind w) f m g.others;
           }
       keep (puts.stream id h room) d (found, first, some, is, counts) g = other_frame d (stream (frame_of id h room)) _ refl refl (record {
         pile = record { once = g.pile.once; reset = λ r i. by_frame (InUse r) (in_use_kept r) d.end.transport.send_fairness d.end.streams id room h found (λ was. refl) (g.pile.reset r i); small = g.pile.small };
         others = g.others;
       })
       keep p d may g = other_frame d _ _ refl refl (record { pile = g.pile; others = g.others })
+
+-- ---- ids that went
+
+-- the ids of NEW_CONNECTION_ID frames, one behind another, and the numbers of RETIRE_CONNECTION_ID
+-- frames
+new_ids_more : (fs gs : List FrameValue) → new_ids_in (fs ++ gs) ≡ new_ids_in fs ++ new_ids_in gs
+new_ids_more [] gs = refl
+new_ids_more (new_connection_id f ∷ fs) gs = ap (λ (cs : List IssuedCid). issued_in f ∷ cs) (new_ids_more fs gs)
+new_ids_more (f ∷ fs) gs = new_ids_more fs gs
+
+retirements_more : (fs gs : List FrameValue) → retirements_in (fs ++ gs) ≡ retirements_in fs ++ retirements_in gs
+retirements_more [] gs = refl
+retirements_more (retire_connection_id n ∷ fs) gs = ap (λ (ns : List ℕ). n ∷ ns) (retirements_more fs gs)
+retirements_more (f ∷ fs) gs = retirements_more fs gs
+
+-- what waits has a form, and so has what went
+record TellsIds (d : Draft) : Type 0 where
+  waits : NothingElse d.end.waiting.frames
+  ids : (cid : IssuedCid) → In cid (new_ids_in d.frames) → Fits (new_connection_id (told_id cid))
+  retired : (n : ℕ) → In n (retirements_in d.frames) → n < 2 ^ 62
+
+-- the first stands in a list
+first_in : {X : Type 0} (x : X) (xs : List X) → first_of xs ≡ Some x → In x xs
+first_in x [] is = cc
+first_in x (y ∷ xs) is = let same : x ≡ y = cc in inl same
+
+-- a frame that goes of what waits
+id_told : (p : Retransmits) (s : StreamsState) (f : FrameValue) → Goes p s f → NothingElse p → (cid : IssuedCid) → In cid (new_ids_in (f ∷ [])) → Fits (new_connection_id (told_id cid))
+id_told p s (new_connection_id f) goes n cid i = elim i [
+  | inl same ↦ n.ids cid (first_in cid p.new_cids (goes.1 ∙ ap (λ (x : IssuedCid). Some x) (ap issued_in (sym goes.2) ∙ sym same)))
+  | inr none ↦ absurd none
+]
+id_told p s f goes n cid i = absurd i
+
+retirement_told : (p : Retransmits) (s : StreamsState) (f : FrameValue) → Goes p s f → NothingElse p → (n : ℕ) → In n (retirements_in (f ∷ [])) → n < 2 ^ 62
+retirement_told p s (retire_connection_id m) goes e n i = elim i [
+  | inl same ↦ e.retired n (first_in n p.retire_cids (goes ∙ ap (λ (x : ℕ). Some x) (sym same)))
+  | inr none ↦ absurd none
+]
+retirement_told p s f goes e n i = absurd i
+
+-- one more frame, which tells no id and retires none, and leaves what waits
+other_tells : (d : Draft) (f : FrameValue) → new_ids_in (f ∷ []) ≡ [] → retirements_in (f ∷ []) ≡ [] → TellsIds d
+    → ((cid : IssuedCid) → In cid (new_ids_in (d.frames ++ f ∷ [])) → Fits (new_connection_id (told_id cid))) × ((n : ℕ) → In n (retirements_in (d.frames ++ f ∷ [])) → n < 2 ^ 62)
+other_tells d f none nor t = (
+  (λ cid i. t.ids cid (subst (In cid) (new_ids_more d.frames (f ∷ []) ∙ ap (λ (cs : List IssuedCid). new_ids_in d.frames ++ cs) none ∙ append-nil (new_ids_in d.frames)) i)),
+  (λ n i. t.retired n (subst (In n) (retirements_more d.frames (f ∷ []) ∙ ap (λ (ns : List ℕ). retirements_in d.frames ++ ns) nor ∙ append-nil (retirements_in d.frames)) i)),
+)
+
+-- whichever frames go
+draft_tells : (leaving : Leaving) (e : End) → MayLeave leaving e → NothingElse e.waiting.frames → TellsIds (draft_as leaving e)
+draft_tells leaving e alone n = by_leave TellsIds keep leaving e alone (record { waits = n; ids = λ cid i. absurd i; retired = λ k i. absurd i })
+  where
+    keep : Writing TellsIds
+    keep (puts.drops kind) d may t = let w : Retransmits = d.end.waiting.frames in record { waits = fewer_else w (without_first kind w) (without_fewer kind w) t.waits; ids = t.ids; retired = t.retired }
+    keep (puts.control kind f) d is t =
+        let w : Retransmits = d.end.waiting.frames in
+        record {
+          waits = moved_else w (without_first kind w) f (goes_moves kind w d.end.streams f is) t.waits;
+          ids = λ cid i. elim (in_append cid (new_ids_in d.frames) (new_ids_in (f ∷ [])) (subst (In cid) (new_ids_more d.frames (f ∷ [])) i)) [ inl old ↦ t.ids cid old | inr new ↦ id_told w d.end.streams f is.says t.waits cid new ];
+          retired = λ m i. elim (in_append m (retirements_in d.frames) (retirements_in (f ∷ [])) (subst (In m) (retirements_more d.frames (f ∷ [])) i)) [ inl old ↦ t.retired m old | inr new ↦ retirement_told w d.end.streams f is.says t.waits m new ];
+        }
+    keep p d may t = let more = other_tells d _ refl refl t in record { waits = t.waits; ids = more.0; retired = more.1 }
 
 -- ---- what is tracked
 
@@ -211,14 +279,14 @@ kept_stops None es s i = i
 kept_stops (Some p) es s i = without_stops es p.0 s i
 
 -- a datagram that goes is tracked
-given_holds : (d : Draft) → Drafts (resets_of d.end.tracking.packets) (stops_of d.end.tracking.packets) d → CarryNothingElse d.end.tracking.packets → HoldsAll (tracked d)
-given_holds d h none = record {
+given_holds : (d : Draft) → Drafts (resets_of d.end.tracking.packets) (stops_of d.end.tracking.packets) d → TellsIds d → CarryNothingElse d.end.tracking.packets → HoldsAll (tracked d)
+given_holds d h tells none = record {
   holds = record { pile = subst (λ (ps : Table TrackedPacket). IsPile live (w.reset_stream ++ resets_of ps) (w.stop_sending ++ stops_of ps)) (sym there) part.pile; others = part.others };
   carried = λ n t i. elim (in_sent d.end.tracking (number_of d.end) packet (n, t) i) [
     | inl old ↦ none n t old
     | inr new ↦ (
         let same : carried_in d.frames ≡ t.carried = ap (λ (x : ℕ × TrackedPacket). x.1.carried) (sym new) in
-        subst (λ (c : Carried). NothingElse c.retransmits) (carried_same d.frames ∙ same) (record { no_ids = refl; no_retired = refl; no_frequency = refl }))
+        subst (λ (c : Carried). NothingElse c.retransmits) (carried_same d.frames ∙ same) (record { ids = tells.ids; retired = tells.retired; no_frequency = refl }))
   ];
 }
   where
@@ -316,7 +384,7 @@ moved_holds p e among ascends h = record {
   holds = record { pile = waits.pile; others = waits.others };
   carried = λ n t i. elim (in_put packets p.0 (without_record p.1) (n, t) i) [
     | inl old ↦ h.carried n t old
-    | inr new ↦ subst (λ (x : ℕ × TrackedPacket). NothingElse x.1.carried.retransmits) (sym new) (record { no_ids = refl; no_retired = refl; no_frequency = refl })
+    | inr new ↦ subst (λ (x : ℕ × TrackedPacket). NothingElse x.1.carried.retransmits) (sym new) (nothing_else _ refl refl refl)
   ];
 }
   where
@@ -380,7 +448,8 @@ polled_holds p e now ascends h = by_poll_to p e now (λ (q : Polled). HoldsAll q
   silent = h;
   failed = h;
   nothing = λ is none. again_all (ready_at e now).end _ refl refl refl ready;
-  closes = again_all (ready_at e now).end _ refl refl refl ready;
+  repeats = λ is. by_closes p (with_closing e (ticked e.closing now)) (λ (q : Polled). HoldsAll q.end) (again_all e _ refl refl refl h) (λ f goes. again_all e _ refl refl refl h);
+  closes = λ reason bound. by_closes p (closed_by reason (ready_at e now).end) (λ (q : Polled). HoldsAll q.end) (again_all (ready_at e now).end _ refl refl refl ready) (λ f goes. again_all (ready_at e now).end _ refl refl refl ready);
   gives = λ is may some. by_going HoldsAll p (draft_at e now) (λ pacing. again_all (tracked (draft_at e now)) (after_going p (draft_at e now) pacing) refl refl refl (gives some));
 })
   where
@@ -399,4 +468,4 @@ polled_holds p e now ascends h = by_poll_to p e now (λ (q : Polled). HoldsAll q
         draft_holds (resets_of there.tracking.packets) (stops_of there.tracking.packets) leaving there alone (record { pile = ready.holds.pile; others = ready.holds.others }) in
         let here : Drafts (resets_of d.end.tracking.packets) (stops_of d.end.tracking.packets) d = rw packets went in
         let none : CarryNothingElse d.end.tracking.packets = rw packets ready.carried in
-        given_holds d here none
+        given_holds d here (draft_tells leaving there alone ready.holds.others) none

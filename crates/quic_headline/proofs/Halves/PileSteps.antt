@@ -1,10 +1,11 @@
--- What comes and what goes leave a pile of RESET_STREAM and STOP_SENDING: those that wait, and those that tracked packets carried.
-use Rattle.std.proofs.Common.{◌≡◌, ℕ, ◌+◌, ◌≤◌, ◌==◌, Bool, true, false, not, cond, List, [], ◌∷◌, ◌++◌, filter, Option, Some, None, refl, sym, ap, subst, inl, inr, arith, length}
+-- What comes and what goes leave a pile of RESET_STREAM and STOP_SENDING: those that wait, and
+-- those that tracked packets carried.
+use Rattle.std.proofs.Common.{◌≡◌, ℕ, ◌+◌, ◌≤◌, ◌==◌, Bool, true, false, not, cond, List, [], ◌∷◌, ◌++◌, filter, map, Option, Some, None, Ok, refl, sym, ap, subst, inl, inr, arith, length}
 use Rattle.std.specs.Prelude.{if◌then◌else◌}
 use Rattle.std.specs.Option.{is_some}
 use Rattle.std.proofs.lemmas.Bool.{eq-eqb}
 use Rattle.std.proofs.lemmas.List.{append_assoc}
-use Rattle.quic_wire.specs.Value.{FrameValue, AckValue, StreamValue, ResetStreamValue, StopSendingValue, stream, reset_stream, stop_sending, max_data, max_stream_data, max_streams}
+use Rattle.quic_wire.specs.Value.{FrameValue, AckValue, StreamValue, ResetStreamValue, StopSendingValue, ack, stream, reset_stream, stop_sending, max_data, max_stream_data, max_streams, datagram}
 use Rattle.quic_send_buffer.specs.declared.stream_meta.StreamMeta.{StreamMeta}
 use Rattle.quic_streams_parts.specs.declared.answers.Breach.{Breach}
 use Rattle.quic_streams_parts.specs.Table.{Table}
@@ -16,19 +17,24 @@ use Rattle.quic_streams_state.specs.State.{Streams}
 use Rattle.quic_streams_state.specs.Taking as taking
 use Rattle.quic_streams_state.specs.Acked.{sent_half, acked_at, after_stream_acked, reset_acked_at, after_reset_acked}
 use Rattle.quic_streams_laws.specs.KeepingLaws.{by_stream, by_reset_frame, by_stop_sending, by_max_data_where, by_max_stream_data, by_max_streams, by_stream_lost, by_stream_acked_where, by_reset_acked_where}
-use Rattle.quic_machine.specs.Arrival.{Arrival}
-use Rattle.quic_machine.specs.Policy.{Policy}
+use Rattle.quic_machine.specs.declared.run.Answer.{Answer}
 use Rattle.quic_machine.specs.Tracking.{TrackedPacket, Carried, dir_named, acked_by, not_acked_by, is_lost, lost_by, kept_by}
-use Rattle.quic_machine.specs.End.{End, with_streams, with_told, with_marking}
+use Rattle.quic_machine.specs.End.{End, with_streams, with_told, with_marking, closed_by}
+use Rattle.quic_machine.specs.IdFrames.{drawn, end_on_next_id}
 use Rattle.quic_machine.specs.Acked.{without_known, reset_acked, resets_acked, stream_acked, streams_acked, packet_acked, packets_acked, stream_lost, streams_lost, again, carried_lost, packets_lost, verdict, losses_detected, measured, sampled, without_acked, after_named, losses_taken}
-use Rattle.quic_machine.specs.Receive.{take_frame, received}
-use Rattle.quic_machine.specs.FrameCases.{OnStreams, named, frame_keeps, by_received, by_marks, apart_same}
-use Rattle.quic_headline.specs.Runs.{In, names}
+use Rattle.quic_machine.specs.Receive.{Outcome, reason_of, is_above, names_ungiven, take_frame, asks_in, after_taken, drained_at}
+use Rattle.quic_machine.specs.FrameCases.{OnStreams, IsApart, named, ack_taken, begun, passed, message_leaves, frames_leave, by_marks, apart_leaves}
+use Rattle.quic_headline.specs.Runs.{In, Intake, names}
+use Rattle.quic_headline.proofs.Packets.Apart.{by_next_id}
+use Rattle.quic_headline.proofs.Packets.Delivered.{Arrivals}
 use Rattle.quic_headline.proofs.Packets.Searches.{by_losses}
 use Rattle.quic_headline.proofs.Packets.MayGo.{WasReset}
 use Rattle.quic_headline.proofs.Packets.Named.{in_filter}
 use Rattle.quic_headline.proofs.Places.Told.{in_left, in_right, in_append}
 use Rattle.quic_headline.proofs.Halves.InUse.{InUse, in_use_kept, acked_free}
+use Rattle.quic_headline.proofs.Halves.Small.{IsSmallNumber}
+use Rattle.quic_headline.proofs.Halves.KnownIds.{AreWritten, Left, frame_written}
+use Rattle.quic_headline.proofs.Halves.ToldIds.{drawn_else, apart_else, next_else}
 use Rattle.quic_headline.proofs.Halves.Pile.{times, times_append, times_in, IsPile, part_of, NothingElse, SamePile, else_same, resets_of, stops_of, times_split, resets_among, stops_among}
 use Rattle.quic_machine.specs.Sizes.{search_acked}
 
@@ -149,7 +155,11 @@ CarryNothingElse ps = (n : ℕ) (t : TrackedPacket) → In (n, t) ps → Nothing
 pub again_step : (c : Carried) (e : End) (resets : List (ℕ × ℕ)) (stops : List StopSendingValue) → NothingElse c.retransmits → Holds e (c.retransmits.reset_stream ++ resets) (c.retransmits.stop_sending ++ stops) → Holds (again c e) resets stops
 again_step c e resets stops none h = record {
   pile = rw (append_assoc e.waiting.frames.reset_stream c.retransmits.reset_stream resets, append_assoc e.waiting.frames.stop_sending c.retransmits.stop_sending stops) h.pile;
-  others = (let o = h.others in record { no_ids = rw (o.no_ids, none.no_ids) refl; no_retired = rw (o.no_retired, none.no_retired) refl; no_frequency = rw (o.no_frequency, none.no_frequency) refl });
+  others = (let o = h.others in record {
+    ids = λ cid i. elim (in_append cid e.waiting.frames.new_cids c.retransmits.new_cids i) [ inl old ↦ o.ids cid old | inr new ↦ none.ids cid new ];
+    retired = λ n i. elim (in_append n e.waiting.frames.retire_cids c.retransmits.retire_cids i) [ inl old ↦ o.retired n old | inr new ↦ none.retired n new ];
+    no_frequency = rw (o.no_frequency, none.no_frequency) refl;
+  });
 }
 
 -- packets are lost
@@ -287,17 +297,73 @@ frame_step (max_stream_data f) e on h = all_on e _ (λ r u. by_max_stream_data (
 frame_step (max_streams f) e on h = all_on e _ (λ r u. by_max_streams (InUse r) (in_use_kept r) (dir_named f.one_way) f.count e.streams u) (same_pile e.waiting.frames) h
 frame_step f e on h = absurd on
 
--- whatever comes
-pub received_holds : (p : Policy) (e : End) (arrival : Arrival) (d : List ℕ) → HoldsAll e → HoldsAll (received p e arrival d).end
-received_holds = by_received HoldsAll (record {
-  notes = λ n e h. again_all e _ refl refl refl h;
-  begins = λ now n e h. again_all e _ refl refl refl h;
-  frame = frame_keeps HoldsAll (record {
-    ack = λ rises a e h. named_step (acked_by a e.tracking.packets) rises a (named a e) refl (again_all e (named a e) refl refl refl h);
-    on_streams = λ f e on h. frame_step f e on h;
-    message = λ m e h. again_all e _ refl refl refl h;
-    apart = λ f e is h. subst HoldsAll (sym (apart_same f e is)) h;
-  });
-  takes = λ n asks mark e h. again_all e _ refl refl refl h;
-  closes = λ reason e h. again_all e _ refl refl refl h;
-})
+-- the same pile at another end
+record KeepsPile (e f : End) : Type 0 where
+  streams : f.streams ≡ e.streams
+  resets : f.waiting.frames.reset_stream ≡ e.waiting.frames.reset_stream
+  stops : f.waiting.frames.stop_sending ≡ e.waiting.frames.stop_sending
+  packets : f.tracking.packets ≡ e.tracking.packets
+
+-- where other ids wait
+else_all : (e f : End) → KeepsPile e f → NothingElse f.waiting.frames → HoldsAll e → HoldsAll f
+else_all e f k none h = record {
+  holds = record { pile = rw (k.streams, k.resets, k.stops, k.packets) h.holds.pile; others = none };
+  carried = rw k.packets h.carried;
+}
+
+-- a frame apart from streams
+apart_holds : (f : FrameValue) (e : End) → IsApart f → IsSmallNumber f → AreWritten e.ids.peer → HoldsAll e → HoldsAll (take_frame f e).end
+apart_holds f e apart small w h =
+    else_all e (take_frame f e).end
+    (apart_leaves (KeepsPile e) f e apart (λ c. record { streams = refl; resets = refl; stops = refl; packets = refl }) (λ c most. record { streams = refl; resets = refl; stops = refl; packets = refl }))
+    (apart_else f e apart small w h.holds.others) h
+
+-- ids that are drawn
+drawn_holds : (words : ℕ → ℕ) (e : End) → HoldsAll e → HoldsAll (drawn words e)
+drawn_holds words e h = else_all e (drawn words e) (record { streams = refl; resets = refl; stops = refl; packets = refl }) (drawn_else words e h.holds.others) h
+
+-- the next id of the peer
+pub next_holds : (e : End) (a : Answer) → AreWritten e.ids.peer → HoldsAll e → HoldsAll (end_on_next_id e a)
+next_holds e a w h =
+    else_all e (end_on_next_id e a)
+    (by_next_id (KeepsPile e) e a (record { streams = refl; resets = refl; stops = refl; packets = refl }) (λ c. record { streams = refl; resets = refl; stops = refl; packets = refl }) (λ c most. record { streams = refl; resets = refl; stops = refl; packets = refl }))
+    (next_else e a w h.holds.others) h
+
+-- any frame
+one_holds : (f : FrameValue) (e : End) → IsSmallNumber f → AreWritten e.ids.peer → HoldsAll e → HoldsAll (take_frame f e).end
+one_holds (ack a) e small w h = go (names_ungiven a e)
+  where
+    go : (b : Bool) → HoldsAll (ack_taken b a e).end
+    go true = h
+    go false = named_step (acked_by a e.tracking.packets) (is_above e.numbers.largest_acked a.largest) a (named a e) refl (again_all e (named a e) refl refl refl h)
+one_holds (stream f) e small w h = frame_step (stream f) e tt h
+one_holds (reset_stream f) e small w h = frame_step (reset_stream f) e tt h
+one_holds (stop_sending f) e small w h = frame_step (stop_sending f) e tt h
+one_holds (max_data limit) e small w h = frame_step (max_data limit) e tt h
+one_holds (max_stream_data f) e small w h = frame_step (max_stream_data f) e tt h
+one_holds (max_streams f) e small w h = frame_step (max_streams f) e tt h
+one_holds (datagram m) e small w h = message_leaves HoldsAll m e h (λ left. again_all e _ refl refl refl h)
+one_holds f e small w h = apart_holds f e tt small w h
+
+-- all frames of a packet
+frames_hold : (fs : List FrameValue) (e : End) → Left fs → AreWritten e.ids.peer → HoldsAll e → HoldsAll (passed fs e).end
+frames_hold fs e small w h =
+    (frames_leave (λ (left : List FrameValue) (x : End). Left left × (AreWritten x.ids.peer × HoldsAll x))
+    (λ f left x i. ((λ g j. i.0 g (inr j)), (frame_written f x (i.0 f (inl refl)) i.1.0, one_holds f x (i.0 f (inl refl)) i.1.0 i.1.1))) fs e (small, (w, h))).1.1.1
+
+-- in each case of a delivery
+pub arrivals_hold : (e : End) (now n : ℕ) (frames : List FrameValue) (came : Intake) → Left frames → AreWritten e.ids.peer → HoldsAll e → Arrivals e now n frames came (λ (o : Outcome) (i : Intake). HoldsAll o.end)
+arrivals_hold e now n frames came small w h = record {
+  ignored = λ reason. h;
+  noted = λ state reason. again_all e _ refl refl refl h;
+  takes = λ words state new none mark. (let x : End = after_taken n (asks_in (map Ok frames)) mark left in drawn_holds words x (again_all left x refl refl refl after));
+  drains = λ words state new close is. (let x : End = drained_at n close left in drawn_holds words x (again_all left x refl refl refl after));
+  refuses = λ words state new f is. (let x : End = closed_by (reason_of f) left in drawn_holds words x (again_all left x refl refl refl after));
+  exhausts = λ state. again_all e _ refl refl refl h;
+}
+  where
+    left : End
+    left = (passed frames (begun e now n)).end
+
+    after : HoldsAll left
+    after = frames_hold frames (begun e now n) small w (again_all e (begun e now n) refl refl refl h)

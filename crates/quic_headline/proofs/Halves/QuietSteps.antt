@@ -1,6 +1,7 @@
--- Calls and frames that bring and read nothing leave a fact of streams that words about what an end sends leave.
+-- Calls and frames that bring and read nothing leave a fact of streams that words about what an end
+-- sends leave.
 use Rattle.std.proofs.Common.{◌≡◌, ℕ, Bool, true, false, List, length, Result, Ok, Err, refl, sym, subst, inl, inr}
-use Rattle.quic_wire.specs.Value.{FrameValue, AckValue, StreamValue, ResetStreamValue, ack, stream, reset_stream, stop_sending, max_data, max_stream_data, max_streams, datagram}
+use Rattle.quic_wire.specs.Value.{FrameValue, AckValue, StreamValue, ResetStreamValue, ack, stream, reset_stream, stop_sending, max_data, max_stream_data, max_streams, datagram, new_connection_id, retire_connection_id, path_response}
 use Rattle.quic_streams_parts.specs.declared.answers.WriteError.TheVariants as write_errors
 use Rattle.quic_streams_state.specs.declared.state.StreamsState.{StreamsState}
 use Rattle.quic_streams_state.specs.State.{Streams}
@@ -26,9 +27,10 @@ use Rattle.quic_machine.specs.Receive.{is_above, names_ungiven, take_frame}
 use Rattle.quic_machine.specs.Poll.{Draft, Kind, signals, controls, messages, streams, order, put, with_asking, no_frames, with_ack, ack_if, ack_fits, composed, composed_if, polled, frame_room, left, no_stream_frames}
 use Rattle.quic_machine.specs.CallCases.{is_delivery, by_call}
 use Rattle.quic_machine.specs.DraftLaws.{by_messages, by_signals}
-use Rattle.quic_machine.specs.FrameCases.{Settling, acked_keeps, losses_keep, named, ack_taken, message_leaves}
+use Rattle.quic_machine.specs.FrameCases.{Settling, acked_keeps, losses_keep, named, ack_taken, message_leaves, apart_leaves}
 use Rattle.quic_machine.specs.Steps as steps
 use Rattle.quic_machine.specs.LeaveCases.{by_expired, by_event}
+use Rattle.quic_headline.proofs.Packets.Apart.{by_waits, by_next_id}
 use Rattle.quic_headline.proofs.Packets.Kinds.{by_kinds}
 use Rattle.quic_headline.proofs.Packets.Probes.{poll_state}
 
@@ -127,7 +129,10 @@ module _ (P : StreamsState → Type 0) (q : IsQuiet P) where
     on_streams = λ on answer. on_streams_quiet e within i (is_open e.closing.state) call a (answer is) quiet;
     on_messages = λ on answer. i;
     pings = i;
-    times = λ now expiry set. by_expired e now (λ (f : End). P f.streams) (λ pending tracking timers runs packets. i) (λ pending timers runs. losses_keep (λ (x : End). P x.streams) settles (with_closing e (ticked e.closing now)) i) expiry;
+    closes = λ reason f now own. i;
+    waits = λ now b set. by_waits (λ (f : End). P f.streams) b (with_closing e (ticked e.closing now)) i i;
+    changes_id = λ uses answer. by_next_id (λ (f : End). P f.streams) e a i (λ c. i) (λ c most. i);
+    times = λ now expiry set. by_expired p.words e now (λ (f : End). P f.streams) (λ pending tracking timers waits asked runs packets. i) (λ pending timers waits asked runs. losses_keep (λ (x : End). P x.streams) settles (with_closing e (ticked e.closing now)) i) (λ x j. j) expiry;
     polls = λ now set. poll_quiet p e now i;
     hears = λ arrival d set. cc;
     tells = λ asks. by_event e (λ (f : End). P f.streams) i (λ told. q.polls e.streams i);
@@ -153,4 +158,7 @@ module _ (P : StreamsState → Type 0) (q : IsQuiet P) where
       go (max_streams g) brings resets = q.max_streams (dir_named g.one_way) g.count e.streams i
       go (ack a) brings resets = acked a (names_ungiven a e)
       go (datagram m) brings resets = message_leaves (λ (x : End). P x.streams) m e i (λ left. i)
+      go (new_connection_id g) brings resets = apart_leaves (λ (x : End). P x.streams) (new_connection_id g) e tt (λ c. i) (λ c most. i)
+      go (retire_connection_id n) brings resets = apart_leaves (λ (x : End). P x.streams) (retire_connection_id n) e tt (λ c. i) (λ c most. i)
+      go (path_response token) brings resets = apart_leaves (λ (x : End). P x.streams) (path_response token) e tt (λ c. i) (λ c most. i)
       go other brings resets = i

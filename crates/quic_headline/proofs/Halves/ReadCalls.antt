@@ -1,4 +1,5 @@
--- What calls make of what was read, of what frames brought, and of what was accepted; a delivery aside.
+-- What calls make of what was read, of what frames brought, and of what was accepted; a delivery
+-- aside.
 use Rattle.std.proofs.Common.{◌≡◌, ℕ, Bool, false, List, [], ◌∷◌, ◌++◌, Option, Some, Result, Ok, Err, refl, sym, subst, inl, inr}
 use Rattle.quic_wire_core.specs.declared.stream_id.Side.{Side}
 use Rattle.quic_wire_core.specs.declared.stream_id.Dir.{Dir}
@@ -46,8 +47,8 @@ use Rattle.quic_headline.proofs.Halves.Bringing.{Brought}
 
 -- ---- facts that every call keeps
 
--- a fact that calls about what an end sends leave, and each word about what it receives but those that
--- accept or stop a stream
+-- a fact that calls about what an end sends leave, and each word about what it receives but those
+-- that accept or stop a stream
 pub record IsKeptElse (P : StreamsState → Type 0) : Type 0 where
   pub quiet : IsQuiet P
   pub begun : (s : StreamsState) (id : ℕ) (ordered : Bool) → P s → P (after_read_begun s id ordered)

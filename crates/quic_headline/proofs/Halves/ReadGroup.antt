@@ -1,4 +1,5 @@
--- What one end reads is what the other wrote, at each place: a group over what the other's writing gives.
+-- What one end reads is what the other wrote, at each place: a group over what the other's writing
+-- gives.
 use Rattle.std.proofs.Common.{◌≡◌, ℕ, List, [], ◌∷◌, ◌++◌, None, Ok, refl, sym, subst, inl, inr, ◌⊎◌}
 use Rattle.quic_wire_core.specs.declared.stream_id.Side.{Side}
 use Rattle.quic_wire.specs.Value.{FrameValue, stream}
@@ -20,10 +21,11 @@ use Rattle.quic_machine.specs.declared.run.Delivery.{Delivery}
 use Rattle.quic_machine.specs.declared.answers.State.{State}
 use Rattle.quic_machine.specs.End.{End}
 use Rattle.quic_machine.specs.Receive.{Outcome}
-use Rattle.quic_machine.specs.FrameCases.{begun}
+use Rattle.quic_machine.specs.FrameCases.{begun, passed}
 use Rattle.quic_headline.specs.Runs.{Told, Next, Packet, Intake, In, accepts}
 use Rattle.quic_headline.proofs.Packets.Delivered.{Arrivals, with_taken}
 use Rattle.quic_headline.proofs.Packets.Group.{meets}
+use Rattle.quic_headline.proofs.Packets.Owing.{IsAlone, closed_alone}
 use Rattle.quic_headline.proofs.Places.Told.{accepts_append, in_left}
 use Rattle.quic_headline.proofs.Places.Parties.{told_of, Party, called, came_to, Beginning, begun_as}
 use Rattle.quic_headline.proofs.Places.Groups.{Way, Calls, Group}
@@ -31,7 +33,7 @@ use Rattle.quic_headline.proofs.Places.Coming.{by_coming}
 use Rattle.quic_headline.proofs.Halves.Ghosts.{wrote, read, SaysOf, IsWriting}
 use Rattle.quic_headline.proofs.Halves.QuietSteps.{sent_within}
 use Rattle.quic_headline.proofs.Halves.Reading.{read_same}
-use Rattle.quic_headline.proofs.Halves.Bringing.{frames_read, Brought, frames_leave_brought, frames_bring, frames_accepted}
+use Rattle.quic_headline.proofs.Halves.Bringing.{frames_read, Brought, frames_leave_brought, frames_bring, closed_brings, frames_accepted}
 use Rattle.quic_headline.proofs.Halves.ReadCalls.{brought_call, accepted_call, read_as, reads_call}
 use Rattle.quic_headline.proofs.Halves.Ends.{EndsRight, ends_grow, ends_call}
 
@@ -41,7 +43,8 @@ pub record WasIn (packets : List Packet) (f : FrameValue) : Type 0 where
   pub was_taken : In packet packets
   pub carried : In f packet.frames
 
--- x writes, and y reads: what y read is what x wrote, and its ends were told where they were; what was accepted, and what packets brought
+-- x writes, and y reads: what y read is what x wrote, and its ends were told where they were; what
+-- was accepted, and what packets brought
 pub record ReadsHold (x y : Party) : Type 0 where
   pub reads : HoldsRead (wrote x.told) (read y.told) y.end.streams
   pub ends : EndsRight (wrote x.told) y.told
@@ -57,21 +60,28 @@ record Holds (side : Side) (done : ℕ → Wrote) (r : ℕ → Reads) (accepted 
   brought : Brought side (WasIn i.took) e.streams
 
 -- in each case of a delivery, where the packet's frames say what was done
-holds_arrivals : (side : Side) (done : ℕ → Wrote) (r : ℕ → Reads) (accepted : ℕ → Type 0) (e : End) (now n : ℕ) (frames : List FrameValue) (i : Intake) → ((f : FrameValue) → In f frames → SaysOf done f) → Holds side done r accepted e i
+holds_arrivals : (side : Side) (done : ℕ → Wrote) (r : ℕ → Reads) (accepted : ℕ → Type 0) (e : End) (now n : ℕ) (frames : List FrameValue) (i : Intake) → ((f : FrameValue) → In f frames → SaysOf done f) → IsAlone frames → Holds side done r accepted e i
     → Arrivals e now n frames i (λ (o : Outcome) (j : Intake). Holds side done r accepted o.end j)
-holds_arrivals side done r accepted e now n frames i says h = record {
+holds_arrivals side done r accepted e now n frames i says alone h = record {
   ignored = λ reason. h;
   noted = λ state reason. record { reads = h.reads; accepted_are = h.accepted_are; brought = h.brought };
-  takes = λ state new none mark. record {
+  takes = λ words state new none mark. record {
     reads = frames_read done r frames (begun e now n) says h.reads;
     accepted_are = frames_accepted accepted frames (begun e now n) h.accepted_are;
     brought = frames_bring side (WasIn i.took) (WasIn (with_taken i n frames).took) frames (begun e now n) among none h.brought;
   };
-  refuses = λ state new f is. record {
+  drains = λ words state new close is. record {
+    reads = frames_read done r frames (begun e now n) says h.reads;
+    accepted_are = frames_accepted accepted frames (begun e now n) h.accepted_are;
+    brought = closed_brings side (WasIn i.took) (WasIn (with_taken i n frames).took) frames (passed frames (begun e now n)).end.streams (closed_alone frames (begun e now n) close alone is) among
+        (frames_leave_brought side (WasIn i.took) frames (begun e now n) h.brought);
+  };
+  refuses = λ words state new f is. record {
     reads = frames_read done r frames (begun e now n) says h.reads;
     accepted_are = frames_accepted accepted frames (begun e now n) h.accepted_are;
     brought = frames_leave_brought side (WasIn i.took) frames (begun e now n) h.brought;
   };
+  exhausts = λ state. record { reads = h.reads; accepted_are = h.accepted_are; brought = h.brought };
 }
   where
     among : (g : FrameValue) → WasIn (with_taken i n frames).took g → WasIn i.took g ⊎ In g frames
@@ -137,11 +147,13 @@ module _ (B : Way) (w : IsWriting B) where
           brought = brought_call x.side (WasIn (came_to x y).took) x.policy x.end y.given call a within c.answer apart p.brought;
         };
         none = λ delivery is. at_once delivery x.end (came_to x y) is before;
-        comes = λ delivery is s among. (let cases = holds_arrivals x.side (wrote y.told) (read x.told) (λ id. In id (accepts x.told)) x.end delivery.now s.number s.frames (came_to x y) (w.says y x c.takes s among) before in record {
+        comes = λ delivery is s among. (let cases = holds_arrivals x.side (wrote y.told) (read x.told) (λ id. In id (accepts x.told)) x.end delivery.now s.number s.frames (came_to x y) (w.says y x c.takes s among) ((w.packets y x c.takes).alone s among) before in record {
           ignored = λ reason. at_once delivery _ _ is (cases.ignored reason);
           noted = λ closing reason. at_once delivery _ _ is (cases.noted closing reason);
-          takes = λ open_there new none mark. at_once delivery _ _ is (cases.takes open_there new none mark);
-          refuses = λ open_there new f fault. at_once delivery _ _ is (cases.refuses open_there new f fault);
+          takes = λ words open_there new none mark. at_once delivery _ _ is (cases.takes words open_there new none mark);
+          drains = λ words open_there new close fault. at_once delivery _ _ is (cases.drains words open_there new close fault);
+          refuses = λ words open_there new f fault. at_once delivery _ _ is (cases.refuses words open_there new f fault);
+          exhausts = λ open_there. at_once delivery _ _ is (cases.exhausts open_there);
         });
       })
 

@@ -1,22 +1,40 @@
--- What waits to be sent beside the bytes of streams may go, at each place of a run: over what was written.
+-- What waits to be sent beside the bytes of streams may go, at each place of a run: over what was
+-- written.
 use Rattle.std.proofs.Common.{ℕ, refl, arith}
-use Rattle.quic_machine.specs.End.{End, with_window}
+use Rattle.quic_parameters.specs.Parameters.{ParameterValues}
+use Rattle.quic_config.specs.Transport.{parameters_of}
+use Rattle.quic_machine.specs.declared.run.Call.{Call}
+use Rattle.quic_machine.specs.declared.run.Answer.{Answer}
+use Rattle.quic_machine.specs.Ids.{words_behind}
+use Rattle.quic_machine.specs.End.{End, silent_end}
+use Rattle.quic_machine.specs.Receive.{Outcome}
 use Rattle.quic_machine.specs.PollCases.{ready_at}
+use Rattle.quic_headline.specs.Runs.{In, Intake}
+use Rattle.quic_headline.specs.Observer.{Sent}
+use Rattle.quic_headline.proofs.Packets.Invariant.{IsSent}
+use Rattle.quic_headline.proofs.Packets.Growth.{step_of}
+use Rattle.quic_headline.proofs.Packets.Delivered.{Arrivals}
 use Rattle.quic_headline.proofs.Packets.MayGo.{AreReady}
-use Rattle.quic_headline.proofs.Packets.Group.{PacketsHold}
+use Rattle.quic_headline.proofs.Packets.Group.{PacketsHold, meets}
 use Rattle.quic_headline.proofs.Places.Told.{in_left}
-use Rattle.quic_headline.proofs.Places.Parties.{Party}
-use Rattle.quic_headline.proofs.Places.Groups.{And, Group}
+use Rattle.quic_headline.proofs.Places.Parties.{Party, Beginning, new_as, called, came_to, with_shown}
+use Rattle.quic_headline.proofs.Places.Groups.{And, Calls, Group}
+use Rattle.quic_headline.proofs.Places.Coming.{by_coming}
 use Rattle.quic_headline.proofs.Halves.Wrote.{wrote}
 use Rattle.quic_headline.proofs.Halves.Writer.{WritesHold}
+use Rattle.quic_headline.proofs.Halves.Small.{payload_numbers}
+use Rattle.quic_headline.proofs.Halves.KnownIds.{AreWritten, Left, written_arrivals, call_written}
+use Rattle.quic_headline.proofs.Halves.ToldIds.{first_told}
 use Rattle.quic_headline.proofs.Halves.Pile.{resets_of, stops_of}
-use Rattle.quic_headline.proofs.Halves.PileSteps.{HoldsAll, again_all}
+use Rattle.quic_headline.proofs.Halves.PileSteps.{HoldsAll, again_all, arrivals_hold}
 use Rattle.quic_headline.proofs.Halves.PileCalls.{step_holds}
 use Rattle.quic_headline.proofs.Halves.PilePolls.{ready_holds}
 
--- RESET_STREAM and STOP_SENDING that wait at x, or that its tracked packets carried, are a pile
+-- RESET_STREAM and STOP_SENDING that wait at x, or that its tracked packets carried, are a pile;
+-- and the numbers of the ids of y that it knows can be written
 pub record Ready (x y : Party) : Type 0 where
   pub all : HoldsAll x.end
+  pub peer : AreWritten x.end.ids.peer
 
 -- so what waits may go
 waits_of : (e : End) → HoldsAll e → AreReady e.streams.sending.halves.live e.waiting.frames
@@ -25,8 +43,8 @@ waits_of e all =
     record {
       resets = λ r i. h.pile.reset r (in_left r e.waiting.frames.reset_stream (resets_of e.tracking.packets) i);
       stops = λ s i. h.pile.small s (in_left s e.waiting.frames.stop_sending (stops_of e.tracking.packets) i);
-      no_ids = h.others.no_ids;
-      no_retired = h.others.no_retired;
+      ids = h.others.ids;
+      retired = h.others.retired;
       no_frequency = h.others.no_frequency;
     }
 
@@ -34,21 +52,54 @@ waits_of e all =
 pub ready_probes : (x y : Party) → PacketsHold x y → Ready x y → (now : ℕ) → AreReady (ready_at x.end now).end.streams.sending.halves.live (ready_at x.end now).end.waiting.frames
 ready_probes x y packets ready now = waits_of (ready_at x.end now).end (ready_holds x.end now packets.ascends ready.all)
 
--- it is so at the start, and each call keeps it
+-- it is so at the start
+first_ready : (x y : Beginning) → HoldsAll (new_as x y) × AreWritten (new_as x y).ids.peer
+first_ready x y = (
+  again_all e (new_as x y) refl refl refl (record {
+    holds = record {
+      pile = record { once = λ id. omega arith; reset = λ r i. absurd i; small = λ s i. absurd i };
+      others = record { ids = first_told (words_behind 1 x.making.words) theirs.active_connection_id_limit; retired = λ n i. absurd i; no_frequency = refl };
+    };
+    carried = λ n t i. absurd i;
+  }),
+  record { active = omega arith; later = λ c i. absurd i },
+)
+  where
+    theirs : ParameterValues
+    theirs = parameters_of y.making.settings
+
+    e : End
+    e = silent_end x.side x.making.settings x.making.windows theirs x.making.id y.making.id x.making.moment x.making.validated x.making.words
+
+-- each call keeps it
+calls_ready : (x y : Party) (call : Call) (a : Answer) → Calls (And PacketsHold WritesHold) x y call a → Ready x y → HoldsAll (called x y.given call a).end × AreWritten (called x y.given call a).end.ids.peer
+calls_ready x y call a c ready = by_coming x y a c.joined c.served (meets y x c.takes.0) (λ (e : End) (i : Intake). HoldsAll e × AreWritten e.ids.peer) call c.answer (record {
+  apart = λ apart. (
+      let w = c.gives.1.writes.keeps in
+      (step_holds x.policy x.end y.given call a (wrote x.told) w.holds w.few c.codes c.answer apart ready.peer c.gives.0.ascends ready.all, call_written x.policy x.end y.given call a apart ready.peer));
+  none = λ delivery is. (ready.all, ready.peer);
+  comes = λ delivery is s among. comes delivery.now s among;
+})
+  where
+    comes : (now : ℕ) (s : Sent) → In s y.sents → Arrivals x.end now s.number s.frames (came_to x y) (λ (o : Outcome) (i : Intake). HoldsAll o.end × AreWritten o.end.ids.peer)
+    comes now s among =
+        let given = (step_of (IsSent y.policy) y.sents y.given s c.takes.0.gives.each among).1 in
+        let small : Left s.frames = payload_numbers s.frames given.payload given.spells in
+        let all = arrivals_hold x.end now s.number s.frames (came_to x y) small ready.peer ready.all in
+        let known = written_arrivals x.end now s.number s.frames (came_to x y) small ready.peer in
+        record {
+          ignored = λ reason. (all.ignored reason, known.ignored reason);
+          noted = λ state reason. (all.noted state reason, known.noted state reason);
+          takes = λ words state new none mark. (all.takes words state new none mark, known.takes words state new none mark);
+          drains = λ words state new close is. (all.drains words state new close is, known.drains words state new close is);
+          refuses = λ words state new f is. (all.refuses words state new f is, known.refuses words state new f is);
+          exhausts = λ state. (all.exhausts state, known.exhausts state);
+        }
+
 pub ready_group : Group (And PacketsHold WritesHold) Ready
 ready_group = record {
-  first = λ x y m there back. record {
-    all = record {
-      holds = record {
-        pile = record { once = λ id. omega arith; reset = λ r i. absurd i; small = λ s i. absurd i };
-        others = record { no_ids = refl; no_retired = refl; no_frequency = refl };
-      };
-      carried = λ n t i. absurd i;
-    };
-  };
-  writer = λ x y call a c gives takes. (
-      let w = c.gives.1.writes.keeps in
-      record { all = step_holds x.policy x.end y.given call a (wrote x.told) w.holds w.few c.codes c.answer c.gives.0.ascends gives.all });
-  reader = λ x y call a c gives takes. record { all = takes.all };
-  shows = λ x y here there b back ready others. record { all = again_all x.end (with_window x.end here) refl refl refl ready.all };
+  first = λ x y m there back. (let first = first_ready x y in record { all = first.0; peer = first.1 });
+  writer = λ x y call a c gives takes. (let left = calls_ready x y call a c gives in record { all = left.0; peer = left.1 });
+  reader = λ x y call a c gives takes. record { all = takes.all; peer = takes.peer };
+  shows = λ x y here there b back ready others. record { all = again_all x.end (with_shown x.end here) refl refl refl ready.all; peer = ready.peer };
 }

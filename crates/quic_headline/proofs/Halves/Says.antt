@@ -1,4 +1,5 @@
--- What a datagram carried that says what was written: it had the end of a stream only where there is one, and its resets are those of streams that were reset.
+-- What a datagram carried that says what was written: it had the end of a stream only where there
+-- is one, and its resets are those of streams that were reset.
 use Rattle.std.proofs.Common.{◌≡◌, ℕ, true, List, [], ◌∷◌, Some, refl, sym, ap, ◌∙◌, subst, inl, inr}
 use Rattle.std.specs.List.{fold}
 use Rattle.quic_wire.specs.Value.{FrameValue, stream, reset_stream}
@@ -31,7 +32,8 @@ says_grow done more grows f says = tt
 
 -- ---- what a datagram carried
 
--- its resets are those of streams that were reset, and it had the end of a stream only where there is one
+-- its resets are those of streams that were reset, and it had the end of a stream only where there
+-- is one
 pub record CarriedSays (done : ℕ → Wrote) (c : Carried) : Type 0 where
   pub resets : SaysResets done c.retransmits
   pub ends : (m : StreamMeta) → In m c.stream_frames → m.fin ≡ true → (done m.id).ended ≡ true

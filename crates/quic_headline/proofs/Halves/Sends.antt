@@ -1,7 +1,7 @@
 -- What an end composes says what was written on its streams, and leaves them holding it.
 use Rattle.std.proofs.Common.{ℕ, zero, suc, Bool, true, false, List, [], ◌∷◌, length, replicate, map, sym, subst, inl, inr, arith}
 use Rattle.std.specs.List.{AllByRecursion}
-use Rattle.quic_wire.specs.Value.{FrameValue, StreamValue, ping, padding, stream, datagram, reset_stream, connection_close, application_close}
+use Rattle.quic_wire.specs.Value.{FrameValue, StreamValue, ping, padding, stream, datagram, reset_stream, connection_close, application_close, path_challenge, path_response}
 use Rattle.quic_retransmits.specs.Retransmits.{nothing_waits}
 use Rattle.quic_streams_state.specs.Control as control
 use Rattle.quic_streams_state.specs.Frames as of_streams
@@ -70,6 +70,8 @@ pub record Draws (done : ℕ → Wrote) (d : Draft) : Type 0 where
 module _ (done : ℕ → Wrote) where
   signal_says : (f : FrameValue) → IsSignal f → SaysOf done f
   signal_says ping is = tt
+  signal_says (path_challenge token) is = tt
+  signal_says (path_response token) is = tt
   signal_says f is = absurd is
 
   signal_draws : (d : Draft) → Draws done d → Draws done (with_signal_frames d)

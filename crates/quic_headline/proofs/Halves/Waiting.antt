@@ -1,4 +1,5 @@
--- Of what waits to be sent, calls and frames leave which streams were reset, but for a reset; what a lost datagram carried waits behind it.
+-- Of what waits to be sent, calls and frames leave which streams were reset, but for a reset; what
+-- a lost datagram carried waits behind it.
 use Rattle.std.proofs.Common.{◌≡◌, ℕ, ◌==◌, Bool, true, false, List, [], Option, Some, None, Result, Ok, Err, refl, cond}
 use Rattle.std.specs.Option.{is_some}
 use Rattle.quic_wire.specs.Value.{StreamValue, ResetStreamValue}

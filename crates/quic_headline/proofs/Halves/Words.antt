@@ -1,4 +1,5 @@
--- A fact of what was done on streams and of their state, that each word about streams keeps, is kept by each call, by what goes and by what comes.
+-- A fact of what was done on streams and of their state, that each word about streams keeps, is
+-- kept by each call, by what goes and by what comes.
 use Rattle.std.proofs.Common.{◌≡◌, ℕ, ◌^◌, ◌<◌, Bool, true, false, List, [], ◌∷◌, length, Option, Some, None, Result, Ok, Err, refl, sym, subst, inl, inr}
 use Rattle.std.specs.Prelude.{ℤ}
 use Rattle.quic_wire_core.specs.declared.stream_id.Dir.{Dir}
@@ -42,7 +43,8 @@ use Rattle.quic_headline.proofs.Halves.Small.{IsSmallLimit}
 
 -- ---- words
 
--- What each word about streams keeps of a fact of what was done on them: first those of an application, then those of what comes and goes.
+-- What each word about streams keeps of a fact of what was done on them: first those of an
+-- application, then those of what comes and goes.
 pub record Words (F : (ℕ → Wrote) → StreamsState → Type 0) : Type 0 where
   pub writes : (is_open : Bool) (done : ℕ → Wrote) (s : StreamsState) (p : Retransmits) (id : ℕ) (bytes : List ℕ) → F done s → F (wrote_by (write_answer is_open s id (length bytes)) id bytes done) (after_write is_open (write_answer is_open s id (length bytes)) s p id bytes).state
   pub writes_chunks : (is_open : Bool) (done : ℕ → Wrote) (s : StreamsState) (p : Retransmits) (id : ℕ) (chunks : List (List ℕ)) → F done s

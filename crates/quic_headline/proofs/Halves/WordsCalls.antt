@@ -6,7 +6,7 @@ use Rattle.quic_machine.specs.declared.run.Call.{Call}
 use Rattle.quic_machine.specs.declared.run.Call.TheVariants as calls
 use Rattle.quic_machine.specs.declared.run.Answer.{Answer}
 use Rattle.quic_machine.specs.Policy.{Policy}
-use Rattle.quic_machine.specs.End.{End, streams_at}
+use Rattle.quic_machine.specs.End.{End, streams_at, with_closing}
 use Rattle.quic_machine.specs.Calls.{is_open}
 use Rattle.quic_machine.specs.StreamCalls.{is_on_streams}
 use Rattle.quic_machine.specs.Poll.{polled}
@@ -18,6 +18,8 @@ use Rattle.quic_streams_parts.specs.Table.{Table}
 use Rattle.quic_streams_state.specs.State.{Streams}
 use Rattle.quic_machine.specs.Tracking.{TrackedPacket}
 use Rattle.quic_headline.specs.Runs.{In}
+use Rattle.quic_machine.specs.Closing.{ticked}
+use Rattle.quic_headline.proofs.Packets.Apart.{by_waits, by_next_id}
 use Rattle.quic_headline.proofs.Packets.Losses.{Losing, expiry_stays}
 use Rattle.quic_headline.proofs.Halves.Wrote.{done_by}
 use Rattle.quic_headline.proofs.Halves.Words.{Words, call_on, composed_on}
@@ -42,6 +44,9 @@ pub call_on_is : (p : Policy) (e : End) (theirs : List (List ℕ)) (call : Call)
 call_on_is p e theirs (calls.Send message makes_room) a on = cc
 call_on_is p e theirs calls.Recv a on = cc
 call_on_is p e theirs calls.Ping a on = cc
+call_on_is p e theirs (calls.Close close) a on = cc
+call_on_is p e theirs calls.UseNextId a on = cc
+call_on_is p e theirs calls.State a on = cc
 call_on_is p e theirs (calls.Poll now) a on = cc
 call_on_is p e theirs (calls.Timeout now) a on = cc
 call_on_is p e theirs (calls.Deliver delivery) a on = cc
@@ -77,7 +82,10 @@ module _ (F : (ℕ → Wrote) → StreamsState → Type 0) (words : Words F) whe
         on_streams = λ on answer. cc;
         on_messages = λ on answer. i;
         pings = i;
-        times = λ now expiry set. by_expired e now (λ (f : End). F w f.streams) (λ pending tracking timers runs packets. i) (λ pending timers runs. expiry_stays (λ (t : Streams). F w t.state) e now (losing w e.tracking.packets ends) i pending timers) expiry;
+        closes = λ reason f now own. i;
+        waits = λ now b set. by_waits (λ (f : End). F w f.streams) b (with_closing e (ticked e.closing now)) i i;
+        changes_id = λ uses answer. by_next_id (λ (f : End). F w f.streams) e a i (λ c. i) (λ c most. i);
+        times = λ now expiry set. by_expired p.words e now (λ (f : End). F w f.streams) (λ pending tracking timers waits asked runs packets. i) (λ pending timers waits asked runs. expiry_stays (λ (t : Streams). F w t.state) e now (losing w e.tracking.packets ends) i pending timers waits asked) (λ x j. j) expiry;
         polls = λ now set. poll_keeps p w e now i;
         hears = λ arrival d set. cc;
         tells = λ asks. by_event e (λ (f : End). F w f.streams) i (λ told. words.polls w e.streams i);

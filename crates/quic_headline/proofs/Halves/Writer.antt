@@ -1,5 +1,6 @@
--- The writing side between two ends, as one group over their packets: the one that gives holds what was written at it, and what it sent says so.
-use Rattle.std.proofs.Common.{◌≡◌, ℕ, ◌≤◌, ◌^◌, Bool, true, false, List, [], ◌∷◌, ◌++◌, refl, sym, ◌∙◌, subst, inl, inr, append-nil}
+-- The writing side between two ends, as one group over their packets: the one that gives holds what
+-- was written at it, and what it sent says so.
+use Rattle.std.proofs.Common.{◌≡◌, ℕ, ◌≤◌, ◌^◌, Bool, true, false, List, [], ◌∷◌, ◌++◌, refl, sym, ◌∙◌, subst, inl, inr}
 use Rattle.quic_wire_core.specs.declared.stream_id.Dir.{Dir}
 use Rattle.quic_wire_core.specs.declared.stream_id.Dir.TheVariants.{Bi, Uni}
 use Rattle.quic_parameters.specs.Parameters.{ParameterValues}
@@ -8,7 +9,7 @@ use Rattle.quic_streams_parts.specs.Dirs.{of}
 use Rattle.quic_streams_state.specs.declared.state.StreamsState.{StreamsState}
 use Rattle.quic_streams_laws.specs.StartLaws.{few_new, queue_new, blocked_new, few_set_params, queue_set_params, blocked_set_params}
 use Rattle.quic_streams_laws.specs.WrittenResets.{resets_grow}
-use Rattle.quic_machine.specs.FrameCases.{begun, apart_same}
+use Rattle.quic_machine.specs.FrameCases.{begun, apart_leaves}
 use Rattle.quic_wire.specs.Value.{FrameValue}
 use Rattle.quic_streams_state.specs.State.{Streams, new_streams}
 use Rattle.quic_streams_laws.specs.KeepingLaws.{by_polled}
@@ -20,7 +21,7 @@ use Rattle.quic_machine.specs.declared.run.Call.TheVariants as calls
 use Rattle.quic_machine.specs.declared.run.Answer.{Answer}
 use Rattle.quic_machine.specs.Policy.{Policy}
 use Rattle.quic_machine.specs.Calls.{is_open}
-use Rattle.quic_machine.specs.End.{End, streams_at}
+use Rattle.quic_machine.specs.End.{End, streams_at, with_closing}
 use Rattle.quic_machine.specs.Receive.{Outcome}
 use Rattle.quic_machine.specs.Poll.{polled}
 use Rattle.quic_machine.specs.PollCases.{ready_at, draft_at, frames_at, may_leave_at}
@@ -30,7 +31,10 @@ use Rattle.quic_machine.specs.CallCases.{is_delivery, by_call}
 use Rattle.quic_machine.specs.LeaveCases.{by_expired, by_event}
 use Rattle.quic_headline.specs.Runs.{Told, Intake, Packet, In}
 use Rattle.quic_headline.specs.Observer.{Sent}
-use Rattle.quic_headline.proofs.Packets.Growth.{in_more, step_of}
+use Rattle.quic_headline.proofs.Packets.Growth.{step_of}
+use Rattle.quic_headline.proofs.Packets.Owing.{sent_fine}
+use Rattle.quic_headline.proofs.Places.Told.{in_append}
+use Rattle.quic_headline.proofs.Places.Steps.{poll_answer}
 use Rattle.quic_headline.proofs.Packets.Invariant.{IsSent}
 use Rattle.quic_headline.proofs.Packets.Delivered.{Arrivals, arrived}
 use Rattle.quic_headline.proofs.Packets.Named.{TakesOn, frames_settle}
@@ -38,7 +42,7 @@ use Rattle.quic_headline.proofs.Packets.Group.{PacketsHold, meets}
 use Rattle.quic_headline.proofs.Places.Coming.{by_coming}
 use Rattle.quic_headline.proofs.Places.Groups.{Way, Calls, Group}
 use Rattle.quic_headline.proofs.Places.Parties.{sent_by, sent_if, sents_by, told_of, Party, called, came_to, Beginning, begun_as, AreMade}
-use Rattle.quic_headline.proofs.Halves.Ghosts.{Saying}
+use Rattle.quic_headline.proofs.Halves.Ghosts.{SaysOf, Saying}
 use Rattle.quic_headline.proofs.Halves.Kept.{Keeping, keeping_kept}
 use Rattle.quic_headline.proofs.Halves.Wrote.{wrote, done_by, ResetsFirst, wrote_more}
 use Rattle.quic_headline.proofs.Halves.Writes.{Writes, calls_leave, calls_grow, resets_first}
@@ -48,6 +52,8 @@ use Rattle.quic_headline.proofs.Halves.Small.{IsSmallLimit, payload_small}
 use Rattle.quic_headline.proofs.Halves.Sends.{composed_draws, padded_say, draft_draws}
 use Rattle.quic_headline.proofs.Halves.Arrives.{frame_leaves, lost_leaves, again_leaves, settles_leave}
 use Rattle.quic_machine.specs.Tracking.{TrackedPacket}
+use Rattle.quic_machine.specs.Closing.{ticked}
+use Rattle.quic_headline.proofs.Packets.Apart.{by_waits, by_next_id}
 use Rattle.quic_headline.proofs.Packets.Losses.{Losing, expiry_stays, ready_stays}
 use Rattle.quic_headline.proofs.Packets.Probes.{poll_streams}
 
@@ -80,6 +86,9 @@ on_answer : (p : Policy) (e : End) (theirs : List (List ℕ)) (call : Call) (a :
 on_answer p e theirs (calls.Send message makes_room) a on is = cc
 on_answer p e theirs calls.Recv a on is = cc
 on_answer p e theirs calls.Ping a on is = cc
+on_answer p e theirs (calls.Close close) a on is = cc
+on_answer p e theirs calls.UseNextId a on is = cc
+on_answer p e theirs calls.State a on is = cc
 on_answer p e theirs (calls.Poll now) a on is = cc
 on_answer p e theirs (calls.Timeout now) a on is = cc
 on_answer p e theirs (calls.Deliver delivery) a on is = cc
@@ -123,6 +132,9 @@ module _ (p : Policy) (e : End) (theirs : List (List ℕ)) (done : ℕ → Wrote
       by_on (calls.Send message makes_room) a on left = cc
       by_on calls.Recv a on left = cc
       by_on calls.Ping a on left = cc
+      by_on (calls.Close close) a on left = cc
+      by_on calls.UseNextId a on left = cc
+      by_on calls.State a on left = cc
       by_on (calls.Poll now) a on left = cc
       by_on (calls.Timeout now) a on left = cc
       by_on (calls.Deliver delivery) a on left = cc
@@ -136,7 +148,10 @@ module _ (p : Policy) (e : End) (theirs : List (List ℕ)) (done : ℕ → Wrote
     on_streams = λ on answer. absurd (off_streams (is_on_streams call) off on);
     on_messages = λ on answer. w;
     pings = w;
-    times = λ now expiry set. by_expired e now (λ (f : End). Writes done (streams_at f)) (λ pending tracking timers runs packets. w) (λ pending timers runs. expiry_stays (Writes done) e now (losing says) w pending timers) expiry;
+    closes = λ reason f now own. w;
+    waits = λ now b set. by_waits (λ (f : End). Writes done (streams_at f)) b (with_closing e (ticked e.closing now)) w w;
+    changes_id = λ uses answer. by_next_id (λ (f : End). Writes done (streams_at f)) e a w (λ c. record { keeps = w.keeps; waits = w.waits }) (λ c most. record { keeps = w.keeps; waits = w.waits });
+    times = λ now expiry set. by_expired p.words e now (λ (f : End). Writes done (streams_at f)) (λ pending tracking timers waits asked runs packets. w) (λ pending timers waits asked runs. expiry_stays (Writes done) e now (losing says) w pending timers waits asked) (λ x j. j) expiry;
     polls = λ now set. poll_writes says now;
     hears = λ arrival d set. absurd (off_streams (is_delivery call) apart set);
     tells = λ asks. by_event e (λ (f : End). Writes done (streams_at f)) w (λ told. record { keeps = by_polled (Keeping done) (keeping_kept done) e.streams w.keeps; waits = w.waits });
@@ -163,8 +178,10 @@ module _ (x y : Party) (p : PacketsHold x y) (back : PacketsHold y x) (say : Say
   arrivals_write now s among = record {
     ignored = λ reason. w;
     noted = λ state reason. w;
-    takes = λ state new none mark. (let a = passed_writes in record { keeps = a.keeps; waits = a.waits });
-    refuses = λ state new f is. (let a = passed_writes in record { keeps = a.keeps; waits = a.waits });
+    takes = λ words state new none mark. (let a = passed_writes in record { keeps = a.keeps; waits = a.waits });
+    drains = λ words state new close is. (let a = passed_writes in record { keeps = a.keeps; waits = a.waits });
+    refuses = λ words state new f is. (let a = passed_writes in record { keeps = a.keeps; waits = a.waits });
+    exhausts = λ state. w;
   }
     where
       took : List Packet
@@ -179,7 +196,7 @@ module _ (x y : Party) (p : PacketsHold x y) (back : PacketsHold y x) (say : Say
         names = λ a e i j. j;
         on_streams = λ f e i on j. frame_leaves (wrote x.told) e j f on (small f i);
         message = λ m e j. j;
-        apart = λ f e i apart j. subst (λ (g : End). Writes (wrote x.told) (streams_at g)) (sym (apart_same f e apart)) j;
+        apart = λ f e i apart j. apart_leaves (λ (g : End). Writes (wrote x.told) (streams_at g)) f e apart (λ c. record { keeps = j.keeps; waits = j.waits }) (λ c most. record { keeps = j.keeps; waits = j.waits });
       }
 
       passed_writes : Writes (wrote x.told) (streams_at (arrived x.end now s.number s.frames).end)
@@ -187,14 +204,6 @@ module _ (x y : Party) (p : PacketsHold x y) (back : PacketsHold y x) (say : Say
           (λ a i k named. back.named s a k among i named) p.tracked w
 
 -- ---- any call
-
--- one more is sent where it is given
-sent_more : (done : ℕ → Wrote) (sents : List Sent) (b : Bool) (s : Sent) → SentSay done sents → AllSay done s.frames → SentSay done (sents ++ sent_if b s)
-sent_more done sents true s before one = λ t i f j. elim (in_more t s sents i) [
-  | inl old ↦ before t old f j
-  | inr new ↦ one f (subst (λ (u : Sent). In f u.frames) new j)
-]
-sent_more done sents false s before one = subst (SentSay done) (sym (append-nil sents)) before
 
 module _ (B : Way) (packets : (x y : Party) → B x y → PacketsHold x y) (x y : Party) (call : Call) (a : Answer) (c : Calls B x y call a) (g : WritesHold x y) where
   -- what is told then
@@ -229,13 +238,17 @@ module _ (B : Way) (packets : (x y : Party) → B x y → PacketsHold x y) (x y 
   old_says : SentSay (wrote (x.told ++ told_of call a x.end.closing.state ∷ [])) x.sents
   old_says s i f j = says_grow done (wrote (x.told ++ told_of call a x.end.closing.state ∷ [])) grows_behind f (g.says s i f j)
 
-  says_behind : SentSay (wrote (x.told ++ told_of call a x.end.closing.state ∷ [])) (x.sents ++ sents_by x.end call a)
-  says_behind = go call refl
-    where
-      go : (k : Call) → call ≡ k → SentSay (wrote (x.told ++ told_of call a x.end.closing.state ∷ [])) (x.sents ++ sents_by x.end k a)
-      go (calls.Poll now) is = sent_more (wrote (x.told ++ told_of call a x.end.closing.state ∷ [])) x.sents (gave a) (sent_by x.end now) old_says
-          (λ f i. says_grow done (wrote (x.told ++ told_of call a x.end.closing.state ∷ [])) grows_behind f (poll_says x.policy x.end y.given done g.writes tracked now f i))
-      go k is = subst (SentSay (wrote (x.told ++ told_of call a x.end.closing.state ∷ []))) (sym (append-nil x.sents)) old_says
+  -- so does what a poll gives
+  more_says : (k : Call) → IsAnswer x.policy x.end y.given k a → SentSay done (sents_by x.policy x.end k a)
+  more_says (calls.Poll now) is = subst (λ (b : Answer). SentSay done (sent_if (gave b) (sent_by x.policy x.end now))) (sym (poll_answer x.policy x.end now a is c.served))
+      (sent_fine (SaysOf done) (λ c. tt) (λ c. tt) tt x.policy x.end now (packets x y c.gives).owes (λ opened. poll_says x.policy x.end y.given done g.writes tracked now))
+  more_says k is = λ s i. absurd i
+
+  says_behind : SentSay (wrote (x.told ++ told_of call a x.end.closing.state ∷ [])) (x.sents ++ sents_by x.policy x.end call a)
+  says_behind s i f j = elim (in_append s x.sents (sents_by x.policy x.end call a) i) [
+    | inl old ↦ old_says s old f j
+    | inr new ↦ says_grow done (wrote (x.told ++ told_of call a x.end.closing.state ∷ [])) grows_behind f (more_says call c.answer s new f j)
+  ]
 
   -- x calls
   pub writes_on : WritesHold (called x y.given call a) y

@@ -1,4 +1,5 @@
--- All streams of an end hold what was written on them, and what waits says how they were reset: after each call on streams.
+-- All streams of an end hold what was written on them, and what waits says how they were reset:
+-- after each call on streams.
 use Rattle.std.proofs.Common.{◌≡◌, ℕ, ◌≤◌, Bool, true, false, List, [], ◌∷◌, length, Option, Some, None, Result, Ok, Err, refl, sym, ◌∙◌, subst, ◌⊎◌, inl, inr}
 use Rattle.std.specs.Option.{is_some, option_map}
 use Rattle.std.specs.Prelude.{if◌then◌else◌}

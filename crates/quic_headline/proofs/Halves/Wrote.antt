@@ -1,4 +1,5 @@
--- What an application did on the streams that it writes, as it was told: each call more is one of the words of what was written.
+-- What an application did on the streams that it writes, as it was told: each call more is one of
+-- the words of what was written.
 use Rattle.std.proofs.Common.{◌≡◌, ℕ, ◌==◌, ◌||◌, Bool, true, false, List, [], ◌∷◌, ◌++◌, take, Option, Some, None, refl, sym, ap, ◌∙◌, append_assoc, append-nil, eqb-true, eq-eqb}
 use Rattle.std.specs.Prelude.{Ok, if◌then◌else◌}
 use Rattle.std.specs.List.{concat}

@@ -1,24 +1,29 @@
--- Where a poll of an open end gives nothing, window or pacer hold back what waits: the clauses, at each place of an honest run.
-use Rattle.std.proofs.Common.{◌≡◌, ℕ, suc, true, not, ◌||◌, List, length, take, sym, ap, ◌∙◌, subst, inl, inr}
+-- Where a poll of an open end gives nothing, window or pacer hold back what waits, or nothing more
+-- may go to the peer's address: the clauses, at each place of an honest run.
+use Rattle.std.proofs.Common.{◌≡◌, ◌⊎◌, ℕ, suc, true, not, ◌||◌, List, length, take, sym, ap, ◌∙◌, subst, inl, inr}
 use Rattle.std.proofs.lemmas.Bool.{or_left, or_right}
 use Rattle.quic_wire_core.specs.declared.stream_id.Side.{Side}
+use Rattle.quic_wire_core.specs.declared.stream_id.Side.TheVariants.{Client, Server}
 use Rattle.quic_wire_core.specs.StreamId.{other_side}
 use Rattle.quic_streams_state.specs.Waiting.{is_empty, can_send_stream_data}
 use Rattle.quic_machine.specs.Opens.{own_id_length}
 use Rattle.quic_machine.specs.End.{End}
 use Rattle.quic_machine.specs.Poll.{message_waits, asks_to_go}
-use Rattle.quic_machine.specs.Machine.{World, end_at}
+use Rattle.quic_machine.specs.Heard.{nothing_heard}
+use Rattle.quic_machine.specs.Machine.{World, end_at, heard_at}
 use Rattle.quic_machine.specs.RunLaws.{one_run}
 use Rattle.quic_machine.specs.declared.answers.State.TheVariants as states
+use Rattle.quic_machine.specs.declared.run.View.{View}
 use Rattle.quic_headline.specs.Runs.{Run, In, LeadsTo, AreServed}
 use Rattle.quic_headline.specs.Observer.{HoldsOffset, HoldsEnd, Watch, watch}
 use Rattle.quic_headline.specs.Headline.{IsHonest, IsRun}
-use Rattle.quic_headline.specs.Polls.{IsByteToGo, IsEndToGo, IsToGo, PollsSendWhatWaits, PollsSendMessages}
+use Rattle.quic_headline.specs.Polls.{GaveNothing, IsHeldBack, IsLimited, IsByteToGo, IsEndToGo, IsToGo, PollsSendWhatWaits, PollsSendMessages}
+use Rattle.quic_headline.proofs.Packets.Quiet.{HaveHeardNothing}
 use Rattle.quic_headline.proofs.Packets.Group.{PacketsHold, has_room}
 use Rattle.quic_headline.proofs.Packets.Sight.{Sight}
 use Rattle.quic_headline.proofs.Places.Parties.{Party, watch_of}
 use Rattle.quic_headline.proofs.Places.Groups.{Way, Nothing, And, Group, both}
-use Rattle.quic_headline.proofs.Places.Placed.{party_at, Placed, placed, watch_is}
+use Rattle.quic_headline.proofs.Places.Placed.{party_at, Placed, placed, placed_less, watch_is}
 use Rattle.quic_headline.proofs.Places.Everything as everything
 use Rattle.quic_headline.proofs.Places.Theorems.{ready}
 use Rattle.quic_headline.proofs.Halves.Arrived.{Arrives, spoken}
@@ -26,7 +31,8 @@ use Rattle.quic_headline.proofs.Halves.Ready.{Ready}
 use Rattle.quic_headline.proofs.Halves.Writer.{WritesHold}
 use Rattle.quic_headline.proofs.Duties.Group.{Flying}
 use Rattle.quic_headline.proofs.Settled.Group.{Settled, settled_group}
-use Rattle.quic_headline.proofs.Held.Behind.{open_now, held_back}
+use Rattle.quic_headline.proofs.Held.Behind.{IsBlocked, open_now, held_back}
+use Rattle.quic_headline.proofs.Held.Bytes.{when_blocked}
 use Rattle.quic_headline.proofs.Held.Messages.{AreShort, short_waits, short_group}
 use Rattle.quic_headline.proofs.Held.Unsent.{offset_queued, end_queued}
 use Rattle.quic_machine.specs.Parts.{signals_wait}
@@ -44,6 +50,22 @@ pub message_asks : (e : End) → message_waits e ≡ true → asks_to_go e ≡ t
 message_asks e waits =
     or_right (signals_wait e.waiting.signals) (not (is_empty e.waiting.frames e.streams) || (message_waits e || can_send_stream_data e.streams))
     (or_right (not (is_empty e.waiting.frames e.streams)) (message_waits e || can_send_stream_data e.streams) (or_left (message_waits e) (can_send_stream_data e.streams) waits))
+
+-- ---- what holds back
+
+-- what an end had counted before the first event
+pub heard_first : (side : Side) (w : World) → HaveHeardNothing w → heard_at side w ≡ nothing_heard
+heard_first Client w quiet = quiet.0
+heard_first Server w quiet = quiet.1
+
+-- where nothing more may go by what an end counted, so it is by the lists
+pub held_or_blocked : (r : Run) (end : World) → IsHonest r → IsRun r end → ((side : Side) (i : ℕ) → AreServed r i → Placed PacketsHold r end side i) → HaveHeardNothing r.start
+    → (side : Side) (i now : ℕ) (v : View) (w : World) → AreServed r (suc i) → LeadsTo r (suc i) w → GaveNothing r side i now v → IsHeldBack r side (suc i) v ⊎ IsBlocked (end_at side w) (heard_at side w)
+    → IsHeldBack r side (suc i) v ⊎ IsLimited r side (suc i) v
+held_or_blocked r end honest run all quiet side i now v w served leads gave held = elim held [
+  | inl back ↦ inl back
+  | inr blocked ↦ inr (when_blocked r end honest run all side (heard_first side r.start quiet) i now v w served leads gave blocked)
+]
 
 -- ---- bytes of streams, and their ends
 
@@ -81,10 +103,11 @@ module _ (G : Way) (g : SaysWhatWaits G) (r : Run) (end : World) (honest : IsHon
           (λ holds. b.not_flying (seen (λ w. HoldsEnd w.flight.flying id) holds)) (λ holds. b.not_acked (seen (λ w. HoldsEnd w.flight.acked id) holds))
 
   module _ (all : (side : Side) (i : ℕ) → AreServed r i → Placed G r end side i) where
-    pub what_waits : PollsSendWhatWaits r
-    what_waits side i now id v served gave waits =
+    pub what_waits : IsRun r end → HaveHeardNothing r.start → PollsSendWhatWaits r
+    what_waits run quiet side i now id v served gave waits =
         let at = all side (suc i) served in
-        held_back G (record { packets = g.packets; sight = g.sight }) r end honest side i now v at gave (stream_asks side (suc i) id at (open_now r side i now v at.world at.leads gave) waits)
+        held_or_blocked r end honest run (λ by j there. placed_less G PacketsHold r end by j g.packets (all by j there)) quiet side i now v at.world served at.leads gave
+        (held_back G (record { packets = g.packets; sight = g.sight }) r end honest side i now v at gave (stream_asks side (suc i) id at (open_now r side i now v at.world at.leads gave) waits))
 
     pub what_asks_there : (side : Side) (i id : ℕ) (w : World) → AreServed r i → LeadsTo r i w → (end_at side w).closing.state ≡ states.Open → IsToGo r side i id → asks_to_go (end_at side w) ≡ true
     what_asks_there side i id w served leads opened waits =
@@ -100,7 +123,7 @@ pub record SaysWhatMessages (G : Way) : Type 1 where
   pub sight : (x y : Party) → G x y → Sight x y
   pub short : (x y : Party) → G x y → AreShort x y
 
-module _ (G : Way) (g : SaysWhatMessages G) (r : Run) (end : World) (honest : IsHonest r) (all : (side : Side) (i : ℕ) → AreServed r i → Placed G r end side i) where
+module _ (G : Way) (g : SaysWhatMessages G) (r : Run) (end : World) (honest : IsHonest r) (run : IsRun r end) (quiet : HaveHeardNothing r.start) (all : (side : Side) (i : ℕ) → AreServed r i → Placed G r end side i) where
   pub messages_wait : PollsSendMessages r
   messages_wait side i now message v w served gave leads waits =
       let at = all side (suc i) served in
@@ -108,8 +131,9 @@ module _ (G : Way) (g : SaysWhatMessages G) (r : Run) (end : World) (honest : Is
       let y : Party = party_at r (suc i) at.world (other_side side) at.theirs in
       let is : w ≡ at.world = (one_run r.keys (take (suc i) r.answers) r.start (take (suc i) r.events) (take (suc i) r.views) (take (suc i) r.views) w at.world served leads at.leads).1 in
       let here : In message x.end.messages.queues.outgoing = subst (λ (u : World). In message (end_at side u).messages.queues.outgoing) is waits in
-      let eight : length x.end.ids.active.id ≡ own_id_length = ap (λ (own : List ℕ). length own) (g.packets x y at.gives).active ∙ at.joined.y_long in
-      held_back G (record { packets = g.packets; sight = g.sight }) r end honest side i now v at gave (message_asks x.end (short_waits x.end message (has_room x y (g.packets x y at.gives) at.joined.y_long) eight (g.short x y at.gives).short here))
+      let eight : length x.end.ids.peer.id ≡ own_id_length = (g.packets x y at.gives).long.peer.used in
+      held_or_blocked r end honest run (λ by j there. placed_less G PacketsHold r end by j g.packets (all by j there)) quiet side i now v at.world served at.leads gave
+      (held_back G (record { packets = g.packets; sight = g.sight }) r end honest side i now v at gave (message_asks x.end (short_waits x.end message (has_room x y (g.packets x y at.gives)) eight (g.short x y at.gives).short here)))
 
 -- ---- all of it, at each place
 
@@ -129,8 +153,8 @@ known = both Nothing UnderWay Settled (everything.all_flying Ready ready) (settl
 knows_all : SaysWhatWaits Known
 knows_all = record { packets = λ x y h. h.0.0.0.0.0.0; writes = λ x y h. h.0.0.0.0.0.1.0; flying = λ x y h. h.0.1; settled = λ x y h. h.1; sight = λ x y h. h.0.0.0.0.1 }
 
-pub polls_send_what_waits : (r : Run) (end : World) → IsHonest r → IsRun r end → PollsSendWhatWaits r
-polls_send_what_waits r end honest run = what_waits Known knows_all r end honest (placed Known known r end honest run)
+pub polls_send_what_waits : (r : Run) (end : World) → IsHonest r → IsRun r end → HaveHeardNothing r.start → PollsSendWhatWaits r
+polls_send_what_waits r end honest run quiet = what_waits Known knows_all r end honest (placed Known known r end honest run) run quiet
 
 -- and where a byte of a stream is to go at an open end, or its end, something asks
 pub what_asks : (r : Run) (end : World) → IsHonest r → IsRun r end → (side : Side) (i id : ℕ) (w : World) → AreServed r i → LeadsTo r i w → (end_at side w).closing.state ≡ states.Open → IsToGo r side i id → asks_to_go (end_at side w) ≡ true
@@ -143,5 +167,5 @@ Shortly = And (everything.All Ready ready) AreShort
 pub shortly : Group Nothing Shortly
 shortly = both Nothing (everything.All Ready ready) AreShort (everything.all Ready ready) (short_group (And Nothing (everything.All Ready ready)) (λ x y h. h.1.0.0))
 
-pub polls_send_messages : (r : Run) (end : World) → IsHonest r → IsRun r end → PollsSendMessages r
-polls_send_messages r end honest run = messages_wait Shortly (record { packets = λ x y h. h.0.0.0; sight = λ x y h. h.0.1; short = λ x y h. h.1 }) r end honest (placed Shortly shortly r end honest run)
+pub polls_send_messages : (r : Run) (end : World) → IsHonest r → IsRun r end → HaveHeardNothing r.start → PollsSendMessages r
+polls_send_messages r end honest run quiet = messages_wait Shortly (record { packets = λ x y h. h.0.0.0; sight = λ x y h. h.0.1; short = λ x y h. h.1 }) r end honest run quiet (placed Shortly shortly r end honest run)

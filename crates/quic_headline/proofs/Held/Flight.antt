@@ -1,4 +1,5 @@
--- The bytes that an open end counts as in flight are those that its observer counts (RFC 9002, section 2).
+-- The bytes that an open end counts as in flight are those that its observer counts (RFC 9002,
+-- section 2).
 use Rattle.std.proofs.Common.{◌≡◌, ℕ, Bool, true, false, cond, List, [], ◌∷◌, filter, refl, sym, ap, ◌∙◌, arith}
 use Rattle.std.specs.Prelude.{if◌then◌else◌, ◌&&◌, ◌==◌, sum_by}
 use Rattle.std.proofs.lemmas.List.Sums.{sum_by-cons}

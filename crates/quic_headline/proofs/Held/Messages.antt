@@ -1,4 +1,5 @@
--- Each message that waits at an end fits in a datagram, whichever number it has: a longer one is refused (RFC 9221, section 5.4).
+-- Each message that waits at an end fits in a datagram, whichever number it has: a longer one is
+-- refused (RFC 9221, section 5.4).
 use Rattle.std.proofs.Common.{◌≡◌, ℕ, ◌+◌, ◌-◌, ◌<◌, ◌≤◌, ◌^◌, min, cond, Bool, true, false, ◌==◌, List, [], ◌∷◌, length, Option, Some, None, Ok, Err, refl, sym, ap, ◌∙◌, subst, arith}
 use Rattle.std.specs.Prelude.{if◌then◌else◌, nat_le, nat_lt, is_some, is_ok, unwrap_or}
 use Rattle.std.specs.List.{filter}
@@ -11,32 +12,36 @@ use Rattle.quic_messages.specs.Sending.{max_size, sized_answer}
 use Rattle.quic_machine.specs.declared.run.Call.{Call}
 use Rattle.quic_machine.specs.declared.run.Answer.{Answer}
 use Rattle.quic_machine.specs.Opens.{own_id_length}
-use Rattle.quic_machine.specs.End.{End, with_discovery}
+use Rattle.quic_machine.specs.End.{End, with_discovery, with_closing}
 use Rattle.quic_machine.specs.Parts.{current_mtu}
 use Rattle.quic_machine.specs.DraftLaws.{HasRoom}
 use Rattle.quic_machine.specs.Poll.{least_room, message_waits, polled}
-use Rattle.quic_headline.specs.Runs.{In}
+use Rattle.quic_headline.specs.Runs.{In, Intake}
 use Rattle.quic_parameters.specs.Parameters.{ParameterValues}
 use Rattle.quic_config.specs.declared.mtu_discovery.TheConstants.{MAX_UDP_PAYLOAD}
 use Rattle.quic_congestion.specs.Search.{Discovery}
 use Rattle.quic_streams_parts.specs.Table.{Table}
 use Rattle.quic_machine.specs.declared.run.Call.TheVariants as calls
 use Rattle.quic_machine.specs.Policy.{Policy}
-use Rattle.quic_machine.specs.Ids.{Ids}
 use Rattle.quic_machine.specs.Tracking.{TrackedPacket}
 use Rattle.quic_machine.specs.Sizes.{is_resized, after_lost, search_acked, search_lost, shortened, without_longer_if}
 use Rattle.quic_machine.specs.MessageCalls.{most_message}
 use Rattle.quic_machine.specs.Machine.{after_call}
 use Rattle.quic_machine.specs.LeaveCases.{by_event}
-use Rattle.quic_machine.specs.CallCases.{by_call}
+use Rattle.quic_machine.specs.CallCases.{is_delivery, by_call}
+use Rattle.quic_machine.specs.Closing.{ticked}
+use Rattle.quic_headline.proofs.Packets.Apart.{by_waits}
 use Rattle.quic_congestion.specs.SearchBounds.{IsSized}
 use Rattle.quic_congestion.proofs.SizedSearch.{sized_acked, sized_polled}
-use Rattle.quic_headline.proofs.Packets.Sizes.{Sizing, sizing, Searching, sized_lost, same_size, received_size, expired_size, polled_search}
+use Rattle.quic_headline.proofs.Packets.Sizes.{Sizing, sizing, Searching, sized_lost, same_size, expired_size, polled_search}
+use Rattle.quic_headline.proofs.Packets.Ids.{KnownLong}
+use Rattle.quic_headline.proofs.Packets.Widths.{next_same, arrivals_size}
 use Rattle.quic_headline.proofs.Packets.Stays.{placed_call}
-use Rattle.quic_headline.proofs.Packets.Group.{PacketsHold}
-use Rattle.quic_headline.proofs.Places.Parties.{Party, called}
+use Rattle.quic_headline.proofs.Packets.Group.{PacketsHold, meets}
+use Rattle.quic_headline.proofs.Places.Coming.{by_coming}
+use Rattle.quic_headline.proofs.Places.Parties.{Party, called, came_to}
 use Rattle.quic_headline.proofs.Places.Groups.{Way, Calls, Group}
-use Rattle.quic_headline.proofs.Channel.Messages.{AreTaken, TakesSized, not_longer, message_call_leaves, poll_takes}
+use Rattle.quic_headline.proofs.Channel.Messages.{AreTaken, TakesSized, not_longer, message_call_leaves, poll_leaves}
 
 -- ---- how long messages are
 
@@ -46,7 +51,7 @@ longest size = size - own_id_length - 30
 
 -- how long a message may be at an end; where the peer takes none, none is longer than 0
 abbrev pub bound : Sizing → ℕ
-bound s = unwrap_or (max_size s.frame s.discovery.size (length s.id)) 0
+bound s = unwrap_or (max_size s.frame s.discovery.size s.width) 0
 
 -- a longer one is refused
 sized_bound : (o : Option ℕ) (room : Bool) (m : List ℕ) → is_ok (sized_answer o room m) ≡ true → is_taken (Some (unwrap_or o 0)) m ≡ true
@@ -98,7 +103,7 @@ frame_short : (size : ℕ) (m : List ℕ) → size < 2 ^ 16 → length m ≤ lon
 frame_short size m sized short = let most = size_most (datagram m) (omega arith, tt) in omega arith
 
 -- so one that waits fits
-pub short_waits : (e : End) (message : List ℕ) → HasRoom e → length e.ids.active.id ≡ own_id_length → AreTaken (Some (longest (current_mtu e.path))) e.messages.queues.outgoing → In message e.messages.queues.outgoing → message_waits e ≡ true
+pub short_waits : (e : End) (message : List ℕ) → HasRoom e → length e.ids.peer.id ≡ own_id_length → AreTaken (Some (longest (current_mtu e.path))) e.messages.queues.outgoing → In message e.messages.queues.outgoing → message_waits e ≡ true
 short_waits e message room eight all i = go e.messages.queues.outgoing all i
   where
     first_fits : (m : List ℕ) → is_taken (Some (longest (current_mtu e.path))) m ≡ true → nat_le (frame_bytes m) (least_room e) ≡ true
@@ -119,14 +124,15 @@ record AreBounded (s : Sizing) : Type 0 where
   sized : IsSized 1200 MAX_UDP_PAYLOAD s.discovery
   short : AreTaken (Some (bound s)) s.outgoing
 
--- so it stays: an acknowledged packet lets the size grow, and where it falls longer messages are dropped
+-- so it stays: an acknowledged packet lets the size grow, and where it falls longer messages are
+-- dropped
 searching : Searching AreBounded
 searching = record {
   acks = λ p e i. (
       let grown = sized_acked 1200 MAX_UDP_PAYLOAD p.0 p.1.size e.path.discovery i.sized in
       record {
         sized = grown.0;
-        short = longer_taken (bound (sizing e)) (bound (sizing (search_acked p e))) e.messages.queues.outgoing (bound_grows (sizing e).frame e.path.discovery.size (search_acked p e).path.discovery.size (length e.ids.active.id) grown.1) i.short;
+        short = longer_taken (bound (sizing e)) (bound (sizing (search_acked p e))) e.messages.queues.outgoing (bound_grows (sizing e).frame e.path.discovery.size (search_acked p e).path.discovery.size (length e.ids.peer.id) grown.1) i.short;
       });
   loses = losing;
 }
@@ -144,7 +150,7 @@ searching = record {
         fell None is = record {
           sized = sized;
           short = longer_taken (bound (sizing e)) (bound (sizing heard)) e.messages.queues.outgoing
-              (let none = bound_none (sizing e).frame heard.path.discovery.size e.path.discovery.size (length e.ids.active.id) is in omega arith) i.short;
+              (let none = bound_none (sizing e).frame heard.path.discovery.size e.path.discovery.size (length e.ids.peer.id) is in omega arith) i.short;
         }
         fell (Some most) is = record {
           sized = sized;
@@ -156,53 +162,68 @@ searching = record {
         go false is = record {
           sized = sized;
           short = longer_taken (bound (sizing e)) (bound (sizing heard)) e.messages.queues.outgoing
-              (bound_grows (sizing e).frame e.path.discovery.size heard.path.discovery.size (length e.ids.active.id) (let same = same_size e.path.discovery heard.path.discovery is in omega arith)) i.short;
+              (bound_grows (sizing e).frame e.path.discovery.size heard.path.discovery.size (length e.ids.peer.id) (let same = same_size e.path.discovery heard.path.discovery is in omega arith)) i.short;
         }
 
--- behind any call
-bounded_call : (p : Policy) (e : End) (theirs : List (List ℕ)) (call : Call) (a : Answer) → AreBounded (sizing e) → AreBounded (sizing (after_call p e theirs call a))
-bounded_call p e theirs call a i = by_call p e theirs (λ (x : End). AreBounded (sizing x)) call a (record {
+-- behind any call that is no delivery
+bounded_call : (p : Policy) (e : End) (theirs : List (List ℕ)) (call : Call) (a : Answer) → is_delivery call ≡ false → KnownLong e.ids.peer → KnownLong (after_call p e theirs call a).ids.peer → AreBounded (sizing e) → AreBounded (sizing (after_call p e theirs call a))
+bounded_call p e theirs (calls.Poll now) a apart k behind i = record {
+  sized = polled_search (IsSized 1200 MAX_UDP_PAYLOAD) (sized_polled 1200 MAX_UDP_PAYLOAD) p e now i.sized;
+  short = subst (λ (n : ℕ). AreTaken (Some n) f.messages.queues.outgoing) (sym same) (poll_leaves (Some (bound (sizing e))) p e now i.short);
+}
+  where
+    f : End
+    f = (polled p e now).end
+
+    size : current_mtu f.path ≡ current_mtu e.path
+    size = polled_search (λ (d : Discovery). d.size ≡ current_mtu e.path) (λ moment number d same. same) p e now refl
+
+    same : bound (sizing f) ≡ bound (sizing e)
+    same =
+        ap (λ (n : ℕ). unwrap_or (max_size f.peer_params.max_datagram_frame_size n (length f.ids.peer.id)) 0) size
+        ∙ ap (λ (x : ParameterValues). unwrap_or (max_size x.max_datagram_frame_size (current_mtu e.path) (length f.ids.peer.id)) 0) (placed_call p e theirs (calls.Poll now) a).peer
+        ∙ ap (λ (n : ℕ). unwrap_or (max_size e.peer_params.max_datagram_frame_size (current_mtu e.path) n) 0) (behind.used ∙ sym k.used)
+bounded_call p e theirs call a apart k behind i = by_call p e theirs (λ (x : End). AreBounded (sizing x)) call a (record {
   same = i;
   on_streams = λ on answer. i;
   on_messages = λ on answer. record { sized = i.sized; short = message_call_leaves (Some (bound (sizing e))) e taken i.short call a };
   pings = i;
-  times = λ now expiry set. expired_size AreBounded searching e now expiry i;
-  polls = λ now set. polled_bounded now;
-  hears = λ arrival d set. received_size AreBounded searching p e arrival d i;
+  times = λ now expiry set. expired_size AreBounded searching p.words e now expiry i;
+  closes = λ reason f now own. i;
+  waits = λ now b set. by_waits (λ (x : End). AreBounded (sizing x)) b (with_closing e (ticked e.closing now)) i i;
+  changes_id = λ uses answer. subst AreBounded (sym (next_same e a k)) i;
+  polls = λ now set. cc;
+  hears = λ arrival d set. cc;
   tells = λ asks. by_event e (λ (x : End). AreBounded (sizing x)) i (λ was_told. i);
 })
   where
     taken : TakesSized (Some (bound (sizing e))) e
     taken room m ok = sized_bound (most_message e) room m ok
 
-    polled_bounded : (now : ℕ) → AreBounded (sizing (polled p e now).end)
-    polled_bounded now =
-        let f : End = (polled p e now).end in
-        let placed = placed_call p e theirs (calls.Poll now) a in
-        let size : current_mtu f.path ≡ current_mtu e.path = polled_search (λ (d : Discovery). d.size ≡ current_mtu e.path) (λ moment number d same. same) p e now refl in
-        let same : bound (sizing f) ≡ bound (sizing e) =
-        ap (λ (n : ℕ). unwrap_or (max_size f.peer_params.max_datagram_frame_size n (length f.ids.active.id)) 0) size
-        ∙ ap (λ (x : ParameterValues). unwrap_or (max_size x.max_datagram_frame_size (current_mtu e.path) (length f.ids.active.id)) 0) placed.peer
-        ∙ ap (λ (x : Ids). unwrap_or (max_size e.peer_params.max_datagram_frame_size (current_mtu e.path) (length x.active.id)) 0) placed.ids in
-        record {
-          sized = polled_search (IsSized 1200 MAX_UDP_PAYLOAD) (sized_polled 1200 MAX_UDP_PAYLOAD) p e now i.sized;
-          short = subst (λ (n : ℕ). AreTaken (Some n) f.messages.queues.outgoing) (sym same) (poll_takes (Some (bound (sizing e))) p e now i.short).0;
-        }
-
 -- each message that waits at x is so short
 pub record AreShort (x y : Party) : Type 0 where
   pub short : AreTaken (Some (longest (current_mtu x.end.path))) x.end.messages.queues.outgoing
   pub bounded : AreTaken (Some (bound (sizing x.end))) x.end.messages.queues.outgoing
 
--- x sends to the id of y
 module _ (B : Way) (packets : (x y : Party) → B x y → PacketsHold x y) where
   short_on : (x y : Party) (call : Call) (a : Answer) → Calls B x y call a → AreShort x y → AreShort (called x y.given call a) y
   short_on x y call a c i =
-      let p = packets x y c.gives in
       let f : End = after_call x.policy x.end y.given call a in
-      let ids : length f.ids.active.id ≡ own_id_length = ap (λ (ids : Ids). length ids.active.id) (placed_call x.policy x.end y.given call a).ids ∙ ap (λ (id : List ℕ). length id) p.active ∙ c.joined.y_long in
-      let left = bounded_call x.policy x.end y.given call a (record { sized = p.sized; short = i.bounded }) in
-      record { short = longer_taken (bound (sizing f)) (longest (current_mtu f.path)) f.messages.queues.outgoing (bound_short (sizing f).frame (current_mtu f.path) (length f.ids.active.id) ids) left.short; bounded = left.short }
+      let wide : length f.ids.peer.id ≡ own_id_length = (packets (called x y.given call a) y c.gives_behind).long.peer.used in
+      record { short = longer_taken (bound (sizing f)) (longest (current_mtu f.path)) f.messages.queues.outgoing (bound_short (sizing f).frame (current_mtu f.path) (length f.ids.peer.id) wide) left.short; bounded = left.short }
+    where
+      p : PacketsHold x y
+      p = packets x y c.gives
+
+      before : AreBounded (sizing x.end)
+      before = record { sized = p.sized; short = i.bounded }
+
+      left : AreBounded (sizing (called x y.given call a).end)
+      left = by_coming x y a c.joined c.served (meets y x (packets y x c.takes)) (λ (e : End) (j : Intake). AreBounded (sizing e)) call c.answer (record {
+        apart = λ apart. bounded_call x.policy x.end y.given call a apart p.long.peer (packets (called x y.given call a) y c.gives_behind).long.peer before;
+        none = λ delivery is. before;
+        comes = λ delivery is s among. arrivals_size AreBounded searching x.end delivery.now s.number s.frames (came_to x y) (λ f carried. (packets y x c.takes).tells s f among carried) p.long.peer before;
+      })
 
   pub short_group : Group B AreShort
   short_group = record {

@@ -1,4 +1,5 @@
--- What was written on a stream and is neither in flight nor acknowledged waits to go: its half stands in the queue.
+-- What was written on a stream and is neither in flight nor acknowledged waits to go: its half
+-- stands in the queue.
 use Rattle.std.proofs.Common.{◌≡◌, ℕ, ◌<◌, Bool, true, false, ltb, leb, ◌||◌, ◌&&◌, not, List, [], ◌∷◌, length, Option, Some, None, refl, sym, ap, ◌∙◌, subst, inl, inr, arith}
 use Rattle.std.specs.Option.{IsSome, is_some}
 use Rattle.std.proofs.lemmas.Bool.{both_ways, or_left, or_right, and_from, not_from_false, or_from, le-leb, lt-ltb, ltb-false}

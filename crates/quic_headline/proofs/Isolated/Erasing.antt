@@ -1,5 +1,6 @@
--- A run less any choice of its idle events is a run again: the same answers, the same views, the same ends but for what they counted.
-use Rattle.std.proofs.Common.{◌≡◌, ℕ, suc, Bool, true, false, List, [], ◌∷◌, Option, Some, inl, inr, refl, sym, ap, ◌∙◌, subst}
+-- A run less any choice of its idle events is a run again: the same answers, the same views, the
+-- same ends but for what they counted.
+use Rattle.std.proofs.Common.{◌≡◌, ℕ, suc, Bool, true, false, List, [], ◌∷◌, Option, Some, inl, inr, refl, sym, ap, ◌∙◌, subst, arith}
 use Rattle.std.specs.Prelude.{if◌then◌else◌, slice_get}
 use Rattle.quic_wire_core.specs.declared.stream_id.Side.{Side}
 use Rattle.quic_machine.specs.declared.answers.DropReason.{DropReason}
@@ -12,11 +13,13 @@ use Rattle.quic_machine.specs.declared.run.Answer.{Answer}
 use Rattle.quic_machine.specs.declared.run.Answer.TheVariants as answers
 use Rattle.quic_machine.specs.declared.run.View.{View}
 use Rattle.quic_machine.specs.Heard.{Heard}
-use Rattle.quic_machine.specs.Machine.{World, Policies, Follows}
+use Rattle.quic_machine.specs.Machine.{World, Policies, Follows, says_last}
 use Rattle.quic_headline.specs.Runs.{Run, In}
 use Rattle.quic_headline.specs.Headline.{IsRun}
-use Rattle.quic_headline.specs.Isolated.{drops_whole, is_idle, without, OnlyIdle, SameButCounts, Isolated, is_shut_out, is_answered_idle, of_both, answered_idle, IsolatedByAnswers}
-use Rattle.quic_headline.proofs.Isolated.Idle.{with_counts, idle_leaves, step_counts}
+use Rattle.quic_headline.specs.Isolated.{AreValidated, drops_whole, is_idle, without, OnlyIdle, SameButCounts, Isolated, is_shut_out, is_answered_idle, of_both, answered_idle, IsolatedByAnswers}
+use Rattle.quic_headline.proofs.Isolated.Idle.{with_counts, idle_leaves, HaveFewer, step_counts, idle_counts}
+use Rattle.quic_headline.proofs.Isolated.Validated.{IsReached, reached_kept}
+use Rattle.quic_headline.proofs.Timers.BothEnds.{AtBoth, step_keeps}
 
 -- ---- any choice
 
@@ -42,6 +45,10 @@ unanswered k w end (event ∷ events) same = same
 abbrev pub Chosen : (ℕ → Bool) → List RunEvent → List Answer → Type 0
 Chosen gone events told = (side : Side) (i : ℕ) (call : Call) (a : Answer) → gone i ≡ true → slice_get events i ≡ Some (record { side = side; call = call }) → slice_get told i ≡ Some a → is_idle call a ≡ true
 
+-- no answer says that the last packet came that may not open
+abbrev pub StayBelow : List Answer → Type 0
+StayBelow told = (i : ℕ) (a : Answer) → slice_get told i ≡ Some a → says_last a ≡ false
+
 -- without them the others are answered so, and lead to the same ends, whatever was counted
 abbrev pub GoesOn : Policies → (ℕ → Bool) → World → World → List RunEvent → List Answer → List View → Type 0
 GoesOn k gone w end events told views = (left : World) × SameButCounts end left × Follows k w (without gone events) (without gone told) (without gone views) left
@@ -51,17 +58,18 @@ none_left : (k : Policies) (w end : World) (events : List RunEvent) (client serv
 none_left k w end events client server same =
     (with_counts w client server, ap (λ (v : World). with_counts v client server) (sym same), unanswered k (with_counts w client server) (with_counts w client server) events refl)
 
--- so it is, whatever the ends had counted before
-erases_from : (k : Policies) (gone : ℕ → Bool) (w end : World) (events : List RunEvent) (told : List Answer) (views : List View) (client server : Heard) → Chosen gone events told → Follows k w events told views end
-    → GoesOn k gone (with_counts w client server) end events told views
-erases_from k gone w end [] [] [] client server idle f = none_left k w end [] client server f
-erases_from k gone w end (event ∷ events) [] [] client server idle f = none_left k w end (without gone (event ∷ events)) client server f
-erases_from k gone w end [] [] (v ∷ views) client server idle f = absurd f
-erases_from k gone w end (event ∷ events) [] (v ∷ views) client server idle f = absurd f
-erases_from k gone w end [] (a ∷ told) views client server idle f = absurd f
-erases_from k gone w end (event ∷ events) (a ∷ told) [] client server idle f = absurd f
-erases_from k gone w end (event ∷ events) (a ∷ told) (v ∷ views) client server idle f =
-    go (gone 0) refl (λ c s. erases_from k (λ i. gone (suc i)) f.0 end events told views c s (λ side i call b chosen at_event at_answer. idle side (suc i) call b chosen at_event at_answer) f.3)
+-- so it is, where fewer packets had failed to open and the addresses are validated
+erases_from : (k : Policies) (gone : ℕ → Bool) (w end : World) (events : List RunEvent) (told : List Answer) (views : List View) (client server : Heard) → Chosen gone events told → StayBelow told → AtBoth IsReached w → HaveFewer client server w
+    → Follows k w events told views end → GoesOn k gone (with_counts w client server) end events told views
+erases_from k gone w end [] [] [] client server idle below reached few f = none_left k w end [] client server f
+erases_from k gone w end (event ∷ events) [] [] client server idle below reached few f = none_left k w end (without gone (event ∷ events)) client server f
+erases_from k gone w end [] [] (v ∷ views) client server idle below reached few f = absurd f
+erases_from k gone w end (event ∷ events) [] (v ∷ views) client server idle below reached few f = absurd f
+erases_from k gone w end [] (a ∷ told) views client server idle below reached few f = absurd f
+erases_from k gone w end (event ∷ events) (a ∷ told) [] client server idle below reached few f = absurd f
+erases_from k gone w end (event ∷ events) (a ∷ told) (v ∷ views) client server idle below reached few f =
+    go (gone 0) refl (λ c s fewer. erases_from k (λ i. gone (suc i)) f.0 end events told views c s (λ side i call b chosen at_event at_answer. idle side (suc i) call b chosen at_event at_answer) (λ i b at_answer. below (suc i) b at_answer)
+    (step_keeps IsReached reached_kept k w f.0 event a f.1 reached) fewer f.3)
   where
     events_left : List RunEvent
     events_left = without (λ i. gone (suc i)) events
@@ -72,23 +80,25 @@ erases_from k gone w end (event ∷ events) (a ∷ told) (v ∷ views) client se
     views_left : List View
     views_left = without (λ i. gone (suc i)) views
 
-    go : (b : Bool) → gone 0 ≡ b → ((c s : Heard) → GoesOn k (λ i. gone (suc i)) (with_counts f.0 c s) end events told views)
+    go : (b : Bool) → gone 0 ≡ b → ((c s : Heard) → HaveFewer c s f.0 → GoesOn k (λ i. gone (suc i)) (with_counts f.0 c s) end events told views)
         → (left : World) × SameButCounts end left × Follows k (with_counts w client server) (if b then events_left else event ∷ events_left) (if b then told_left else a ∷ told_left) (if b then views_left else v ∷ views_left) left
     go true chosen later =
-        let same : SameButCounts w f.0 = idle_leaves k w f.0 event a (idle event.side 0 event.call a chosen refl refl) f.1 in
-        subst (λ (x : World). GoesOn k (λ i. gone (suc i)) x end events told views) (ap (λ (x : World). with_counts x client server) same) (later client server)
+        let is = idle event.side 0 event.call a chosen refl refl in
+        let same : SameButCounts w f.0 = idle_leaves k w f.0 event a is (below 0 a refl) f.1 in
+        subst (λ (x : World). GoesOn k (λ i. gone (suc i)) x end events told views) (ap (λ (x : World). with_counts x client server) same) (later client server (idle_counts k w f.0 event a client server is (below 0 a refl) few f.1))
     go false kept later =
-        let step = step_counts k w f.0 event a client server f.1 in
-        let rest = later step.0 step.1 in
-        (rest.0, rest.1, (with_counts f.0 step.0 step.1, step.2, f.2, rest.2))
+        let step = step_counts k w f.0 event a client server reached (below 0 a refl) few f.1 in
+        let rest = later step.0 step.1 step.2 in
+        (rest.0, rest.1, (with_counts f.0 step.0 step.1, step.3, f.2, rest.2))
 
-pub erases : (k : Policies) (gone : ℕ → Bool) (w end : World) (events : List RunEvent) (told : List Answer) (views : List View) → Chosen gone events told → Follows k w events told views end → GoesOn k gone w end events told views
-erases k gone w end events told views idle f = erases_from k gone w end events told views w.client_heard w.server_heard idle f
+pub erases : (k : Policies) (gone : ℕ → Bool) (w end : World) (events : List RunEvent) (told : List Answer) (views : List View) → AreValidated w → Chosen gone events told → StayBelow told → Follows k w events told views end
+    → GoesOn k gone w end events told views
+erases k gone w end events told views validated idle below f = erases_from k gone w end events told views w.client_heard w.server_heard idle below (inr validated.0, inr validated.1) (omega arith, omega arith) f
 
 -- so the run is one again
 pub isolated : (r : Run) (end : World) → IsRun r end → Isolated r end
-isolated r end run gone idle =
-    let on = erases r.keys gone r.start end r.events r.answers r.views (λ side i call a chosen at_event at_answer. idle side i call a chosen (record { event = at_event; answer = at_answer })) run.follows in (
+isolated r end run validated gone idle below =
+    let on = erases r.keys gone r.start end r.events r.answers r.views validated (λ side i call a chosen at_event at_answer. idle side i call a chosen (record { event = at_event; answer = at_answer })) below run.follows in (
       on.0,
       on.1,
       record {
@@ -121,4 +131,4 @@ chosen_idle r side i call a chosen at =
     answered_is_idle call a (of_chosen (λ event b. is_answered_idle event.call b) (slice_get r.events i) (slice_get r.answers i) (record { side = side; call = call }) a chosen at.event at.answer)
 
 pub isolated_by_answers : (r : Run) (end : World) → IsRun r end → IsolatedByAnswers r end
-isolated_by_answers r end run = isolated r end run (answered_idle r) (chosen_idle r)
+isolated_by_answers r end run validated below = isolated r end run validated (answered_idle r) (chosen_idle r) below

@@ -1,4 +1,5 @@
--- Less injections, and deliveries of what by the lists doesn't open or came before, a run of new ends is a run again at each place up to which memory served.
+-- Less injections, and deliveries of what by the lists doesn't open or came before, a run of new
+-- ends is a run again at each place up to which memory served.
 use Rattle.std.proofs.Common.{◌≡◌, ℕ, zero, suc, Bool, true, false, ◌||◌, List, [], ◌∷◌, ◌++◌, take, drop, Option, Some, None, inl, inr, refl, sym, ap, ◌∙◌, subst}
 use Rattle.std.specs.Prelude.{slice_get, not}
 use Rattle.std.specs.List.{list_any}
@@ -20,11 +21,12 @@ use Rattle.quic_machine.specs.End.{End}
 use Rattle.quic_machine.specs.Receive.{received}
 use Rattle.quic_machine.specs.Control.{Control}
 use Rattle.quic_machine.specs.Start.{AreStarted}
-use Rattle.quic_machine.specs.Machine.{World, IsAnswer, IsDelivered, IsLeft, IsStep, end_at, given_by, policy_at, reads_window, control_at, end_left, fails}
+use Rattle.quic_machine.specs.Machine.{World, IsAnswer, IsDelivered, IsLeft, IsStep, end_at, given_by, policy_at, reads_window, control_at, end_left, fails, says_last, heard_at}
 use Rattle.quic_headline.specs.Runs.{Run, Told, Intake, nothing_came, given_of, handed, came_open, and_told, folded, until, told_by, AreServed}
 use Rattle.quic_headline.specs.Observer.{watch, lens_of, watch_from}
 use Rattle.quic_headline.specs.Headline.{IsAt, IsRun}
-use Rattle.quic_headline.specs.Isolated.{is_idle, is_new, is_nothing_new, brings_nothing, listed_idle, GoesOnWithout, IsolatedByLists}
+use Rattle.quic_headline.specs.Isolated.{is_idle, is_new, is_nothing_new, brings_nothing, listed_idle, GoesOnWithout, IsolatedByLists, FailuresStayBelow, AreValidated}
+use Rattle.quic_machine.specs.Heard.{Heard}
 use Rattle.quic_headline.proofs.Packets.Intakes.{folded_more}
 use Rattle.quic_headline.proofs.Packets.Watching.{watched_intake}
 use Rattle.quic_headline.proofs.Places.Moments.{Grown, grown, Moment, moment}
@@ -41,7 +43,8 @@ taken_get [] (suc n) i x q = cc
 taken_get (y ∷ xs) (suc n) zero x q = q
 taken_get (y ∷ xs) (suc n) (suc i) x q = taken_get xs n i x q
 
--- where none of the first so many is so, neither the one at a place among them is, nor one before it
+-- where none of the first so many is so, neither the one at a place among them is, nor one before
+-- it
 none_at : {X : Type 0} (holds : X → Bool) (xs : List X) (n i : ℕ) (x : X) → list_any holds (take n xs) ≡ false → slice_get (take n xs) i ≡ Some x → (holds x ≡ false) × (list_any holds (take i xs) ≡ false)
 none_at holds xs zero i x none q = cc
 none_at holds [] (suc n) i x none q = cc
@@ -65,20 +68,20 @@ module _ (r : Run) (end : World) (run : IsRun r end) (started : AreStarted r.sta
   BothKeep w client server = Keeps w.client (came Client client) × Keeps w.server (came Server server)
 
   first_keeps : (side : Side) → Keeps (end_at side r.start) nothing_came
-  first_keeps side = subst (λ (e : End). Keeps e nothing_came) (sym (start_is r.start started side)) (record { never_closing = λ is. cc; seen = λ is. refl; expected = λ is. refl })
+  first_keeps side = subst (λ (e : End). Keeps e nothing_came) (sym (start_is r.start started side)) (record { seen = λ is. refl; further = []; noted = refl; expected = refl })
 
   -- the end at which a call is made
-  acting : (side : Side) (control : Control) (e next : End) (theirs rest : List (List ℕ)) (call : Call) (a : Answer) (told : List Told) → fails a ≡ false → theirs ++ rest ≡ given_of r (other_side side)
-      → IsAnswer (policy_at side r.keys) (reads_window control call e) theirs call a → IsLeft (fails a) (policy_at side r.keys) control e theirs call a next → Keeps e (came side told)
+  acting : (side : Side) (control : Control) (heard : Heard) (e next : End) (theirs rest : List (List ℕ)) (call : Call) (a : Answer) (told : List Told) → fails a ≡ false → theirs ++ rest ≡ given_of r (other_side side)
+      → IsAnswer (policy_at side r.keys) (reads_window control heard call e) theirs call a → IsLeft (fails a) (policy_at side r.keys) control heard e theirs call a next → Keeps e (came side told)
       → Keeps next (came side (told ++ record { call = call; answer = a; state = e.closing.state } ∷ []))
-  acting side control e next theirs rest call a told served first is left k =
+  acting side control heard e next theirs rest call a told served first is left k =
       let p : Policy = policy_at side r.keys in
       let final : List (List ℕ) = given_of r (other_side side) in
       let t : Told = record { call = call; answer = a; state = e.closing.state } in
-      let same : next ≡ end_left p control e theirs call a = subst (λ (b : Bool). IsLeft b p control e theirs call a next) served left in
+      let same : next ≡ end_left p control heard e theirs call a = subst (λ (b : Bool). IsLeft b p control heard e theirs call a next) served left in
       subst (λ (x : End). Keeps x (came side (told ++ t ∷ []))) (sym same)
-      (subst (λ (j : Intake). Keeps (end_left p control e theirs call a) j) (sym (folded_more (and_told p final) told t nothing_came))
-      (call_keeps p control e theirs rest final call a (came side told) first served is k))
+      (subst (λ (j : Intake). Keeps (end_left p control heard e theirs call a) j) (sym (folded_more (and_told p final) told t nothing_came))
+      (call_keeps p control heard e theirs rest final call a (came side told) first served is k))
 
   -- the other end
   resting : (side : Side) (e next : End) (told : List Told) → next ≡ e → Keeps e (came side told) → Keeps next (came side (told ++ []))
@@ -91,12 +94,12 @@ module _ (r : Run) (end : World) (run : IsRun r end) (started : AreStarted r.sta
       go : (side : Side) (call : Call) → IsStep r.keys w (record { side = side; call = call }) a next
           → BothKeep next (client ++ told_by Client w.client.closing.state (record { side = side; call = call }) a) (server ++ told_by Server w.server.closing.state (record { side = side; call = call }) a)
       go Client call s = (
-        acting Client w.client_control w.client next.client w.from_server before.server.0 call a client served (before.server.1 ∙ sym run.from_server) s.answer s.end both.0,
+        acting Client w.client_control w.client_heard w.client next.client w.from_server before.server.0 call a client served (before.server.1 ∙ sym run.from_server) s.answer s.end both.0,
         resting Server w.server next.server server (ap (λ (v : World). v.server) s.others) both.1,
       )
       go Server call s = (
         resting Client w.client next.client client (ap (λ (v : World). v.client) s.others) both.0,
-        acting Server w.server_control w.server next.server w.from_client before.client.0 call a server served (before.client.1 ∙ sym run.from_client) s.answer s.end both.1,
+        acting Server w.server_control w.server_heard w.server next.server w.from_client before.client.0 call a server served (before.client.1 ∙ sym run.from_client) s.answer s.end both.1,
       )
 
   -- a place of the run
@@ -123,37 +126,37 @@ module _ (r : Run) (end : World) (run : IsRun r end) (started : AreStarted r.sta
   gave_first Server w g = (g.server.0, g.server.1 ∙ sym run.from_server)
 
   -- a delivery of what is nothing new is dropped
-  delivered_idle : (o : Option (List ℕ)) (side : Side) (i : ℕ) (p : Policy) (e : End) (theirs rest : List (List ℕ)) (delivery : Delivery) (a : Answer) → p ≡ policy_at side r.keys → slice_get theirs delivery.index ≡ o → theirs ++ rest ≡ given_of r (other_side side) → fails a ≡ false
+  delivered_idle : (o : Option (List ℕ)) (side : Side) (i : ℕ) (p : Policy) (e : End) (theirs rest : List (List ℕ)) (delivery : Delivery) (a : Answer) → p ≡ policy_at side r.keys → slice_get theirs delivery.index ≡ o → theirs ++ rest ≡ given_of r (other_side side) → fails a ≡ false → says_last a ≡ false
       → IsDelivered p e delivery o a → Keeps e (watch r side i).intake → is_nothing_new r side i a (handed (given_of r (other_side side)) (calls.Deliver delivery) a) ≡ true → is_idle (calls.Deliver delivery) a ≡ true
-  delivered_idle None side i p e theirs rest delivery a own at first served is k old =
+  delivered_idle None side i p e theirs rest delivery a own at first served early is k old =
       let clash : ◌≡◌ {A = Bool} false true = subst (λ (b : Answer). is_nothing_new r side i b (handed (given_of r (other_side side)) (calls.Deliver delivery) b) ≡ true) is old in
       absurd cc
-  delivered_idle (Some d) side i p e theirs rest delivery a own at first served (inl is) k old =
+  delivered_idle (Some d) side i p e theirs rest delivery a own at first served early (inl is) k old =
       let final : List (List ℕ) = given_of r (other_side side) in
       let there : slice_get final delivery.index ≡ Some d = first_get theirs rest final delivery.index d first at in
-      let said : Answer = answers.Deliver (received p e (delivered_by delivery) d).answer in
+      let said : Answer = answers.Deliver (received p e (delivered_by (says_last a) delivery) d).answer in
       let handed_in : is_nothing_new r side i said (slice_get final delivery.index) ≡ true = subst (λ (b : Answer). is_nothing_new r side i b (handed final (calls.Deliver delivery) b) ≡ true) is old in
       let stale : is_nothing_new r side i said (Some d) ≡ true = subst (λ (h : Option (List ℕ)). is_nothing_new r side i said h ≡ true) there handed_in in
       let j : Intake = (watch r side i).intake in
-      let dropped = old_is_dropped p e (delivered_by delivery) d j k (subst (λ (q : Policy). is_new (came_open q j.took said d) j.opened ≡ false) (sym own) (negated _ stale)) in
+      let dropped = old_is_dropped p e (delivered_by (says_last a) delivery) d j early k (subst (λ (q : Policy). is_new (came_open q j.took said d) j.opened ≡ false) (sym own) (negated _ stale)) in
       let so : a ≡ answers.Deliver (receives.Dropped dropped.0) = is ∙ ap answers.Deliver dropped.1 in
       subst (λ (b : Answer). is_idle (calls.Deliver delivery) b ≡ true) (sym so) dropped.2
     where
       negated : (b : Bool) → not b ≡ true → b ≡ false
       negated true q = sym q
       negated false q = refl
-  delivered_idle (Some d) side i p e theirs rest delivery a own at first served (inr is) k old = let clash : ◌≡◌ {A = Bool} true false = sym (ap fails is) ∙ served in absurd cc
+  delivered_idle (Some d) side i p e theirs rest delivery a own at first served early (inr is) k old = let clash : ◌≡◌ {A = Bool} true false = sym (ap fails is) ∙ served in absurd cc
 
   -- any event that is chosen
-  chosen_at : (side : Side) (i : ℕ) (control : Control) (e : End) (theirs rest : List (List ℕ)) (call : Call) (a : Answer) → theirs ++ rest ≡ given_of r (other_side side) → fails a ≡ false
-      → IsAnswer (policy_at side r.keys) (reads_window control call e) theirs call a → Keeps e (watch r side i).intake → brings_nothing r i (record { side = side; call = call }) a ≡ true → is_idle call a ≡ true
-  chosen_at side i control e theirs rest (calls.Inject injection) a first served is k old = refl
-  chosen_at side i control e theirs rest (calls.Deliver delivery) a first served is k old = delivered_idle (slice_get theirs delivery.index) side i (policy_at side r.keys) e theirs rest delivery a refl refl first served is k old
-  chosen_at side i control e theirs rest call a first served is k old = absurd cc
+  chosen_at : (side : Side) (i : ℕ) (control : Control) (heard : Heard) (e : End) (theirs rest : List (List ℕ)) (call : Call) (a : Answer) → theirs ++ rest ≡ given_of r (other_side side) → fails a ≡ false → says_last a ≡ false
+      → IsAnswer (policy_at side r.keys) (reads_window control heard call e) theirs call a → Keeps e (watch r side i).intake → brings_nothing r i (record { side = side; call = call }) a ≡ true → is_idle call a ≡ true
+  chosen_at side i control heard e theirs rest (calls.Inject injection) a first served early is k old = refl
+  chosen_at side i control heard e theirs rest (calls.Deliver delivery) a first served early is k old = delivered_idle (slice_get theirs delivery.index) side i (policy_at side r.keys) e theirs rest delivery a refl refl first served early is k old
+  chosen_at side i control heard e theirs rest call a first served early is k old = absurd cc
 
   -- at a place up to which memory served
-  pub chosen_idle : (i : ℕ) → AreServed r i → Chosen (listed_idle r) (take i r.events) (take i r.answers)
-  chosen_idle i served side j call a chosen at_event at_answer =
+  pub chosen_idle : (i : ℕ) → AreServed r i → FailuresStayBelow r → Chosen (listed_idle r) (take i r.events) (take i r.answers)
+  chosen_idle i served below side j call a chosen at_event at_answer =
       let event : RunEvent = record { side = side; call = call } in
       let is_event = taken_get r.events i j event at_event in
       let is_answer = taken_get r.answers i j a at_answer in
@@ -161,15 +164,15 @@ module _ (r : Run) (end : World) (run : IsRun r end) (started : AreStarted r.sta
       let at : Place j = place j so.1 in
       let at_side : IsAt r j side call a = record { event = is_event; answer = is_answer } in
       let theirs = gave_first (other_side side) at.world (grown r.keys at.world (drop j r.events) (drop j r.answers) (drop j r.views) end at.goes_on) in
-      chosen_at side j (control_at side at.world) (end_at side at.world) (given_by (other_side side) at.world) theirs.0 call a theirs.1 so.0 (answered r at.world end j side call a at.goes_on at_side) (recalls_there side j at)
+      chosen_at side j (control_at side at.world) (heard_at side at.world) (end_at side at.world) (given_by (other_side side) at.world) theirs.0 call a theirs.1 so.0 (below j a is_answer) (answered r at.world end j side call a at.goes_on at_side) (recalls_there side j at)
       (of_chosen (brings_nothing r j) (slice_get r.events j) (slice_get r.answers j) event a chosen is_event is_answer)
 
   -- so without what is chosen it goes on
-  pub goes_on_without : (i : ℕ) → AreServed r i → GoesOnWithout (listed_idle r) r i
-  goes_on_without i served =
+  pub goes_on_without : AreValidated r.start → (i : ℕ) → AreServed r i → FailuresStayBelow r → GoesOnWithout (listed_idle r) r i
+  goes_on_without validated i served below =
       let at : Place i = place i served in
       let gave = grown r.keys at.world (drop i r.events) (drop i r.answers) (drop i r.views) end at.goes_on in
-      let on = erases r.keys (listed_idle r) r.start at.world (take i r.events) (take i r.answers) (take i r.views) (chosen_idle i served) at.came in
+      let on = erases r.keys (listed_idle r) r.start at.world (take i r.events) (take i r.answers) (take i r.views) validated (chosen_idle i served below) (λ j a at_answer. below j a (taken_get r.answers i j a at_answer)) at.came in
       let client = gave_first Client at.world gave in
       let server = gave_first Server at.world gave in
       record {

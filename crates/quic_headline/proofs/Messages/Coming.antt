@@ -1,4 +1,5 @@
--- The end that takes: a message was received or is unread at most as often as it stands in the datagrams of the other whose numbers came.
+-- The end that takes: a message was received or is unread at most as often as it stands in the
+-- datagrams of the other whose numbers came.
 use Rattle.std.proofs.Common.{◌≡◌, ℕ, ◌+◌, ◌≤◌, Bool, true, false, List, [], ◌∷◌, ◌++◌, drop, Option, Some, None, Ok, option_to_list, refl, sym, ap, ◌∙◌, subst, arith}
 use Rattle.std.proofs.lemmas.List.{append_assoc, append-nil}
 use Rattle.quic_wire.specs.Value.{FrameValue, datagram}
@@ -8,7 +9,7 @@ use Rattle.quic_machine.specs.declared.run.Call.TheVariants as calls
 use Rattle.quic_machine.specs.declared.run.Answer.{Answer}
 use Rattle.quic_machine.specs.declared.run.Answer.TheVariants as answers
 use Rattle.quic_machine.specs.Policy.{Policy}
-use Rattle.quic_machine.specs.End.{End}
+use Rattle.quic_machine.specs.End.{End, closed_by, with_closing}
 use Rattle.quic_machine.specs.Receive.{Outcome, take_frame}
 use Rattle.quic_machine.specs.Poll.{Polled, Draft, polled, draft_as, Leaving}
 use Rattle.quic_machine.specs.MessageCalls.{limits_of}
@@ -21,6 +22,8 @@ use Rattle.quic_machine.specs.CallCases.{is_delivery}
 use Rattle.quic_headline.specs.Runs.{Told, Intake, In, is_again}
 use Rattle.quic_headline.specs.Observer.{Sent}
 use Rattle.quic_headline.specs.Messages.{received_by, received_messages}
+use Rattle.quic_machine.specs.Closing.{ticked}
+use Rattle.quic_headline.proofs.Packets.Closes.{by_closes}
 use Rattle.quic_headline.proofs.Packets.Delivered.{Arrivals, arrived}
 use Rattle.quic_headline.proofs.Places.Parties.{told_of, Party, called, came_to, AreJoined}
 use Rattle.quic_headline.proofs.Places.Coming.{Meets, came_same, by_coming}
@@ -45,7 +48,8 @@ polled_leaves p e now = by_poll p e now (λ (q : Polled). q.end.messages.queues.
       silent = refl;
       failed = refl;
       nothing = λ c. refl;
-      closes = λ c. refl;
+      repeats = λ is. by_closes p (with_closing e (ticked e.closing now)) (λ (q : Polled). q.end.messages.queues.incoming ≡ e.messages.queues.incoming) refl (λ f goes. refl);
+      closes = λ reason c bound. by_closes p (closed_by reason (at_poll e now c)) (λ (q : Polled). q.end.messages.queues.incoming ≡ e.messages.queues.incoming) refl (λ f goes. refl);
       gives = λ leaving c left is may ready some.
           let x : End = at_poll e now c in
           drafted leaving x (may_leave e now leaving x ready);
@@ -68,7 +72,8 @@ call_leaves p e theirs call a apart unread = call_messages (λ (q : Messages). q
 -- ---- frames
 
 module _ (m : List ℕ) (fs : List FrameValue) (e : End) where
-  -- a message is unread, or stands among frames that are left, at most as often as it did before all of them
+  -- a message is unread, or stands among frames that are left, at most as often as it did before
+  -- all of them
   abbrev Most : List FrameValue → Messages → Type 0
   Most left q = often m (messages_in left) + often m q.incoming ≤ often m (messages_in fs) + often m e.messages.queues.incoming
 
@@ -96,7 +101,8 @@ module _ (m : List ℕ) (fs : List FrameValue) (e : End) where
 
 -- ---- what came
 
--- a message was received or is unread at most as often as it stands in these datagrams, of those whose numbers came
+-- a message was received or is unread at most as often as it stands in these datagrams, of those
+-- whose numbers came
 pub record Comes (e : End) (i : Intake) (sents : List Sent) (told : List Told) : Type 0 where
   pub most : (m : List ℕ) → often m (received_messages told) + often m e.messages.queues.incoming ≤ often m (came i.opened sents)
 
@@ -117,8 +123,10 @@ comes_arrivals : (e : End) (now : ℕ) (s : Sent) (i : Intake) (sents : List Sen
 comes_arrivals e now s i sents told among before = record {
   ignored = λ reason. before;
   noted = λ state reason. record { most = before.most };
-  takes = λ state new none mark. record { most = brought new };
-  refuses = λ state new f is. record { most = brought new };
+  takes = λ words state new none mark. record { most = brought new };
+  drains = λ words state new close is. record { most = brought new };
+  refuses = λ words state new f is. record { most = brought new };
+  exhausts = λ state. record { most = before.most };
 }
   where
     brought : is_again s.number i.opened ≡ false → (m : List ℕ) → often m (received_messages told) + often m (arrived e now s.number s.frames).end.messages.queues.incoming ≤ often m (came (s.number ∷ i.opened) sents)

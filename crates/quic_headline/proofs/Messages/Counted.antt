@@ -14,6 +14,7 @@ pub use Rattle.quic_headline.specs.Queue.{messages_in}
 use Rattle.quic_headline.specs.Runs.{In, is_again}
 use Rattle.quic_headline.specs.Observer.{Sent}
 use Rattle.std.specs.List.{filter}
+use Rattle.quic_headline.proofs.Packets.Owing.{AreCloses, closes_fine}
 
 -- ---- how often
 
@@ -119,6 +120,12 @@ messages_append (f ∷ fs) gs = messages_append fs gs
 pub padding_none : (count : ℕ) → messages_in (replicate count padding) ≡ []
 padding_none zero = refl
 padding_none (suc count) = padding_none count
+
+-- neither has a close, nor what goes beside it
+pub close_none : (fs : List FrameValue) → AreCloses fs → messages_in fs ≡ []
+close_none [] all = refl
+close_none (g ∷ fs) all =
+    closes_fine (λ (f : FrameValue). messages_in (f ∷ fs) ≡ messages_in fs) (λ c. refl) (λ c. refl) refl g (all g (inl refl)) ∙ close_none fs (λ f i. all f (inr i))
 
 module _ (m : List ℕ) where
   -- a frame and others behind it

@@ -2,7 +2,7 @@
 use Rattle.std.proofs.Common.{◌≡◌, ℕ, ◌+◌, ◌≤◌, false, List, [], ◌∷◌, ◌++◌, replicate, Option, Some, None, Ok, refl, sym, ap, ◌∙◌, subst, arith, true}
 use Rattle.std.specs.Prelude.{slice_get}
 use Rattle.std.proofs.lemmas.List.{append_assoc, append-nil}
-use Rattle.quic_machine.specs.Arrival.{delivered_by}
+use Rattle.quic_machine.specs.Arrival.{delivered_by, Arrival}
 use Rattle.quic_machine.specs.declared.run.Delivery.{Delivery}
 use Rattle.quic_wire.specs.Value.{FrameValue, padding, datagram}
 use Rattle.quic_messages.specs.Messages.{is_within, without_longer, Messages}
@@ -11,24 +11,29 @@ use Rattle.quic_machine.specs.declared.run.Call.TheVariants as calls
 use Rattle.quic_machine.specs.declared.run.Answer.{Answer}
 use Rattle.quic_machine.specs.declared.run.Answer.TheVariants as answers
 use Rattle.quic_machine.specs.Policy.{Policy}
-use Rattle.quic_machine.specs.End.{End}
-use Rattle.quic_machine.specs.Poll.{zeros_behind, Polled, Draft, polled, goes, draft_as, draft_of, Leaving, Ready}
+use Rattle.quic_machine.specs.Closing.{ticked}
+use Rattle.quic_machine.specs.Parts.{Messaging}
+use Rattle.quic_machine.specs.End.{End, with_closing, closed_by}
+use Rattle.quic_machine.specs.Poll.{zeros_behind, Draft, polled, draft_as, Leaving}
+use Rattle.quic_machine.specs.Poll as poll
 use Rattle.quic_machine.specs.MessageCalls.{limits_of}
-use Rattle.quic_machine.specs.Machine.{IsAnswer, after_delivered, after_call, fails, gave}
+use Rattle.quic_machine.specs.Machine.{IsAnswer, after_delivered, after_call, fails, gave, says_last}
 use Rattle.quic_machine.specs.DraftLaws.{Writing, by_leave, MayLeave}
 use Rattle.quic_machine.specs.Puts as puts
 use Rattle.quic_machine.specs.FrameCases.{by_received}
-use Rattle.quic_machine.specs.PollCases.{ready_at, frames_padded, frames_at, by_poll, at_poll, PollChange}
+use Rattle.quic_machine.specs.PollCases.{ready_at, ready_leaves, draft_at, frames_padded, frames_at, may_leave_at}
 use Rattle.quic_headline.specs.Runs.{Told}
 use Rattle.quic_headline.specs.Observer.{Sent}
 use Rattle.quic_headline.specs.Messages as messages
 use Rattle.quic_headline.specs.Messages.{sent_messages}
 use Rattle.quic_headline.proofs.Packets.Entries.{IsControl, control_of}
+use Rattle.quic_headline.proofs.Packets.Sends.{GivesClose, by_sends}
+use Rattle.quic_headline.proofs.Packets.Owing.{Owes, error_owes, close_is, close_alone}
 use Rattle.quic_headline.proofs.Places.Steps.{poll_answer}
-use Rattle.quic_headline.proofs.Places.Parties.{sent_by, sent_if, sents_by, told_of}
-use Rattle.quic_headline.proofs.Messages.Counted.{often_filter, often, often_none, often_append, often_more, sent_more, received_leaves, messages_in, often_last, often_padded, gone, gone_append}
+use Rattle.quic_headline.proofs.Places.Parties.{sent_as, sent_by, sent_if, sents_by, told_of}
+use Rattle.quic_headline.proofs.Messages.Counted.{close_none, often_filter, often, often_none, often_append, often_more, sent_more, received_leaves, messages_in, often_last, often_padded, gone, gone_append}
 use Rattle.quic_headline.proofs.Messages.Kept.{frame_messages, call_messages}
-use Rattle.quic_headline.proofs.Packets.Probes.{may_leave}
+use Rattle.quic_headline.proofs.Packets.Probes.{by_going}
 
 -- ---- what a poll gives
 
@@ -77,15 +82,19 @@ drop_fewer : (m : List ℕ) (e : End) (most : ℕ) (q : Messages) → FewWait m 
 drop_fewer m e most q few = let less = often_filter m (is_within most) q.outgoing in omega arith
 
 -- what comes leaves the messages that wait to go, or drops some
-delivery_leaves : (m : List ℕ) (p : Policy) (e : End) (delivery : Delivery) (o : Option (List ℕ)) → FewWait m e (after_delivered p e delivery o).messages.queues
-delivery_leaves m p e delivery None = omega arith
-delivery_leaves m p e delivery (Some d) = by_received (λ (f : End). FewWait m e f.messages.queues) (record {
+delivery_leaves : (m : List ℕ) (p : Policy) (e : End) (arrival : Arrival) (o : Option (List ℕ)) → FewWait m e (after_delivered p e arrival o).messages.queues
+delivery_leaves m p e arrival None = omega arith
+delivery_leaves m p e arrival (Some d) = by_received (λ (f : End). FewWait m e f.messages.queues) (record {
   notes = λ n x few. few;
   begins = λ moment n x few. few;
   frame = λ f x few. frame_messages (FewWait m e) (drop_fewer m e) f x few (λ y is. subst (λ (ms : List (List ℕ)). often m ms ≤ often m e.messages.queues.outgoing) (sym (received_leaves x.transport.datagram_receive_buffer_size y x.messages.queues)) few);
   takes = λ n asks mark x few. few;
   closes = λ reason x few. few;
-}) p e (delivered_by delivery) d (omega arith)
+  drains = λ close x few. few;
+  asks_close = λ x few. few;
+  exhausts = λ now x few. few;
+  draws = λ words x few. few;
+}) p e arrival d (omega arith)
 
 -- ---- any call
 
@@ -108,38 +117,56 @@ module _ (m : List ℕ) where
   less_goes went left before asked less = omega arith
 
   -- a message that a poll gives waits no more
-  polled_goes : (p : Policy) (e : End) (now : ℕ)
-      → often m (gone (sent_if (gave (answers.Poll (polled p e now).answer)) (sent_by e now))) + often m (polled p e now).end.messages.queues.outgoing ≤ often m e.messages.queues.outgoing
-  polled_goes p e now = by_poll p e now (λ (q : Polled). often m (gone (sent_if (gave (answers.Poll q.answer)) (sent_by e now))) + often m q.end.messages.queues.outgoing ≤ often m e.messages.queues.outgoing)
-      (record { silent = nothing; failed = nothing; nothing = λ c. nothing; closes = λ c. nothing; gives = λ leaving c left is may. one leaving c })
+  polled_goes : (p : Policy) (e : End) (now : ℕ) → Owes e
+      → often m (gone (sent_if (gave (answers.Poll (polled p e now).answer)) (sent_by p e now))) + often m (polled p e now).end.messages.queues.outgoing ≤ often m e.messages.queues.outgoing
+  polled_goes p e now owes = by_sends p e now (λ q sents. Few sents q.end) (record {
+    silent = nothing e refl;
+    failed = nothing e refl;
+    nothing = λ is none. nothing (ready_at e now).end ready;
+    repeats = λ is. closing (with_closing e (ticked e.closing now)) owes refl;
+    closes = λ reason is bound. closing (closed_by reason (ready_at e now).end) (error_owes reason (ready_at e now).end) ready;
+    gives = λ is bound some. by_going (Few (sent_as e now (draft_at e now) ∷ [])) p (draft_at e now) (λ going. one);
+  })
     where
-      nothing : often m [] + often m e.messages.queues.outgoing ≤ often m e.messages.queues.outgoing
-      nothing = let none = often_none m in omega arith
+      Few : List Sent → End → Type 0
+      Few sents x = often m (gone sents) + often m x.messages.queues.outgoing ≤ often m e.messages.queues.outgoing
 
-      one : (leaving : Leaving) (c : PollChange) → ready_at e now ≡ record { leaving = leaving; end = at_poll e now c } → goes (ready_at e now) ≡ true
-          → often m (messages_in (frames_at e now) ++ []) + often m (draft_as leaving (at_poll e now c)).end.messages.queues.outgoing ≤ often m e.messages.queues.outgoing
-      one leaving c ready some =
-          let x : End = at_poll e now c in
-          let d : Draft = draft_as leaving x in
-          let count : ℕ = zeros_behind d in
-          given_goes d.frames (frames_at e now) count d.end.messages.queues.outgoing e.messages.queues.outgoing (ap (λ (g : Ready). frames_padded (draft_of g)) ready) (drafted m leaving x (may_leave e now leaving x ready))
+      ready : (ready_at e now).end.messages ≡ e.messages
+      ready = ap (λ (x : End). x.messages) (ready_leaves e now)
+
+      nothing : (x : End) → x.messages ≡ e.messages → often m [] + often m x.messages.queues.outgoing ≤ often m e.messages.queues.outgoing
+      nothing x same = (let none = often_none m in let waits : often m x.messages.queues.outgoing ≡ often m e.messages.queues.outgoing = ap (λ (q : Messaging). often m q.queues.outgoing) same in omega arith)
+
+      closing : (x : End) → Owes x → x.messages ≡ e.messages → GivesClose p e now (λ q sents. Few sents q.end) x
+      closing x due same = (
+        nothing x same,
+        λ f goes.
+            subst (λ (ms : List (List ℕ)). often m (ms ++ []) + often m x.messages.queues.outgoing ≤ often m e.messages.queues.outgoing)
+            (sym (close_none (frames_padded (draft_as (poll.closing f) x)) (close_alone x f (close_is p x due f goes)))) (nothing x same),
+      )
+
+      one : Few (sent_as e now (draft_at e now) ∷ []) (draft_at e now).end
+      one =
+          let d : Draft = draft_at e now in
+          given_goes d.frames (frames_at e now) (zeros_behind d) d.end.messages.queues.outgoing e.messages.queues.outgoing refl
+          (drafted m (ready_at e now).leaving (ready_at e now).end (may_leave_at e now) ∙ ap (λ (q : Messaging). often m q.queues.outgoing) ready)
 
   -- what a call gives and what waits behind it waited before, or is sent by it
-  goes_call : (p : Policy) (e : End) (theirs : List (List ℕ)) (call : Call) (a : Answer) → IsAnswer p e theirs call a → fails a ≡ false
-      → often m (gone (sents_by e call a)) + often m (after_call p e theirs call a).messages.queues.outgoing ≤ often m e.messages.queues.outgoing + often m (messages.sent_by call a)
-  goes_call p e theirs (calls.Poll now) a is served =
-      less_goes (gone (sent_if (gave a) (sent_by e now))) (polled p e now).end.messages.queues.outgoing e.messages.queues.outgoing []
-      (subst (λ (b : Answer). often m (gone (sent_if (gave b) (sent_by e now))) + often m (polled p e now).end.messages.queues.outgoing ≤ often m e.messages.queues.outgoing) (sym (poll_answer p e now a is served)) (polled_goes p e now))
-  goes_call p e theirs (calls.Send x makes_room) (answers.Send (Ok done)) is served =
+  goes_call : (p : Policy) (e : End) (theirs : List (List ℕ)) (call : Call) (a : Answer) → Owes e → IsAnswer p e theirs call a → fails a ≡ false
+      → often m (gone (sents_by p e call a)) + often m (after_call p e theirs call a).messages.queues.outgoing ≤ often m e.messages.queues.outgoing + often m (messages.sent_by call a)
+  goes_call p e theirs (calls.Poll now) a owes is served =
+      less_goes (gone (sent_if (gave a) (sent_by p e now))) (polled p e now).end.messages.queues.outgoing e.messages.queues.outgoing []
+      (subst (λ (b : Answer). often m (gone (sent_if (gave b) (sent_by p e now))) + often m (polled p e now).end.messages.queues.outgoing ≤ often m e.messages.queues.outgoing) (sym (poll_answer p e now a is served)) (polled_goes p e now owes))
+  goes_call p e theirs (calls.Send x makes_room) (answers.Send (Ok done)) owes is served =
       let more = sent_more m (limits_of e) makes_room x e.messages.queues in
       let none = often_none m in
       omega arith
-  goes_call p e theirs (calls.Send x makes_room) a is served = quiet_goes e.messages.queues.outgoing e.messages.queues.outgoing [] (omega arith)
-  goes_call p e theirs calls.Recv a is served = quiet_goes e.messages.queues.outgoing e.messages.queues.outgoing [] (omega arith)
-  goes_call p e theirs (calls.Deliver delivery) a is served =
+  goes_call p e theirs (calls.Send x makes_room) a owes is served = quiet_goes e.messages.queues.outgoing e.messages.queues.outgoing [] (omega arith)
+  goes_call p e theirs calls.Recv a owes is served = quiet_goes e.messages.queues.outgoing e.messages.queues.outgoing [] (omega arith)
+  goes_call p e theirs (calls.Deliver delivery) a owes is served =
       let o : Option (List ℕ) = slice_get theirs delivery.index in
-      quiet_goes (after_delivered p e delivery o).messages.queues.outgoing e.messages.queues.outgoing [] (delivery_leaves m p e delivery o)
-  goes_call p e theirs call a is served =
+      quiet_goes (after_delivered p e (delivered_by (says_last a) delivery) o).messages.queues.outgoing e.messages.queues.outgoing [] (delivery_leaves m p e (delivered_by (says_last a) delivery) o)
+  goes_call p e theirs call a owes is served =
       quiet_goes (after_call p e theirs call a).messages.queues.outgoing e.messages.queues.outgoing []
       (call_messages (FewWait m e) (drop_fewer m e) p e theirs call a refl refl refl (omega arith))
 
@@ -163,9 +190,9 @@ goes_further m went more left before told asked first step =
     omega arith
 
 -- so it is behind a call
-pub goes_on : (p : Policy) (e : End) (theirs : List (List ℕ)) (call : Call) (a : Answer) (sents : List Sent) (told : List Told) → IsAnswer p e theirs call a → fails a ≡ false → Goes e sents told
-    → Goes (after_call p e theirs call a) (sents ++ sents_by e call a) (told ++ told_of call a e.closing.state ∷ [])
-goes_on p e theirs call a sents told is served before = record { most = most }
+pub goes_on : (p : Policy) (e : End) (theirs : List (List ℕ)) (call : Call) (a : Answer) (sents : List Sent) (told : List Told) → Owes e → IsAnswer p e theirs call a → fails a ≡ false → Goes e sents told
+    → Goes (after_call p e theirs call a) (sents ++ sents_by p e call a) (told ++ told_of call a e.closing.state ∷ [])
+goes_on p e theirs call a sents told owes is served before = record { most = most }
   where
     t : Told
     t = told_of call a e.closing.state
@@ -173,6 +200,6 @@ goes_on p e theirs call a sents told is served before = record { most = most }
     asked : sent_messages (told ++ t ∷ []) ≡ sent_messages told ++ messages.sent_by call a
     asked = sent_messages-append told (t ∷ []) ∙ ap (λ (ms : List (List ℕ)). sent_messages told ++ ms) (append-nil (messages.sent_by call a))
 
-    most : (m : List ℕ) → often m (gone (sents ++ sents_by e call a)) + often m (after_call p e theirs call a).messages.queues.outgoing ≤ often m (sent_messages (told ++ told_of call a e.closing.state ∷ []))
-    most m = rw (gone_append sents (sents_by e call a), asked)
-        (goes_further m (gone sents) (gone (sents_by e call a)) (after_call p e theirs call a).messages.queues.outgoing e.messages.queues.outgoing (sent_messages told) (messages.sent_by call a) (before.most m) (goes_call m p e theirs call a is served))
+    most : (m : List ℕ) → often m (gone (sents ++ sents_by p e call a)) + often m (after_call p e theirs call a).messages.queues.outgoing ≤ often m (sent_messages (told ++ told_of call a e.closing.state ∷ []))
+    most m = rw (gone_append sents (sents_by p e call a), asked)
+        (goes_further m (gone sents) (gone (sents_by p e call a)) (after_call p e theirs call a).messages.queues.outgoing e.messages.queues.outgoing (sent_messages told) (messages.sent_by call a) (before.most m) (goes_call m p e theirs call a owes is served))

@@ -1,4 +1,5 @@
--- What holds of messages between two ends: what the one sent, gave and keeps, and what the other received and keeps, as one group.
+-- What holds of messages between two ends: what the one sent, gave and keeps, and what the other
+-- received and keeps, as one group.
 use Rattle.std.proofs.Common.{arith}
 use Rattle.quic_headline.proofs.Packets.Group.{PacketsHold, meets}
 use Rattle.quic_headline.proofs.Places.Parties.{sents_by, Party, came_to}
@@ -7,7 +8,8 @@ use Rattle.quic_headline.proofs.Messages.Counted.{often_none}
 use Rattle.quic_headline.proofs.Messages.Going.{Goes, goes_on}
 use Rattle.quic_headline.proofs.Messages.Coming.{Comes, comes_more, comes_step}
 
--- x gives, and y takes: a message went at most as often as it was sent, and was received at most as often as it went
+-- x gives, and y takes: a message went at most as often as it was sent, and was received at most as
+-- often as it went
 pub record AtMostOnce (x y : Party) : Type 0 where
   pub goes : Goes x.end x.sents x.told
   pub comes : Comes y.end (came_to y x) x.sents y.told
@@ -20,8 +22,8 @@ messages_group = record {
     comes = record { most = λ n. (let none = often_none n in omega arith) };
   };
   writer = λ x y call a c before back. record {
-    goes = goes_on x.policy x.end y.given call a x.sents x.told c.answer c.served before.goes;
-    comes = comes_more y.end (came_to y x) x.sents (sents_by x.end call a) y.told before.comes;
+    goes = goes_on x.policy x.end y.given call a x.sents x.told c.gives.owes c.answer c.served before.goes;
+    comes = comes_more y.end (came_to y x) x.sents (sents_by x.policy x.end call a) y.told before.comes;
   };
   reader = λ x y call a c before back. record {
     goes = record { most = back.goes.most };

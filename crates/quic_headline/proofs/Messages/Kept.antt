@@ -1,6 +1,7 @@
--- What leaves the messages of an end as they were: all frames but DATAGRAM, and all calls but polls, deliveries and those on messages.
+-- What leaves the messages of an end as they were: all frames but DATAGRAM, and all calls but
+-- polls, deliveries and those on messages.
 use Rattle.std.proofs.Common.{◌≡◌, ℕ, Bool, true, false, List, Result, Ok, Err, refl}
-use Rattle.quic_wire.specs.Value.{FrameValue, ack, datagram}
+use Rattle.quic_wire.specs.Value.{FrameValue, ack, datagram, new_connection_id, retire_connection_id, path_response}
 use Rattle.quic_messages.specs.declared.errors.ReceivedError.{ReceivedError}
 use Rattle.quic_messages.specs.Messages.{Messages, without_longer, received_answer, after_received}
 use Rattle.quic_machine.specs.declared.run.Call.{Call}
@@ -11,10 +12,11 @@ use Rattle.quic_machine.specs.End.{End, with_closing}
 use Rattle.quic_machine.specs.Receive.{is_above, names_ungiven, message_judged, take_frame}
 use Rattle.quic_machine.specs.MessageCalls.{is_on_messages}
 use Rattle.quic_machine.specs.Machine.{after_call}
-use Rattle.quic_machine.specs.FrameCases.{Settling, losses_keep, named, ack_taken, acked_keeps}
+use Rattle.quic_machine.specs.FrameCases.{Settling, losses_keep, named, ack_taken, acked_keeps, apart_leaves}
 use Rattle.quic_machine.specs.Steps as steps
 use Rattle.quic_machine.specs.LeaveCases.{by_expired, by_event}
 use Rattle.quic_machine.specs.CallCases.{is_delivery, is_poll, by_call}
+use Rattle.quic_headline.proofs.Packets.Apart.{by_waits, by_next_id}
 
 module _ (P : Messages → Type 0) (drops : (most : ℕ) (q : Messages) → P q → P (without_longer most q)) where
   -- packets that are acknowledged or lost
@@ -34,6 +36,9 @@ module _ (P : Messages → Type 0) (drops : (most : ℕ) (q : Messages) → P q 
       go : (r : Result Bool ReceivedError) → P (message_judged r m e).end.messages.queues
       go (Ok first) = takes m refl
       go (Err error) = same
+  frame_messages (new_connection_id f) e same takes = apart_leaves (λ (x : End). P x.messages.queues) (new_connection_id f) e tt (λ c. same) (λ c most. drops most e.messages.queues same)
+  frame_messages (retire_connection_id n) e same takes = apart_leaves (λ (x : End). P x.messages.queues) (retire_connection_id n) e tt (λ c. same) (λ c most. drops most e.messages.queues same)
+  frame_messages (path_response token) e same takes = apart_leaves (λ (x : End). P x.messages.queues) (path_response token) e tt (λ c. same) (λ c most. drops most e.messages.queues same)
   frame_messages f e same takes = same
 
   -- what holds of the messages holds behind a call
@@ -43,7 +48,10 @@ module _ (P : Messages → Type 0) (drops : (most : ℕ) (q : Messages) → P q 
     on_streams = λ on answer. same;
     on_messages = λ on answer. cc;
     pings = same;
-    times = λ now expiry set. by_expired e now (λ (f : End). P f.messages.queues) (λ pending tracking timers runs packets. same) (λ pending timers runs. losses_keep (λ (f : End). P f.messages.queues) settles (with_closing e (ticked e.closing now)) same) expiry;
+    times = λ now expiry set. by_expired p.words e now (λ (f : End). P f.messages.queues) (λ pending tracking timers waits asked runs packets. same) (λ pending timers waits asked runs. losses_keep (λ (f : End). P f.messages.queues) settles (with_closing e (ticked e.closing now)) same) (λ x j. j) expiry;
+    closes = λ reason f now own. same;
+    waits = λ now b set. by_waits (λ (f : End). P f.messages.queues) b (with_closing e (ticked e.closing now)) same same;
+    changes_id = λ uses answer. by_next_id (λ (f : End). P f.messages.queues) e a same (λ c. same) (λ c most. drops most e.messages.queues same);
     polls = λ now set. cc;
     hears = λ arrival d set. cc;
     tells = λ asks. by_event e (λ (f : End). P f.messages.queues) same (λ told. same);

@@ -17,24 +17,29 @@ use Rattle.quic_machine.specs.declared.run.Call.{Call}
 use Rattle.quic_machine.specs.declared.run.Call.TheVariants as calls
 use Rattle.quic_machine.specs.declared.run.Answer.{Answer}
 use Rattle.quic_machine.specs.declared.run.View.{View}
-use Rattle.quic_machine.specs.Ids.{Ids}
 use Rattle.quic_machine.specs.End.{End}
-use Rattle.quic_machine.specs.Machine.{World, IsStep, after_call, reads_window, end_at, control_at, given_by, policy_at, gave, view_of}
+use Rattle.quic_machine.specs.Machine.{World, IsStep, after_call, reads_window, end_at, control_at, given_by, policy_at, gave, view_of, heard_at}
 use Rattle.quic_machine.specs.RunLaws.{as_many_views, one_run}
 use Rattle.quic_machine.specs.CallCases.{is_poll}
-use Rattle.quic_headline.specs.Runs.{Run, Told, In, given_of, same_side, told_by, folded, until, state_at, LeadsTo, AreServed}
+use Rattle.quic_machine.specs.MessageCalls.{is_on_messages}
+use Rattle.quic_headline.specs.Runs.{Run, Told, Intake, In, given_of, same_side, told_by, folded, until, state_at, LeadsTo, AreServed}
 use Rattle.quic_headline.specs.Observer.{Sent, Watch, watch_told, lens_of, watch_from, watch, sents_until}
 use Rattle.quic_headline.specs.Headline.{IsHonest, IsRun}
+use Rattle.quic_headline.proofs.Packets.Quiet.{HaveHeardNothing}
 use Rattle.quic_headline.specs.Polls.{mtu_in, IsMade}
 use Rattle.quic_headline.specs.Queue.{Outbox, outbox_behind, outbox_next, outbox_all, queue_room, longest_in, waiting_messages, MessagesGo}
 use Rattle.quic_headline.proofs.Packets.Intakes.{folded_more}
+use Rattle.quic_headline.proofs.Packets.Owing.{Owes}
 use Rattle.quic_headline.proofs.Packets.Sizes.{Sizing, sizing}
 use Rattle.quic_headline.proofs.Packets.Stays.{IsPlaced, placed_call}
 use Rattle.quic_headline.proofs.Packets.Watching.{told_own}
 use Rattle.quic_headline.proofs.Places.Steps.{only_polls_give}
 use Rattle.quic_headline.proofs.Places.Moments.{told_none, last_view}
-use Rattle.quic_headline.proofs.Places.Parties.{told_of, sents_by}
-use Rattle.quic_headline.proofs.Places.Placed.{placed, start_is}
+use Rattle.quic_headline.proofs.Packets.Group.{meets}
+use Rattle.quic_headline.proofs.Packets.Ids.{KnownLong}
+use Rattle.quic_headline.proofs.Places.Coming.{by_coming}
+use Rattle.quic_headline.proofs.Places.Parties.{Party, told_of, came_to, sents_by}
+use Rattle.quic_headline.proofs.Places.Placed.{party_at, placed, start_is}
 use Rattle.quic_headline.proofs.Places.Everything as everything
 use Rattle.quic_headline.proofs.Places.Theorems.{ready}
 use Rattle.quic_headline.proofs.Halves.Ready.{Ready}
@@ -44,9 +49,9 @@ use Rattle.quic_headline.proofs.Held.Messages.{bound}
 use Rattle.quic_headline.proofs.Held.Clause.{Shortly, shortly, polls_send_messages}
 use Rattle.quic_headline.proofs.Rest.Between.{step_leaves, side_is}
 use Rattle.quic_headline.proofs.Sizes.Moves.{did_there}
-use Rattle.quic_headline.proofs.Steps.Made.{served_before, told_next, told_here, made_served, made_end, reads_either, observed_poll, poll_holds, sents_more}
+use Rattle.quic_headline.proofs.Steps.Made.{served_before, told_next, told_here, made_served, made_end, reads_either, calling, call_holds, observed_poll, poll_holds, sents_more}
 use Rattle.quic_headline.proofs.Steps.Resized.{size_there}
-use Rattle.quic_headline.proofs.Messages.Dropped.{longest_of}
+use Rattle.quic_headline.proofs.Messages.Dropped.{Drops, same_drops, arrivals_drop, quiet_drops, longest_of}
 use Rattle.quic_headline.proofs.Messages.Waiting.{Fits, call_leaves}
 
 -- ---- one event more
@@ -88,11 +93,10 @@ module _ (r : Run) (end : World) (honest : IsHonest r) (run : IsRun r end) (side
   record Waits (i : ℕ) (w : World) : Type 0 where
     transport : (end_at side w).transport ≡ (end_at side r.start).transport
     peer : (end_at side w).peer_params ≡ (end_at side r.start).peer_params
-    ids : (end_at side w).ids ≡ (end_at side r.start).ids
     waits : (more : List Sent) → outbox i (sents_until r side i ++ more) ≡ record { waiting = (end_at side w).messages.queues.outgoing; left = more }
 
   first_waits : Waits 0 r.start
-  first_waits = record { transport = refl; peer = refl; ids = refl; waits = waits }
+  first_waits = record { transport = refl; peer = refl; waits = waits }
     where
       none_sent : sents_until r side 0 ≡ []
       none_sent = ap (λ (ts : List Told). (folded (watch_told (lens_of r side)) ts (watch_from (end_at side r.start) (given_of r side))).own) (told_none side r.events r.views (end_at side r.start).closing.state)
@@ -116,12 +120,25 @@ module _ (r : Run) (end : World) (honest : IsHonest r) (run : IsRun r end) (side
       let same : at.world ≡ w = (one_run r.keys (take i r.answers) r.start (take i r.events) (take i r.views) (take i r.views) at.world w served at.leads leads).1 in
       subst (λ (u : World). IsShort (sizing (end_at side u))) same (at.gives.0.0.0.sized, at.gives.1.bounded)
 
+  -- the ids that are known have the length of own ids
+  known_there : (i : ℕ) (w : World) → AreServed r i → LeadsTo r i w → KnownLong (end_at side w).ids.peer
+  known_there i w served leads =
+      let at = placed Shortly shortly r end honest run side i served in
+      let same : at.world ≡ w = (one_run r.keys (take i r.answers) r.start (take i r.events) (take i r.views) (take i r.views) at.world w served at.leads leads).1 in
+      subst (λ (u : World). KnownLong (end_at side u).ids.peer) same at.gives.0.0.0.long.peer
+
+  -- and what is owed is a close
+  pub owes_there : (i : ℕ) (w : World) → AreServed r i → LeadsTo r i w → Owes (end_at side w)
+  owes_there i w served leads =
+      let at = placed Shortly shortly r end honest run side i served in
+      let same : at.world ≡ w = (one_run r.keys (take i r.answers) r.start (take i r.events) (take i r.views) (take i r.views) at.world w served at.leads leads).1 in
+      subst (λ (u : World). Owes (end_at side u)) same at.gives.0.0.0.owes
+
   -- a call at the other end
   other_waits : (i : ℕ) (event : RunEvent) (a : Answer) (v : View) (w next : World) → slice_get r.events i ≡ Some event → slice_get r.answers i ≡ Some a → slice_get r.views i ≡ Some v → same_side event.side side ≡ false → IsStep r.keys w event a next → Waits i w → Waits (suc i) next
   other_waits i event a v w next at_event at_answer at_view other step before = record {
     transport = ap (λ (e : End). e.transport) stays ∙ before.transport;
     peer = ap (λ (e : End). e.peer_params) stays ∙ before.peer;
-    ids = ap (λ (e : End). e.ids) stays ∙ before.ids;
     waits = λ more.
         outbox_more (queue_room r side) (longest_in r side) side i r.events r.answers r.views event a v at_event at_answer at_view (record { waiting = []; left = sents_until r side (suc i) ++ more })
         ∙ ap (λ (b : Bool). if b then outbox_behind (queue_room r side) (longest_in r side v) event.call a (outbox i (sents_until r side (suc i) ++ more)) else outbox i (sents_until r side (suc i) ++ more)) other
@@ -146,7 +163,7 @@ module _ (r : Run) (end : World) (honest : IsHonest r) (run : IsRun r end) (side
   -- a call of its own
   module _ (i : ℕ) (call : Call) (a : Answer) (v : View) (w next : World) (at_view : slice_get r.views i ≡ Some v) (shown : v ≡ view_of next) (m : IsMade r i side call a w next) (behind : LeadsTo r (suc i) next) where
     abbrev met : End
-    met = reads_window (control_at side w) call (end_at side w)
+    met = reads_window (control_at side w) (heard_at side w) call (end_at side w)
 
     abbrev left : End
     left = after_call (policy_at side r.keys) met (given_by (other_side side) w) call a
@@ -155,57 +172,72 @@ module _ (r : Run) (end : World) (honest : IsHonest r) (run : IsRun r end) (side
     left_is = made_end r i side call a w next m
 
     -- what the end gave
-    sent : (call : Call) → IsMade r i side call a w next → sents_until r side (suc i) ≡ sents_until r side i ++ sents_by (reads_window (control_at side w) call (end_at side w)) call a
+    sent : (call : Call) → IsMade r i side call a w next → sents_until r side (suc i) ≡ sents_until r side i ++ sents_by (policy_at side r.keys) (reads_window (control_at side w) (heard_at side w) call (end_at side w)) call a
     sent (calls.Poll now) m =
         sents_more r i side now a w (observed_poll (everything.Streams Ready ready) r i side now a w (poll_holds (everything.All Ready ready) (everything.all Ready ready) r end honest run i side now a w next m))
     sent call m =
-        quiet_sent r i side call a refl (only_polls_give (policy_at side r.keys) (reads_window (control_at side w) call (end_at side w)) (given_by (other_side side) w) call a refl m.step.answer)
+        quiet_sent r i side call a refl (only_polls_give (policy_at side r.keys) (reads_window (control_at side w) (heard_at side w) call (end_at side w)) (given_by (other_side side) w) call a refl m.step.answer)
         (told_next side (end_at side r.start).closing.state i r.events r.answers r.views (record { side = side; call = call }) a m.at.event m.at.answer (as_many_views r.keys r.start end r.events r.answers r.views run.follows)
         ∙ ap (λ (ts : List Told). until r side i ++ ts) (told_here side (state_at r side i) call a))
         ∙ sym (append-nil (sents_until r side i))
 
     own_waits : Waits i w → Waits (suc i) next
-    own_waits before = record { transport = transport; peer = peer; ids = ids; waits = waits }
+    own_waits before = record { transport = transport; peer = peer; waits = waits }
       where
         stays : IsPlaced met left
         stays = placed_call (policy_at side r.keys) met (given_by (other_side side) w) call a
 
         transport : (end_at side next).transport ≡ (end_at side r.start).transport
-        transport = ap (λ (e : End). e.transport) left_is ∙ stays.transport ∙ reads_either (λ (e : End). e.transport ≡ (end_at side r.start).transport) (control_at side w) call (end_at side w) before.transport before.transport
+        transport = ap (λ (e : End). e.transport) left_is ∙ stays.transport ∙ reads_either (λ (e : End). e.transport ≡ (end_at side r.start).transport) (control_at side w) (heard_at side w) call (end_at side w) before.transport before.transport
 
         peer : (end_at side next).peer_params ≡ (end_at side r.start).peer_params
-        peer = ap (λ (e : End). e.peer_params) left_is ∙ stays.peer ∙ reads_either (λ (e : End). e.peer_params ≡ (end_at side r.start).peer_params) (control_at side w) call (end_at side w) before.peer before.peer
-
-        ids : (end_at side next).ids ≡ (end_at side r.start).ids
-        ids = ap (λ (e : End). e.ids) left_is ∙ stays.ids ∙ reads_either (λ (e : End). e.ids ≡ (end_at side r.start).ids) (control_at side w) call (end_at side w) before.ids before.ids
+        peer = ap (λ (e : End). e.peer_params) left_is ∙ stays.peer ∙ reads_either (λ (e : End). e.peer_params ≡ (end_at side r.start).peer_params) (control_at side w) (heard_at side w) call (end_at side w) before.peer before.peer
 
         waiting_met : (end_at side w).messages.queues.outgoing ≡ met.messages.queues.outgoing
-        waiting_met = reads_either (λ (e : End). (end_at side w).messages.queues.outgoing ≡ e.messages.queues.outgoing) (control_at side w) call (end_at side w) refl refl
+        waiting_met = reads_either (λ (e : End). (end_at side w).messages.queues.outgoing ≡ e.messages.queues.outgoing) (control_at side w) (heard_at side w) call (end_at side w) refl refl
 
         -- how long a message may be behind it
         longest : longest_in r side v ≡ longest_of (sizing left)
         longest =
             let e : End = end_at side r.start in
-            ap (λ (n : ℕ). max_size e.peer_params.max_datagram_frame_size n (length e.ids.active.id)) (ap (λ (u : View). mtu_in u side) shown ∙ size_there side next)
-            ∙ ap (λ (p : ParameterValues). max_size p.max_datagram_frame_size (end_at side next).path.discovery.size (length e.ids.active.id)) (sym peer)
-            ∙ ap (λ (x : Ids). max_size (end_at side next).peer_params.max_datagram_frame_size (end_at side next).path.discovery.size (length x.active.id)) (sym ids)
+            ap (λ (n : ℕ). max_size e.peer_params.max_datagram_frame_size n (length e.ids.peer.id)) (ap (λ (u : View). mtu_in u side) shown ∙ size_there side next)
+            ∙ ap (λ (p : ParameterValues). max_size p.max_datagram_frame_size (end_at side next).path.discovery.size (length e.ids.peer.id)) (sym peer)
+            ∙ ap (λ (n : ℕ). max_size (end_at side next).peer_params.max_datagram_frame_size (end_at side next).path.discovery.size n) ((known_there 0 r.start refl refl).used ∙ sym (known_there (suc i) next m.served behind).used)
             ∙ ap (λ (x : End). longest_of (sizing x)) left_is
 
         fits : Fits (queue_room r side) met left
         fits =
             let here : IsShort (sizing (end_at side w)) = short_there i w (served_before r.answers i m.served) m.leads in
             let there : IsShort (sizing left) = subst (λ (e : End). IsShort (sizing e)) left_is (short_there (suc i) next m.served behind) in
-            let read : IsShort (sizing met) = reads_either (λ (e : End). IsShort (sizing e)) (control_at side w) call (end_at side w) here here in
+            let read : IsShort (sizing met) = reads_either (λ (e : End). IsShort (sizing e)) (control_at side w) (heard_at side w) call (end_at side w) here here in
             record {
-              room = reads_either (λ (e : End). e.transport.datagram_send_buffer_size ≡ queue_room r side) (control_at side w) call (end_at side w) (ap (λ (t : TransportSettings). t.datagram_send_buffer_size) before.transport) (ap (λ (t : TransportSettings). t.datagram_send_buffer_size) before.transport);
+              room = reads_either (λ (e : End). e.transport.datagram_send_buffer_size ≡ queue_room r side) (control_at side w) (heard_at side w) call (end_at side w) (ap (λ (t : TransportSettings). t.datagram_send_buffer_size) before.transport) (ap (λ (t : TransportSettings). t.datagram_send_buffer_size) before.transport);
               sized = read.0;
               short = read.1;
               short_behind = there.1;
             }
 
+        owes : Owes met
+        owes = let here = owes_there i w (served_before r.answers i m.served) m.leads in reads_either Owes (control_at side w) (heard_at side w) call (end_at side w) here here
+
+        -- messages aren't dropped by a call but where the size falls
+        quiet : (k : Call) → IsMade r i side k a w next → is_poll k ≡ false → is_on_messages k ≡ false
+            → let e : End = reads_window (control_at side w) (heard_at side w) k (end_at side w) in Drops (sizing e) (sizing (after_call (policy_at side r.keys) e (given_by (other_side side) w) k a))
+        quiet (calls.Poll now) m unpolled off = cc
+        quiet (calls.Deliver delivery) m unpolled off =
+            let h = call_holds Shortly shortly r end honest run i side (calls.Deliver delivery) a w next (λ id is. cc) tt m in
+            let x : Party = calling r i w side (calls.Deliver delivery) h.sents in
+            let y : Party = party_at r i w (other_side side) h.theirs in
+            by_coming x y a h.joined (made_served r i side (calls.Deliver delivery) a w next m) (meets y x h.takes.0.0.0) (λ (e : End) (j : Intake). Drops (sizing x.end) (sizing e)) (calls.Deliver delivery) m.step.answer (record {
+              apart = λ apart. cc;
+              none = λ d is. same_drops (sizing x.end) h.gives.0.0.0.sized;
+              comes = λ d is s among. arrivals_drop x.end d.now s.number s.frames (came_to x y) (λ f carried. h.takes.0.0.0.tells s f among carried) h.gives.0.0.0.long.peer h.gives.0.0.0.sized;
+            })
+        quiet k m unpolled off = quiet_drops (policy_at side r.keys) (end_at side w) (given_by (other_side side) w) k a refl refl off (known_there i w (served_before r.answers i m.served) m.leads) (short_there i w (served_before r.answers i m.served) m.leads).0
+
         waits : (more : List Sent) → outbox (suc i) (sents_until r side (suc i) ++ more) ≡ record { waiting = (end_at side next).messages.queues.outgoing; left = more }
         waits more =
-            let new : List Sent = sents_by met call a in
+            let new : List Sent = sents_by (policy_at side r.keys) met call a in
             outbox_more (queue_room r side) (longest_in r side) side i r.events r.answers r.views (record { side = side; call = call }) a v m.at.event m.at.answer at_view (record { waiting = []; left = sents_until r side (suc i) ++ more })
             ∙ at_side side (outbox i (sents_until r side (suc i) ++ more))
             ∙ ap (λ (ss : List Sent). outbox_behind (queue_room r side) (longest_in r side v) call a (outbox i (ss ++ more))) (sent call m)
@@ -213,7 +245,7 @@ module _ (r : Run) (end : World) (honest : IsHonest r) (run : IsRun r end) (side
             ∙ ap (outbox_behind (queue_room r side) (longest_in r side v) call a) (before.waits (new ++ more))
             ∙ ap (λ (ms : List (List ℕ)). outbox_behind (queue_room r side) (longest_in r side v) call a (record { waiting = ms; left = new ++ more })) waiting_met
             ∙ ap (λ (o : Option ℕ). outbox_behind (queue_room r side) o call a (record { waiting = met.messages.queues.outgoing; left = new ++ more })) longest
-            ∙ call_leaves (queue_room r side) (policy_at side r.keys) met (given_by (other_side side) w) call a fits m.step.answer (made_served r i side call a w next m) more
+            ∙ call_leaves (queue_room r side) (policy_at side r.keys) met (given_by (other_side side) w) call a owes (quiet call m) fits m.step.answer (made_served r i side call a w next m) more
             ∙ ap (λ (e : End). record { waiting = e.messages.queues.outgoing; left = more }) (sym left_is)
           where
             at_side : (by : Side) (o : Outbox) → outbox_next (queue_room r side) (longest_in r side) by (record { side = by; call = call }) a v o ≡ outbox_behind (queue_room r side) (longest_in r side v) call a o
@@ -246,8 +278,8 @@ module _ (r : Run) (end : World) (honest : IsHonest r) (run : IsRun r end) (side
 
 -- ---- the clause
 
-pub messages_go : (r : Run) (end : World) → IsHonest r → IsRun r end → MessagesGo r
-messages_go r end honest run side i now message v served gave waits =
+pub messages_go : (r : Run) (end : World) → IsHonest r → IsRun r end → HaveHeardNothing r.start → MessagesGo r
+messages_go r end honest run quiet side i now message v served gave waits =
     let at = placed Shortly shortly r end honest run side (suc i) served in
     let within = slice_get_within r.views i v gave.shown in
-    polls_send_messages r end honest run side i now message v at.world served gave at.leads (subst (In message) (waiting_is r end honest run side (suc i) at.world (omega (arith, within)) served at.leads) waits)
+    polls_send_messages r end honest run quiet side i now message v at.world served gave at.leads (subst (In message) (waiting_is r end honest run side (suc i) at.world (omega (arith, within)) served at.leads) waits)

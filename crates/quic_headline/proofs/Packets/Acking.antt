@@ -1,4 +1,5 @@
--- The numbers that an end has to acknowledge stay few maximal runs of packet numbers, whatever comes and whatever call is made.
+-- The numbers that an end has to acknowledge stay few maximal runs of packet numbers, whatever
+-- comes and whatever call is made.
 use Rattle.std.proofs.Common.{◌≡◌, ℕ, ◌^◌, ◌<◌, Bool, true, false, Option, Some, None, List, ◌∷◌, map, Ok, refl, sym, subst, inl, inr, arith}
 use Rattle.quic_wire_core.specs.declared.shared.EcnCodepoint.{EcnCodepoint}
 use Rattle.quic_wire_core.specs.declared.shared.EcnCodepoint.TheVariants.{Ect0, Ect1, Ce}
@@ -12,7 +13,7 @@ use Rattle.quic_machine.specs.declared.run.Call.{Call}
 use Rattle.quic_machine.specs.declared.run.Answer.{Answer}
 use Rattle.quic_machine.specs.Policy.{Policy}
 use Rattle.quic_machine.specs.Closing.{ticked}
-use Rattle.quic_machine.specs.End.{End, with_closing}
+use Rattle.quic_machine.specs.End.{End, with_closing, closed_by}
 use Rattle.quic_machine.specs.Receive.{asks_in}
 use Rattle.quic_spaces.specs.Acknowledging.{with_due}
 use Rattle.quic_machine.specs.Poll.{Draft, Polled, polled, draft_as, Leaving, whole, nothing, lazied_as}
@@ -29,6 +30,8 @@ use Rattle.quic_machine.specs.LeaveCases.{by_expired}
 use Rattle.quic_machine.specs.CallCases.{Plain, is_delivery, by_plain_call}
 use Rattle.quic_machine.specs.CallCases as cases
 use Rattle.quic_machine.specs.PollCases.{by_poll, at_poll}
+use Rattle.quic_headline.proofs.Packets.Closes.{by_closes}
+use Rattle.quic_headline.proofs.Packets.Apart.{by_waits, by_next_id}
 
 -- nothing came yet
 pub acks_first : Acks none_pending none_marked
@@ -72,8 +75,10 @@ pub acks_arrivals : (e : End) (now n : ℕ) (frames : List FrameValue) (i : Inta
 acks_arrivals e now n frames i small acks = record {
   ignored = λ reason. acks;
   noted = λ state reason. acks;
-  takes = λ state new none mark. acks_taken left.acknowledging left.marks.came mark n left.closing.clock (asks_in (map Ok frames)) left.numbers.opened small after;
-  refuses = λ state new f is. after;
+  takes = λ words state new none mark. acks_taken left.acknowledging left.marks.came mark n left.closing.clock (asks_in (map Ok frames)) left.numbers.opened small after;
+  drains = λ words state new close is. after;
+  refuses = λ words state new f is. after;
+  exhausts = λ state. acks;
 }
   where
     left : End
@@ -87,8 +92,10 @@ pub taken_arrivals : (e : End) (now n : ℕ) (frames : List FrameValue) (i : Int
 taken_arrivals e now n frames i acks before = record {
   ignored = λ reason. before;
   noted = λ state reason. before;
-  takes = λ state new none mark. taken mark;
-  refuses = λ state new f is k h. before k (keeps.fewer k h);
+  takes = λ words state new none mark. taken mark;
+  drains = λ words state new close is k h. (let t = before k (keeps.fewer k h) in record { packet = t.packet; was_taken = inr t.was_taken; is = t.is });
+  refuses = λ words state new f is k h. before k (keeps.fewer k h);
+  exhausts = λ state. before;
 }
   where
     left : End
@@ -131,7 +138,8 @@ polled_runs p e now = by_poll p e now (λ (q : Polled). TellsAs e q.end) (record
   silent = (refl, refl);
   failed = (refl, refl);
   nothing = λ c. (refl, refl);
-  closes = λ c. (refl, refl);
+  repeats = λ is. by_closes p (with_closing e (ticked e.closing now)) (λ (q : Polled). TellsAs e q.end) (refl, refl) (λ f goes. (refl, refl));
+  closes = λ reason c bound. by_closes p (closed_by reason (at_poll e now c)) (λ (q : Polled). TellsAs e q.end) (refl, refl) (λ f goes. (refl, refl));
   gives = λ leaving c left is may ready some.
       let x : End = at_poll e now c in
       draft_runs leaving x (may_leave e now leaving x ready);
@@ -144,9 +152,11 @@ pub runs_step : (q : Policy) (e : End) (theirs : List (List ℕ)) (call : Call) 
 runs_step q e theirs call a other = by_plain_call q e theirs (TellsAs e) call a cases_keep
   where
     cases_keep : Plain q e call (TellsAs e)
-    cases_keep (cases.times now expiry) may = by_expired e now (TellsAs e) (λ pending tracking timers runs packets. (runs, refl)) (λ pending timers runs. (runs, (settles_losses (with_closing e (ticked e.closing now))).came)) expiry
+    cases_keep (cases.times now expiry) may = by_expired q.words e now (TellsAs e) (λ pending tracking timers waits asked runs packets. (runs, refl)) (λ pending timers waits asked runs. (runs, (settles_losses (with_closing e (ticked e.closing now))).came)) (λ x j. j) expiry
     cases_keep (cases.polls now) may = polled_runs q e now
     cases_keep (cases.hears arrival d) is = cc
+    cases_keep (cases.waits now b) may = by_waits (TellsAs e) b (with_closing e (ticked e.closing now)) (refl, refl) (refl, refl)
+    cases_keep (cases.changes_id b) may = by_next_id (TellsAs e) e b (refl, refl) (λ c. (refl, refl)) (λ c most. (refl, refl))
     cases_keep c may = (refl, refl)
 
 -- the numbers to acknowledge stay those of packets that were taken over a call that is no delivery

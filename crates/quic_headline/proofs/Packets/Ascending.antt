@@ -11,7 +11,7 @@ use Rattle.quic_machine.specs.Arrival.{Arrival}
 use Rattle.quic_machine.specs.Policy.{Policy}
 use Rattle.quic_machine.specs.Closing.{ticked}
 use Rattle.quic_machine.specs.Tracking.{Tracking, TrackedPacket, without_packet, forgotten, after_sent, without_record, names, acked_by, is_lost}
-use Rattle.quic_machine.specs.End.{End, with_closing, number_of}
+use Rattle.quic_machine.specs.End.{End, with_closing, number_of, closed_by}
 use Rattle.quic_machine.specs.Acked.{verdict, losses_detected, measured, sampled, without_acked, after_named, losses_taken}
 use Rattle.quic_machine.specs.Receive.{received}
 use Rattle.quic_machine.specs.Poll.{Polled, Draft, packet_of, tracked, polled, goes, Ready}
@@ -24,6 +24,8 @@ use Rattle.quic_machine.specs.Machine.{after_call}
 use Rattle.quic_machine.specs.declared.run.Call.{Call}
 use Rattle.quic_machine.specs.declared.run.Answer.{Answer}
 use Rattle.quic_headline.specs.Runs.{In}
+use Rattle.quic_headline.proofs.Packets.Closes.{by_closes}
+use Rattle.quic_headline.proofs.Packets.Apart.{by_waits, by_next_id}
 use Rattle.quic_headline.proofs.Packets.Searches.{by_losses}
 use Rattle.quic_headline.proofs.Packets.Named.{sampled_tracking}
 use Rattle.quic_headline.proofs.Packets.Probes.{by_ready, by_going}
@@ -87,7 +89,8 @@ ascends_added {A} low (p ∷ ps) n v above a = go (nat_cmp n p.0) refl (λ over.
     go Equal is rest = (a.0, a.1)
     go Greater is rest = (let upper : p.0 < n = ranked n p.0 Greater (sym is) in (a.0, rest (omega arith)))
 
--- where another value stands at the number of one of them: those before it and those behind it are as they were
+-- where another value stands at the number of one of them: those before it and those behind it are
+-- as they were
 pub record Splits {A : Type 0} (ps changed : Table A) (p : ℕ × A) (v : A) : Type 0 where
   pub before : Table A
   pub behind : Table A
@@ -142,11 +145,15 @@ ascends_received = by_received Ascends (record {
   frame = frame_keeps Ascends (record {
     ack = λ rises k x a. ascends_named (acked_by k x.tracking.packets) rises k (named k x) a;
     on_streams = λ f x on a. frame_leaves Ascends f x on (λ streams. a);
-    apart = λ f x is a. apart_leaves Ascends f x is (λ c. a);
+    apart = λ f x is a. apart_leaves Ascends f x is (λ c. a) (λ c most. a);
     message = λ m x a. a;
   });
   takes = λ n asks mark x a. a;
   closes = λ reason x a. a;
+  drains = λ close x a. a;
+  asks_close = λ x a. a;
+  exhausts = λ now x a. a;
+  draws = λ words x a. a;
 })
 
 -- an end that is ready to give
@@ -169,7 +176,8 @@ ascends_polled p e now a = by_poll_to p e now (λ (q : Polled). Ascends q.end) (
   silent = a;
   failed = a;
   nothing = λ is none. ready;
-  closes = ready;
+  repeats = λ is. by_closes p (with_closing e (ticked e.closing now)) (λ (q : Polled). Ascends q.end) a (λ f goes. a);
+  closes = λ reason bound. by_closes p (closed_by reason (ready_at e now).end) (λ (q : Polled). Ascends q.end) ready (λ f goes. ready);
   gives = λ is may some. by_going Ascends p d (λ pacing. gives some);
 })
   where
@@ -190,7 +198,10 @@ pub ascends_call : (p : Policy) (e : End) (theirs : List (List ℕ)) (call : Cal
 ascends_call p e theirs call answer a = by_plain_call p e theirs Ascends call answer keep
   where
     keep : Plain p e call Ascends
-    keep (cases.times now expiry) may = by_expired e now Ascends (λ pending tracking timers runs packets. subst (λ (ps : Table TrackedPacket). Ascending 0 ps) (sym packets) a) (λ pending timers runs. ascends_losses (with_closing e (ticked e.closing now)) a) expiry
+    keep (cases.times now expiry) may = by_expired p.words e now Ascends (λ pending tracking timers waits asked runs packets. subst (λ (ps : Table TrackedPacket). Ascending 0 ps) (sym packets) a) (λ pending timers waits asked runs. ascends_losses (with_closing e (ticked e.closing now)) a) (λ x j. j) expiry
     keep (cases.polls now) may = ascends_polled p e now a
     keep (cases.hears arrival d) may = ascends_received p e arrival d a
+    keep (cases.closes reason f now) may = a
+    keep (cases.waits now b) may = by_waits Ascends b (with_closing e (ticked e.closing now)) a a
+    keep (cases.changes_id b) may = by_next_id Ascends e b a (λ c. a) (λ c most. a)
     keep c may = a

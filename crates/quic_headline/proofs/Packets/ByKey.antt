@@ -21,7 +21,7 @@ use Rattle.quic_machine.specs.Ids.{known}
 use Rattle.quic_machine.specs.Policy.{Policy}
 use Rattle.quic_machine.specs.End.{End, with_closing, with_numbers}
 use Rattle.quic_machine.specs.Opens.{own_id_length, opens_behind, opens}
-use Rattle.quic_machine.specs.Receive.{Fault, asks_in, take_payload, dropped, ends_as, by_state, opened_as, opening, headed}
+use Rattle.quic_machine.specs.Receive.{Fault, asks_in, take_payload, dropped, ends_as, by_state, opened_as, opening, headed, broke, too_many_pieces, closed_by_peer, unopened_in}
 use Rattle.quic_headline.specs.Runs.{Packet, expected_behind, destination, opens_by_key, is_elsewhere, came_open}
 
 -- ---- the header
@@ -34,7 +34,8 @@ header ids d = decoded (fixed_length_id own_id_length) ids d
 pub known_alone : (id : List ℕ) → is_known id (id ∷ []) ≡ true
 known_alone id = ap (λ (b : Bool). b || false) ((bytes_decides id id).1 refl)
 
--- what a header says, by what is said of it where its id is the only one that is known, and by whether that is one of others
+-- what a header says, by what is said of it where its id is the only one that is known, and by
+-- whether that is one of others
 abbrev pub by_id : Bool → Result (List ℕ) HeaderError → Result (List ℕ) HeaderError
 by_id b (Err error) = Err error
 by_id b (Ok id) = cond {A = Result (List ℕ) HeaderError} b (Ok id) (Err UnknownId)
@@ -79,7 +80,8 @@ header_for ids (first ∷ rest) id is = go (nat_le own_id_length (length rest)) 
 abbrev pub counted : Bool → Option Opening → Option Opening
 counted b o = if b then o else None
 
--- what a datagram opens to at an end that has some ids is what it does by its key, where its id is one of them
+-- what a datagram opens to at an end that has some ids is what it does by its key, where its id is
+-- one of them
 pub opens_by_id : (p : Policy) (ids : List (List ℕ)) (x : ℕ) (d : List ℕ) → opens p ids x d ≡ counted (is_known (destination d) ids) (opens_by_key p x d)
 opens_by_id p ids x d = ap (λ (r : Result (List ℕ) HeaderError). opens_behind r p x d) (header_by_id ids d) ∙ go (is_known (destination d) ids) (header (destination d ∷ []) d)
   where
@@ -94,7 +96,9 @@ opens_by_id p ids x d = ap (λ (r : Result (List ℕ) HeaderError). opens_behind
 -- a packet that opened, or didn't, isn't answered to be sent to another id
 ends_here : (fault : Option Fault) (asking : Bool) (n : ℕ) (mark : Option EcnCodepoint) (e : End) → is_elsewhere (answers.Deliver (ends_as fault asking n mark e).answer) ≡ false
 ends_here None asking n mark e = refl
-ends_here (Some fault) asking n mark e = refl
+ends_here (Some (closed_by_peer close)) asking n mark e = refl
+ends_here (Some (broke error)) asking n mark e = refl
+ends_here (Some too_many_pieces) asking n mark e = refl
 
 state_here : (s : State) (o : Opening) (arrival : Arrival) (e : End) → is_elsewhere (answers.Deliver (by_state s o arrival e).answer) ≡ false
 state_here states.Open o arrival e =
@@ -104,9 +108,16 @@ state_here states.Closing o arrival e = refl
 state_here states.Drained o arrival e = refl
 state_here states.Failed o arrival e = refl
 
-pub opened_here : (o : Option Opening) (arrival : Arrival) (e : End) → is_elsewhere (answers.Deliver (opened_as o arrival e).answer) ≡ false
-opened_here None arrival e = refl
-opened_here (Some o) arrival e = go (key_phase o.first) (is_duplicate e.numbers.opened o.number)
+unopened_here : (s : State) (b : Bool) (arrival : Arrival) (e : End) → is_elsewhere (answers.Deliver (unopened_in s b arrival e).answer) ≡ false
+unopened_here states.Open true arrival e = refl
+unopened_here states.Open false arrival e = refl
+unopened_here states.Closing b arrival e = refl
+unopened_here states.Drained b arrival e = refl
+unopened_here states.Failed b arrival e = refl
+
+pub opened_here : (o : Option Opening) (p : Policy) (arrival : Arrival) (e : End) → is_elsewhere (answers.Deliver (opened_as o p arrival e).answer) ≡ false
+opened_here None p arrival e = unopened_here e.closing.state arrival.last arrival e
+opened_here (Some o) p arrival e = go (key_phase o.first) (is_duplicate e.numbers.opened o.number)
   where
     noted : End
     noted = with_numbers e (number_opened e.numbers o.number)
@@ -127,8 +138,8 @@ none_left : (b : Bool) → left_if b None ≡ None
 none_left true = refl
 none_left false = refl
 
--- what an open end is handed opens to what it does there, where it expects the number that the lists say: it answers of all others that they have another id, or
--- they open to nothing
+-- what an open end is handed opens to what it does there, where it expects the number that the
+-- lists say: it answers of all others that they have another id, or they open to nothing
 pub came_open_is : (p : Policy) (e : End) (arrival : Arrival) (d : List ℕ) (packets : List Packet) → expected e.numbers ≡ expected_behind packets
     → came_open p packets (answers.Deliver (headed (header (known e.ids) d) p e arrival d).answer) d ≡ opens p (known e.ids) (expected e.numbers) d
 came_open_is p e arrival d packets expects =
@@ -139,5 +150,5 @@ came_open_is p e arrival d packets expects =
   where
     go : (b : Bool) (r : Result (List ℕ) HeaderError) → left_of p e arrival d (by_id b r) (opens_behind r p (expected e.numbers) d) ≡ opens_behind (by_id b r) p (expected e.numbers) d
     go b (Err error) = none_left (is_elsewhere (answers.Deliver (headed (Err error) p e arrival d).answer))
-    go true (Ok id) = ap (λ (b : Bool). left_if b (opens_behind (Ok id) p (expected e.numbers) d)) (opened_here (opening p e d) arrival e)
+    go true (Ok id) = ap (λ (b : Bool). left_if b (opens_behind (Ok id) p (expected e.numbers) d)) (opened_here (opening p e d) p arrival e)
     go false (Ok id) = refl

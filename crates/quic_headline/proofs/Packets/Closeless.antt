@@ -2,7 +2,7 @@
 use Rattle.std.proofs.Common.{◌≡◌, ℕ, zero, suc, Bool, true, false, ◌||◌, List, [], ◌∷◌, ◌++◌, replicate, refl, ap, ◌∙◌}
 use Rattle.std.specs.List.{list_any}
 use Rattle.std.proofs.lemmas.List.Folds.{list_any-append}
-use Rattle.quic_wire.specs.Value.{FrameValue, padding, ping, ack, stream, datagram, connection_close, application_close}
+use Rattle.quic_wire.specs.Value.{FrameValue, padding, ping, ack, stream, datagram, connection_close, application_close, path_challenge, path_response}
 use Rattle.quic_streams_parts.specs.SendHalf.{frame_of}
 use Rattle.quic_recovery_core.specs.PendingAcks.{can_send}
 use Rattle.quic_machine.specs.End.{End}
@@ -11,7 +11,7 @@ use Rattle.quic_machine.specs.DraftLaws.{by_entries, by_messages, by_streams, Is
 use Rattle.quic_machine.specs.PollCases.{ready_at, draft_at, ready_closes_not}
 use Rattle.quic_headline.specs.Observer.{is_close, closes_of}
 use Rattle.quic_headline.proofs.Packets.Entries.{IsControl, control_of}
-use Rattle.quic_headline.proofs.Places.Parties.{sent_by}
+use Rattle.quic_headline.proofs.Places.Parties.{sent_as}
 
 -- no frame is a close
 abbrev Closeless : List FrameValue → Type 0
@@ -30,6 +30,8 @@ control_is f is = refl
 -- nor is a signal
 signal_is : (f : FrameValue) → IsSignal f → is_close f ≡ false
 signal_is ping is = refl
+signal_is (path_challenge token) is = refl
+signal_is (path_response token) is = refl
 signal_is f is = absurd is
 
 padding_is : (count : ℕ) → Closeless (replicate count padding)
@@ -57,8 +59,8 @@ composed_closeless e = go (can_send e.acknowledging)
     go true = asking_closeless (with_ack (no_frames e)) refl
     go false = late (ack_fits (with_asking (no_frames e))) (with_asking (no_frames e)) (asking_closeless (no_frames e) refl)
 
--- and what goes, but for a close
-pub sent_closeless : (e : End) (now : ℕ) → closes_of (sent_by e now) ≡ false
+-- and what goes of an open end, but where it closes
+pub sent_closeless : (e : End) (now : ℕ) → closes_of (sent_as e now (draft_at e now)) ≡ false
 sent_closeless e now = more (draft_at e now).frames (replicate (zeros_behind (draft_at e now)) padding) (go (ready_at e now).leaving refl) (padding_is (zeros_behind (draft_at e now)))
   where
     x : End

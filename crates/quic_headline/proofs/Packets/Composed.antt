@@ -1,5 +1,6 @@
--- What an end composes spells the payload of its next datagram, whatever its frames mean (RFC 9000, sections 12.4 and 19).
-use Rattle.std.proofs.Common.{◌≡◌, ℕ, ◌+◌, ◌-◌, ◌<◌, ◌≤◌, ◌^◌, zero, suc, Bool, true, false, cond, ◌&&◌, ◌||◌, ◌==◌, min, max, List, [], ◌∷◌, ◌++◌, length, drop, replicate, Some, None, refl, sym, subst, ap, ◌∙◌, ◌⊎◌, inl, inr, arith}
+-- What an end composes spells the payload of its next datagram, whatever its frames mean (RFC 9000,
+-- sections 12.4 and 19).
+use Rattle.std.proofs.Common.{◌≡◌, ℕ, ◌+◌, ◌-◌, ◌<◌, ◌≤◌, ◌^◌, zero, suc, Bool, true, false, cond, ◌&&◌, ◌||◌, ◌==◌, min, max, List, [], ◌∷◌, ◌++◌, length, drop, replicate, Some, None, refl, sym, subst, ap, ◌∙◌, ◌⊎◌, inl, inr, arith, Option}
 use Rattle.std.specs.Prelude.{if◌then◌else◌, nat_le, nat_lt, ◌/◌}
 use Rattle.std.proofs.lemmas.Bool.{leb-true, ltb-false, and_parts}
 use Rattle.std.proofs.lemmas.List.{append-nil, append_assoc, length-append, length-take, length-drop}
@@ -22,9 +23,11 @@ use Rattle.quic_streams_laws.specs.KindLaws.{GoesFirst}
 use Rattle.quic_streams_state.specs.Frames.{after_frame_sent}
 use Rattle.quic_spaces.specs.Marks.{Counts, told_counts}
 use Rattle.quic_spaces.specs.Acknowledging.{written_delay, delay_at}
-use Rattle.quic_machine.specs.End.{End, streams_at, with_ping}
-use Rattle.quic_machine.specs.Poll.{asking, overhead, number_width, with_least, zeros_behind, Draft, no_frames, with_frame, frame_room, fits, left, ping_if, with_signal_frames, with_control_frames, with_message, with_message_frames, with_asking, ack_of, with_ack, ack_fits, ack_if, composed_if, payload_of, lazied, asks_to_go, waits, draft_as, draft_of, probe, alone, whole, Leaving, Ready, nothing, probing, composed, behind_control, least_left, closing}
-use Rattle.quic_machine.specs.Parts.{current_mtu}
+use Rattle.quic_machine.specs.End.{End, streams_at, with_signals}
+use Rattle.quic_machine.specs.Poll.{asking, overhead, number_width, with_least, zeros_behind, Draft, no_frames, with_frame, frame_room, fits, left, ping_if, with_signal_frames, with_control_frames, with_message, with_message_frames, with_asking, ack_of, with_ack, ack_fits, ack_if, composed_if, payload_of, lazied, asks_to_go, waits, draft_as, draft_of, probe, alone, whole, Leaving, Ready, nothing, probing, composed, behind_control, least_left, closing, lazied_as, with_signal, least_behind, challenge_if, response_if, with_challenge_frame, with_response_frame}
+use Rattle.quic_machine.specs.Parts.{Signals, current_mtu}
+use Rattle.quic_machine.specs.Validation.{challenge_frame, response_frame, path_frames_size}
+use Rattle.quic_paths.specs.Responses.{Response}
 use Rattle.quic_machine.specs.PollCases.{frames_padded}
 use Rattle.quic_machine.specs.DraftLaws.{SendsHalf, by_messages, by_streams, MayLeave, HasRoom, room_most, entry_behind}
 use Rattle.quic_machine.specs.Puts.{stream_room, with_entry, with_half_frame}
@@ -36,7 +39,8 @@ use Rattle.quic_streams_laws.specs.ControlWalk.{GoesOn, by_control}
 
 -- ---- what is known of streams
 
--- a fact of streams, and of what waits beside their bytes, that stays whichever frames go of them; by it each of these has a form
+-- a fact of streams, and of what waits beside their bytes, that stays whichever frames go of them;
+-- by it each of these has a form
 pub record Spelling (K : Streams → Type 0) : Type 0 where
   -- what waits is dropped, since it is no longer due
   pub drops : (t : Streams) (kind : ControlKind) → K t → K (streams_of t.state (without_first kind t.pending))
@@ -51,7 +55,7 @@ pub record IsSpellable (g : Ready) : Type 0 where
   pub some : 0 < length (draft_of g).frames
   -- the frames don't take more than the room for them, and only a probe of a size has a least one
   pub within : length (draft_of g).bytes ≤ frame_room (draft_of g).end
-  pub least : (draft_of g).least ≡ least_left g.leaving
+  pub least : (draft_of g).least ≡ least_left g.leaving g.end
 
 -- what waits waits still where an acknowledgement becomes due
 pub waits_lazied : (e : End) → waits e ≡ true → waits (lazied e) ≡ true
@@ -200,7 +204,7 @@ ack_some e =
     type false = let two : width_of 2 ≡ 1 = refl in omega arith
 
 -- it leaves room for one more frame of control
-pub ack_leaves : (e : End) → Acks e.acknowledging e.marks.came → is_filled e.acknowledging.runs ≡ true → 1159 ≤ frame_room e → length (spelling (ack (ack_of e))) + 25 ≤ frame_room e
+pub ack_leaves : (e : End) → Acks e.acknowledging e.marks.came → is_filled e.acknowledging.runs ≡ true → 1159 ≤ frame_room e → length (spelling (ack (ack_of e))) + 54 ≤ frame_room e
 ack_leaves e acks filled room =
     let form : AckFits (ack_of e) = ack_form e acks filled in
     let long = spelling_length (ack (ack_of e)) form in
@@ -221,7 +225,7 @@ record Full (d : Draft) : Type 0 where
   spells : Payload d.frames d.bytes
   full : frame_room d.end ≤ length d.bytes
   long : 4 ≤ length d.bytes
-  least : d.least ≡ 0
+  least : d.least ≤ current_mtu d.end.path
 
 -- frames that stand in a payload, whether or not they leave room
 abbrev Stands : Draft → Type 0
@@ -248,8 +252,12 @@ behind_more d f bytes e before spells fs rest behind = rw (append_assoc d.frames
 behind_fit : (d : Draft) (f : FrameValue) (e : End) → Behind d → Fits f → Behind (with_frame d f (spelling f) e)
 behind_fit d f e before fits = behind_more d f (spelling f) e before (λ fs rest spells. spelled_before f fs rest fits spells)
 
+-- a close that has a form goes alone
+pub close_spells : (f : FrameValue) (e : End) → Fits f → Payload (frames_padded (draft_as (closing f) e)) (payload_of (draft_as (closing f) e))
+close_spells f e form = fills (draft_as (closing f) e) (inl (behind_fit (no_frames (lazied_as (closing f) e)) f (lazied_as (closing f) e) (λ fs rest spells. spells) form))
+
 -- the frame of a half goes behind others, and takes the whole room where its length isn't written
-half_stands : (d : Draft) (id : ℕ) (h : SendHalf) (room : ℕ) → d.least ≡ 0 → 25 ≤ left d → room ≡ stream_room d id → id < 2 ^ 62 → HasFrame h room → Behind d → Stands (with_half_frame d id h room)
+half_stands : (d : Draft) (id : ℕ) (h : SendHalf) (room : ℕ) → d.least ≤ current_mtu d.end.path → 25 ≤ left d → room ≡ stream_room d id → id < 2 ^ 62 → HasFrame h room → Behind d → Stands (with_half_frame d id h room)
 half_stands d id h room least some is small has before = go (writes_length h.buffer room) refl
   where
     frame : StreamValue
@@ -283,25 +291,56 @@ message_form d m sized fit =
 -- ---- all of them
 
 module _ (K : Streams → Type 0) (k : Spelling K) where
-  -- a draft of an end of which this is known, with frames that stand so, and take no more than the room
+  -- a draft of an end of which this is known, with frames that stand so, and take no more than the
+  -- room
   record Goes (S : Draft → Type 0) (d : Draft) : Type 0 where
     streams : K (streams_at d.end)
     acks : Acks d.end.acknowledging d.end.marks.came
     sized : current_mtu d.end.path < 2 ^ 16
     room : 1159 ≤ frame_room d.end
-    least : d.least ≡ 0
+    wide : 1200 ≤ current_mtu d.end.path
+    least : d.least ≤ current_mtu d.end.path
     within : length d.bytes ≤ frame_room d.end
     stands : S d
 
-  -- PING goes, where there is room for it
-  ping_goes : (d : Draft) → length d.bytes + 25 ≤ frame_room d.end → Goes Behind d → Goes Behind (with_signal_frames d)
-  ping_goes d left g = go d.end.waiting.signals.ping
-    where
-      go : (b : Bool) → Goes Behind (ping_if b d)
-      go true =
-          let long = length-append d.bytes (spelling ping) in
-          record { streams = g.streams; acks = g.acks; sized = g.sized; room = g.room; least = g.least; within = omega arith; stands = behind_fit d ping (with_ping d.end false) g.stands tt }
-      go false = g
+  -- a signal goes that has a form, where there is room for it
+  signal_goes : (d : Draft) (f : FrameValue) (left : Signals) → Fits f → length d.bytes + length (spelling f) ≤ frame_room d.end → least_behind f d.least ≤ current_mtu d.end.path → Goes Behind d → Goes Behind (with_signal d f left)
+  signal_goes d f left form fit least g =
+      let long = length-append d.bytes (spelling f) in
+      record { streams = g.streams; acks = g.acks; sized = g.sized; room = g.room; wide = g.wide; least = least; within = omega arith; stands = behind_fit d f (with_signals d.end left) g.stands form }
+
+  -- each of them goes where it waits, and leaves room for the next
+  challenge_goes : (o : Option ℕ) (d : Draft) → length d.bytes + 25 ≤ frame_room d.end → Goes Behind d → Goes Behind (challenge_if o d) × (length (challenge_if o d).bytes + 16 ≤ frame_room (challenge_if o d).end)
+  challenge_goes None d left g = (g, omega arith)
+  challenge_goes (Some word) d left g =
+      let long = length-append d.bytes (spelling (challenge_frame word)) in
+      let nine : length (spelling (challenge_frame word)) ≡ 9 = refl in
+      let least = g.least in
+      let wide = g.wide in
+      (signal_goes d (challenge_frame word) _ refl (omega arith) (omega arith) g, omega arith)
+
+  response_goes : (o : Option Response) (d : Draft) → length d.bytes + 16 ≤ frame_room d.end → Goes Behind d → Goes Behind (response_if o d) × (length (response_if o d).bytes + 7 ≤ frame_room (response_if o d).end)
+  response_goes None d left g = (g, omega arith)
+  response_goes (Some r) d left g =
+      let long = length-append d.bytes (spelling (response_frame r)) in
+      let nine : length (spelling (response_frame r)) ≡ 9 = refl in
+      let least = g.least in
+      let wide = g.wide in
+      (signal_goes d (response_frame r) _ refl (omega arith) (omega arith) g, omega arith)
+
+  ping_goes : (b : Bool) (d : Draft) → length d.bytes + 7 ≤ frame_room d.end → Goes Behind d → Goes Behind (ping_if b d)
+  ping_goes true d left g =
+      let one : length (spelling ping) ≡ 1 = refl in
+      signal_goes d ping _ tt (omega arith) g.least g
+  ping_goes false d left g = g
+
+  signals_go : (d : Draft) → length d.bytes + 25 ≤ frame_room d.end → Goes Behind d → Goes Behind (with_signal_frames d)
+  signals_go d left g =
+      let asked : Draft = with_challenge_frame d in
+      let answered : Draft = with_response_frame asked in
+      let one = challenge_goes d.end.waiting.signals.challenge d left g in
+      let two = response_goes asked.end.waiting.signals.response asked one.1 one.0 in
+      ping_goes answered.end.waiting.signals.ping answered two.1 two.0
 
   -- ACK goes, where there are numbers, and room for it
   ack_goes : (d : Draft) → is_filled d.end.acknowledging.runs ≡ true → length d.bytes + length (spelling (ack (ack_of d.end))) ≤ frame_room d.end → Goes Behind d → Goes Behind (with_ack d)
@@ -312,6 +351,7 @@ module _ (K : Streams → Type 0) (k : Spelling K) where
         acks = record { runs = g.acks.runs; small = g.acks.small; counts = g.acks.counts };
         sized = g.sized;
         room = g.room;
+        wide = g.wide;
         least = g.least;
         within = omega arith;
         stands = behind_fit d (ack (ack_of d.end)) (with_ack d).end g.stands (ack_form d.end g.acks filled);
@@ -327,7 +367,7 @@ module _ (K : Streams → Type 0) (k : Spelling K) where
 
       steps : GoesOn (frame_room d.end) Fills
       steps = record {
-        drops = λ c kind e es is due q. (record { streams = k.drops (streams_at (behind_control d c).end) kind q.0.streams; acks = q.0.acks; sized = q.0.sized; room = q.0.room; least = q.0.least; within = q.0.within; stands = q.0.stands }, q.1);
+        drops = λ c kind e es is due q. (record { streams = k.drops (streams_at (behind_control d c).end) kind q.0.streams; acks = q.0.acks; sized = q.0.sized; room = q.0.room; wide = q.0.wide; least = q.0.least; within = q.0.within; stands = q.0.stands }, q.1);
         sends = λ c kind f is room q. one c kind f is room q.0 q.1;
       }
         where
@@ -339,7 +379,7 @@ module _ (K : Streams → Type 0) (k : Spelling K) where
               let long = spelling_length f went.0 in
               let all = length-append x.bytes (spelling f) in
               let bytes : length (behind_control d (control.first_sent kind f c)).bytes ≡ length x.bytes + frame_size f = ap (λ (y : Draft). length y.bytes) same ∙ all ∙ ap (λ (n : ℕ). length x.bytes + n) long in (
-                subst (Goes Behind) (sym same) (record { streams = went.1; acks = q.acks; sized = q.sized; room = q.room; least = q.least; within = omega arith; stands = behind_fit x f (with_entry x kind f).end q.stands went.0 }),
+                subst (Goes Behind) (sym same) (record { streams = went.1; acks = q.acks; sized = q.sized; room = q.room; wide = q.wide; least = q.least; within = omega arith; stands = behind_fit x f (with_entry x kind f).end q.stands went.0 }),
                 omega arith,
               )
 
@@ -353,7 +393,7 @@ module _ (K : Streams → Type 0) (k : Spelling K) where
       let long = spelling_length (datagram m) form in
       let all = length-append d.bytes (spelling (datagram m)) in
       let enough = leb-true (length d.bytes + frame_size (datagram m)) (frame_room d.end) fit in
-      record { streams = g.streams; acks = g.acks; sized = g.sized; room = g.room; least = g.least; within = omega arith; stands = behind_fit d (datagram m) (with_message d m ms).end g.stands form })
+      record { streams = g.streams; acks = g.acks; sized = g.sized; room = g.room; wide = g.wide; least = g.least; within = omega arith; stands = behind_fit d (datagram m) (with_message d m ms).end g.stands form })
 
   -- frames of streams go
   half_goes : SendsHalf (Goes Stands)
@@ -363,7 +403,7 @@ module _ (K : Streams → Type 0) (k : Spelling K) where
       let enough : 16 ≤ room = omega arith in
       let long = half_long h id room one.1 enough in
       let all = length-append d.bytes (stream_spelling (writes_length h.buffer room) (frame_of id h room)) in
-      record { streams = one.2; acks = g.acks; sized = g.sized; room = g.room; least = g.least; within = omega arith; stands = go g.stands one.0 one.1 }
+      record { streams = one.2; acks = g.acks; sized = g.sized; room = g.room; wide = g.wide; least = g.least; within = omega arith; stands = go g.stands one.0 one.1 }
     where
       go : Stands d → id < 2 ^ 62 → HasFrame h room → Stands (with_half_frame d id h room)
       go (inl before) small has = half_stands d id h room g.least some is small has before
@@ -372,9 +412,9 @@ module _ (K : Streams → Type 0) (k : Spelling K) where
   -- what asks goes, where there is room
   asking_goes : (d : Draft) → length d.bytes + 25 ≤ frame_room d.end → Goes Behind d → Goes Stands (with_asking d)
   asking_goes d left g =
-      let before = messages_go (with_control_frames (with_signal_frames d)) (entries_go (with_signal_frames d) (ping_goes d left g)) in
+      let before = messages_go (with_control_frames (with_signal_frames d)) (entries_go (with_signal_frames d) (signals_go d left g)) in
       by_streams (Goes Stands) half_goes (with_message_frames (with_control_frames (with_signal_frames d)))
-      (record { streams = before.streams; acks = before.acks; sized = before.sized; room = before.room; least = before.least; within = before.within; stands = inl before.stands })
+      (record { streams = before.streams; acks = before.acks; sized = before.sized; room = before.room; wide = before.wide; least = before.least; within = before.within; stands = inl before.stands })
 
   -- an ACK frame goes behind it where it fits
   late_goes : (d : Draft) → Goes Stands d → (b : Bool) → ack_fits d ≡ b → Goes Stands (ack_if b d)
@@ -390,22 +430,22 @@ module _ (K : Streams → Type 0) (k : Spelling K) where
 
       go : Stands d → Goes Stands (with_ack d)
       go (inl before) =
-          let x = ack_goes d fit.0 left (record { streams = g.streams; acks = g.acks; sized = g.sized; room = g.room; least = g.least; within = g.within; stands = before }) in
-          record { streams = x.streams; acks = x.acks; sized = x.sized; room = x.room; least = x.least; within = x.within; stands = inl x.stands }
+          let x = ack_goes d fit.0 left (record { streams = g.streams; acks = g.acks; sized = g.sized; room = g.room; wide = g.wide; least = g.least; within = g.within; stands = before }) in
+          record { streams = x.streams; acks = x.acks; sized = x.sized; room = x.room; wide = x.wide; least = x.least; within = x.within; stands = inl x.stands }
       go (inr f) = let some = ack_some d.end in let room = fit.1 in let full = f.full in absurd (omega arith)
   late_goes d g false is = g
 
-  -- What goes spells the payload, takes no more than the room for it, and has this least size.
-  pub record Spells (least : ℕ) (d : Draft) : Type 0 where
+  -- What goes spells the payload, and takes no more than the room for it.
+  pub record Spells (d : Draft) : Type 0 where
     pub spells : Payload (frames_padded d) (payload_of d)
     pub within : length d.bytes ≤ frame_room d.end
-    pub least_is : d.least ≡ least
 
-  spelled : (d : Draft) → Goes Stands d → Spells 0 d
-  spelled d g = record { spells = fills d g.stands; within = g.within; least_is = g.least }
+  spelled : (d : Draft) → Goes Stands d → Spells d
+  spelled d g = record { spells = fills d g.stands; within = g.within }
 
-  -- whether or not an ACK is due, where a due one goes alone, where a probe of a size goes, and where nothing does
-  pub draft_spells : (leaving : Leaving) (e : End) → MayLeave leaving e → Acks e.acknowledging e.marks.came → HasRoom e → K (streams_at e) → Spells (least_left leaving) (draft_as leaving e)
+  -- whether or not an ACK is due, where a due one goes alone, where a probe of a size goes, and
+  -- where nothing does
+  pub draft_spells : (leaving : Leaving) (e : End) → MayLeave leaving e → Acks e.acknowledging e.marks.came → HasRoom e → K (streams_at e) → Spells (draft_as leaving e)
   draft_spells leaving e may acks short streams = go leaving may
     where
       x : End
@@ -415,7 +455,7 @@ module _ (K : Streams → Type 0) (k : Spelling K) where
       room = room_most e short
 
       first : Goes Behind (no_frames x)
-      first = record { streams = streams; acks = record { runs = acks.runs; small = acks.small; counts = acks.counts }; sized = short.2; room = room; least = refl; within = omega arith; stands = λ fs rest spells. spells }
+      first = record { streams = streams; acks = record { runs = acks.runs; small = acks.small; counts = acks.counts }; sized = short.2; room = room; wide = short.1; least = omega arith; within = omega arith; stands = λ fs rest spells. spells }
 
       acked : can_send x.acknowledging ≡ true → Goes Behind (with_ack (no_frames x))
       acked due =
@@ -433,12 +473,12 @@ module _ (K : Streams → Type 0) (k : Spelling K) where
           let asked = asking_goes (no_frames x) (omega (arith, most)) first in
           late_goes (with_asking (no_frames x)) asked (ack_fits (with_asking (no_frames x))) refl
 
-      stood : (d : Draft) → Goes Behind d → Spells 0 d
-      stood d g = record { spells = fills d (inl g.stands); within = g.within; least_is = g.least }
+      stood : (d : Draft) → Goes Behind d → Spells d
+      stood d g = record { spells = fills d (inl g.stands); within = g.within }
 
-      go : (b : Leaving) → MayLeave b e → Spells (least_left b) (draft_as b e)
+      go : (b : Leaving) → MayLeave b e → Spells (draft_as b e)
       go whole due = spelled (composed x) (composes (can_send x.acknowledging) refl)
       go alone due = stood (with_ack (no_frames x)) (acked due)
-      go (probe size) due = record { spells = fills (probing size e) (inl (behind_fit (with_least (no_frames e) size) ping e (λ fs rest spells. spells) tt)); within = (let enough = room in omega arith); least_is = refl }
-      go (closing f) (is, (none, fit, form)) = record { spells = fills (with_frame (no_frames e) f (spelling f) e) (inl (behind_fit (no_frames e) f e (λ fs rest spells. spells) form)); within = (let long = spelling_length f form in let room = leb-true (0 + frame_size f) (frame_room e) fit in omega arith); least_is = refl }
-      go (nothing held) due = record { spells = fills (no_frames e) (inl (λ fs rest spells. spells)); within = omega arith; least_is = refl }
+      go (probe size) due = record { spells = fills (probing size e) (inl (behind_fit (with_least (no_frames e) size) ping e (λ fs rest spells. spells) tt)); within = (let enough = room in omega arith) }
+      go (closing f) (is, (none, fit, form)) = record { spells = fills (with_frame (no_frames e) f (spelling f) e) (inl (behind_fit (no_frames e) f e (λ fs rest spells. spells) form)); within = (let long = spelling_length f form in let room = leb-true (0 + frame_size f) (frame_room e) fit in omega arith) }
+      go (nothing held) due = record { spells = fills (no_frames e) (inl (λ fs rest spells. spells)); within = omega arith }

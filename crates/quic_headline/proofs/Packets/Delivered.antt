@@ -1,4 +1,5 @@
--- A datagram that an end gave, delivered to the other end: it opens as it was given, or not at all, and what is made of it then.
+-- A datagram that an end gave, delivered to the other end: it opens as it was given, or not at all,
+-- and what is made of it then.
 use Rattle.std.proofs.Common.{◌≡◌, ℕ, zero, suc, ◌+◌, ◌-◌, ◌^◌, ◌<◌, ◌≤◌, Bool, true, false, cond, List, [], ◌∷◌, ◌++◌, length, map, Option, Some, None, Result, Ok, Err, refl, sym, ◌∙◌, ap, subst, arith}
 use Rattle.std.specs.Prelude.{◌==◌, ◌&&◌, ◌||◌, not}
 use Rattle.quic_wire_core.specs.declared.shared.EcnCodepoint.{EcnCodepoint}
@@ -29,12 +30,15 @@ use Rattle.quic_machine.specs.Ids.{known}
 use Rattle.quic_spaces.specs.Numbers.{expected, number_opened}
 use Rattle.quic_recovery_core.specs.Duplicates.{is_duplicate}
 use Rattle.quic_recovery_core.specs.DuplicateRuns.{seen_after}
-use Rattle.quic_machine.specs.End.{End, closed_by, with_numbers}
+use Rattle.quic_machine.specs.End.{End, closed_by, with_numbers, with_closing}
 use Rattle.quic_machine.specs.Opens.{own_id_length, in_phase, opens_behind, opens}
-use Rattle.quic_machine.specs.Receive.{Fault, Progress, Outcome, error_of, reason_of, take_payload, violation, asks_in, after_taken, dropped, ends_as, judged, processed, by_state, opened_to, opened_as, headed, received_in, received}
+use Rattle.quic_machine.specs.Receive.{Fault, Progress, Outcome, error_of, reason_of, take_payload, violation, asks_in, after_taken, dropped, ends_as, judged, processed, by_state, opened_to, opened_as, headed, received_in, received, broke, too_many_pieces, closed_by_peer, drained_at, exhausted, key_limit, unopened_in, with_ids_drawn}
 use Rattle.quic_headline.specs.Runs.{Intake, is_again, frames_of, is_refused, destination, opens_by_key, came_open, and_opened, and_handed}
 use Rattle.quic_machine.specs.Start.{IsLawful}
 use Rattle.quic_machine.specs.FrameCases.{passed, begun}
+use Rattle.quic_machine.specs.Closing.{close_asked}
+use Rattle.quic_machine.specs.IdFrames.{drawn}
+use Rattle.quic_wire.specs.Close.{CloseValue}
 use Rattle.quic_headline.proofs.Packets.Invariant.{IsGiven, Knows, KnowsIn}
 use Rattle.quic_headline.proofs.Packets.Window.{is_duplicate-is}
 use Rattle.quic_headline.proofs.Packets.ByKey.{known_alone, header_for, came_open_is}
@@ -54,7 +58,8 @@ plain_first (suc (suc (suc (suc (suc n))))) some four = absurd (omega arith)
 pub plain_number : (n reference : ℕ) → n - reference < 2 ^ 31 → (key_phase (first_byte (truncated n reference).width) ≡ false) × ((reserved_bits (first_byte (truncated n reference).width) == 0) ≡ true)
 plain_number n reference near = let few = fewest (n - reference) near in plain_first (truncated n reference).width few.some few.four
 
--- what the header of a datagram says that was sent to this id, which is one of those that its taker is known by, or isn't
+-- what the header of a datagram says that was sent to this id, which is one of those that its taker
+-- is known by, or isn't
 abbrev pub known_as : Bool → List ℕ → Result (List ℕ) HeaderError
 known_as b id = cond {A = Result (List ℕ) HeaderError} b (Ok id) (Err UnknownId)
 
@@ -80,7 +85,8 @@ shown n reference payload = record { first = first_byte (truncated n reference).
 abbrev pub shown_if : Bool → ℕ → ℕ → List ℕ → Option Opening
 shown_if b n reference payload = cond b (Some (shown n reference payload)) None
 
--- whether the bytes of a number, cut against a reference, expand to it where this number is expected
+-- whether the bytes of a number, cut against a reference, expand to it where this number is
+-- expected
 abbrev pub expands : ℕ → ℕ → ℕ → Bool
 expands n reference x = expanded (truncated n reference) x == n
 
@@ -96,7 +102,8 @@ in_phase_shown : (b : Bool) (n reference : ℕ) (payload : List ℕ) → n - ref
 in_phase_shown true n reference payload near = ap (λ (b : Bool). cond {A = Option Opening} b None (Some (shown n reference payload))) (plain_number n reference near).0
 in_phase_shown false n reference payload near = refl
 
--- what it opens to at an end that is known by these ids is that opening as well, where its id is one of them
+-- what it opens to at an end that is known by these ids is that opening as well, where its id is
+-- one of them
 pub opens_given : (p q : Policy) (id : List ℕ) (n reference : ℕ) (frames : List FrameValue) (d : List ℕ) → (g : IsGiven p id n reference frames d) → CanOpen p q → IsLawful p → (ids : List (List ℕ)) (x : ℕ)
     → opens q ids x d ≡ shown_if (is_known id ids && expands n reference x) n reference g.payload
 opens_given p q id n reference frames d g mates lawful ids x =
@@ -145,18 +152,24 @@ with_taken i n frames = record i { opened = n ∷ i.opened; took = record { numb
 abbrev pub with_refused : Intake → ℕ → List FrameValue → Intake
 with_refused i n frames = record i { opened = n ∷ i.opened; part = Some (record { number = n; frames = frames }) }
 
--- the cases of such a delivery, with what is known in each: P of what the end makes of it, and of what came then
+-- the cases of such a delivery, with what is known in each: P of what the end makes of it, and of
+-- what came then
 pub record Arrivals (e : End) (now n : ℕ) (frames : List FrameValue) (i : Intake) (P : Outcome → Intake → Type 0) : Type 0 where
   -- it is dropped, and nothing changes
   pub ignored : (reason : DropReason) → P (dropped reason e) i
-  -- a closing end notes the number, and no more
-  pub noted : e.closing.state ≡ states.Closing → (reason : DropReason) → P (dropped reason (with_numbers e (number_opened e.numbers n))) i
-  -- it is taken
-  pub takes : e.closing.state ≡ states.Open → is_again n i.opened ≡ false → (arrived e now n frames).fault ≡ None
-      → (mark : Option EcnCodepoint) → P (record { answer = Taken; end = after_taken n (asks_in (map Ok frames)) mark (arrived e now n frames).end }) (with_taken i n frames)
+  -- a closing end notes the number, and owes its close once more
+  pub noted : e.closing.state ≡ states.Closing → (reason : DropReason) → P (dropped reason (with_closing (with_numbers e (number_opened e.numbers n)) (close_asked e.closing))) i
+  -- it is taken, and the ids are drawn that were issued for it
+  pub takes : (words : ℕ → ℕ) → e.closing.state ≡ states.Open → is_again n i.opened ≡ false → (arrived e now n frames).fault ≡ None
+      → (mark : Option EcnCodepoint) → P (record { answer = Taken; end = drawn words (after_taken n (asks_in (map Ok frames)) mark (arrived e now n frames).end) }) (with_taken i n frames)
+  -- it is taken so far as the peer closes, and the end is drained
+  pub drains : (words : ℕ → ℕ) → e.closing.state ≡ states.Open → is_again n i.opened ≡ false → (close : CloseValue) → (arrived e now n frames).fault ≡ Some (closed_by_peer close)
+      → P (record { answer = Taken; end = drawn words (drained_at n close (arrived e now n frames).end) }) (with_taken i n frames)
   -- it is refused, and the end closes
-  pub refuses : e.closing.state ≡ states.Open → is_again n i.opened ≡ false → (f : Fault) → (arrived e now n frames).fault ≡ Some f
-      → P (record { answer = Closed (error_of f); end = closed_by (reason_of f) (arrived e now n frames).end }) (with_refused i n frames)
+  pub refuses : (words : ℕ → ℕ) → e.closing.state ≡ states.Open → is_again n i.opened ≡ false → (f : Fault) → (arrived e now n frames).fault ≡ Some f
+      → P (record { answer = Closed (error_of f); end = drawn words (closed_by (reason_of f) (arrived e now n frames).end) }) (with_refused i n frames)
+  -- it doesn't open, its number being too far off, and is the last that may not
+  pub exhausts : e.closing.state ≡ states.Open → P (record { answer = Closed key_limit; end = exhausted now e }) i
 
 -- what a packet comes to that opened, whose key phase is 0
 abbrev by_test : Bool → State → Opening → Arrival → End → Outcome
@@ -200,7 +213,7 @@ module _ (p q : Policy) (id : List ℕ) (n reference : ℕ) (frames : List Frame
     (e : End) (arrival : Arrival) (i : Intake) (P : Outcome → Intake → Type 0) (cases : Arrivals e arrival.now n frames i P) where
   -- the outcome, where its id is known or isn't
   abbrev headed_if : Bool → Outcome
-  headed_if b = cond b (opened_as (shown_if (expands n reference (expected e.numbers)) n reference g.payload) arrival e) (dropped drops.UnknownId e)
+  headed_if b = cond b (opened_as (shown_if (expands n reference (expected e.numbers)) n reference g.payload) q arrival e) (dropped drops.UnknownId e)
 
   -- it is that of the opening
   headed_given : headed (decoded (fixed_length_id own_id_length) (known e.ids) d) q e arrival d ≡ headed_if (is_known id (known e.ids))
@@ -209,7 +222,7 @@ module _ (p q : Policy) (id : List ℕ) (n reference : ℕ) (frames : List Frame
       ∙ go (is_known id (known e.ids))
     where
       go : (b : Bool) → headed (known_as b id) q e arrival d ≡ headed_if b
-      go true = ap (λ (o : Option Opening). opened_as o arrival e) (opened_given p q id n reference frames d g mates (expected e.numbers))
+      go true = ap (λ (o : Option Opening). opened_as o q arrival e) (opened_given p q id n reference frames d g mates (expected e.numbers))
       go false = refl
 
   -- what came is by the same opening
@@ -221,10 +234,10 @@ module _ (p q : Policy) (id : List ℕ) (n reference : ℕ) (frames : List Frame
       ∙ came_open_is q e arrival d i.took k.expected
       ∙ opens_given p q id n reference frames d g mates lawful (known e.ids) (expected e.numbers))
 
-  closing_tested : (b again : Bool) → e.closing.state ≡ states.Closing → is_duplicate e.numbers.opened n ≡ again → P (opened_as (shown_if b n reference g.payload) arrival e) i
-  closing_tested false again state is = cases.ignored drops.NotOpened
-  closing_tested true true state is = subst (λ (o : Outcome). P o i) (sym (opened_tested (shown n reference g.payload) arrival e true states.Closing (plain_number n reference g.near).0 is state)) (cases.ignored drops.Duplicate)
-  closing_tested true false state is = subst (λ (o : Outcome). P o i) (sym (opened_tested (shown n reference g.payload) arrival e false states.Closing (plain_number n reference g.near).0 is state)) (cases.noted state drops.Closing)
+  closing_tested : (b again : Bool) → e.closing.state ≡ states.Closing → is_duplicate e.numbers.opened n ≡ again → P (opened_as (shown_if b n reference g.payload) q arrival e) i
+  closing_tested false again state is = subst (λ (s : State). P (unopened_in s arrival.last arrival e) i) (sym state) (cases.ignored drops.NotOpened)
+  closing_tested true true state is = subst (λ (o : Outcome). P (with_ids_drawn q o) i) (sym (opened_tested (shown n reference g.payload) arrival e true states.Closing (plain_number n reference g.near).0 is state)) (cases.ignored drops.Duplicate)
+  closing_tested true false state is = subst (λ (o : Outcome). P (with_ids_drawn q o) i) (sym (opened_tested (shown n reference g.payload) arrival e false states.Closing (plain_number n reference g.near).0 is state)) (cases.noted state drops.Closing)
 
   known_closing : (b : Bool) → e.closing.state ≡ states.Closing → P (headed_if b) i
   known_closing true state = closing_tested (expands n reference (expected e.numbers)) (is_duplicate e.numbers.opened n) state refl
@@ -234,21 +247,28 @@ module _ (p q : Policy) (id : List ℕ) (n reference : ℕ) (frames : List Frame
   at_closing state = subst (λ (o : Outcome). P o i) (sym headed_given) (known_closing (is_known id (known e.ids)) state)
 
   taken_or_refused : e.closing.state ≡ states.Open → is_again n i.opened ≡ false → (f : Option Fault) → (arrived e arrival.now n frames).fault ≡ f
-      → P (ends_as f (asks_in (map Ok frames)) n arrival.mark (arrived e arrival.now n frames).end) (came_by false n frames (answers.Deliver (ends_as f (asks_in (map Ok frames)) n arrival.mark (arrived e arrival.now n frames).end).answer) i)
-  taken_or_refused state new None is = cases.takes state new is arrival.mark
-  taken_or_refused state new (Some f) is = cases.refuses state new f is
+      → P (with_ids_drawn q (ends_as f (asks_in (map Ok frames)) n arrival.mark (arrived e arrival.now n frames).end)) (came_by false n frames (answers.Deliver (ends_as f (asks_in (map Ok frames)) n arrival.mark (arrived e arrival.now n frames).end).answer) i)
+  taken_or_refused state new None is = cases.takes q.words state new is arrival.mark
+  taken_or_refused state new (Some (closed_by_peer close)) is = cases.drains q.words state new close is
+  taken_or_refused state new (Some (broke error)) is = cases.refuses q.words state new (broke error) is
+  taken_or_refused state new (Some too_many_pieces) is = cases.refuses q.words state new too_many_pieces is
+
+  -- it doesn't open
+  unopened : (b : Bool) → e.closing.state ≡ states.Open → P (unopened_in states.Open b arrival e) i
+  unopened true state = cases.exhausts state
+  unopened false state = cases.ignored drops.NotOpened
 
   open_tested : (b again : Bool) → e.closing.state ≡ states.Open → e.numbers.opened ≡ seen_after i.opened → is_again n i.opened ≡ again
-      → P (opened_as (shown_if b n reference g.payload) arrival e) (and_opened (shown_if b n reference g.payload) (answers.Deliver (opened_as (shown_if b n reference g.payload) arrival e).answer) i)
-  open_tested false again state w is = cases.ignored drops.NotOpened
+      → P (opened_as (shown_if b n reference g.payload) q arrival e) (and_opened (shown_if b n reference g.payload) (answers.Deliver (opened_as (shown_if b n reference g.payload) q arrival e).answer) i)
+  open_tested false again state w is = subst (λ (s : State). P (unopened_in s arrival.last arrival e) i) (sym state) (unopened arrival.last state)
   open_tested true true state w is =
-      moved P (λ (o : Outcome). and_opened (Some (shown n reference g.payload)) (answers.Deliver o.answer) i) (opened_to (shown n reference g.payload) arrival e) (dropped drops.Duplicate e) i
+      moved (λ (x : Outcome) (j : Intake). P (with_ids_drawn q x) j) (λ (o : Outcome). and_opened (Some (shown n reference g.payload)) (answers.Deliver o.answer) i) (opened_to (shown n reference g.payload) arrival e) (dropped drops.Duplicate e) i
       (opened_tested (shown n reference g.payload) arrival e true states.Open (plain_number n reference g.near).0 (is_duplicate-is i.opened e.numbers.opened n w ∙ is) state)
       (came_tested n reference frames g.payload (answers.Deliver (dropped drops.Duplicate e).answer) i true is g.spells)
       (cases.ignored drops.Duplicate)
   open_tested true false state w is =
       let outcome = judged (arrived e arrival.now n frames) (asks_in (map Ok frames)) n arrival.mark in
-      moved P (λ (o : Outcome). and_opened (Some (shown n reference g.payload)) (answers.Deliver o.answer) i) (opened_to (shown n reference g.payload) arrival e) outcome (came_by false n frames (answers.Deliver outcome.answer) i)
+      moved (λ (x : Outcome) (j : Intake). P (with_ids_drawn q x) j) (λ (o : Outcome). and_opened (Some (shown n reference g.payload)) (answers.Deliver o.answer) i) (opened_to (shown n reference g.payload) arrival e) outcome (came_by false n frames (answers.Deliver outcome.answer) i)
       (opened_tested (shown n reference g.payload) arrival e false states.Open (plain_number n reference g.near).0 (is_duplicate-is i.opened e.numbers.opened n w ∙ is) state ∙ processed_given n reference frames g.payload arrival e g.near g.some g.spells)
       (came_tested n reference frames g.payload (answers.Deliver outcome.answer) i false is g.spells)
       (taken_or_refused state is (arrived e arrival.now n frames).fault refl)

@@ -1,6 +1,6 @@
 -- What waits beside the bytes of streams goes in frames of control.
 use Rattle.std.proofs.Common.{◌≡◌, ◌≤◌, Option, Some, None, sym, subst, arith}
-use Rattle.quic_wire.specs.Value.{FrameValue, ack, crypto, new_token, stream, new_connection_id, connection_close, application_close, datagram, ack_frequency}
+use Rattle.quic_wire.specs.Value.{FrameValue, ack, crypto, new_token, stream, connection_close, application_close, datagram, ack_frequency}
 use Rattle.quic_wire.specs.Writing.{Fits, frame_size}
 use Rattle.quic_wire.proofs.FrameRange.{size_most}
 use Rattle.quic_retransmits.specs.declared.retransmits.ControlKind.{ControlKind}
@@ -11,7 +11,8 @@ abbrev pub HasKind : Option ControlKind → Type 0
 HasKind None = ⊥
 HasKind (Some kind) = Unit {0}
 
--- a frame that asks for an acknowledgement, and has no byte of a stream (RFC 9000, sections 19.4, 19.5 and 19.9 to 19.13)
+-- a frame that asks for an acknowledgement, and has no byte of a stream (RFC 9000, sections 19.4,
+-- 19.5 and 19.9 to 19.13)
 abbrev pub IsControl : FrameValue → Type 0
 IsControl f = HasKind (kind_of f)
 
@@ -19,13 +20,12 @@ IsControl f = HasKind (kind_of f)
 pub control_of : (f : FrameValue) (kind : ControlKind) → kind_of f ≡ Some kind → IsControl f
 control_of f kind is = subst HasKind (sym is) tt
 
--- it takes 25 bytes at most, where it has a form
-pub control_short : (f : FrameValue) → IsControl f → Fits f → frame_size f ≤ 25
+-- it takes 54 bytes at most, where it has a form, as NEW_CONNECTION_ID may
+pub control_short : (f : FrameValue) → IsControl f → Fits f → frame_size f ≤ 54
 control_short (ack a) is fits = absurd is
 control_short (crypto c) is fits = absurd is
 control_short (new_token t) is fits = absurd is
 control_short (stream s) is fits = absurd is
-control_short (new_connection_id n) is fits = absurd is
 control_short (connection_close c) is fits = absurd is
 control_short (application_close c) is fits = absurd is
 control_short (datagram d) is fits = absurd is

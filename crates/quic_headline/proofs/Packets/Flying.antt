@@ -1,4 +1,5 @@
--- What frames that come and datagrams that go leave in flight, as an observer counts it, is what their end waits for.
+-- What frames that come and datagrams that go leave in flight, as an observer counts it, is what
+-- their end waits for.
 use Rattle.std.proofs.Common.{◌≡◌, ℕ, zero, suc, ◌+◌, ◌-◌, ◌*◌, ◌<◌, ◌≤◌, ◌^◌, max, min, Bool, true, false, not, ◌||◌, ◌&&◌, List, [], ◌∷◌, ◌++◌, length, filter, replicate, Option, Some, None, refl, sym, ap, ◌∙◌, subst, inl, inr, arith}
 use Rattle.std.specs.Prelude.{if◌then◌else◌, nat_lt, unwrap_or}
 use Rattle.std.specs.List.{list_any}
@@ -7,6 +8,8 @@ use Rattle.std.specs.BTreeMap.{is_at}
 use Rattle.std.proofs.lemmas.Bool.{eq-eqb, both_ways, not-true}
 use Rattle.quic_wire.specs.Value.{FrameValue, AckValue, ack, padding, asks}
 use Rattle.quic_packet.specs.Number.{truncated, expanded}
+use Rattle.quic_packet.specs.Keys.{width_in}
+use Rattle.quic_packet.specs.Header.{first_byte}
 use Rattle.quic_packet.specs.Datagram.{Opening, opened_packet}
 use Rattle.quic_packet.proofs.Numbers.{newest_opens}
 use Rattle.quic_time.specs.Rtt.{Rtt, with_sample}
@@ -28,10 +31,10 @@ use Rattle.quic_machine.specs.Acked.{without_known, reset_acked, stream_acked, p
 use Rattle.quic_machine.specs.Receive.{is_above, names_ungiven, take_frame}
 use Rattle.quic_machine.specs.Poll.{Draft, asking, datagram_size, packet_of, after_given, draft_as, Leaving}
 use Rattle.quic_machine.specs.Timeouts.{loss_judged, loss_expired}
-use Rattle.quic_machine.specs.FrameCases.{OnStreams, named, ack_taken, passed, streams_acked_keep, resets_acked_keep, packets_lost_keep, frame_leaves, frames_taken, by_marks, IsApart, apart_same}
+use Rattle.quic_machine.specs.FrameCases.{OnStreams, named, ack_taken, passed, streams_acked_keep, resets_acked_keep, packets_lost_keep, frame_leaves, frames_taken, by_marks, IsApart, apart_leaves}
 use Rattle.quic_machine.specs.PollCases.{ready_at, frames_padded, Composes, composes}
 use Rattle.quic_headline.specs.Runs.{In, names, destination}
-use Rattle.quic_headline.specs.Observer.{Sent, Terms, terms_of, asks_of, Flight, latest, late_by, is_lost, after_losses, is_greatest, of_number, measures, rtt_behind, settled_by, after_ack, after_frames, is_behind_asked, unasked, without_oldest, kept_flying, and_flying, waited, probe_due, due_or, loss_due, most_probes, expired_for, sent_as}
+use Rattle.quic_headline.specs.Observer.{Sent, Terms, terms_of, asks_of, Flight, latest, late_by, is_lost, after_losses, is_greatest, of_number, measures, rtt_behind, settled_by, after_ack, after_frames, is_behind_asked, unasked, without_oldest, kept_flying, and_flying, waited, probe_due, due_or, loss_due, most_probes, expired_for, is_close, reference_for, moment_for, sent_as}
 use Rattle.quic_headline.specs.Telling.{acked_flight}
 use Rattle.quic_headline.proofs.Packets.Searches.{by_losses}
 use Rattle.quic_headline.proofs.Packets.Invariant.{IsGiven}
@@ -40,6 +43,7 @@ use Rattle.quic_headline.proofs.Packets.Named.{in_filter, filter_chose, IsNoAck,
 use Rattle.quic_headline.proofs.Packets.Probes.{by_ready, after_going, by_going}
 use Rattle.quic_headline.proofs.Packets.Given.{draft_number}
 use Rattle.quic_headline.proofs.Packets.Delivered.{shown_if, expands, destination_given, opened_given, frames_of_payload}
+use Rattle.quic_headline.proofs.Packets.References.{width_shown}
 use Rattle.quic_headline.proofs.Packets.Numbered.{Lies, lies_remove, one_key, added_last, is_at_same}
 use Rattle.quic_headline.proofs.Packets.Waited.{IsWaited, AreWaited, waited_filter, waited_length, waited_asks, waited_put, waited_push, waited_oldest, IsFound, waited_found, waited_staying, waited_lost, waited_late}
 use Rattle.quic_headline.proofs.Timers.LossTimers.{OpenStands}
@@ -48,8 +52,8 @@ use Rattle.quic_machine.specs.DraftLaws.{MayLeave}
 
 -- ---- what an end waits for
 
--- the parts of an end that its observer knows of: numbers, clock, how it judges losses, what the peer told, of the path its place and how long a round trip takes,
--- and what is tracked
+-- the parts of an end that its observer knows of: numbers, clock, how it judges losses, what the
+-- peer told, of the path its place and how long a round trip takes, and what is tracked
 pub record Held : Type 0 where
   pub numbers : Numbers
   pub closing : Closing
@@ -65,15 +69,15 @@ held e = record { numbers = e.numbers; closing = e.closing; transport = e.transp
 
 -- by what it judges losses
 abbrev pub terms_in : Held → Terms
-terms_in h = record { threshold = h.transport.packet_threshold; part = h.transport.time_threshold; exponent = h.peer.ack_delay_exponent; delay = h.peer.max_ack_delay * 1000000 }
+terms_in h = record { threshold = h.transport.packet_threshold; part = h.transport.time_threshold; exponent = h.peer.ack_delay_exponent; delay = h.peer.max_ack_delay * 1000000; keep_alive = h.transport.keep_alive_interval }
 
 -- the last that asks is the greatest that asks, and went when that did
 abbrev pub IsAsked : Option Sent → Tracking → Type 0
 IsAsked None t = t.greatest_asking ≡ None
 IsAsked (Some s) t = (t.greatest_asking ≡ Some s.number) × (t.last_asking ≡ s.moment)
 
--- An end knows what its observer does: by what losses are judged, the clock, the greatest number that was named, what is in flight, which of that asks last, and
--- how long a round trip takes.
+-- An end knows what its observer does: by what losses are judged, the clock, the greatest number
+-- that was named, what is in flight, which of that asks last, and how long a round trip takes.
 pub record Tells (t : Terms) (now : ℕ) (f : Flight) (h : Held) : Type 0 where
   pub terms : t ≡ terms_in h
   pub clock : now ≡ h.closing.clock
@@ -82,8 +86,8 @@ pub record Tells (t : Terms) (now : ℕ) (f : Flight) (h : Held) : Type 0 where
   pub asked : IsAsked f.asked h.tracking
   pub rtt : f.rtt ≡ h.rtt
 
--- An end waits for what is in flight: and when the next may be lost by time, how often the timer of losses expired, as far as that doubles the wait, and how many
--- probes wait.
+-- An end waits for what is in flight: and when the next may be lost by time, how often the timer of
+-- losses expired, as far as that doubles the wait, and how many probes wait.
 pub record Waits (t : Terms) (now : ℕ) (f : Flight) (h : Held) : Type 0 where
   pub tells : Tells t now f h
   pub loss_time : f.loss_time ≡ h.tracking.loss_time
@@ -144,7 +148,8 @@ lost_waited t now f e w =
 
 -- ---- an ACK frame
 
--- what holds of an end whichever search there is, and stays where numbers, resets and frames of streams are acknowledged, holds where packets are
+-- what holds of an end whichever search there is, and stays where numbers, resets and frames of
+-- streams are acknowledged, holds where packets are
 pub acked_keep : (P : End → Type 0) → ((d : Discovery) (e : End) → P e → P (with_discovery e d)) → ((n : ℕ) (e : End) → P e → P (without_known (Some n) e)) → ((id : ℕ) (e : End) → P e → P (reset_acked id e)) → ((m : StreamMeta) (e : End) → P e → P (stream_acked m e))
     → (ps : Table TrackedPacket) (e : End) → P e → P (packets_acked ps e)
 acked_keep P searched knows resets acks = go
@@ -244,13 +249,15 @@ named_waits t now (s ∷ ss) others [] rises a f e is acked stay w = absurd acke
 pub apart_filter : (f : Sent → Bool) (ss : List Sent) (s : Sent) → In s (filter f ss) → In s (filter (λ t. not (f t)) ss) → ⊥
 apart_filter f ss s i j = both_ways (f s) (not-true (f s) (filter_chose (λ t. not (f t)) s ss j)) (filter_chose f s ss i)
 
--- what holds of the datagrams in flight, of those that were acknowledged there, and of the end that gave them, stays where some of them are lost
+-- what holds of the datagrams in flight, of those that were acknowledged there, and of the end that
+-- gave them, stays where some of them are lost
 pub record Loses (P : List Sent → List Sent → End → Type 0) : Type 0 where
   -- other packets are tracked
   pub tracked : (flying acked : List Sent) (t : Tracking) (e : End) → P flying acked e → P flying acked (with_tracking e t)
   -- the search for a size learns of packets that are lost
   pub searches : (flying acked : List Sent) (lost : Table TrackedPacket) (e : End) → P flying acked e → P flying acked (search_lost lost e)
-  -- of the datagrams in flight some are lost, which are tracked as these packets, and the others stay
+  -- of the datagrams in flight some are lost, which are tracked as these packets, and the others
+  -- stay
   pub loses : (flying acked gone left : List Sent) (ps : Table TrackedPacket) (e : End) → ((s : Sent) → In s gone → In s flying) → ((s : Sent) → In s left → In s flying) → ((s : Sent) → In s gone → In s left → ⊥) → AreWaited gone ps → P flying acked e → P left acked (packets_lost ps e)
 
 -- and while the end takes these frames
@@ -258,7 +265,8 @@ pub record Flies (frames : List FrameValue) (P : List Sent → List Sent → End
   pub losing : Loses P
   -- the greatest number of an ACK frame counts
   pub names : (flying acked : List Sent) (a : AckValue) (e : End) → In (ack a) frames → P flying acked e → P flying acked (named a e)
-  -- of the datagrams in flight these are acknowledged by an ACK frame, which are tracked as these packets, and the others stay
+  -- of the datagrams in flight these are acknowledged by an ACK frame, which are tracked as these
+  -- packets, and the others stay
   pub acks : (flying acked ss left : List Sent) (ps : Table TrackedPacket) (e : End) (a : AckValue) → In (ack a) frames → ((s : Sent) → In s ss → In s flying) → ((s : Sent) → In s left → In s flying) → ((s : Sent) → In s ss → In s left → ⊥) → AreWaited ss ps → P flying acked e
       → P left (acked ++ ss) (packets_acked ps e)
   -- the round trip is measured
@@ -360,7 +368,7 @@ module _ (t : Terms) (now : ℕ) (frames : List FrameValue) (P : List Sent → L
   other_flies f x e on among i = record { waits = frame_leaves (λ (g : End). Waits t now x (held g)) f e on (λ u. i.waits); holds = c.on_streams x.flying x.acked f e among on i.holds }
 
   apart_flies : (f : FrameValue) (x : Flight) (e : End) → IsApart f → In f frames → Flying x e → Flying x (take_frame f e).end
-  apart_flies f x e apart among i = record { waits = subst (λ (g : End). Waits t now x (held g)) (sym (apart_same f e apart)) i.waits; holds = c.apart x.flying x.acked f e among apart i.holds }
+  apart_flies f x e apart among i = record { waits = apart_leaves (λ (g : End). Waits t now x (held g)) f e apart (λ c. i.waits) (λ c most. i.waits); holds = c.apart x.flying x.acked f e among apart i.holds }
 
   -- any frame that is taken
   frame_flies : (f : FrameValue) (x : Flight) (e : End) → (take_frame f e).fault ≡ None → In f frames → Flying x e → Flying (after_frames t now (f ∷ []) x) (take_frame f e).end
@@ -441,18 +449,21 @@ timer_is t now f e s w =
 
 -- ---- a datagram that is given
 
--- a number expands to itself where the one is expected that it was cut against
-expands_there : (n reference : ℕ) → n - reference < 2 ^ 31 → reference ≤ n → expands n reference reference ≡ true
-expands_there n reference near behind = eq-eqb (expanded (truncated n reference) reference) n (newest_opens n reference reference near (omega arith) (omega arith))
+-- a number expands to itself where the next one is expected, which isn't below what it was cut
+-- against
+expands_next : (n reference next : ℕ) → n - reference < 2 ^ 31 → reference ≤ next → next ≤ n → expands n reference next ≡ true
+expands_next n reference next near above behind = eq-eqb (expanded (truncated n reference) next) n (newest_opens n reference next near above (omega arith))
 
 -- the datagram of a number opens to what it was sent as, by the keys of its taker alone
-pub sent_read : (p q : Policy) (id : List ℕ) (n reference : ℕ) (frames : List FrameValue) (d : List ℕ) → IsGiven p id n reference frames d → CanOpen p q → IsLawful p → reference ≤ n → (moment : ℕ)
-    → sent_as (opened_packet q.header q.packet (own_id_length + 1) reference d) reference moment d ≡ record { id = id; number = n; reference = reference; frames = frames; moment = moment; size = length d } ∷ []
-sent_read p q id n reference frames d g mates lawful behind moment =
-    ap (λ (o : Option Opening). sent_as o reference moment d) (opened_given p q id n reference frames d g mates reference)
-    ∙ ap (λ (b : Bool). sent_as (shown_if b n reference g.payload) reference moment d) (expands_there n reference g.near behind)
-    ∙ ap (λ (fs : List FrameValue). record { id = destination d; number = n; reference = reference; frames = fs; moment = moment; size = length d } ∷ []) (frames_of_payload frames g.payload g.spells)
-    ∙ ap (λ (to : List ℕ). record { id = to; number = n; reference = reference; frames = frames; moment = moment; size = length d } ∷ []) (destination_given p id n reference frames d g lawful)
+pub sent_read : (p q : Policy) (id : List ℕ) (n reference : ℕ) (frames : List FrameValue) (d : List ℕ) → IsGiven p id n reference frames d → CanOpen p q → IsLawful p → (next : ℕ) → reference ≤ next → next ≤ n → (acked moment : ℕ)
+    → sent_as (opened_packet q.header q.packet (own_id_length + 1) next d) acked moment d
+    ≡ record { id = id; number = n; reference = reference_for (list_any is_close frames) n (truncated n reference).width acked; frames = frames; moment = moment_for (list_any is_close frames) moment; size = length d } ∷ []
+sent_read p q id n reference frames d g mates lawful next above behind acked moment =
+    ap (λ (o : Option Opening). sent_as o acked moment d) (opened_given p q id n reference frames d g mates next)
+    ∙ ap (λ (b : Bool). sent_as (shown_if b n reference g.payload) acked moment d) (expands_next n reference next g.near above behind)
+    ∙ ap (λ (fs : List FrameValue). record { id = destination d; number = n; reference = reference_for (list_any is_close fs) n (width_in (first_byte (truncated n reference).width)) acked; frames = fs; moment = moment_for (list_any is_close fs) moment; size = length d } ∷ []) (frames_of_payload frames g.payload g.spells)
+    ∙ ap (λ (w : ℕ). record { id = destination d; number = n; reference = reference_for (list_any is_close frames) n w acked; frames = frames; moment = moment_for (list_any is_close frames) moment; size = length d } ∷ []) (width_shown n reference g.near)
+    ∙ ap (λ (to : List ℕ). record { id = to; number = n; reference = reference_for (list_any is_close frames) n (truncated n reference).width acked; frames = frames; moment = moment_for (list_any is_close frames) moment; size = length d } ∷ []) (destination_given p id n reference frames d g lawful)
 
 -- PADDING doesn't ask for an acknowledgement
 pub asking_padded : (fs : List FrameValue) (count : ℕ) → asking (fs ++ replicate count padding) ≡ asking fs

@@ -28,10 +28,10 @@ use Rattle.quic_messages.specs.Messages.{fitting, frame_bytes}
 use Rattle.quic_spaces.specs.Numbers.{cut_against}
 use Rattle.quic_machine.specs.Ids.{Ids}
 use Rattle.quic_machine.specs.End.{End, number_of, streams_at}
-use Rattle.quic_machine.specs.Poll.{Draft, no_frames, frame_room, least_room, fits, left, no_stream_frames, with_control_frames, with_message, with_messages_of, with_message_frames, with_stream_frames, with_asking, ack_of, with_ack, ack_fits, ack_if, composed_if, composed, lazied, message_waits, asks_to_go, waits, draft_as, goes, probe, alone, whole, Leaving, Ready, nothing, goes_as, closing, with_signal_frames}
+use Rattle.quic_machine.specs.Poll.{Draft, no_frames, frame_room, least_room, fits, left, no_stream_frames, with_control_frames, with_message, with_messages_of, with_message_frames, with_stream_frames, with_asking, ack_of, with_ack, ack_fits, ack_if, composed_if, composed, lazied, lazied_as, message_waits, asks_to_go, waits, draft_as, goes, probe, alone, whole, Leaving, Ready, nothing, goes_as, closing, with_signal_frames}
 use Rattle.quic_machine.specs.PollCases.{ready_at, ready_leaves, whole_waits, may_leave_at}
 use Rattle.quic_machine.specs.Parts.{current_mtu, signals_wait}
-use Rattle.quic_machine.specs.DraftLaws.{Writing, drops_of, entry_of, half_of, message_of, HasRoom, room_most, by_entries, by_messages, by_streams, by_asking, by_some_signal, no_signal}
+use Rattle.quic_machine.specs.DraftLaws.{Writing, drops_of, entry_of, half_of, message_of, HasRoom, room_most, left_least, by_entries, by_messages, by_streams, by_asking, by_some_signal, no_signal}
 use Rattle.quic_machine.specs.Puts.{without_entry}
 use Rattle.quic_machine.specs.Puts as puts
 use Rattle.quic_headline.specs.Runs.{In}
@@ -42,7 +42,8 @@ use Rattle.quic_headline.proofs.Packets.Composed.{Spelling, IsSpellable, waits_l
 
 -- ---- what is known of streams
 
--- the stream that stands first in the queue has a half whose frame brings something, where 17 bytes are left behind its type and id
+-- the stream that stands first in the queue has a half whose frame brings something, where 17 bytes
+-- are left behind its type and id
 pub record BringsFirst (s : StreamsState) : Type 0 where
   pub id : ℕ
   pub half : SendHalf
@@ -54,7 +55,7 @@ pub record BringsFirst (s : StreamsState) : Type 0 where
 pub record Bringing (K : Streams → Type 0) : Type 0 where
   -- RESET_STREAM waits of halves that were reset, and what has no frame yet doesn't wait
   pub resets : (t : Streams) → K t → (r : ℕ × ℕ) → In r t.pending.reset_stream → is_some (reset_frame r (at t.state.sending.halves.live r.0)) ≡ true
-  pub others : (t : Streams) → K t → (t.pending.new_cids ≡ []) × (t.pending.retire_cids ≡ []) × (t.pending.ack_frequency ≡ false)
+  pub others : (t : Streams) → K t → t.pending.ack_frequency ≡ false
   -- the queue has halves with something to send
   pub queued : (t : Streams) → K t → can_send_stream_data t.state ≡ true → BringsFirst t.state
 
@@ -133,7 +134,8 @@ frames_stay : Writing HasFrames
 frames_stay (puts.drops kind) d may some = some
 frames_stay p d may some = one_more d _
 
--- no frame went: there is no byte, the streams and the messages are as they were, and there is as much room
+-- no frame went: there is no byte, the streams and the messages are as they were, and there is as
+-- much room
 record Untouched (e : End) (d : Draft) : Type 0 where
   bytes : length d.bytes ≡ 0
   streams : d.end.streams ≡ e.streams
@@ -158,7 +160,7 @@ room_least e =
     let between : ℕ = number_of e - cut_against e.numbers in
     go (nat_lt (2 * between) 256) (nat_lt (2 * between) 65536) (nat_lt (2 * between) 16777216)
   where
-    go : (a b c : Bool) → least_room e ≤ current_mtu e.path - (1 + length e.ids.active.id + (if a then 1 else (if b then 2 else (if c then 3 else 4))) + 16)
+    go : (a b c : Bool) → least_room e ≤ current_mtu e.path - (1 + length e.ids.peer.id + (if a then 1 else (if b then 2 else (if c then 3 else 4))) + 16)
     go true b c = omega arith
     go false true c = omega arith
     go false false true = omega arith
@@ -201,18 +203,18 @@ module _ (K : Streams → Type 0) (k : Spelling K) (c : Bringing K) where
   -- where something waits that counts, an entry is due
   any_waits : (t : Streams) → K t → is_empty t.pending t.state ≡ false → any_of t.state t.pending control_kinds ≡ true
   any_waits t i waits =
-      let none = c.others t i in
-      let some = filled t.pending t.state waits none.0 none.1 none.2 in
+      let some = filled t.pending t.state waits (c.others t i) in
       listed (λ kind. any_due t.state (waiting kind t.pending)) some.0 (counts_due some.0 t.pending t.state (first_reset t.pending.reset_stream (c.resets t i)) some.1)
     where
       first_reset : (rs : List (ℕ × ℕ)) → ((r : ℕ × ℕ) → In r rs → is_some (reset_frame r (at t.state.sending.halves.live r.0)) ≡ true) → (r : ℕ × ℕ) → first_of rs ≡ Some r → is_due t.state (reset_entry r) ≡ true
       first_reset [] due r is = cc
       first_reset (x ∷ rs) due r is = due r (inl (let same : r ≡ x = cc in same))
 
-  -- how far frames of control have come, of which none went: it is known of the streams that are left, and there is room
+  -- how far frames of control have come, of which none went: it is known of the streams that are
+  -- left, and there is room
   record Waits (most : ℕ) (d : control.Draft) : Type 0 where
     streams : K (streams_of d.state d.pending)
-    room : d.used + 25 ≤ most
+    room : d.used + 54 ≤ most
 
   -- the first that is dropped, since it is no longer due, leaves it so
   waits_on : (most : ℕ) (kind : ControlKind) (d : control.Draft) → Waits most d → Waits most (first_dropped kind d)
@@ -283,8 +285,9 @@ module _ (K : Streams → Type 0) (k : Spelling K) (c : Bringing K) where
 
   -- ---- what is composed
 
-  -- where something waits beside the bytes of streams, a frame of control goes behind a draft that leaves room for one
-  pub control_goes : (d : Draft) → length d.bytes + 25 ≤ frame_room d.end → K (streams_at d.end) → is_empty d.end.waiting.frames d.end.streams ≡ false
+  -- where something waits beside the bytes of streams, a frame of control goes behind a draft that
+  -- leaves room for one
+  pub control_goes : (d : Draft) → length d.bytes + 54 ≤ frame_room d.end → K (streams_at d.end) → is_empty d.end.waiting.frames d.end.streams ≡ false
       → 0 < length (control.control_frames (frame_room d.end) (length d.bytes) d.end.streams d.end.waiting.frames nothing_waits).frames
   control_goes d room i waits =
       kinds_go (frame_room d.end) control_kinds (control.no_frames (length d.bytes) d.end.streams d.end.waiting.frames nothing_waits) kinds_apart (record { streams = i; room = room }) (any_waits (streams_at d.end) i waits)
@@ -339,7 +342,7 @@ module _ (K : Streams → Type 0) (k : Spelling K) (c : Bringing K) where
   spellable : (e : End) (now : ℕ) → (let g = ready_at e now in goes g ≡ true → Acks g.end.acknowledging g.end.marks.came → HasRoom g.end → K (streams_at g.end) → IsSpellable g)
   spellable e now some acks short i =
       let d = draft_spells K k g.leaving g.end (may_leave_at e now) (record { runs = acks.runs; small = acks.small; counts = acks.counts }) short i in
-      record { spells = d.spells; some = go g.leaving refl some; within = d.within; least = d.least_is }
+      record { spells = d.spells; some = go g.leaving refl some; within = d.within; least = left_least g.leaving (lazied_as g.leaving g.end) }
     where
       g : Ready
       g = ready_at e now
@@ -356,5 +359,5 @@ module _ (K : Streams → Type 0) (k : Spelling K) (c : Bringing K) where
   spellable_next e acks short i now waits =
       let ids : (ready_at e now).end.ids ≡ e.ids = ap (λ (x : End). x.ids) (ready_leaves e now) in
       let size : current_mtu (ready_at e now).end.path ≡ current_mtu e.path = ready_size e now in
-      let room : HasRoom (ready_at e now).end = (subst (λ (x : Ids). length x.active.id ≤ 20) (sym ids) short.0, subst (λ (n : ℕ). 1200 ≤ n) (sym size) short.1, subst (λ (n : ℕ). n < 2 ^ 16) (sym size) short.2) in
+      let room : HasRoom (ready_at e now).end = (subst (λ (x : Ids). length x.peer.id ≤ 20) (sym ids) short.0, subst (λ (n : ℕ). 1200 ≤ n) (sym size) short.1, subst (λ (n : ℕ). n < 2 ^ 16) (sym size) short.2) in
       spellable e now waits (subst (λ (x : End). Acks x.acknowledging x.marks.came) (sym (ready_leaves e now)) (record { runs = acks.runs; small = acks.small; counts = acks.counts })) room (i now)

@@ -1,5 +1,5 @@
 -- Lists that grow, and what holds of two lists in step.
-use Rattle.std.proofs.Common.{◌≡◌, ℕ, zero, suc, List, [], ◌∷◌, ◌++◌, Some, ◌⊎◌, inl, inr, refl, sym, subst}
+use Rattle.std.proofs.Common.{◌≡◌, ℕ, zero, suc, List, [], ◌∷◌, ◌++◌, length, Some, ◌⊎◌, inl, inr, refl, sym, ap, subst}
 use Rattle.std.specs.List.{slice_get}
 use Rattle.quic_headline.specs.Runs.{In}
 use Rattle.quic_headline.proofs.Packets.Invariant.{InStep}
@@ -31,6 +31,13 @@ module _ {Y X : Type 0} where
   step_on P Q f (y ∷ ys) (x ∷ xs) a = (f y x a.0, step_on P Q f ys xs a.1)
   step_on P Q f [] (x ∷ xs) a = absurd a
   step_on P Q f (y ∷ ys) [] a = absurd a
+
+  -- they are as many
+  pub step_length : (P : Y → X → Type 0) (ys : List Y) (xs : List X) → InStep P ys xs → length ys ≡ length xs
+  step_length P [] [] all = refl
+  step_length P (y ∷ ys) (x ∷ xs) all = ap suc (step_length P ys xs all.1)
+  step_length P [] (x ∷ xs) all = absurd all
+  step_length P (y ∷ ys) [] all = absurd all
 
   pub step_push : (P : Y → X → Type 0) (ys : List Y) (xs : List X) (y : Y) (x : X) → InStep P ys xs → P y x → InStep P (ys ++ y ∷ []) (xs ++ x ∷ [])
   step_push P [] [] y x a p = (p, tt)

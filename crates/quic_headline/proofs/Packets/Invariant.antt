@@ -1,4 +1,5 @@
--- What holds of the packets between two ends of a run at each place: one gives, the other takes. A record for each concern, over the plain values that it reads.
+-- What holds of the packets between two ends of a run at each place: one gives, the other takes. A
+-- record for each concern, over the plain values that it reads.
 use Rattle.std.specs.Prelude.{ℕ, ◌+◌, ◌-◌, ◌<◌, ◌≤◌, ◌^◌, ◌≡◌, ◌≢◌, ◌⊎◌, true, List, [], ◌∷◌, length, Option, Some, None}
 use Rattle.std.proofs.Common.{ap, subst, inl, inr}
 use Rattle.quic_retransmits.specs.Retransmits.{nothing_waits}
@@ -40,7 +41,8 @@ RisingFrom low (s ∷ sents) = (low ≤ s.number) × (s.number ≤ low + 1) × R
 abbrev pub SentAs : List Sent → ℕ → Sent → Type 0
 SentAs sents n s = In s sents × (s.number ≡ n)
 
--- the datagram of a number, cut against a reference, with these frames, as an end gives it to the peer with this id, which has the length of own ones
+-- the datagram of a number, cut against a reference, with these frames, as an end gives it to the
+-- peer with this id, which has the length of own ones
 pub record IsGiven (p : Policy) (id : List ℕ) (n reference : ℕ) (frames : List FrameValue) (d : List ℕ) : Type 0 where
   pub long : length id ≡ own_id_length
   pub payload : List ℕ
@@ -51,7 +53,8 @@ pub record IsGiven (p : Policy) (id : List ℕ) (n reference : ℕ) (frames : Li
   pub small : n < 2 ^ 62
   pub is : d ≡ sent p.header p.packet n reference id payload
 
--- what these frames carried, or that without what has to be sent again, which a probe took (RFC 9002, section 6.2.4)
+-- what these frames carried, or that without what has to be sent again, which a probe took (RFC
+-- 9002, section 6.2.4)
 abbrev pub IsCarriedFrom : Carried → List FrameValue → Type 0
 IsCarriedFrom c frames = (c ≡ carried_in frames) ⊎ (c ≡ record (carried_in frames) { retransmits = nothing_waits })
 
@@ -105,7 +108,8 @@ abbrev pub IsLeftOut : Option ℕ → ℕ → List Sent → Type 0
 IsLeftOut None next sents = Unit {0}
 IsLeftOut (Some n) next sents = (n < next) × ((s : Sent) → In s sents → s.number ≢ n)
 
--- each datagram that was given was sent as one of these, the numbers of these rise, and no number above them was given; nor was the one that was left out last
+-- each datagram that was given was sent as one of these, the numbers of these rise, and no number
+-- above them was given; nor was the one that was left out last
 pub record Gives (p : Policy) (numbers : Numbers) (skipped : Option ℕ) (sents : List Sent) (given : List (List ℕ)) : Type 0 where
   pub rising : RisingFrom 0 sents
   pub below : (s : Sent) → In s sents → s.number < numbers.next
@@ -143,7 +147,8 @@ AreTaken runs packets = (k : ℕ) → Has runs k → IsTaken packets k
 abbrev pub CountsFit : Counts → Type 0
 CountsFit counts = (counts.0 < 2 ^ 62) × (counts.1 < 2 ^ 62) × (counts.2 < 2 ^ 62)
 
--- the numbers that an end has to acknowledge: few maximal runs, below the greatest packet number; with them it tells how many packets came with each mark
+-- the numbers that an end has to acknowledge: few maximal runs, below the greatest packet number;
+-- with them it tells how many packets came with each mark
 pub record Acks (p : pending.Pending) (came : Counts) : Type 0 where
   pub runs : pending.IsKept p.runs
   pub small : IsSmall p.runs

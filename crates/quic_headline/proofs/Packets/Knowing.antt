@@ -70,13 +70,19 @@ pub knows_arrivals : (e : End) (now n : ℕ) (frames : List FrameValue) (i : Int
 knows_arrivals e now n frames i k = record {
   ignored = λ reason. k;
   noted = λ state reason. knows_noted e.closing.state e.numbers n i state k;
-  takes = λ state new none mark. taken none;
-  refuses = λ state new f is. refused;
+  takes = λ words state new none mark. taken none;
+  drains = λ words state new close is. drained;
+  refuses = λ words state new f is. refused;
+  exhausts = λ state. expects_in e.closing.state e.numbers i k;
 }
   where
     -- what frames change of the numbers, the number that is expected isn't
     refused : Expects (arrived e now n frames).end.numbers (with_refused i n frames)
     refused = ap (λ (x : Numbers). expected x) (keeps_frames frames (begun e now n)).numbers ∙ expects_in e.closing.state e.numbers i k
+
+    -- the number of one in which the peer closes counts
+    drained : Expects (number_taken (arrived e now n frames).end.numbers n) (with_taken i n frames)
+    drained = expects_taken e.numbers (arrived e now n frames).end.numbers i n frames (expects_in e.closing.state e.numbers i k) (keeps_frames frames (begun e now n)).numbers
 
     taken : (arrived e now n frames).fault ≡ None → KnowsIn (arrived e now n frames).end.closing.state (number_taken (arrived e now n frames).end.numbers n) (with_taken i n frames)
     taken none =

@@ -1,5 +1,5 @@
 -- What holds of an end stays where packets are lost, if it stays with each that was tracked.
-use Rattle.std.proofs.Common.{ℕ, List, [], ◌∷◌, refl, inl, inr}
+use Rattle.std.proofs.Common.{ℕ, List, [], ◌∷◌, refl, inl, inr, Bool}
 use Rattle.quic_send_buffer.specs.declared.stream_meta.StreamMeta.{StreamMeta}
 use Rattle.quic_streams_parts.specs.Table.{Table}
 use Rattle.quic_recovery_core.specs.PendingAcks.{Pending}
@@ -12,11 +12,13 @@ use Rattle.quic_machine.specs.Acked.{stream_lost, streams_lost, again, carried_l
 use Rattle.quic_machine.specs.LeaveCases.{at_losses}
 use Rattle.quic_machine.specs.PollCases.{ready_at}
 use Rattle.quic_headline.specs.Runs.{In}
+use Rattle.quic_machine.specs.Validation.{Asked}
 use Rattle.quic_headline.proofs.Packets.Searches.{by_losses}
 use Rattle.quic_headline.proofs.Packets.Named.{in_filter}
 use Rattle.quic_headline.proofs.Packets.Probes.{ready_streams}
 
--- What stays of streams and of what waits beside their bytes where a STREAM frame of one of these packets is lost, and where what else it carried waits again.
+-- What stays of streams and of what waits beside their bytes where a STREAM frame of one of these
+-- packets is lost, and where what else it carried waits again.
 pub record Losing (packets : Table TrackedPacket) (P : Streams → Type 0) : Type 0 where
   pub lost : (n : ℕ) (t : TrackedPacket) (m : StreamMeta) (e : End) → In (n, t) packets → In m t.carried.stream_frames → P (streams_at e) → P (streams_at (stream_lost m e))
   pub again : (n : ℕ) (t : TrackedPacket) (e : End) → In (n, t) packets → P (streams_at e) → P (streams_at (again t.carried e))
@@ -42,8 +44,8 @@ module _ (P : Streams → Type 0) (e : End) (l : Losing e.tracking.packets P) (i
 
 module _ (P : Streams → Type 0) (e : End) (now : ℕ) (l : Losing e.tracking.packets P) (i : P (streams_at e)) where
   -- by a timeout
-  pub expiry_stays : (acks : Pending) (timers : Timers) → P (streams_at (at_losses e now acks timers))
-  expiry_stays acks timers = losses_stay P (with_closing e (ticked e.closing now)) l i
+  pub expiry_stays : (acks : Pending) (timers : Timers) (waits : Bool) (asked : Asked) → P (streams_at (at_losses e now acks timers waits asked))
+  expiry_stays acks timers waits asked = losses_stay P (with_closing e (ticked e.closing now)) l i
 
   -- where something waits for each probe
   pub ready_stays : P (streams_at (ready_at e now).end)

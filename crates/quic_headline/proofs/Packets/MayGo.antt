@@ -1,12 +1,15 @@
--- Streams that hold what was written on them: each frame of theirs has a form, and something goes where it waits.
+-- Streams that hold what was written on them: each frame of theirs has a form, and something goes
+-- where it waits.
 use Rattle.std.proofs.Common.{◌≡◌, ℕ, ◌+◌, ◌-◌, ◌<◌, ◌≤◌, ◌^◌, min, Bool, true, false, cond, ltb, ◌==◌, ◌||◌, List, [], ◌∷◌, length, Option, Some, None, refl, sym, ap, ◌∙◌, subst, inl, inr, arith}
+use Rattle.quic_wire.specs.Writing.{Fits}
 use Rattle.std.specs.Prelude.{nat_lt}
 use Rattle.std.specs.Option.{is_some, is_none, option_map}
 use Rattle.std.specs.Cmp.{nat_cmp_total, then_total, on_total}
 use Rattle.std.proofs.lemmas.Bool.{ltb-true, ltb-false, lt-ltb, eq-eqb}
 use Rattle.std.proofs.lemmas.Cmp.{tied_itself}
 use Rattle.quic_wire_core.specs.Law.{varint_size_le}
-use Rattle.quic_wire.specs.Value.{FrameValue, StopSendingValue}
+use Rattle.quic_wire_core.specs.declared.shared.IssuedCid.{IssuedCid}
+use Rattle.quic_wire.specs.Value.{FrameValue, StopSendingValue, new_connection_id}
 use Rattle.quic_sets.specs.Runs.{Run, AreRuns}
 use Rattle.quic_sets.specs.Offsets.{has_any, first_or}
 use Rattle.quic_send_buffer.specs.Buffered.{Buffered, written, next_start, next_count, sent_end, has_unsent, writes_length, room_behind, offset_width, width}
@@ -17,11 +20,11 @@ use Rattle.quic_streams_parts.specs.SendHalf.{SendHalf, HasFrame, has_pending, f
 use Rattle.quic_retransmits.specs.Retransmits.{Retransmits, first_of, others_of}
 use Rattle.quic_streams_state.specs.declared.state.StreamsState.{StreamsState}
 use Rattle.quic_retransmits.specs.declared.retransmits.ControlKind.{ControlKind}
-use Rattle.quic_retransmits.specs.declared.retransmits.ControlKind.TheVariants.{ResetStream, StopSending}
+use Rattle.quic_retransmits.specs.declared.retransmits.ControlKind.TheVariants.{ResetStream, StopSending, NewConnectionId, RetireConnectionId}
 use Rattle.quic_streams_state.specs.State.{Streams, Sending}
 use Rattle.quic_streams_state.specs.Waiting.{can_send_stream_data}
 use Rattle.quic_streams_state.specs.Frames.{after_frame_sent}
-use Rattle.quic_streams_state.specs.Control.{reset_frame, without_first, frame_told}
+use Rattle.quic_streams_state.specs.Control.{reset_frame, without_first, told_id, frame_told}
 use Rattle.quic_streams_laws.specs.Few.{AreFew}
 use Rattle.quic_streams_laws.specs.FewLaws.{few_kept}
 use Rattle.quic_streams_laws.specs.GoesLaws.{Holding, sending_small, goes_fits}
@@ -47,15 +50,17 @@ pub record WasReset (live : Table SendHalf) (r : ℕ × ℕ) : Type 0 where
   pub reset : half.reset ≡ Some size
   pub code : r.1 < 2 ^ 62
 
--- what waits beside the bytes of streams may go: RESET_STREAM and STOP_SENDING have a form, and what has no frame yet doesn't wait
+-- what waits beside the bytes of streams may go: RESET_STREAM, STOP_SENDING, NEW_CONNECTION_ID and
+-- RETIRE_CONNECTION_ID have a form, and what has no frame yet doesn't wait
 pub record AreReady (live : Table SendHalf) (p : Retransmits) : Type 0 where
   pub resets : (r : ℕ × ℕ) → In r p.reset_stream → WasReset live r
   pub stops : (r : StopSendingValue) → In r p.stop_sending → (r.id < 2 ^ 62) × (r.code < 2 ^ 62)
-  pub no_ids : p.new_cids ≡ []
-  pub no_retired : p.retire_cids ≡ []
+  pub ids : (cid : IssuedCid) → In cid p.new_cids → Fits (new_connection_id (told_id cid))
+  pub retired : (n : ℕ) → In n p.retire_cids → n < 2 ^ 62
   pub no_frequency : p.ack_frequency ≡ false
 
--- what streams have to send may go: they hold what was written on them, and what waits beside their bytes may go
+-- what streams have to send may go: they hold what was written on them, and what waits beside their
+-- bytes may go
 pub record MayGo (t : Streams) : Type 0 where
   pub wrote : ℕ → Wrote
   pub streams : Holding wrote t.state
@@ -75,9 +80,11 @@ first_in x (y ∷ xs) is = let same : x ≡ y = cc in inl same
 
 -- it may go still once the first of a kind is gone
 ready_without : (kind : ControlKind) (live : Table SendHalf) (p : Retransmits) → AreReady live p → AreReady live (without_first kind p)
-ready_without ResetStream live p a = record { resets = λ r i. a.resets r (in_others r p.reset_stream i); stops = a.stops; no_ids = a.no_ids; no_retired = a.no_retired; no_frequency = a.no_frequency }
-ready_without StopSending live p a = record { resets = a.resets; stops = λ r i. a.stops r (in_others r p.stop_sending i); no_ids = a.no_ids; no_retired = a.no_retired; no_frequency = a.no_frequency }
-ready_without kind live p a = record { resets = a.resets; stops = a.stops; no_ids = a.no_ids; no_retired = a.no_retired; no_frequency = a.no_frequency }
+ready_without ResetStream live p a = record { resets = λ r i. a.resets r (in_others r p.reset_stream i); stops = a.stops; ids = a.ids; retired = a.retired; no_frequency = a.no_frequency }
+ready_without StopSending live p a = record { resets = a.resets; stops = λ r i. a.stops r (in_others r p.stop_sending i); ids = a.ids; retired = a.retired; no_frequency = a.no_frequency }
+ready_without NewConnectionId live p a = record { resets = a.resets; stops = a.stops; ids = λ cid i. a.ids cid (in_others cid p.new_cids i); retired = a.retired; no_frequency = a.no_frequency }
+ready_without RetireConnectionId live p a = record { resets = a.resets; stops = a.stops; ids = a.ids; retired = λ n i. a.retired n (in_others n p.retire_cids i); no_frequency = a.no_frequency }
+ready_without kind live p a = record { resets = a.resets; stops = a.stops; ids = a.ids; retired = a.retired; no_frequency = a.no_frequency }
 
 -- ---- one half
 
@@ -183,7 +190,7 @@ module _ (wrote : ℕ → Wrote) (s : StreamsState) (g : Holding wrote s) where
 
   -- a half that brings something wasn't reset, so what waits may go still once its frame went
   ready_behind : (p : Retransmits) → AreReady s.sending.halves.live p → (fair : Bool) (id room : ℕ) (h : SendHalf) → at s.sending.halves.live id ≡ Some h → frame_counts h room ≡ true → AreReady (after_frame_sent fair s id h room).sending.halves.live p
-  ready_behind p a fair id room h is counts = record { resets = resets; stops = a.stops; no_ids = a.no_ids; no_retired = a.no_retired; no_frequency = a.no_frequency }
+  ready_behind p a fair id room h is counts = record { resets = resets; stops = a.stops; ids = a.ids; retired = a.retired; no_frequency = a.no_frequency }
     where
       i : IsSendHalf (wrote id) h
       i = live_holds wrote s g.holds id h is
@@ -230,7 +237,8 @@ pub may_go_spells : Spelling MayGo
 may_go_spells = record {
   drops = λ t kind m. record { wrote = m.wrote; streams = m.streams; waits = ready_without kind t.state.sending.halves.live t.pending m.waits };
   control = λ t kind f is m. (
-    goes_fits m.wrote t.state m.streams t.pending (λ r first. (m.waits.resets r (first_in r t.pending.reset_stream first)).code) (λ r first. m.waits.stops r (first_in r t.pending.stop_sending first)) f is.says,
+    goes_fits m.wrote t.state m.streams t.pending (λ r first. (m.waits.resets r (first_in r t.pending.reset_stream first)).code) (λ r first. m.waits.stops r (first_in r t.pending.stop_sending first))
+        (λ cid first. m.waits.ids cid (first_in cid t.pending.new_cids first)) (λ n first. m.waits.retired n (first_in n t.pending.retire_cids first)) f is.says,
     record {
       wrote = m.wrote;
       streams = told_holds m.wrote t.state m.streams f;
@@ -252,7 +260,7 @@ may_go_spells = record {
 pub may_go_brings : Bringing MayGo
 may_go_brings = record {
   resets = λ t m r i. (let was = m.waits.resets r i in ap is_some (ap (reset_frame r) was.found) ∙ reset_there r was.half was.size was.reset);
-  others = λ t m. (m.waits.no_ids, m.waits.no_retired, m.waits.no_frequency);
+  others = λ t m. m.waits.no_frequency;
   queued = λ t m waits. first_pending m.wrote t.state m.streams waits;
 }
   where

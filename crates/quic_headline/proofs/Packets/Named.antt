@@ -1,4 +1,5 @@
--- What ACK frames name: an end that takes some waits for no packet more, and where the peer took what they name, each packet that is acknowledged was taken.
+-- What ACK frames name: an end that takes some waits for no packet more, and where the peer took
+-- what they name, each packet that is acknowledged was taken.
 use Rattle.std.proofs.Common.{◌≡◌, ℕ, Bool, true, false, not, List, [], ◌∷◌, filter, cond, Option, Some, None, refl, sym, ap, ◌∙◌, subst, inl, inr, length}
 use Rattle.quic_wire.specs.Value.{FrameValue, AckValue, ack, stream, reset_stream, stop_sending, max_data, max_stream_data, max_streams, datagram}
 use Rattle.quic_send_buffer.specs.declared.stream_meta.StreamMeta.{StreamMeta}
@@ -11,7 +12,7 @@ use Rattle.quic_machine.specs.Closing.{Closing, ticked}
 use Rattle.quic_machine.specs.Tracking.{Tracking, TrackedPacket, Carried, acked_by, Verdict, is_lost, lost_by, after_detection}
 use Rattle.quic_machine.specs.LeaveCases.{at_losses}
 use Rattle.quic_machine.specs.Parts.{Messaging}
-use Rattle.quic_machine.specs.End.{End, with_closing, with_messages}
+use Rattle.quic_machine.specs.End.{End, with_closing, with_messages, with_ping}
 use Rattle.quic_machine.specs.Acked.{without_known, resets_acked, stream_acked, streams_acked, packet_acked, packets_acked, stream_lost, streams_lost, carried_lost, packets_lost, verdict, losses_detected, measured, sampled, without_acked, after_named, losses_taken}
 use Rattle.quic_machine.specs.Receive.{Progress, is_above, names_ungiven, take_message, take_frame, received}
 use Rattle.quic_machine.specs.Steps.{Step, after}
@@ -23,6 +24,7 @@ use Rattle.quic_headline.proofs.Packets.Searches.{by_losses, losses_searched}
 use Rattle.quic_headline.proofs.Packets.Invariant.{IsCarriedFrom, AreTracked, RisingFrom, WereSent}
 use Rattle.quic_headline.proofs.Packets.Rising.{one_number}
 use Rattle.quic_machine.specs.Sizes.{search_acked}
+use Rattle.quic_machine.specs.Validation.{Asked, with_asked}
 
 -- ---- fewer packets
 
@@ -75,7 +77,7 @@ pub frame_fewer : (e : End) (f : FrameValue) (x : End) → WaitsForFewer e x →
 frame_fewer e = frame_keeps (WaitsForFewer e) (record {
   ack = λ rises a x w n t i. w n t (named_fewer (acked_by a x.tracking.packets) rises a (named a x) n t i);
   on_streams = λ f x on w. frame_leaves (WaitsForFewer e) f x on (λ streams. w);
-  apart = λ f x is w. apart_leaves (WaitsForFewer e) f x is (λ c. w);
+  apart = λ f x is w. apart_leaves (WaitsForFewer e) f x is (λ c. w) (λ c most. w);
   message = λ m x w. w;
 })
 
@@ -87,6 +89,10 @@ received_fewer p e arrival d = by_received (WaitsForFewer e) (record {
   frame = frame_fewer e;
   takes = λ n asks mark x w. w;
   closes = λ reason x w. w;
+  drains = λ close x w. w;
+  asks_close = λ x w. w;
+  exhausts = λ now x w. w;
+  draws = λ words x w. w;
 }) p e arrival d (λ n t i. i)
 
 -- so each tracked packet was given still
@@ -142,7 +148,8 @@ tracked_carried sents packets tracked n t i = let was = tracked n t i in record 
 
 -- ---- steps
 
--- where a step may be taken: a STREAM frame that is acknowledged stood in a packet that was taken, and what is lost in one that was sent
+-- where a step may be taken: a STREAM frame that is acknowledged stood in a packet that was taken,
+-- and what is lost in one that was sent
 abbrev pub MayOn : List Packet → List Sent → Step → Type 0
 MayOn took sents (steps.acked m) = (c : Carried) × WasCarried took c × In m c.stream_frames
 MayOn took sents (steps.lost m) = (c : Carried) × IsCarriedBy sents c × In m c.stream_frames
@@ -215,15 +222,16 @@ module _ (took : List Packet) (sents : List Sent) (P : End → Type 0) (s : Sett
       by_marks rises (length (p ∷ ps)) a taken P (λ m marking. s (steps.marked m marking) taken tt kept)
 
   -- losses that a timeout detects, where the clock may go on
-  pub expired_on : (e : End) (now : ℕ) → ((c : Closing) (x : End) → P x → P (with_closing x c)) → ((acks : Pending) (timers : Timers) (x : End) → P x → P (record x { acknowledging = acks; timers = timers })) → AreTracked sents e.tracking.packets → P e
-      → (acks : Pending) (timers : Timers) → P (at_losses e now acks timers)
-  expired_on e now passes times tracked i acks timers =
+  pub expired_on : (e : End) (now : ℕ) → ((c : Closing) (x : End) → P x → P (with_closing x c)) → ((acks : Pending) (timers : Timers) (waits : Bool) (asked : Asked) (x : End) → P x → P (with_asked (with_ping (record x { acknowledging = acks; timers = timers }) waits) asked)) → AreTracked sents e.tracking.packets → P e
+      → (acks : Pending) (timers : Timers) (waits : Bool) (asked : Asked) → P (at_losses e now acks timers waits asked)
+  expired_on e now passes times tracked i acks timers waits asked =
       let begins : End = with_closing e (ticked e.closing now) in
-      times acks timers (losses_detected begins) (detected_on begins tracked (passes (ticked e.closing now) e i))
+      times acks timers waits asked (losses_detected begins) (detected_on begins tracked (passes (ticked e.closing now) e i))
 
 -- ---- frames of a packet that an end takes
 
--- what holds over the frames of a packet: its ACK frames settle what they do, its frames on streams leave them so, its messages wait to be read, and those apart leave it
+-- what holds over the frames of a packet: its ACK frames settle what they do, its frames on streams
+-- leave them so, its messages wait to be read, and those apart leave it
 pub record TakesOn (took : List Packet) (sents : List Sent) (frames : List FrameValue) (P : End → Type 0) : Type 0 where
   pub settles : SettlesOn took sents P
   -- the greatest number of an ACK frame counts
@@ -269,7 +277,8 @@ module _ (took : List Packet) (sents : List Sent) (stands : Stands took sents) (
     tracked : AreTracked sents e.tracking.packets
     holds : P e
 
-  -- what each step keeps holds behind all frames of the packet, taken or refused, where its ACK frames name packets that were taken
+  -- what each step keeps holds behind all frames of the packet, taken or refused, where its ACK
+  -- frames name packets that were taken
   pub frames_settle : (e : End) → ((a : AckValue) → In (ack a) frames → NamesTaken took a) → AreTracked sents e.tracking.packets → P e → P (passed frames e).end
   frames_settle e takes tracked i =
       let all = frames_leave Going (λ f left x g. record {

@@ -1,4 +1,5 @@
--- Tables of tracked packets whose numbers rise: what filters, changed records, packets that are forgotten and one more behind them leave.
+-- Tables of tracked packets whose numbers rise: what filters, changed records, packets that are
+-- forgotten and one more behind them leave.
 use Rattle.std.proofs.Common.{◌≡◌, ℕ, ◌+◌, ◌<◌, ◌≤◌, Bool, true, false, ◌||◌, ◌&&◌, [], ◌∷◌, ◌++◌, filter, map, cond, Some, refl, sym, ap, ◌∙◌, subst, inl, inr, arith}
 use Rattle.std.specs.Prelude.{nat_lt}
 use Rattle.std.specs.Option.{is_some}

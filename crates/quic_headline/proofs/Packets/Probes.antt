@@ -1,4 +1,5 @@
--- What a probe leaves (RFC 9002, section 6.2.4): what has to be sent again of a tracked packet waits again, and the packet stays tracked without it.
+-- What a probe leaves (RFC 9002, section 6.2.4): what has to be sent again of a tracked packet
+-- waits again, and the packet stays tracked without it.
 use Rattle.std.proofs.Common.{◌≡◌, ℕ, Bool, true, false, cond, if◌then◌else◌, List, [], ◌∷◌, Option, Some, None, refl, sym, ap, ◌∙◌, subst, ◌⊎◌, inl, inr}
 use Rattle.std.specs.Ordering.{nat_cmp, is_eq}
 use Rattle.std.proofs.lemmas.Cmp.{ranked}
@@ -12,15 +13,17 @@ use Rattle.quic_spaces.specs.Records.{first_record}
 use Rattle.quic_machine.specs.Closing.{ticked}
 use Rattle.quic_machine.specs.Tracking.{TrackedPacket, without_record}
 use Rattle.quic_congestion.specs.Pacer.{Pacing}
-use Rattle.quic_machine.specs.End.{End, with_closing, with_ping, with_number_given, with_loss_timer, streams_at}
+use Rattle.quic_machine.specs.Idle.{agreed_timeout, idle_moment, alive_moment, keep_alive_reset, idle_reset_if, packet_given, idle_reset}
+use Rattle.quic_machine.specs.End.{End, words_drawn, with_closing, with_ping, with_number_given, with_loss_timer, streams_at, closed_by}
 use Rattle.quic_machine.specs.Acked.{again}
 use Rattle.quic_machine.specs.Control.{Gated, pacer_asked, paid, with_pacing_timer, with_app_limited}
-use Rattle.quic_machine.specs.Poll.{Polled, Draft, asking, datagram_size, tracked, paid_if, after_given, record_moved, probed, gated, composed, lazied, draft_as, polled, alone, whole, Leaving, Ready, nothing, leaves}
+use Rattle.quic_machine.specs.Poll.{Polled, Draft, asking, datagram_size, tracked, paid_if, after_given, record_moved, probed, gated, composed, lazied, draft_as, polled, alone, whole, Leaving, Ready, nothing, leaves, leaves_unless}
 use Rattle.quic_machine.specs.Policy.{Policy}
 use Rattle.quic_machine.specs.PollCases.{ready_at, draft_at, by_probed, by_gate, search_leaves, ready_leaves, by_poll_to, may_leave_at}
 use Rattle.quic_machine.specs.DraftLaws.{MayLeave}
 use Rattle.quic_headline.specs.Runs.{In}
 use Rattle.quic_headline.specs.Observer.{Sent}
+use Rattle.quic_headline.proofs.Packets.Closes.{by_closes}
 use Rattle.quic_congestion.specs.Search.{Discovery}
 use Rattle.quic_headline.proofs.Packets.Invariant.{IsCarriedFrom, AreTracked, carried_without}
 
@@ -56,17 +59,13 @@ in_put {A} (e ∷ es) id v x i = go (nat_cmp id e.0) refl i (in_put es id v x)
 
 -- ---- an end that is ready to give
 
--- What holds of an end at a moment holds where it is made ready, if it holds whether or not PING waits, where the record of a tracked packet waits again, and
--- whatever its pacer and its search hold and its timer is set to.
+-- What holds of an end at a moment holds where it is made ready, if it holds whether or not PING
+-- waits, where the record of a tracked packet waits again, and whatever its pacer and its search
+-- hold and its timer is set to.
 pub by_ready : (P : End → Type 0) (e : End) (now : ℕ) → P (with_closing e (ticked e.closing now)) → P (with_ping (with_closing e (ticked e.closing now)) true)
     → ((p : ℕ × TrackedPacket) → In p e.tracking.packets → P (record_moved (Some p) (with_closing e (ticked e.closing now))))
     → ((moment : Option ℕ) (pacing : Pacing) (discovery : Discovery) (x : End) → P x → P (with_pacer x moment pacing discovery)) → P (ready_at e now).end
-by_ready P e now same pings moves paces = subst P (sym (search_leaves g)) (paces g.end.timers.pacing g.end.path.pacing (leaves g).end.path.discovery g.end (by_gate x (λ (g : Gated). P g.end) (record {
-  free = λ is. waits;
-  full = λ asks is. waits;
-  lets = λ asks room is. paces x.timers.pacing (pacer_asked x).path.pacing x.path.discovery x waits;
-  holds = λ moment asks room is. paces (Some moment) (pacer_asked x).path.pacing x.path.discovery x waits;
-})))
+by_ready P e now same pings moves paces = goes x.path.blocked
   where
     begun : End
     begun = with_closing e (ticked e.closing now)
@@ -84,7 +83,18 @@ by_ready P e now same pings moves paces = subst P (sym (search_leaves g)) (paces
     waits : P x
     waits = by_probed (with_pacing_timer begun None) P (stops begun same) (stops (with_ping begun true) pings) (λ p probes is. stops (record_moved (Some p) begun) (moves p (first_record_in e.streams e.tracking.packets p is)))
 
--- what holds of streams and of what waits beside their bytes, if it stays where what has to be sent again of a tracked packet waits again
+    -- nothing goes to an address that isn't validated, or window and pacer were asked
+    goes : (b : Bool) → P (leaves_unless b x).end
+    goes true = waits
+    goes false = subst P (sym (search_leaves g)) (paces g.end.timers.pacing g.end.path.pacing (leaves g).end.path.discovery g.end (by_gate x (λ (g : Gated). P g.end) (record {
+      free = λ is. waits;
+      full = λ asks is. waits;
+      lets = λ asks room is. paces x.timers.pacing (pacer_asked x).path.pacing x.path.discovery x waits;
+      holds = λ moment asks room is. paces (Some moment) (pacer_asked x).path.pacing x.path.discovery x waits;
+    })))
+
+-- what holds of streams and of what waits beside their bytes, if it stays where what has to be sent
+-- again of a tracked packet waits again
 pub ready_streams : (P : Streams → Type 0) (e : End) (now : ℕ) → P (streams_at e) → ((n : ℕ) (t : TrackedPacket) → In (n, t) e.tracking.packets → P (streams_at (again t.carried e))) → P (streams_at (ready_at e now).end)
 ready_streams P e now same moves = by_ready (λ (x : End). P (streams_at x)) e now same same (λ p i. moves p.0 p.1 i) (λ moment pacing discovery x i. i)
 
@@ -98,24 +108,45 @@ ready_state e now = ap (λ (x : End). x.streams) (ready_leaves e now)
 pub may_leave : (e : End) (now : ℕ) (leaving : Leaving) (x : End) → ready_at e now ≡ record { leaving = leaving; end = x } → MayLeave leaving x
 may_leave e now leaving x is = subst (λ (g : Ready). MayLeave g.leaving g.end) is (may_leave_at e now)
 
--- the end after a draft went: its packet is tracked, and its pacer holds this
-abbrev pub after_going : Policy → Draft → Pacing → End
-after_going p d pacing =
-    let x : End = with_number_given (p.words d.end.filter.drawn) (tracked d) in
-    with_loss_timer (record x { path = record x.path { pacing = pacing; app_limited = false } })
+-- what a draft that went sets besides: what the pacer holds, both times without a packet, and
+-- whether the next one that asks lets the idle one begin anew
+pub record Going : Type 0 where
+  pub pacing : Pacing
+  pub idle : Option ℕ
+  pub alive : Option ℕ
+  pub armed : Bool
 
--- what holds whatever its pacer holds
-pub by_going : (P : End → Type 0) (p : Policy) (d : Draft) → ((pacing : Pacing) → P (after_going p d pacing)) → P (after_given p d)
+-- the end after a draft went: its packet is tracked, and it sets this
+abbrev pub after_going : Policy → Draft → Going → End
+after_going p d g =
+    let x : End = with_number_given (p.words (words_drawn d.end)) (tracked d) in
+    with_loss_timer (record x { timers = record x.timers { idle = g.idle; keep_alive = g.alive }; idle_armed = g.armed; path = record x.path { pacing = g.pacing; app_limited = false } })
+
+-- what holds whatever it sets
+pub by_going : (P : End → Type 0) (p : Policy) (d : Draft) → ((g : Going) → P (after_going p d g)) → P (after_given p d)
 by_going P p d each = go (asking d.frames)
   where
     x : End
-    x = with_number_given (p.words d.end.filter.drawn) (tracked d)
+    x = with_number_given (p.words (words_drawn d.end)) (tracked d)
 
-    go : (b : Bool) → P (with_loss_timer (with_app_limited (paid_if b x (datagram_size d)) false))
-    go true = each (paid x (datagram_size d)).path.pacing
-    go false = each x.path.pacing
+    paced : Pacing → End
+    paced pacing = record x { path = record x.path { pacing = pacing } }
 
--- what goes leaves streams, and what waits beside their bytes, as what is composed does, or, where an ACK, a probe of a size or a close goes alone, or nothing, as they were
+    reset : (b : Bool) (pacing : Pacing) → P (with_loss_timer (with_app_limited (keep_alive_reset (idle_reset_if b (paced pacing))) false))
+    reset true pacing = each (record {
+      pacing = pacing;
+      idle = idle_moment (agreed_timeout x.transport x.peer_params) (record (paced pacing) { idle_armed = false });
+      alive = alive_moment x.transport.keep_alive_interval (idle_reset (record (paced pacing) { idle_armed = false }));
+      armed = false;
+    })
+    reset false pacing = each (record { pacing = pacing; idle = x.timers.idle; alive = alive_moment x.transport.keep_alive_interval (paced pacing); armed = x.idle_armed })
+
+    go : (b : Bool) → P (with_loss_timer (with_app_limited (packet_given b (paid_if b x (datagram_size d))) false))
+    go true = reset x.idle_armed (paid x (datagram_size d)).path.pacing
+    go false = reset false x.path.pacing
+
+-- what goes leaves streams, and what waits beside their bytes, as what is composed does, or, where
+-- an ACK, a probe of a size or a close goes alone, or nothing, as they were
 pub draft_streams : (P : Streams → Type 0) (leaving : Leaving) (e : End) → (P (streams_at (lazied e)) → P (streams_at (composed (lazied e)).end)) → P (streams_at e) → P (streams_at (draft_as leaving e).end)
 draft_streams P whole e composes i = composes i
 draft_streams P alone e composes i = i
@@ -124,7 +155,7 @@ draft_streams P other e composes i = i
 -- A poll keeps what is so of them, if what is composed does.
 pub poll_streams : (P : Streams → Type 0) (p : Policy) (e : End) (now : ℕ) → ((x : End) → P (streams_at x) → P (streams_at (composed x).end)) → P (streams_at e) → P (streams_at (ready_at e now).end) → P (streams_at (polled p e now).end)
 poll_streams P p e now composes same ready =
-    by_poll_to p e now (λ (q : Polled). P (streams_at q.end)) (record { silent = same; failed = same; nothing = λ is none. ready; closes = ready; gives = λ is may some. by_going (λ (x : End). P (streams_at x)) p (draft_at e now) (λ pacing. draft_streams P (ready_at e now).leaving (ready_at e now).end (composes (lazied (ready_at e now).end)) ready) })
+    by_poll_to p e now (λ (q : Polled). P (streams_at q.end)) (record { silent = same; failed = same; nothing = λ is none. ready; repeats = λ is. by_closes p (with_closing e (ticked e.closing now)) (λ (q : Polled). P (streams_at q.end)) same (λ f goes. same); closes = λ reason bound. by_closes p (closed_by reason (ready_at e now).end) (λ (q : Polled). P (streams_at q.end)) ready (λ f goes. ready); gives = λ is may some. by_going (λ (x : End). P (streams_at x)) p (draft_at e now) (λ pacing. draft_streams P (ready_at e now).leaving (ready_at e now).end (composes (lazied (ready_at e now).end)) ready) })
 
 -- so it is of what is so of streams alone
 pub poll_state : (P : StreamsState → Type 0) (p : Policy) (e : End) (now : ℕ) → ((x : End) → P x.streams → P (composed x).end.streams) → P e.streams → P (polled p e now).end.streams

@@ -1,4 +1,5 @@
--- Numbers rise: one more above all stays so, what has the same number is the same, and the datagrams given are those of the numbers.
+-- Numbers rise: one more above all stays so, what has the same number is the same, and the
+-- datagrams given are those of the numbers.
 use Rattle.std.proofs.Common.{◌≡◌, ℕ, ◌+◌, ◌<◌, ◌≤◌, max, List, [], ◌∷◌, ◌++◌, map, inl, inr, refl, sym, ◌∙◌, subst, arith}
 use Rattle.quic_machine.specs.Policy.{Policy}
 use Rattle.quic_machine.specs.Poll.{IsDatagram}
@@ -54,6 +55,6 @@ rise p low (s ∷ sents) (d ∷ ds) lawful rising all =
     let g = all.0 in
     let to : destination d ≡ s.id = destination_given p s.id s.number s.reference s.frames d g lawful in
     let is : IsDatagram p s.reference s.number (destination d) s.frames d = subst (λ (id : List ℕ). IsDatagram p s.reference s.number id s.frames d) (sym to) (record { payload = g.payload; spells = g.spells; is = g.is }) in
-    (s.number, rising.0, rising.1, record { frames = s.frames; is = is }, rise p (s.number + 1) sents ds lawful rising.2 all.1)
+    (s.number, rising.0, rising.1, record { small = g.small; near = g.near; frames = s.frames; is = is }, rise p (s.number + 1) sents ds lawful rising.2 all.1)
 rise p low [] (d ∷ ds) lawful rising all = absurd all
 rise p low (s ∷ sents) [] lawful rising all = absurd all

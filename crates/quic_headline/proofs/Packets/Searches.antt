@@ -1,5 +1,5 @@
--- What the search for a size changes where packets are lost: itself, and which messages wait; and all else is as it would be without. And what it changes where an
--- end is polled.
+-- What the search for a size changes where packets are lost: itself, and which messages wait; and
+-- all else is as it would be without. And what it changes where an end is polled.
 use Rattle.std.proofs.Common.{◌≡◌, ℕ, None, refl, sym, ap, ◌∙◌, subst}
 use Rattle.quic_congestion.specs.Search.{Discovery, after_poll}
 use Rattle.quic_messages.specs.Messages.{Messages, without_longer}
@@ -8,7 +8,7 @@ use Rattle.quic_machine.specs.Sizes.{after_lost, search_asked, search_lost}
 use Rattle.quic_machine.specs.Tracking.{TrackedPacket, lost_by, after_detection}
 use Rattle.quic_machine.specs.Closing.{Closing, ticked}
 use Rattle.quic_machine.specs.Parts.{Path, current_mtu}
-use Rattle.quic_machine.specs.PollCases.{ready_at, gate_leaves, probe_leaves, by_leaves}
+use Rattle.quic_machine.specs.PollCases.{ready_at, gate_leaves, probe_leaves, by_ready}
 use Rattle.quic_machine.specs.End.{End, number_of, with_closing, with_tracking, with_discovery, with_queued}
 use Rattle.quic_machine.specs.Acked.{packets_lost, verdict, losses_detected}
 use Rattle.quic_machine.specs.FrameCases.{packets_lost_keep, by_searched}
@@ -31,7 +31,8 @@ losses_leave e =
 pub by_losses : (P : End → Type 0) (e : End) → ((discovery : Discovery) (queues : Messages) → P (found e discovery queues)) → P (losses_detected e)
 by_losses P e each = subst P (sym (losses_leave e)) (each (losses_detected e).path.discovery (losses_detected e).messages.queues)
 
--- What stays where another search begins and where messages are dropped that are too long stays where the search learns of packets that are lost.
+-- What stays where another search begins and where messages are dropped that are too long stays
+-- where the search learns of packets that are lost.
 pub search_keeps : (P : End → Type 0) → ((d : Discovery) (e : End) → P e → P (with_discovery e d)) → ((most : ℕ) (e : End) → P e → P (with_queued e (without_longer most e.messages.queues)))
     → (lost : Table TrackedPacket) (e : End) → P e → P (search_lost lost e)
 search_keeps P searched shortens lost e i =
@@ -62,7 +63,7 @@ losses_search e =
 
 -- what stays where it is asked stays where an end is made ready
 pub ready_searched : (Q : Discovery → Type 0) → ((now number : ℕ) (d : Discovery) → Q d → Q (after_poll now number d)) → (e : End) (now : ℕ) → Q e.path.discovery → Q (ready_at e now).end.path.discovery
-ready_searched Q asks e now i = by_leaves g (λ (r : Ready). Q r.end.path.discovery) (record {
+ready_searched Q asks e now i = by_ready (probed x) (λ (r : Ready). Q r.end.path.discovery) (λ blocked. begins) (λ free. record {
   acks = λ held due. before;
   held = λ held none. before;
   all = λ free some. before;
@@ -77,8 +78,11 @@ ready_searched Q asks e now i = by_leaves g (λ (r : Ready). Q r.end.path.discov
     g : Gated
     g = gated (probed x)
 
+    begins : Q (probed x).path.discovery
+    begins = subst Q (sym (ap (λ (z : End). z.path.discovery) (probe_leaves x))) i
+
     before : Q g.end.path.discovery
-    before = subst Q (sym (ap (λ (z : End). z.path.discovery) (gate_leaves (probed x)) ∙ ap (λ (z : End). z.path.discovery) (probe_leaves x))) i
+    before = subst Q (sym (ap (λ (z : End). z.path.discovery) (gate_leaves (probed x)))) begins
 
     after : Q (search_asked g.end).path.discovery
     after = asks g.end.closing.clock (number_of g.end) g.end.path.discovery before

@@ -1,4 +1,5 @@
--- What the observer of an end knows at each place: what is left to be given, how what went was sent, and what the end waits for.
+-- What the observer of an end knows at each place: what is left to be given, how what went was
+-- sent, and what the end waits for.
 use Rattle.std.proofs.Common.{arith, ◌≡◌, ℕ, Bool, true, false, List, [], ◌∷◌, ◌++◌, Option, Some, refl, sym, ap, ◌∙◌, subst}
 use Rattle.std.proofs.lemmas.List.{append-nil, append_assoc}
 use Rattle.quic_machine.specs.declared.answers.State.{State}
@@ -10,18 +11,22 @@ use Rattle.quic_machine.specs.declared.run.Answer.TheVariants as answers
 use Rattle.quic_machine.specs.declared.run.Delivery.{Delivery}
 use Rattle.quic_machine.specs.Policy.{Policy}
 use Rattle.quic_spaces.specs.Numbers.{cut_against}
-use Rattle.quic_machine.specs.End.{End}
+use Rattle.quic_machine.specs.Closing.{ticked}
+use Rattle.quic_machine.specs.End.{End, with_closing, closed_by}
 use Rattle.quic_machine.specs.Receive.{Outcome}
-use Rattle.quic_machine.specs.Poll.{Polled, datagram_of, polled, draft_as}
+use Rattle.quic_machine.specs.Poll.{Polled, datagram_of, polled, closes, draft_as}
+use Rattle.quic_machine.specs.Poll as poll
 use Rattle.quic_machine.specs.Machine.{IsAnswer, after_call, gives, fails, gave}
 use Rattle.quic_machine.specs.CallCases.{is_delivery, is_poll, is_timeout}
 use Rattle.quic_machine.specs.PollCases.{given_as, gives_as, by_poll, at_poll}
 use Rattle.quic_headline.specs.Runs.{Told, Intake, acknowledged, and_told}
-use Rattle.quic_headline.specs.Observer.{Sent, terms_of, no_flight, Watch, first_watch, clock_behind, watch_told, watch_given, watch_moment}
+use Rattle.quic_headline.specs.Observer.{Sent, terms_of, no_flight, Watch, first_watch, clock_behind, watch_told, watch_given, watch_moment, next_number}
 use Rattle.quic_headline.proofs.Packets.Invariant.{InStep, IsSent, Gives}
+use Rattle.quic_headline.proofs.Packets.Closes.{by_closes}
+use Rattle.quic_headline.proofs.Packets.Owing.{Owes}
 use Rattle.quic_headline.proofs.Packets.Intakes.{folded_more}
 use Rattle.quic_headline.proofs.Packets.Delivered.{Arrivals}
-use Rattle.quic_headline.proofs.Packets.Watching.{IsWatched, watched_intake, came_with, timed_with, untimely, none_comes, told_timed, told_quiet, told_left, told_own, with_delivery, nothing_delivered, arrivals_watched, poll_watched, timeout_watched, no_moment, leaves_call, leaves_watched, open_named}
+use Rattle.quic_headline.proofs.Packets.Watching.{IsWatched, watched_intake, came_with, timed_with, untimely, none_comes, told_timed, told_quiet, told_left, told_own, with_delivery, nothing_delivered, arrivals_watched, poll_watched, timeout_watched, no_moment, quiet_watched, open_named}
 use Rattle.quic_headline.proofs.Packets.Flying.{Waits, held}
 use Rattle.quic_headline.proofs.Timers.LossTimers.{LossStands, call_stands, stands_shown}
 use Rattle.quic_headline.proofs.Places.Steps.{gives_count, only_polls_give, poll_answer}
@@ -72,13 +77,18 @@ poll_gives p e now d = by_poll p e now (λ (r : Polled). r.datagram ≡ Some d �
   silent = λ is. cc;
   failed = λ is. cc;
   nothing = λ c is. cc;
-  closes = λ c is. cc;
+  repeats = λ still. closing (with_closing e (ticked e.closing now));
+  closes = λ reason c bound. closing (closed_by reason (at_poll e now c));
   gives = λ leaving c left s n ready some is. (let same : datagram_of p (draft_as leaving (at_poll e now c)) ≡ d = cc in record { gave = refl; given = ap (λ (x : List ℕ). x ∷ []) same });
 })
+  where
+    closing : (x : End) → (closes p x).datagram ≡ Some d → IsGivenBy (closes p x) d
+    closing x = by_closes p x (λ (r : Polled). r.datagram ≡ Some d → IsGivenBy r d) (λ is. cc)
+        (λ f goes is. (let same : datagram_of p (draft_as (poll.closing f) x) ≡ d = cc in record { gave = refl; given = ap (λ (x : List ℕ). x ∷ []) same }))
 
 -- ---- any call
 
-module _ (x y : Party) (joined : AreJoined x y) (meets : Meets y x) (gives_before : Gives x.policy x.end.numbers x.end.filter.last x.sents x.given) (sight : Sight x y) where
+module _ (x y : Party) (joined : AreJoined x y) (meets : Meets y x) (gives_before : Gives x.policy x.end.numbers x.end.filter.last x.sents x.given) (owes : Owes x.end) (sight : Sight x y) where
   -- what the observer knows before the call
   abbrev pub seen : Watch
   seen = watch_of x y
@@ -93,15 +103,15 @@ module _ (x y : Party) (joined : AreJoined x y) (meets : Meets y x) (gives_befor
 
   -- what was given more, and what the end waits for
   pub record KnowsOn (call : Call) (a : Answer) : Type 0 where
-    pub own : (after_told call a).own ≡ seen.own ++ sents_by x.end call a
+    pub own : (after_told call a).own ≡ seen.own ++ sents_by x.policy x.end call a
     pub watched : IsWatched x.terms (after_told call a) (after_call x.policy x.end y.given call a)
 
   -- a call that is no poll gives nothing
-  none_more : (call : Call) (a : Answer) → is_poll call ≡ false → IsAnswer x.policy x.end y.given call a → (after_told call a).own ≡ seen.own ++ sents_by x.end call a
+  none_more : (call : Call) (a : Answer) → is_poll call ≡ false → IsAnswer x.policy x.end y.given call a → (after_told call a).own ≡ seen.own ++ sents_by x.policy x.end call a
   none_more call a silent is =
       told_own (lens x y) (told_of call a x.end.closing.state) seen (only_polls_give x.policy x.end y.given call a silent is) ∙ sym (append-nil seen.own) ∙ ap (λ (ss : List Sent). seen.own ++ ss) (sym (none_sent call silent))
     where
-      none_sent : (call : Call) → is_poll call ≡ false → sents_by x.end call a ≡ []
+      none_sent : (call : Call) → is_poll call ≡ false → sents_by x.policy x.end call a ≡ []
       none_sent (calls.Poll now) silent = cc
       none_sent call silent = refl
 
@@ -142,7 +152,7 @@ module _ (x y : Party) (joined : AreJoined x y) (meets : Meets y x) (gives_befor
         own = none_more call a silent is;
         watched = subst (λ (v : Watch). IsWatched x.terms v (after_call x.policy x.end y.given call a))
             (sym (told_quiet (lens x y) t seen other (only_polls_give x.policy x.end y.given call a silent is) (none_comes (lens x y) t seen.intake apart) ∙ ap (λ (m : Option ℕ). record seen { clock = clock_behind seen.clock m }) (no_moment x.end.closing.state call apart silent other)))
-            (leaves_watched x.terms seen x.end (after_call x.policy x.end y.given call a) (leaves_call x.policy x.end y.given call a apart silent other) sight.watched);
+            (quiet_watched x.terms seen x.policy x.end y.given call a apart silent other sight.watched);
       }
 
   -- a timeout
@@ -153,37 +163,37 @@ module _ (x y : Party) (joined : AreJoined x y) (meets : Meets y x) (gives_befor
       (timeout_watched x.policy x.terms seen x.end now sight.stands sight.watched)
 
   -- what a poll gives was sent so, where it holds behind the call of all that was given
-  gives_at : (now : ℕ) → InStep (IsSent x.policy) (x.sents ++ sents_by x.end (calls.Poll now) (answers.Poll (polled x.policy x.end now).answer)) (x.given ++ gives x.policy x.end (calls.Poll now) (answers.Poll (polled x.policy x.end now).answer))
-      → (d : List ℕ) → (polled x.policy x.end now).datagram ≡ Some d → IsSent x.policy (sent_by x.end now) d
+  gives_at : (now : ℕ) → InStep (IsSent x.policy) (x.sents ++ sents_by x.policy x.end (calls.Poll now) (answers.Poll (polled x.policy x.end now).answer)) (x.given ++ gives x.policy x.end (calls.Poll now) (answers.Poll (polled x.policy x.end now).answer))
+      → (d : List ℕ) → (polled x.policy x.end now).datagram ≡ Some d → IsSent x.policy (sent_by x.policy x.end now) d
   gives_at now behind d is =
       let r : Polled = polled x.policy x.end now in
       let by = poll_gives x.policy x.end now d is in
       let given : gives x.policy x.end (calls.Poll now) (answers.Poll r.answer) ≡ d ∷ [] = gives_as x.policy x.end now r.answer ∙ by.given in
-      step_last (IsSent x.policy) x.sents x.given (sent_by x.end now) d gives_before.each
-      (subst (λ (ds : List (List ℕ)). InStep (IsSent x.policy) (x.sents ++ sent_by x.end now ∷ []) (x.given ++ ds)) given
-      (subst (λ (b : Bool). InStep (IsSent x.policy) (x.sents ++ sent_if b (sent_by x.end now)) (x.given ++ gives x.policy x.end (calls.Poll now) (answers.Poll r.answer))) by.gave behind))
+      step_last (IsSent x.policy) x.sents x.given (sent_by x.policy x.end now) d gives_before.each
+      (subst (λ (ds : List (List ℕ)). InStep (IsSent x.policy) (x.sents ++ sent_by x.policy x.end now ∷ []) (x.given ++ ds)) given
+      (subst (λ (b : Bool). InStep (IsSent x.policy) (x.sents ++ sent_if b (sent_by x.policy x.end now)) (x.given ++ gives x.policy x.end (calls.Poll now) (answers.Poll r.answer))) by.gave behind))
 
   -- a poll
-  poll_seen : (now : ℕ) (a : Answer) → IsAnswer x.policy x.end y.given (calls.Poll now) a → fails a ≡ false → InStep (IsSent x.policy) (x.sents ++ sents_by x.end (calls.Poll now) a) (x.given ++ gives x.policy x.end (calls.Poll now) a)
+  poll_seen : (now : ℕ) (a : Answer) → IsAnswer x.policy x.end y.given (calls.Poll now) a → fails a ≡ false → InStep (IsSent x.policy) (x.sents ++ sents_by x.policy x.end (calls.Poll now) a) (x.given ++ gives x.policy x.end (calls.Poll now) a)
       → (rest : List (List ℕ)) → seen.left ≡ gives x.policy x.end (calls.Poll now) a ++ rest → KnowsOn (calls.Poll now) a
   poll_seen now a is served behind rest left =
       let r : Polled = polled x.policy x.end now in
       let said : a ≡ answers.Poll r.answer = poll_answer x.policy x.end now a is served in
       subst (λ (b : Answer). KnowsOn (calls.Poll now) b) (sym said)
-      (subst (λ (b : Answer). InStep (IsSent x.policy) (x.sents ++ sents_by x.end (calls.Poll now) b) (x.given ++ gives x.policy x.end (calls.Poll now) b) → seen.left ≡ gives x.policy x.end (calls.Poll now) b ++ rest → fails b ≡ false → KnowsOn (calls.Poll now) (answers.Poll r.answer)) (sym said)
+      (subst (λ (b : Answer). InStep (IsSent x.policy) (x.sents ++ sents_by x.policy x.end (calls.Poll now) b) (x.given ++ gives x.policy x.end (calls.Poll now) b) → seen.left ≡ gives x.policy x.end (calls.Poll now) b ++ rest → fails b ≡ false → KnowsOn (calls.Poll now) (answers.Poll r.answer)) (sym said)
       (λ all whole ok. goes_on all (whole ∙ ap (λ (ds : List (List ℕ)). ds ++ rest) (gives_as x.policy x.end now r.answer)) ok) behind left served)
     where
       knows : x.end.closing.state ≡ states.Open → cut_against x.end.numbers ≡ acknowledged seen.intake.took
       knows opened = open_named x.end.closing.state x.end.numbers (came_to x y) opened meets.knows ∙ ap (λ (i : Intake). acknowledged i.took) (sym seen_intake)
 
-      goes_on : InStep (IsSent x.policy) (x.sents ++ sents_by x.end (calls.Poll now) (answers.Poll (polled x.policy x.end now).answer)) (x.given ++ gives x.policy x.end (calls.Poll now) (answers.Poll (polled x.policy x.end now).answer))
+      goes_on : InStep (IsSent x.policy) (x.sents ++ sents_by x.policy x.end (calls.Poll now) (answers.Poll (polled x.policy x.end now).answer)) (x.given ++ gives x.policy x.end (calls.Poll now) (answers.Poll (polled x.policy x.end now).answer))
           → seen.left ≡ given_as (polled x.policy x.end now).answer (polled x.policy x.end now).datagram ++ rest → fails (answers.Poll (polled x.policy x.end now).answer) ≡ false → KnowsOn (calls.Poll now) (answers.Poll (polled x.policy x.end now).answer)
       goes_on all whole ok =
-          let on = poll_watched (lens x y) rest joined.x_lawful joined.to_y x.end seen gives_before.behind sight.stands knows sight.watched now ok (λ d has. gives_at now all d has) whole in
+          let on = poll_watched (lens x y) rest joined.x_lawful joined.to_y x.end seen gives_before.behind (gives_before.next ∙ ap next_number (sym sight.own)) owes sight.stands knows sight.watched now ok (λ d has. gives_at now all d has) whole in
           record { own = on.0; watched = on.1 }
 
   -- after any call the observer knows what the end knows
-  pub call_seen : (call : Call) (a : Answer) → IsAnswer x.policy x.end y.given call a → fails a ≡ false → InStep (IsSent x.policy) (x.sents ++ sents_by x.end call a) (x.given ++ gives x.policy x.end call a)
+  pub call_seen : (call : Call) (a : Answer) → IsAnswer x.policy x.end y.given call a → fails a ≡ false → InStep (IsSent x.policy) (x.sents ++ sents_by x.policy x.end call a) (x.given ++ gives x.policy x.end call a)
       → (rest : List (List ℕ)) → seen.left ≡ gives x.policy x.end call a ++ rest → KnowsOn call a
   call_seen (calls.Poll now) a is served behind rest left = poll_seen now a is served behind rest left
   call_seen (calls.Timeout now) a is served behind rest left = record { own = none_more (calls.Timeout now) a refl is; watched = timeout_seen now a is }
@@ -191,7 +201,7 @@ module _ (x y : Party) (joined : AreJoined x y) (meets : Meets y x) (gives_befor
   call_seen call a is served behind rest left = quiet_seen call a refl refl refl is
 
   -- so it stays in sight, where what it gives is the first of what is left
-  pub sight_step : (call : Call) (a : Answer) → IsAnswer x.policy x.end y.given call a → fails a ≡ false → InStep (IsSent x.policy) (x.sents ++ sents_by x.end call a) (x.given ++ gives x.policy x.end call a)
+  pub sight_step : (call : Call) (a : Answer) → IsAnswer x.policy x.end y.given call a → fails a ≡ false → InStep (IsSent x.policy) (x.sents ++ sents_by x.policy x.end call a) (x.given ++ gives x.policy x.end call a)
       → (rest : List (List ℕ)) × ((x.given ++ gives x.policy x.end call a) ++ rest ≡ x.final) → Sight (called x y.given call a) y
   sight_step call a is served behind more =
       let t : Told = told_of call a x.end.closing.state in
@@ -202,7 +212,7 @@ module _ (x y : Party) (joined : AreJoined x y) (meets : Meets y x) (gives_befor
       let knows = call_seen call a is served behind more.0 (before more.0 more.1) in
       record {
         left = λ rest whole. ap (λ (w : Watch). w.left) after ∙ told_left (lens x y) t seen (gives x.policy x.end call a) rest (gave a) refl (gives_count x.policy x.end y.given call a is) (before rest whole);
-        own = ap (λ (w : Watch). w.own) after ∙ knows.own ∙ ap (λ (ss : List Sent). ss ++ sents_by x.end call a) sight.own;
+        own = ap (λ (w : Watch). w.own) after ∙ knows.own ∙ ap (λ (ss : List Sent). ss ++ sents_by x.policy x.end call a) sight.own;
         watched = subst (λ (w : Watch). IsWatched x.terms w (after_call x.policy x.end y.given call a)) (sym after) knows.watched;
         stands = call_stands x.policy x.end y.given call a sight.stands;
       }
@@ -213,7 +223,7 @@ module _ (x y : Party) (joined : AreJoined x y) (meets : Meets y x) (gives_befor
 pub sight_group : Group PacketsHold Sight
 sight_group = record {
   first = λ x y m there here. sight_first x y;
-  writer = λ x y call a c sight back. sight_step x y c.joined (meets y x c.takes) c.gives.gives sight call a c.answer c.served c.gives_behind.gives.each c.joined_behind.x_more;
+  writer = λ x y call a c sight back. sight_step x y c.joined (meets y x c.takes) c.gives.gives c.gives.owes sight call a c.answer c.served c.gives_behind.gives.each c.joined_behind.x_more;
   reader = λ x y call a c sight back. record { left = back.left; own = back.own; watched = back.watched; stands = back.stands };
-  shows = λ x y here there b back s t. record { left = s.left; own = s.own; watched = record { path = s.watched.path; flight = s.watched.flight }; stands = stands_shown here x.end s.stands };
+  shows = λ x y here there b back s t. record { left = s.left; own = s.own; watched = record { path = s.watched.path; flight = s.watched.flight }; stands = stands_shown here.window here.blocked x.end s.stands };
 }

@@ -1,4 +1,5 @@
--- The size of an end's datagrams stays between the least that each path carries and what its peer takes, whatever the search for a greater one comes to.
+-- The size of an end's datagrams stays between the least that each path carries and what its peer
+-- takes, whatever the search for a greater one comes to.
 use Rattle.std.proofs.Common.{◌≡◌, ℕ, Bool, true, false, List, [], ◌∷◌, length, Option, Some, None, refl, sym, subst}
 use Rattle.std.specs.Prelude.{◌==◌, not}
 use Rattle.std.proofs.lemmas.Bool.{eqb-true}
@@ -8,7 +9,7 @@ use Rattle.quic_congestion.proofs.SizedSearch.{keeps_sized, sized_polled, sized_
 use Rattle.quic_streams_parts.specs.Table.{Table}
 use Rattle.quic_machine.specs.Tracking.{TrackedPacket, Carried, acked_by, lost_by, after_detection}
 use Rattle.std.specs.Prelude.{Result, Ok, Err}
-use Rattle.quic_wire.specs.Value.{FrameValue, AckValue, ack, datagram}
+use Rattle.quic_wire.specs.Value.{FrameValue, AckValue, ack, stream, reset_stream, stop_sending, max_data, max_stream_data, max_streams, datagram}
 use Rattle.quic_messages.specs.declared.errors.ReceivedError.{ReceivedError}
 use Rattle.quic_messages.specs.Messages.{received_answer}
 use Rattle.quic_machine.specs.declared.run.Call.{Call}
@@ -18,12 +19,12 @@ use Rattle.quic_machine.specs.Parts.{Path}
 use Rattle.quic_machine.specs.Arrival.{Arrival}
 use Rattle.quic_machine.specs.Timeouts.{Expiry}
 use Rattle.quic_machine.specs.Closing.{ticked}
-use Rattle.quic_machine.specs.End.{End, with_closing, with_tracking}
+use Rattle.quic_machine.specs.End.{End, with_closing, with_tracking, closed_by}
 use Rattle.quic_machine.specs.Acked.{without_known, resets_acked, carried_acked, packet_acked, packets_acked, packets_lost, verdict, losses_detected, measured, sampled, without_acked, losses_taken, after_named}
 use Rattle.quic_machine.specs.Receive.{is_above, names_ungiven, message_judged, take_frame, received}
 use Rattle.quic_machine.specs.Poll.{Polled, polled}
 use Rattle.quic_machine.specs.Machine.{after_call}
-use Rattle.quic_machine.specs.FrameCases.{streams_acked_keep, resets_acked_keep, packets_lost_keep, by_marks, by_searched, named, ack_taken, by_received}
+use Rattle.quic_machine.specs.FrameCases.{streams_acked_keep, resets_acked_keep, packets_lost_keep, by_marks, by_searched, IsApart, apart_leaves, named, ack_taken, by_received}
 use Rattle.quic_machine.specs.LeaveCases.{at_expiry, by_expired}
 use Rattle.quic_machine.specs.PollCases.{ready_at, draft_at, by_poll_to, composes, may_leave_at}
 use Rattle.quic_machine.specs.CallCases.{Plain, by_plain_call}
@@ -32,6 +33,8 @@ use Rattle.quic_headline.proofs.Messages.Counted.{received_leaves}
 use Rattle.quic_headline.proofs.Packets.Probes.{by_going}
 use Rattle.quic_headline.proofs.Packets.Searches.{ready_searched}
 use Rattle.quic_machine.specs.Sizes.{is_resized, others_of, with_one_lost, with_all_lost, with_lost, asked_behind, after_lost, search_acked, search_lost}
+use Rattle.quic_headline.proofs.Packets.Apart.{by_waits, by_next_id}
+use Rattle.quic_headline.proofs.Packets.Closes.{by_closes}
 
 -- ---- packets that are lost
 
@@ -60,15 +63,16 @@ same_size d f same = go (d.size == f.size) refl same
 
 -- ---- the search of an end
 
--- what of an end says how long its messages may be: the search for a size, what the peer takes, and its id; and the messages that wait
+-- what of an end says how long its messages may be: the search for a size, what the peer takes, and
+-- how long its id is; and the messages that wait
 pub record Sizing : Type 0 where
   pub discovery : Discovery
   pub frame : ℕ
-  pub id : List ℕ
+  pub width : ℕ
   pub outgoing : List (List ℕ)
 
 abbrev pub sizing : End → Sizing
-sizing e = record { discovery = e.path.discovery; frame = e.peer_params.max_datagram_frame_size; id = e.ids.active.id; outgoing = e.messages.queues.outgoing }
+sizing e = record { discovery = e.path.discovery; frame = e.peer_params.max_datagram_frame_size; width = length e.ids.peer.id; outgoing = e.messages.queues.outgoing }
 
 -- what stays of that where packets are acknowledged, and where packets are lost
 pub record Searching (Q : Sizing → Type 0) : Type 0 where
@@ -108,26 +112,43 @@ module _ (Q : Sizing → Type 0) (c : Searching Q) where
       let found = losses_size (sampled (measured rises a (p ∷ ps)) a left) (sampled_size (measured rises a (p ∷ ps)) a left (packets_size (p ∷ ps) e i)) in
       by_marks rises (length (p ∷ ps)) a (losses_taken (p ∷ ps) rises a e) (λ (x : End). Q (sizing x)) (λ m marking. found)
 
-  taken_size : (f : FrameValue) (e : End) → Q (sizing e) → Q (sizing (take_frame f e).end)
-  taken_size (ack a) e i = go (names_ungiven a e)
+  -- a frame comes, where those apart from streams leave it so
+  pub taken_size : (f : FrameValue) (e : End) → (IsApart f → Q (sizing (take_frame f e).end)) → Q (sizing e) → Q (sizing (take_frame f e).end)
+  taken_size (ack a) e apart i = go (names_ungiven a e)
     where
       go : (b : Bool) → Q (sizing (ack_taken b a e).end)
       go true = i
       go false = named_size (acked_by a e.tracking.packets) (is_above e.numbers.largest_acked a.largest) a (named a e) i
-  taken_size (datagram m) e i = go (received_answer e.transport.datagram_receive_buffer_size m e.messages.queues)
+  taken_size (datagram m) e apart i = go (received_answer e.transport.datagram_receive_buffer_size m e.messages.queues)
     where
       go : (r : Result Bool ReceivedError) → Q (sizing (message_judged r m e).end)
       go (Ok first) = subst (λ (ms : List (List ℕ)). Q (record (sizing e) { outgoing = ms })) (sym (received_leaves e.transport.datagram_receive_buffer_size m e.messages.queues)) i
       go (Err error) = i
-  taken_size f e i = i
+  taken_size (stream f) e apart i = i
+  taken_size (reset_stream f) e apart i = i
+  taken_size (stop_sending f) e apart i = i
+  taken_size (max_data limit) e apart i = i
+  taken_size (max_stream_data f) e apart i = i
+  taken_size (max_streams f) e apart i = i
+  taken_size f e apart i = apart tt
 
-  -- a datagram comes
-  pub received_size : (p : Policy) (e : End) (arrival : Arrival) (d : List ℕ) → Q (sizing e) → Q (sizing (received p e arrival d).end)
-  received_size p e arrival d i = by_received (λ (x : End). Q (sizing x)) (record { notes = λ n x j. j; begins = λ time n x j. j; frame = taken_size; takes = λ n asks mark x j. j; closes = λ reason x j. j }) p e arrival d i
+  -- a datagram comes, where frames apart from streams leave it so
+  pub received_size : ((f : FrameValue) (x : End) → IsApart f → Q (sizing x) → Q (sizing (take_frame f x).end)) → (p : Policy) (e : End) (arrival : Arrival) (d : List ℕ) → Q (sizing e) → Q (sizing (received p e arrival d).end)
+  received_size apart p e arrival d i = by_received (λ (x : End). Q (sizing x)) (record {
+    notes = λ n x j. j;
+    begins = λ time n x j. j;
+    frame = λ f x j. taken_size f x (λ is. apart f x is j) j;
+    takes = λ n asks mark x j. j;
+    closes = λ reason x j. j;
+    drains = λ close x j. j;
+    asks_close = λ x j. j;
+    exhausts = λ now x j. j;
+    draws = λ words x j. j;
+  }) p e arrival d i
 
   -- timers expire
-  pub expired_size : (e : End) (now : ℕ) (expiry : Expiry) → Q (sizing e) → Q (sizing (at_expiry e now expiry))
-  expired_size e now expiry i = by_expired e now (λ (x : End). Q (sizing x)) (λ pending tracking timers runs packets. i) (λ pending timers runs. losses_size (with_closing e (ticked e.closing now)) i) expiry
+  pub expired_size : (words : ℕ → ℕ) (e : End) (now : ℕ) (expiry : Expiry) → Q (sizing e) → Q (sizing (at_expiry words e now expiry))
+  expired_size words e now expiry i = by_expired words e now (λ (x : End). Q (sizing x)) (λ pending tracking timers waits asked runs packets. i) (λ pending timers waits asked runs. losses_size (with_closing e (ticked e.closing now)) i) (λ x j. j) expiry
 
 -- what stays where the search is asked stays behind a poll
 pub polled_search : (Q : Discovery → Type 0) → ((now number : ℕ) (d : Discovery) → Q d → Q (after_poll now number d)) → (p : Policy) (e : End) (now : ℕ) → Q e.path.discovery → Q (polled p e now).end.path.discovery
@@ -135,7 +156,8 @@ polled_search Q asks p e now i = by_poll_to p e now (λ (q : Polled). Q q.end.pa
   silent = i;
   failed = i;
   nothing = λ is none. ready;
-  closes = ready;
+  repeats = λ is. by_closes p (with_closing e (ticked e.closing now)) (λ (q : Polled). Q q.end.path.discovery) i (λ f goes. i);
+  closes = λ reason bound. by_closes p (closed_by reason (ready_at e now).end) (λ (q : Polled). Q q.end.path.discovery) ready (λ f goes. ready);
   gives = λ is may some. by_going (λ (x : End). Q x.path.discovery) p (draft_at e now) (λ pacing. subst (λ (x : Path). Q x.discovery) (sym (composes (ready_at e now).leaving (ready_at e now).end (may_leave_at e now)).path) ready);
 })
   where
@@ -161,7 +183,9 @@ module _ (least most : ℕ) where
   sized_call p e theirs call a h = by_plain_call p e theirs HasSize call a keep
     where
       keep : Plain p e call HasSize
-      keep (cases.times now expiry) may = expired_size (λ s. IsSized least most s.discovery) searching e now expiry h
+      keep (cases.times now expiry) may = expired_size (λ s. IsSized least most s.discovery) searching p.words e now expiry h
       keep (cases.polls now) may = polled_search (IsSized least most) (sized_polled least most) p e now h
-      keep (cases.hears arrival d) may = received_size (λ s. IsSized least most s.discovery) searching p e arrival d h
+      keep (cases.hears arrival d) may = received_size (λ s. IsSized least most s.discovery) searching (λ f x is i. apart_leaves HasSize f x is (λ c. i) (λ c longest. i)) p e arrival d h
+      keep (cases.waits now b) may = by_waits HasSize b (with_closing e (ticked e.closing now)) h h
+      keep (cases.changes_id b) may = by_next_id HasSize e b h (λ c. h) (λ c longest. h)
       keep c may = h

@@ -1,9 +1,10 @@
--- What a delivery leaves as it was, whatever its frames say: ids, the place of the path and the clock, the next number to give, and what is still to acknowledge.
+-- What a delivery leaves as it was, whatever its frames say: the place of the path and the clock,
+-- the next number to give, and what is still to acknowledge.
 use Rattle.std.proofs.Common.{◌≡◌, ℕ, Bool, true, false, List, [], ◌∷◌, Option, Some, None, refl, sym, ap, ◌∙◌, subst, arith}
 use Rattle.std.specs.Prelude.{max, nat_le, unwrap_or}
 use Rattle.std.proofs.lemmas.Bool.{leb-false, or_parts}
 use Rattle.quic_sets.specs.Runs.{Has}
-use Rattle.quic_wire.specs.Value.{FrameValue, AckValue, ack, datagram}
+use Rattle.quic_wire.specs.Value.{FrameValue, AckValue, ack, datagram, new_connection_id, retire_connection_id, path_response}
 use Rattle.quic_recovery_core.specs.PendingAcks.{Pending, after_subtract}
 use Rattle.quic_spaces.specs.Marks.{Counts}
 use Rattle.quic_recovery_core.proofs.AckRunSteps.{above_kept, in_above}
@@ -18,14 +19,14 @@ use Rattle.quic_parameters.specs.Parameters.{ParameterValues}
 use Rattle.quic_config.specs.Transport.{TransportSettings}
 use Rattle.quic_time.specs.Timers.{Timers}
 use Rattle.quic_spaces.specs.Filter.{Filter}
-use Rattle.quic_machine.specs.Ids.{Ids}
+use Rattle.quic_machine.specs.Validation.{Asked}
 use Rattle.quic_machine.specs.Closing.{Closing, ticked}
-use Rattle.quic_machine.specs.End.{End, with_closing}
+use Rattle.quic_machine.specs.End.{End, with_closing, closed_by}
 use Rattle.quic_machine.specs.Acked.{losses_detected, after_acked}
 use Rattle.quic_machine.specs.Receive.{is_above, names_ungiven, take_frame, received}
 use Rattle.quic_machine.specs.Poll.{Polled}
 use Rattle.quic_machine.specs.Machine.{after_call}
-use Rattle.quic_machine.specs.FrameCases.{Settling, losses_keep, named, ack_taken, passed, acked_keeps, message_leaves, frame_keeps, frame_leaves, frames_keep, frames_taken, by_received, apart_same}
+use Rattle.quic_machine.specs.FrameCases.{Settling, losses_keep, named, ack_taken, passed, acked_keeps, message_leaves, frame_keeps, frame_leaves, frames_keep, frames_taken, by_received, IsApart, apart_leaves}
 use Rattle.quic_machine.specs.Steps as steps
 use Rattle.quic_machine.specs.LeaveCases.{at_timeout, at_losses, at_event, by_expired}
 use Rattle.quic_machine.specs.PollCases.{at_poll, by_poll, composes}
@@ -34,6 +35,8 @@ use Rattle.quic_machine.specs.CallCases as cases
 use Rattle.quic_headline.specs.Runs.{acknowledged_in}
 use Rattle.quic_headline.proofs.Packets.Invariant.{IsBehind, Acks}
 use Rattle.quic_headline.proofs.Packets.Probes.{may_leave}
+use Rattle.quic_headline.proofs.Packets.Closes.{by_closes}
+use Rattle.quic_headline.proofs.Packets.Apart.{apart_acks, by_next_id, by_waits}
 
 -- ---- an ACK frame
 
@@ -41,10 +44,10 @@ use Rattle.quic_headline.proofs.Packets.Probes.{may_leave}
 acks_above : (p : Pending) (came : Counts) (n : ℕ) → Acks p came → Acks (after_subtract p n) came
 acks_above p came n acks = record { runs = above_kept p.runs n acks.runs; small = λ k h. acks.small k (in_above n k p.runs h).0; counts = acks.counts }
 
--- the parts of an end that no ACK frame changes but by what it names: ids, the place of the path, the clock, how it sends, what the peer told, and which numbers
--- are left out; and the numbers, what is to be acknowledged, and with which marks packets came
+-- the parts of an end that no ACK frame changes but by what it names: the place of the path, the
+-- clock, how it sends, what the peer told, and which numbers are left out; and the numbers, what is
+-- to be acknowledged, and with which marks packets came
 pub record Kept : Type 0 where
-  pub ids : Ids
   pub generation : ℕ
   pub closing : Closing
   pub transport : TransportSettings
@@ -57,7 +60,6 @@ pub record Kept : Type 0 where
 -- those of an end
 abbrev pub kept : End → Kept
 kept e = record {
-  ids = e.ids;
   generation = e.path.generation;
   closing = e.closing;
   transport = e.transport;
@@ -70,7 +72,6 @@ kept e = record {
 
 -- Packets that are acknowledged or lost leave them, and no number more is to be acknowledged.
 pub record AreSettled (e f : Kept) : Type 0 where
-  pub ids : f.ids ≡ e.ids
   pub generation : f.generation ≡ e.generation
   pub closing : f.closing ≡ e.closing
   pub transport : f.transport ≡ e.transport
@@ -86,12 +87,11 @@ Settles e f = AreSettled (kept e) (kept f)
 
 -- nothing changed
 settles_same : (e : End) → Settles e e
-settles_same e = record { ids = refl; generation = refl; closing = refl; transport = refl; peer = refl; filter = refl; numbers = refl; acks = λ acks. acks; came = refl; fewer = λ k h. h }
+settles_same e = record { generation = refl; closing = refl; transport = refl; peer = refl; filter = refl; numbers = refl; acks = λ acks. acks; came = refl; fewer = λ k h. h }
 
 -- each step of an ACK frame
 settling : (e : End) → Settling (Settles e)
 settling e (steps.known n) x s = record {
-  ids = s.ids;
   generation = s.generation;
   closing = s.closing;
   transport = s.transport;
@@ -114,9 +114,9 @@ settles_losses e = losses_keep (Settles e) (settling e) e (settles_same e)
 
 -- ---- frames
 
--- Frames leave all of it, but of the numbers the greatest that was named; what is to be acknowledged stays lawful, and no number more is.
+-- Frames leave all of it, but of the numbers the greatest that was named; what is to be
+-- acknowledged stays lawful, and no number more is.
 pub record AreKept (e f : Kept) : Type 0 where
-  pub ids : f.ids ≡ e.ids
   pub generation : f.generation ≡ e.generation
   pub closing : f.closing ≡ e.closing
   pub transport : f.transport ≡ e.transport
@@ -131,14 +131,13 @@ Keeps e f = AreKept (kept e) (kept f)
 
 -- nothing changed
 pub keeps_same : (e : End) → Keeps e e
-keeps_same e = record { ids = refl; generation = refl; closing = refl; transport = refl; peer = refl; filter = refl; numbers = refl; acks = λ acks. acks; fewer = λ k h. h }
+keeps_same e = record { generation = refl; closing = refl; transport = refl; peer = refl; filter = refl; numbers = refl; acks = λ acks. acks; fewer = λ k h. h }
 
 -- an ACK frame changes of the numbers only the greatest that was named
 keeps_ack : (e : End) (rises : Bool) (a : AckValue) (x : End) → Keeps e x → Keeps e (after_acked rises a (named a x))
 keeps_ack e rises a x k =
     let s = settles_ack rises a (named a x) in
     record {
-      ids = s.ids ∙ k.ids;
       generation = s.generation ∙ k.generation;
       closing = s.closing ∙ k.closing;
       transport = s.transport ∙ k.transport;
@@ -149,12 +148,18 @@ keeps_ack e rises a x k =
       fewer = λ n h. k.fewer n (s.fewer n h);
     }
 
+-- nor does a frame apart from streams
+keeps_apart : (e : End) (f : FrameValue) (x : End) → IsApart f → Keeps e x → Keeps e (take_frame f x).end
+keeps_apart e f x apart k =
+    subst (λ (acks : Pending). Keeps e (record (take_frame f x).end { acknowledging = acks })) (sym (apart_acks f x apart))
+    (apart_leaves (λ (y : End). Keeps e (record y { acknowledging = x.acknowledging })) f x apart (λ c. k) (λ c most. k))
+
 -- all frames of a packet change at most that
 pub keeps_frames : (fs : List FrameValue) (e : End) → Keeps e (passed fs e).end
 keeps_frames fs e = frames_keep (Keeps e) (frame_keeps (Keeps e) (record {
   ack = λ rises a x k. keeps_ack e rises a x k;
   on_streams = λ f x on k. frame_leaves (Keeps e) f x on (λ t. k);
-  apart = λ f x is k. subst (Keeps e) (sym (apart_same f x is)) k;
+  apart = λ f x is k. keeps_apart e f x is k;
   message = λ m x k. k;
 })) fs e (keeps_same e)
 
@@ -174,6 +179,9 @@ named_ack false a e none = ap (λ (n : Numbers). cut_against n) (settles_ack (is
 named_frame : (f : FrameValue) (e : End) → (take_frame f e).fault ≡ None → cut_against (take_frame f e).end.numbers ≡ max (acknowledged_in (f ∷ [])) (cut_against e.numbers)
 named_frame (ack a) e none = named_ack (names_ungiven a e) a e none
 named_frame (datagram m) e none = message_leaves (λ (x : End). cut_against x.numbers ≡ max (acknowledged_in (datagram m ∷ [])) (cut_against e.numbers)) m e (omega arith) (λ left. omega arith)
+named_frame (new_connection_id i) e none = apart_leaves (λ (x : End). cut_against x.numbers ≡ max (acknowledged_in (new_connection_id i ∷ [])) (cut_against e.numbers)) (new_connection_id i) e tt (λ c. omega arith) (λ c most. omega arith)
+named_frame (retire_connection_id n) e none = apart_leaves (λ (x : End). cut_against x.numbers ≡ max (acknowledged_in (retire_connection_id n ∷ [])) (cut_against e.numbers)) (retire_connection_id n) e tt (λ c. omega arith) (λ c most. omega arith)
+named_frame (path_response token) e none = apart_leaves (λ (x : End). cut_against x.numbers ≡ max (acknowledged_in (path_response token ∷ [])) (cut_against e.numbers)) (path_response token) e tt (λ c. omega arith) (λ c most. omega arith)
 named_frame f e none = omega arith
 
 -- what frames acknowledge is what the first does, or the others
@@ -181,7 +189,8 @@ acknowledged_first : (f : FrameValue) (fs : List FrameValue) → acknowledged_in
 acknowledged_first (ack a) fs = omega arith
 acknowledged_first f fs = omega arith
 
--- where all frames were taken, the greatest number that was named is the greatest that they acknowledge, or the one before
+-- where all frames were taken, the greatest number that was named is the greatest that they
+-- acknowledge, or the one before
 pub named_frames : (fs : List FrameValue) (e : End) → (passed fs e).fault ≡ None → cut_against (passed fs e).end.numbers ≡ max (acknowledged_in fs) (cut_against e.numbers)
 named_frames fs e none =
     let all = frames_taken (λ (left : List FrameValue) (x : End). max (acknowledged_in left) (cut_against x.numbers) ≡ max (acknowledged_in fs) (cut_against e.numbers)) step fs e none refl in
@@ -196,10 +205,9 @@ named_frames fs e none =
 
 -- ---- any call but a poll
 
--- Ids, the place of the path, how an end sends, what its peer told and which numbers are left out are as they were; and so is the next number to give, which is cut
--- against no greater one.
+-- The place of the path, how an end sends, what its peer told and which numbers are left out are as
+-- they were; and so is the next number to give, which is cut against no greater one.
 pub record AreStaying (e f : Kept) : Type 0 where
-  pub ids : f.ids ≡ e.ids
   pub generation : f.generation ≡ e.generation
   pub transport : f.transport ≡ e.transport
   pub peer : f.peer ≡ e.peer
@@ -212,12 +220,11 @@ Stays e f = AreStaying (kept e) (kept f)
 
 -- nothing changed
 pub stays_same : (e : End) → Stays e e
-stays_same e = record { ids = refl; generation = refl; transport = refl; peer = refl; filter = refl; next = refl; behind = λ b. b }
+stays_same e = record { generation = refl; transport = refl; peer = refl; filter = refl; next = refl; behind = λ b. b }
 
 -- the same, whatever clock, tracked packets, streams and timers there are
-stays_like : (e x f : End) → f.ids ≡ x.ids → f.path.generation ≡ x.path.generation → f.transport ≡ x.transport → f.peer_params ≡ x.peer_params → f.filter ≡ x.filter → f.numbers ≡ x.numbers → Stays e x → Stays e f
-stays_like e x f ids generation transport peer filter numbers s = record {
-  ids = ids ∙ s.ids;
+stays_like : (e x f : End) → f.path.generation ≡ x.path.generation → f.transport ≡ x.transport → f.peer_params ≡ x.peer_params → f.filter ≡ x.filter → f.numbers ≡ x.numbers → Stays e x → Stays e f
+stays_like e x f generation transport peer filter numbers s = record {
   generation = generation ∙ s.generation;
   transport = transport ∙ s.transport;
   peer = peer ∙ s.peer;
@@ -237,9 +244,8 @@ stays_ack : (b : Bool) (a : AckValue) (e x : End) → names_ungiven a x ≡ b �
 stays_ack true a e x is s = s
 stays_ack false a e x is s =
     let t = settles_ack (is_above x.numbers.largest_acked a.largest) a (named a x) in
-    stays_like e (named a x) (after_acked (is_above x.numbers.largest_acked a.largest) a (named a x)) t.ids t.generation t.transport t.peer t.filter t.numbers
+    stays_like e (named a x) (after_acked (is_above x.numbers.largest_acked a.largest) a (named a x)) t.generation t.transport t.peer t.filter t.numbers
     (record {
-      ids = s.ids;
       generation = s.generation;
       transport = s.transport;
       peer = s.peer;
@@ -248,45 +254,59 @@ stays_ack false a e x is s =
       behind = λ b. behind_named a x (or_parts (nat_le x.numbers.next a.largest) _ is).0 (s.behind b);
     })
 
+-- a frame apart from streams leaves them
+stays_apart : (e : End) (f : FrameValue) (x : End) → IsApart f → Stays e x → Stays e (take_frame f x).end
+stays_apart e f x apart s = apart_leaves (Stays e) f x apart (λ c. record { generation = s.generation; transport = s.transport; peer = s.peer; filter = s.filter; next = s.next; behind = s.behind }) (λ c most. record { generation = s.generation; transport = s.transport; peer = s.peer; filter = s.filter; next = s.next; behind = s.behind })
+
 -- any frame, behind what stayed
 stays_frame : (e : End) (f : FrameValue) (x : End) → Stays e x → Stays e (take_frame f x).end
 stays_frame e (ack a) x s = stays_ack (names_ungiven a x) a e x refl s
 stays_frame e (datagram m) x s = message_leaves (Stays e) m x s (λ left. s)
+stays_frame e (new_connection_id i) x s = stays_apart e (new_connection_id i) x tt s
+stays_frame e (retire_connection_id n) x s = stays_apart e (retire_connection_id n) x tt s
+stays_frame e (path_response token) x s = stays_apart e (path_response token) x tt s
 stays_frame e f x s = s
 
 -- whatever comes leaves them
 pub stays_received : (p : Policy) (e : End) (arrival : Arrival) (d : List ℕ) → Stays e (received p e arrival d).end
 stays_received p e arrival d = by_received (Stays e) (record {
-  notes = λ n x s. record { ids = s.ids; generation = s.generation; transport = s.transport; peer = s.peer; filter = s.filter; next = s.next; behind = s.behind };
-  begins = λ now n x s. record { ids = s.ids; generation = s.generation; transport = s.transport; peer = s.peer; filter = s.filter; next = s.next; behind = s.behind };
+  notes = λ n x s. record { generation = s.generation; transport = s.transport; peer = s.peer; filter = s.filter; next = s.next; behind = s.behind };
+  begins = λ now n x s. record { generation = s.generation; transport = s.transport; peer = s.peer; filter = s.filter; next = s.next; behind = s.behind };
   frame = stays_frame e;
-  takes = λ n asks mark x s. record { ids = s.ids; generation = s.generation; transport = s.transport; peer = s.peer; filter = s.filter; next = s.next; behind = s.behind };
-  closes = λ reason x s. record { ids = s.ids; generation = s.generation; transport = s.transport; peer = s.peer; filter = s.filter; next = s.next; behind = s.behind };
+  takes = λ n asks mark x s. record { generation = s.generation; transport = s.transport; peer = s.peer; filter = s.filter; next = s.next; behind = s.behind };
+  closes = λ reason x s. record { generation = s.generation; transport = s.transport; peer = s.peer; filter = s.filter; next = s.next; behind = s.behind };
+  drains = λ close x s. record { generation = s.generation; transport = s.transport; peer = s.peer; filter = s.filter; next = s.next; behind = s.behind };
+  asks_close = λ x s. record { generation = s.generation; transport = s.transport; peer = s.peer; filter = s.filter; next = s.next; behind = s.behind };
+  exhausts = λ now x s. record { generation = s.generation; transport = s.transport; peer = s.peer; filter = s.filter; next = s.next; behind = s.behind };
+  draws = λ words x s. record { generation = s.generation; transport = s.transport; peer = s.peer; filter = s.filter; next = s.next; behind = s.behind };
 }) p e arrival d (stays_same e)
 
 -- losses that are detected at a moment leave them
-stays_losses : (e : End) (now : ℕ) (acks : Pending) (timers : Timers) → Stays e (at_losses e now acks timers)
-stays_losses e now acks timers =
+stays_losses : (e : End) (now : ℕ) (acks : Pending) (timers : Timers) (waits : Bool) (asked : Asked) → Stays e (at_losses e now acks timers waits asked)
+stays_losses e now acks timers waits asked =
     let begins : End = with_closing e (ticked e.closing now) in
     let t = settles_losses begins in
-    stays_like e begins (at_losses e now acks timers) t.ids t.generation t.transport t.peer t.filter t.numbers (record { ids = refl; generation = refl; transport = refl; peer = refl; filter = refl; next = refl; behind = λ b. b })
+    stays_like e begins (at_losses e now acks timers waits asked) t.generation t.transport t.peer t.filter t.numbers (record { generation = refl; transport = refl; peer = refl; filter = refl; next = refl; behind = λ b. b })
 
 -- only a poll gives numbers
 pub stays_call : (p : Policy) (e : End) (theirs : List (List ℕ)) (call : Call) (a : Answer) → is_poll call ≡ false → Stays e (after_call p e theirs call a)
 stays_call p e theirs call a other = by_plain_call p e theirs (Stays e) call a keep
   where
     keep : Plain p e call (Stays e)
-    keep (cases.times now expiry) may = by_expired e now (Stays e) (λ pending tracking timers runs packets. stays_like e e (at_timeout e now pending tracking timers) refl refl refl refl refl refl (stays_same e)) (λ pending timers runs. stays_losses e now pending timers) expiry
+    keep (cases.times now expiry) may = by_expired p.words e now (Stays e) (λ pending tracking timers waits asked runs packets. stays_like e e (at_timeout e now pending tracking timers waits asked) refl refl refl refl refl (stays_same e)) (λ pending timers waits asked runs. stays_losses e now pending timers waits asked) (λ x s. record { generation = s.generation; transport = s.transport; peer = s.peer; filter = s.filter; next = s.next; behind = s.behind }) expiry
     keep (cases.polls now) is = cc
     keep (cases.hears arrival d) may = stays_received p e arrival d
-    keep (cases.tells told) may = stays_like e e (at_event e told) refl refl refl refl refl refl (stays_same e)
+    keep (cases.tells told) may = stays_like e e (at_event e told) refl refl refl refl refl (stays_same e)
+    keep (cases.closes reason f now) may = record { generation = refl; transport = refl; peer = refl; filter = refl; next = refl; behind = λ b. b }
+    keep (cases.waits now b) may = by_waits (Stays e) b (with_closing e (ticked e.closing now)) (record { generation = refl; transport = refl; peer = refl; filter = refl; next = refl; behind = λ b. b }) (record { generation = refl; transport = refl; peer = refl; filter = refl; next = refl; behind = λ b. b })
+    keep (cases.changes_id b) may = by_next_id (Stays e) e b (stays_same e) (λ c. record { generation = refl; transport = refl; peer = refl; filter = refl; next = refl; behind = λ b. b }) (λ c most. record { generation = refl; transport = refl; peer = refl; filter = refl; next = refl; behind = λ b. b })
     keep c may = stays_same e
 
 -- ---- any call
 
--- An end whose ids and place of the path are those of another, which sends as it did and to a peer that told the same.
+-- An end whose place of the path is that of another, which sends as it did and to a peer that told
+-- the same.
 pub record ArePlaced (e f : Kept) : Type 0 where
-  pub ids : f.ids ≡ e.ids
   pub generation : f.generation ≡ e.generation
   pub transport : f.transport ≡ e.transport
   pub peer : f.peer ≡ e.peer
@@ -297,13 +317,14 @@ IsPlaced e f = ArePlaced (kept e) (kept f)
 -- no call changes them
 pub placed_call : (p : Policy) (e : End) (theirs : List (List ℕ)) (call : Call) (a : Answer) → IsPlaced e (after_call p e theirs call a)
 placed_call p e theirs (calls.Poll now) a = by_poll p e now (λ (q : Polled). IsPlaced e q.end) (record {
-  silent = record { ids = refl; generation = refl; transport = refl; peer = refl };
-  failed = record { ids = refl; generation = refl; transport = refl; peer = refl };
-  nothing = λ c. record { ids = refl; generation = refl; transport = refl; peer = refl };
-  closes = λ c. record { ids = refl; generation = refl; transport = refl; peer = refl };
+  silent = record { generation = refl; transport = refl; peer = refl };
+  failed = record { generation = refl; transport = refl; peer = refl };
+  nothing = λ c. record { generation = refl; transport = refl; peer = refl };
+  repeats = λ is. by_closes p (with_closing e (ticked e.closing now)) (λ (q : Polled). IsPlaced e q.end) (record { generation = refl; transport = refl; peer = refl }) (λ f goes. record { generation = refl; transport = refl; peer = refl });
+  closes = λ reason c bound. by_closes p (closed_by reason (at_poll e now c)) (λ (q : Polled). IsPlaced e q.end) (record { generation = refl; transport = refl; peer = refl }) (λ f goes. record { generation = refl; transport = refl; peer = refl });
   gives = λ leaving c left is may ready some.
       let x : End = at_poll e now c in
       let c = composes leaving x (may_leave e now leaving x ready) in
-      record { ids = c.ids; generation = ap (λ (p : Path). p.generation) c.path; transport = c.transport; peer = c.peer };
+      record { generation = ap (λ (p : Path). p.generation) c.path; transport = c.transport; peer = c.peer };
 })
-placed_call p e theirs call a = let s = stays_call p e theirs call a refl in record { ids = s.ids; generation = s.generation; transport = s.transport; peer = s.peer }
+placed_call p e theirs call a = let s = stays_call p e theirs call a refl in record { generation = s.generation; transport = s.transport; peer = s.peer }

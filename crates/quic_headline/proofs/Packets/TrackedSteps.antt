@@ -15,21 +15,23 @@ use Rattle.quic_machine.specs.Tracking.{Tracking, TrackedPacket, without_packet,
 use Rattle.quic_machine.specs.End.{End, with_closing, number_of}
 use Rattle.quic_machine.specs.Closing.{ticked}
 use Rattle.quic_machine.specs.Receive.{received}
-use Rattle.quic_machine.specs.Poll.{zeros_behind, Polled, Draft, packet_of, tracked, after_given, polled, goes, Ready}
+use Rattle.quic_machine.specs.Poll.{zeros_behind, Polled, Draft, packet_of, tracked, after_given, polled, Ready}
 use Rattle.quic_machine.specs.Machine.{IsAnswer, after_call, fails, gave}
-use Rattle.quic_machine.specs.PollCases.{ready_at, ready_leaves, draft_at, frames_padded, by_poll_to, composes, may_leave_at}
+use Rattle.quic_machine.specs.PollCases.{ready_at, ready_leaves, draft_at, frames_padded, composes, may_leave_at}
 use Rattle.quic_machine.specs.LeaveCases.{by_expired}
 use Rattle.quic_machine.specs.CallCases.{Plain, is_poll, by_plain_call}
 use Rattle.quic_machine.specs.CallCases as cases
 use Rattle.quic_headline.specs.Runs.{In}
 use Rattle.quic_headline.specs.Observer.{Sent}
+use Rattle.quic_headline.proofs.Packets.Sends.{by_sends}
+use Rattle.quic_headline.proofs.Packets.Apart.{by_waits, by_next_id}
 use Rattle.quic_headline.proofs.Packets.Invariant.{AreTracked}
 use Rattle.quic_headline.proofs.Packets.Carried.{carried_padded}
 use Rattle.quic_headline.proofs.Packets.Named.{losses_fewer, tracked_received}
 use Rattle.quic_headline.proofs.Packets.Probes.{ready_tracked, by_going}
 use Rattle.quic_headline.proofs.Packets.Given.{draft_number}
 use Rattle.quic_headline.proofs.Places.Told.{in_left, in_last}
-use Rattle.quic_headline.proofs.Places.Parties.{sent_by, sent_if, sents_by}
+use Rattle.quic_headline.proofs.Places.Parties.{sent_as, sent_by, sent_if, sents_by}
 use Rattle.quic_headline.proofs.Places.Steps.{poll_answer}
 
 -- ---- tables of packets
@@ -95,27 +97,27 @@ tracked_given d sents s number frames i n t is = elim (in_sent d.end.tracking (n
 
 -- after a poll
 tracked_polled : (p : Policy) (e : End) (now : ℕ) (sents : List Sent) → AreTracked sents e.tracking.packets
-    → AreTracked (sents ++ sent_if (gave (answers.Poll (polled p e now).answer)) (sent_by e now)) (polled p e now).end.tracking.packets
-tracked_polled p e now sents i =
-    by_poll_to p e now (λ (q : Polled). AreTracked (sents ++ sent_if (gave (answers.Poll q.answer)) (sent_by e now)) q.end.tracking.packets) (record {
-      silent = tracked_more sents [] e.tracking.packets i;
-      failed = tracked_more sents [] e.tracking.packets i;
-      nothing = λ is none. tracked_more sents [] (ready_at e now).end.tracking.packets ready;
-      closes = tracked_more sents [] (ready_at e now).end.tracking.packets ready;
-      gives = λ is may some. gives some;
-    })
+    → AreTracked (sents ++ sent_if (gave (answers.Poll (polled p e now).answer)) (sent_by p e now)) (polled p e now).end.tracking.packets
+tracked_polled p e now sents i = by_sends p e now (λ (q : Polled) (more : List Sent). AreTracked (sents ++ more) q.end.tracking.packets) (record {
+  silent = tracked_more sents [] e.tracking.packets i;
+  failed = tracked_more sents [] e.tracking.packets i;
+  repeats = λ is. (tracked_more sents [] e.tracking.packets i, λ f goes. tracked_more sents (_ ∷ []) e.tracking.packets i);
+  nothing = λ is none. tracked_more sents [] (ready_at e now).end.tracking.packets ready;
+  closes = λ reason is bound. (tracked_more sents [] (ready_at e now).end.tracking.packets ready, λ f goes. tracked_more sents (_ ∷ []) (ready_at e now).end.tracking.packets ready);
+  gives = λ is bound some. gives;
+})
   where
     ready : AreTracked sents (ready_at e now).end.tracking.packets
     ready = ready_tracked sents e now i
 
-    gives : goes (ready_at e now) ≡ true → AreTracked (sents ++ sent_by e now ∷ []) (after_given p (draft_at e now)).tracking.packets
-    gives some =
+    gives : AreTracked (sents ++ sent_as e now (draft_at e now) ∷ []) (after_given p (draft_at e now)).tracking.packets
+    gives =
         let g : Ready = ready_at e now in
         let before : End = g.end in
         let d : Draft = draft_at e now in
         let number : number_of e ≡ number_of d.end = sym (draft_number g.leaving before (may_leave_at e now) ∙ ap (λ (x : End). number_of x) (ready_leaves e now)) in
         let packets : AreTracked sents d.end.tracking.packets = subst (λ (x : Tracking). AreTracked sents x.packets) (sym (composes g.leaving before (may_leave_at e now)).tracking) ready in
-        by_going (λ (x : End). AreTracked (sents ++ sent_by e now ∷ []) x.tracking.packets) p d (λ pacing. tracked_given d sents (sent_by e now) number refl packets)
+        by_going (λ (x : End). AreTracked (sents ++ sent_as e now d ∷ []) x.tracking.packets) p d (λ going. tracked_given d sents (sent_as e now d) number refl packets)
 
 -- another call than a poll gives nothing that is tracked
 tracked_other : (p : Policy) (e : End) (theirs : List (List ℕ)) (call : Call) (a : Answer) (sents more : List Sent) → is_poll call ≡ false → AreTracked sents e.tracking.packets → AreTracked (sents ++ more) (after_call p e theirs call a).tracking.packets
@@ -125,14 +127,17 @@ tracked_other p e theirs call a sents more silent i = by_plain_call p e theirs (
     same = tracked_more sents more e.tracking.packets i
 
     keep : Plain p e call (λ (f : End). AreTracked (sents ++ more) f.tracking.packets)
-    keep (cases.times now expiry) may = by_expired e now (λ (f : End). AreTracked (sents ++ more) f.tracking.packets) (λ pending tracking timers runs packets. subst (λ (x : Table TrackedPacket). AreTracked (sents ++ more) x) (sym packets) same) (λ pending timers runs n t i. same n t (losses_fewer (with_closing e (ticked e.closing now)) n t i)) expiry
+    keep (cases.times now expiry) may = by_expired p.words e now (λ (f : End). AreTracked (sents ++ more) f.tracking.packets) (λ pending tracking timers waits asked runs packets. subst (λ (x : Table TrackedPacket). AreTracked (sents ++ more) x) (sym packets) same) (λ pending timers waits asked runs n t i. same n t (losses_fewer (with_closing e (ticked e.closing now)) n t i)) (λ x j. j) expiry
     keep (cases.polls now) is = cc
     keep (cases.hears arrival d) may = tracked_more sents more (received p e arrival d).end.tracking.packets (tracked_received p e arrival d sents i)
+    keep (cases.closes reason f now) may = same
+    keep (cases.waits now b) may = by_waits (λ (f : End). AreTracked (sents ++ more) f.tracking.packets) b (with_closing e (ticked e.closing now)) same same
+    keep (cases.changes_id a) may = by_next_id (λ (f : End). AreTracked (sents ++ more) f.tracking.packets) e a same (λ c. same) (λ c most. same)
     keep c may = same
 
 -- after any call that lacks no memory
 pub tracked_step : (p : Policy) (e : End) (theirs : List (List ℕ)) (call : Call) (a : Answer) (sents : List Sent) → IsAnswer p e theirs call a → fails a ≡ false → AreTracked sents e.tracking.packets
-    → AreTracked (sents ++ sents_by e call a) (after_call p e theirs call a).tracking.packets
+    → AreTracked (sents ++ sents_by p e call a) (after_call p e theirs call a).tracking.packets
 tracked_step p e theirs (calls.Poll now) a sents is served i =
-    subst (λ (x : Answer). AreTracked (sents ++ sent_if (gave x) (sent_by e now)) (polled p e now).end.tracking.packets) (sym (poll_answer p e now a is served)) (tracked_polled p e now sents i)
-tracked_step p e theirs call a sents is served i = tracked_other p e theirs call a sents (sents_by e call a) refl i
+    subst (λ (x : Answer). AreTracked (sents ++ sent_if (gave x) (sent_by p e now)) (polled p e now).end.tracking.packets) (sym (poll_answer p e now a is served)) (tracked_polled p e now sents i)
+tracked_step p e theirs call a sents is served i = tracked_other p e theirs call a sents (sents_by p e call a) refl i

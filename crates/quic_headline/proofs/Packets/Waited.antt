@@ -1,4 +1,5 @@
--- Datagrams in flight, in step with the packets that their end tracks: what is chosen of both, lost, measured and forgotten is the same of both.
+-- Datagrams in flight, in step with the packets that their end tracks: what is chosen of both,
+-- lost, measured and forgotten is the same of both.
 use Rattle.std.proofs.Common.{◌≡◌, ℕ, suc, ◌+◌, ◌-◌, ◌≤◌, ◌⊎◌, Bool, true, false, not, ◌||◌, ◌&&◌, ◌==◌, List, [], ◌∷◌, ◌++◌, length, filter, map, cond, Option, Some, None, refl, sym, ap, ◌∙◌, subst, inl, inr, arith}
 use Rattle.std.specs.Prelude.{if◌then◌else◌, nat_le, nat_lt}
 use Rattle.std.specs.List.{list_any}
@@ -19,7 +20,8 @@ use Rattle.quic_headline.proofs.Packets.Invariant.{InStep, IsCarriedFrom, carrie
 use Rattle.quic_headline.proofs.Packets.Carried.{again_is, carried_same}
 use Rattle.quic_headline.proofs.Packets.Numbered.{Lies, one_key}
 
--- A datagram in flight is tracked so: it carried what its frames say, or that without what has to be sent again, which a probe took.
+-- A datagram in flight is tracked so: it carried what its frames say, or that without what has to
+-- be sent again, which a probe took.
 pub record IsWaited (s : Sent) (p : ℕ × TrackedPacket) : Type 0 where
   pub number : p.0 ≡ s.number
   pub generation : p.1.generation ≡ 0

@@ -1,16 +1,19 @@
--- What an observer of a run's lists counts as in flight is what an open end waits for: each call keeps that.
-use Rattle.std.proofs.Common.{◌≡◌, ℕ, ◌+◌, ◌-◌, ◌<◌, ◌≤◌, ◌^◌, max, min, Bool, true, false, List, [], ◌∷◌, ◌++◌, length, take, map, Option, Some, None, Ok, refl, sym, ap, ◌∙◌, subst, arith}
+-- What an observer of a run's lists counts as in flight is what an open end waits for: each call
+-- keeps that.
+use Rattle.std.proofs.Common.{◌≡◌, ℕ, ◌+◌, ◌-◌, ◌<◌, ◌≤◌, ◌^◌, max, min, Bool, true, false, ◌||◌, List, [], ◌∷◌, ◌++◌, length, take, map, replicate, Option, Some, None, Ok, refl, sym, ap, ◌∙◌, subst, arith}
 use Rattle.std.specs.Prelude.{if◌then◌else◌}
+use Rattle.std.specs.List.{list_any}
 use Rattle.std.proofs.lemmas.Bool.{lt-ltb, le-ltb}
 use Rattle.std.proofs.lemmas.List.{append-nil}
 use Rattle.quic_wire_core.specs.declared.shared.EcnCodepoint.{EcnCodepoint}
-use Rattle.quic_wire.specs.Value.{FrameValue}
+use Rattle.quic_wire.specs.Value.{FrameValue, connection_close, application_close, padding}
 use Rattle.quic_packet.specs.Datagram.{opened_packet}
 use Rattle.quic_packet.proofs.Opening.{sent_length}
 use Rattle.quic_recovery_core.specs.PendingAcks.{Pending}
 use Rattle.quic_time.specs.Timers.{Timers, has_come}
 use Rattle.quic_machine.specs.declared.answers.State.{State}
 use Rattle.quic_machine.specs.declared.answers.State.TheVariants as states
+use Rattle.quic_machine.specs.declared.answers.LostReason.{LostReason}
 use Rattle.quic_machine.specs.declared.answers.LostReason.TheVariants as reasons
 use Rattle.quic_machine.specs.declared.run.Call.{Call}
 use Rattle.quic_machine.specs.declared.run.Call.TheVariants as calls
@@ -18,37 +21,44 @@ use Rattle.quic_machine.specs.declared.run.Delivery.{Delivery}
 use Rattle.quic_machine.specs.declared.run.Answer.{Answer}
 use Rattle.quic_machine.specs.declared.run.Answer.TheVariants as answers
 use Rattle.quic_machine.specs.Policy.{Policy, CanOpen}
-use Rattle.quic_machine.specs.Closing.{Closing, ticked}
+use Rattle.quic_machine.specs.Closing.{Closing, ticked, close_asked}
 use Rattle.quic_machine.specs.Opens.{own_id_length}
 use Rattle.quic_machine.specs.Start.{IsLawful}
-use Rattle.quic_spaces.specs.Numbers.{Numbers, cut_against, can_number, number_opened, number_taken}
-use Rattle.quic_machine.specs.Parts.{Path}
+use Rattle.quic_spaces.specs.Numbers.{Numbers, cut_against, number_opened, number_taken}
+use Rattle.quic_machine.specs.Parts.{Path, Validation, Signals}
 use Rattle.quic_machine.specs.Tracking.{Tracking}
-use Rattle.quic_machine.specs.End.{End, number_of, with_closing, closed_by, with_numbers, with_loss_timer}
-use Rattle.quic_machine.specs.Timeouts.{acks_expired, loss_judged, loss_expired, pacing_expired, timed_out_in, timed_out, Expiry, expiry_at, after_others}
-use Rattle.quic_machine.specs.Receive.{asks_in, after_taken}
-use Rattle.quic_machine.specs.Poll.{Polled, Draft, payload_of, datagram_of, datagram_size, after_given, goes, rests, sends, polled_if, polled_in, polled, Ready}
+use Rattle.quic_machine.specs.End.{End, number_of, with_closing, closed_by, drained_by, with_numbers, with_loss_timer, with_path_timer, challenged}
+use Rattle.quic_machine.specs.Idle.{keep_alive_expired}
+use Rattle.quic_machine.specs.Timeouts.{acks_expired, loss_judged, loss_expired, pacing_expired, timed_out_in, timed_out, Expiry, expiry_at, after_others, unless_idle}
+use Rattle.quic_machine.specs.Receive.{asks_in, after_taken, exhausted}
+use Rattle.quic_machine.specs.Poll.{Polled, Draft, zeros_behind, payload_of, datagram_of, datagram_size, gives_datagram, draft_as, close_to_go, closes_if, closes, after_close, after_given, bounds, goes, rests, sends, polled_if, polled_in, polled, Ready}
+use Rattle.quic_machine.specs.Poll as poll
 use Rattle.quic_machine.specs.Machine.{after_call, fails, gave}
 use Rattle.quic_machine.specs.CallCases.{Plain, is_delivery, is_poll, is_timeout, by_plain_call}
 use Rattle.quic_machine.specs.CallCases as cases
-use Rattle.quic_machine.specs.PollCases.{ready_at, ready_leaves, draft_at, frames_at, given_as, Composes, composes, poll_left, may_leave_at}
+use Rattle.quic_machine.specs.PollCases.{ready_at, ready_leaves, draft_at, frames_padded, given_as, Composes, composes, bounds_none, poll_left, may_leave_at}
 use Rattle.quic_machine.specs.FrameCases.{begun}
 use Rattle.quic_headline.specs.Runs.{Told, Packet, Intake, acknowledged, and_handed, and_told, folded}
-use Rattle.quic_headline.specs.Observer.{Sent, Terms, loss_due, is_past, expired_for, after_packets, and_flying, and_all_sent, Watch, news, has_opened, moment_of, clock_behind, sent_as, after_frames, watch_sent, Lens, watch_given, is_timely, watch_moment, watch_came, watch_told}
-use Rattle.quic_headline.proofs.Packets.Invariant.{IsGiven, KnowsIn, IsBehind}
+use Rattle.quic_headline.specs.Observer.{Sent, Terms, loss_due, is_past, expired_for, after_packets, and_flying, and_sent, and_all_sent, Watch, news, has_opened, moment_of, clock_behind, is_close, moment_for, sent_as, next_number, after_frames, watch_sent, Lens, watch_given, is_timely, watch_moment, watch_came, watch_told}
+use Rattle.quic_headline.proofs.Packets.Invariant.{IsSent, KnowsIn, IsBehind}
 use Rattle.quic_headline.proofs.Packets.Intakes.{nothing_handed, none_handed}
 use Rattle.quic_headline.proofs.Packets.Stays.{keeps_frames}
 use Rattle.quic_headline.proofs.Packets.Delivered.{Arrivals, arrived, with_taken}
 use Rattle.quic_headline.proofs.Packets.Probes.{by_going}
-use Rattle.quic_headline.proofs.Packets.Given.{allocated_near, draft_number}
+use Rattle.quic_headline.proofs.Packets.Given.{allocated_near, draft_number, number_small}
+use Rattle.quic_headline.proofs.Packets.CloseForms.{close_small}
+use Rattle.quic_headline.proofs.Packets.Owing.{Owes, close_is, error_owes}
+use Rattle.quic_headline.proofs.Packets.References.{cut_before, reference_read, moment_read}
 use Rattle.quic_headline.proofs.Packets.Waited.{AreWaited}
 use Rattle.quic_headline.proofs.Packets.Closeless.{sent_closeless}
 use Rattle.quic_headline.proofs.Packets.Flying.{Held, held, IsAsked, Waits, Loses, detected_held, timer_is, frames_wait, sent_read, draft_waits, ticked_waits, numbers_wait, ready_waits, expired_waits, expired_flies}
 use Rattle.quic_headline.proofs.Timers.LossTimers.{OpenStands, LossStands, ready_stands}
-use Rattle.quic_headline.proofs.Places.Parties.{sent_by, sent_if, told_of}
-use Rattle.quic_machine.specs.DraftLaws.{MayLeave}
-use Rattle.quic_machine.specs.LeaveCases.{Expired, by_expiring}
+use Rattle.quic_headline.proofs.Places.Parties.{close_if, close_draft, given_in, draft_given, sent_as as draft_sent, sent_by, sent_if, told_of}
+use Rattle.quic_machine.specs.DraftLaws.{IsClose, MayLeave}
+use Rattle.quic_machine.specs.LeaveCases.{Expired, by_expiring, by_busy}
 use Rattle.quic_machine.specs.LeaveCases as expiring
+use Rattle.quic_machine.specs.IdFrames.{drawn}
+use Rattle.quic_headline.proofs.Packets.Apart.{by_waits, by_next_id}
 
 -- ---- the observer
 
@@ -151,7 +161,8 @@ told_own l t w none = ap (λ (b : Bool). (watch_given b l (timed_with l t w)).ow
 
 -- ---- an end that is watched
 
--- an observer knows the clock of an open end, by what it judges losses, and what it waits for; and there is one path, the first
+-- an observer knows the clock of an open end, by what it judges losses, and what it waits for; and
+-- there is one path, the first
 pub record IsWatched (t : Terms) (w : Watch) (e : End) : Type 0 where
   pub path : e.path.generation ≡ 0
   pub flight : e.closing.state ≡ states.Open → Waits t w.clock w.flight (held e)
@@ -190,9 +201,11 @@ packet_delivered t w state delivery n frames opened =
 pub arrivals_watched : (t : Terms) (w : Watch) (e : End) (delivery : Delivery) (n : ℕ) (frames : List FrameValue) → IsWatched t w e → Arrivals e delivery.now n frames w.intake (λ o j. IsWatched t (with_delivery t w e.closing.state delivery j) o.end)
 arrivals_watched t w e delivery n frames i = record {
   ignored = λ reason. subst (λ (v : Watch). IsWatched t v e) (sym (nothing_delivered t w e.closing.state delivery)) i;
-  noted = λ state reason. closed_watched t (with_delivery t w e.closing.state delivery w.intake) (with_numbers e (number_opened e.numbers n)) i.path (λ opened. (let clash : states.Closing ≡ states.Open = sym state ∙ opened in cc));
-  takes = λ state new none mark. taken mark state none;
-  refuses = λ state new f is. closed_watched t _ _ path (λ opened. cc);
+  noted = λ state reason. closed_watched t (with_delivery t w e.closing.state delivery w.intake) (with_closing (with_numbers e (number_opened e.numbers n)) (close_asked e.closing)) i.path (λ opened. (let clash : states.Closing ≡ states.Open = sym state ∙ opened in cc));
+  takes = λ words state new none mark. taken words mark state none;
+  drains = λ words state new close is. closed_watched t _ _ path (λ opened. cc);
+  refuses = λ words state new f is. closed_watched t _ _ path (λ opened. cc);
+  exhausts = λ state. closed_watched t (with_delivery t w e.closing.state delivery w.intake) (exhausted delivery.now e) i.path (λ opened. cc);
 }
   where
     after : End
@@ -201,9 +214,9 @@ arrivals_watched t w e delivery n frames i = record {
     path : after.path.generation ≡ 0
     path = (keeps_frames frames (begun e delivery.now n)).generation ∙ i.path
 
-    taken : (mark : Option EcnCodepoint) → e.closing.state ≡ states.Open → (arrived e delivery.now n frames).fault ≡ None → IsWatched t (with_delivery t w e.closing.state delivery (with_taken w.intake n frames)) (after_taken n (asks_in (map Ok frames)) mark after)
-    taken mark opened none =
-        subst (λ (v : Watch). IsWatched t v (after_taken n (asks_in (map Ok frames)) mark after)) (sym (packet_delivered t w e.closing.state delivery n frames opened)) (record {
+    taken : (words : ℕ → ℕ) (mark : Option EcnCodepoint) → e.closing.state ≡ states.Open → (arrived e delivery.now n frames).fault ≡ None → IsWatched t (with_delivery t w e.closing.state delivery (with_taken w.intake n frames)) (drawn words (after_taken n (asks_in (map Ok frames)) mark after))
+    taken words mark opened none =
+        subst (λ (v : Watch). IsWatched t v (drawn words (after_taken n (asks_in (map Ok frames)) mark after))) (sym (packet_delivered t w e.closing.state delivery n frames opened)) (record {
           path = path;
           flight = λ still.
               let begins : Waits t (max w.clock delivery.now) w.flight (held (begun e delivery.now n)) = ticked_waits t w.clock delivery.now w.flight (record (held e) { numbers = number_opened e.numbers n }) (numbers_wait t w.clock w.flight (held e) (number_opened e.numbers n) refl (i.flight opened)) in
@@ -212,7 +225,13 @@ arrivals_watched t w e delivery n frames i = record {
 
 -- ---- a poll
 
-module _ (l : Lens) (rest : List (List ℕ)) (lawful : IsLawful l.own) (mates : CanOpen l.own l.taker) (e : End) (w : Watch) (behind : IsBehind e.numbers) (stands : LossStands e)
+-- a close is one
+pub closes_is : (f : FrameValue) → IsClose f → is_close f ≡ true
+closes_is (connection_close c) is = refl
+closes_is (application_close c) is = refl
+closes_is f is = absurd is
+
+module _ (l : Lens) (rest : List (List ℕ)) (lawful : IsLawful l.own) (mates : CanOpen l.own l.taker) (e : End) (w : Watch) (behind : IsBehind e.numbers) (next : e.numbers.next ≡ next_number w.own) (owes : Owes e) (stands : LossStands e)
     (knows : e.closing.state ≡ states.Open → cut_against e.numbers ≡ acknowledged w.intake.took) (watched_before : IsWatched l.terms w e) where
   -- what the observer knows behind a poll that comes to this
   abbrev behind_poll : ℕ → State → Polled → Watch
@@ -220,11 +239,12 @@ module _ (l : Lens) (rest : List (List ℕ)) (lawful : IsLawful l.own) (mates : 
 
   -- what a poll gives was sent so
   abbrev pub GivesAt : ℕ → Polled → Type 0
-  GivesAt now r = (d : List ℕ) → r.datagram ≡ Some d → IsGiven l.own e.ids.active.id (number_of e) (cut_against e.numbers) (frames_at e now) d
+  GivesAt now r = (d : List ℕ) → r.datagram ≡ Some d → IsSent l.own (sent_by l.own e now) d
 
-  -- an observer goes on with what a poll comes to, where what it gives is the first of what was to be given
+  -- an observer goes on with what a poll comes to, where what it gives is the first of what was to
+  -- be given
   abbrev GoesOn : ℕ → State → Polled → Type 0
-  GoesOn now state r = GivesAt now r → w.left ≡ given_as r.answer r.datagram ++ rest → ((behind_poll now state r).own ≡ w.own ++ sent_if (gave (answers.Poll r.answer)) (sent_by e now)) × IsWatched l.terms (behind_poll now state r) r.end
+  GoesOn now state r = GivesAt now r → w.left ≡ given_as r.answer r.datagram ++ rest → ((behind_poll now state r).own ≡ w.own ++ sent_if (gave (answers.Poll r.answer)) (sent_by l.own e now)) × IsWatched l.terms (behind_poll now state r) r.end
 
   -- the path of an end that is ready
   ready_path : (now : ℕ) → (ready_at e now).end.path.generation ≡ 0
@@ -242,9 +262,74 @@ module _ (l : Lens) (rest : List (List ℕ)) (lawful : IsLawful l.own) (mates : 
         subst (λ (v : Watch). IsWatched l.terms v f) (sym (told_quiet l t w refl refl (nothing_handed state l.own t.answer w.intake))) i,
       )
 
+  -- the end that is ready has the numbers of the end
+  ready_is : (now : ℕ) → (ready_at e now).end ≡ poll_left e now (ready_at e now).end
+  ready_is now = ready_leaves e now
+
+  -- what goes of an end that has this draft, the observer reads as it was sent: one that closes
+  -- nothing, where it knows what that was cut against, and when it went
+  module _ (now : ℕ) (state : State) (x : Draft) (f : End) (number : number_of x.end ≡ number_of e) (cut : cut_against x.end.numbers ≡ cut_against e.numbers) (near : number_of e - cut_against e.numbers < 2 ^ 31)
+      (known : list_any is_close (frames_padded x) ≡ false → (cut_against e.numbers ≡ acknowledged w.intake.took) × (clock_behind w.clock (moment_of state false (calls.Poll now)) ≡ max e.closing.clock now))
+      (was : IsSent l.own (draft_sent e now x) (datagram_of l.own x)) (left : w.left ≡ datagram_of l.own x ∷ rest) where
+    abbrev d : List ℕ
+    d = datagram_of l.own x
+
+    abbrev s : Sent
+    s = draft_sent e now x
+
+    abbrev closing : Bool
+    closing = list_any is_close (frames_padded x)
+
+    abbrev clock : ℕ
+    clock = clock_behind w.clock (moment_of state false (calls.Poll now))
+
+    abbrev ticks : Watch
+    ticks = record w { clock = clock_behind w.clock (moment_of state false (calls.Poll now)) }
+
+    abbrev given : Told
+    given = told_of (calls.Poll now) (answers.Poll (gives_datagram (datagram_of l.own x) f).answer) state
+
+    -- it has as many bytes as was told of it
+    size : length d ≡ datagram_size x
+    size =
+        let near_so : number_of x.end - cut_against x.end.numbers < 2 ^ 31 = subst (λ (n : ℕ). n - cut_against x.end.numbers < 2 ^ 31) (sym number) (subst (λ (n : ℕ). number_of e - n < 2 ^ 31) (sym cut) near) in
+        let long = sent_length l.own.header l.own.packet lawful.width lawful.tag (number_of x.end) (cut_against x.end.numbers) x.end.ids.peer.id (payload_of x) near_so in
+        omega arith
+
+    -- the number that is expected
+    after : next_number w.own ≤ number_of e
+    after = let more = (allocated_near e.filter e.numbers.next).0 in let same = next in omega arith
+
+    before : s.reference ≤ next_number w.own
+    before = subst (λ (n : ℕ). s.reference ≤ n) next (cut_before closing (number_of e) (cut_against e.numbers) e.numbers.next (allocated_near e.filter e.numbers.next).1 behind)
+
+    -- the observer reads it as it was sent
+    read : sent_as (opened_packet l.taker.header l.taker.packet (own_id_length + 1) (next_number w.own) d) (acknowledged w.intake.took) clock d ≡ s ∷ []
+    read =
+        sent_read l.own l.taker e.ids.peer.id (number_of e) s.reference (frames_padded x) d was mates lawful (next_number w.own) before after (acknowledged w.intake.took) clock
+        ∙ ap (λ (r : ℕ). record { id = e.ids.peer.id; number = number_of e; reference = r; frames = frames_padded x; moment = moment_for closing clock; size = length d } ∷ [])
+        (reference_read closing (number_of e) (cut_against e.numbers) (acknowledged w.intake.took) (λ ordinary. (known ordinary).0))
+        ∙ ap (λ (m : ℕ). record { id = e.ids.peer.id; number = number_of e; reference = s.reference; frames = frames_padded x; moment = m; size = length d } ∷ [])
+        (moment_read closing clock (max e.closing.clock now) (λ ordinary. (known ordinary).1))
+        ∙ ap (λ (n : ℕ). record { id = e.ids.peer.id; number = number_of e; reference = s.reference; frames = frames_padded x; moment = s.moment; size = n } ∷ []) size
+
+    behind_given : behind_poll now state (gives_datagram (datagram_of l.own x) f) ≡ record ticks { left = rest; own = w.own ++ s ∷ []; flight = and_sent s w.flight }
+    behind_given =
+        ap (λ (b : Bool). watch_given true l (watch_moment b l.terms (came_with l given w))) (untimely state (calls.Poll now) refl)
+        ∙ ap (λ (v : Watch). watch_given true l v) (came_quiet l given w (nothing_handed state l.own given.answer w.intake))
+        ∙ ap (λ (ds : List (List ℕ)). watch_sent l.taker ds ticks) left
+        ∙ ap (λ (ss : List Sent). record ticks { left = rest; own = w.own ++ ss; flight = and_all_sent ss w.flight }) read
+
+  -- an open end knows what it cuts a number against, and its clock
+  open_knows : (now : ℕ) → e.closing.state ≡ states.Open → (cut_against e.numbers ≡ acknowledged w.intake.took) × (max w.clock now ≡ max e.closing.clock now)
+  open_knows now opened = (knows opened, ap (λ (n : ℕ). max n now) (watched_before.flight opened).tells.clock)
+
   -- one that gives a datagram
-  one_goes_on : (now : ℕ) → e.closing.state ≡ states.Open → goes (ready_at e now) ≡ true → GoesOn now states.Open (sends true l.own (ready_at e now))
-  one_goes_on now opened some given left = (ap (λ (v : Watch). v.own) is, subst (λ (v : Watch). IsWatched l.terms v (after_given l.own draft)) (sym is) after)
+  one_goes_on : (now : ℕ) → e.closing.state ≡ states.Open → bounds l.own e ≡ None → GoesOn now states.Open (gives_datagram (datagram_of l.own (draft_at e now)) (after_given l.own (draft_at e now)))
+  one_goes_on now opened bound sent left =
+      subst (λ (x : Draft). ((behind_poll now states.Open (gives_datagram (datagram_of l.own draft) (after_given l.own draft))).own ≡ w.own ++ draft_sent e now x ∷ [])
+      × IsWatched l.terms (behind_poll now states.Open (gives_datagram (datagram_of l.own draft) (after_given l.own draft))) (after_given l.own draft)) (sym same)
+      (ap (λ (v : Watch). v.own) is, subst (λ (v : Watch). IsWatched l.terms v (after_given l.own draft)) (sym (is ∙ flies)) after)
     where
       g : Ready
       g = ready_at e now
@@ -255,86 +340,97 @@ module _ (l : Lens) (rest : List (List ℕ)) (lawful : IsLawful l.own) (mates : 
       draft : Draft
       draft = draft_at e now
 
+      same : draft_given l.own e now ≡ draft
+      same = ap (λ (state : State). given_in state (bounds l.own e) l.own e now) opened ∙ ap (λ (o : Option LostReason). given_in states.Open o l.own e now) bound
+
       may : MayLeave g.leaving before
       may = may_leave_at e now
 
       ready : g.end ≡ poll_left e now g.end
-      ready = ready_leaves e now
-
-      d : List ℕ
-      d = datagram_of l.own draft
-
-      t : Told
-      t = told_of (calls.Poll now) (answers.Poll (sends true l.own (ready_at e now)).answer) states.Open
-
-      s : Sent
-      s = sent_by e now
-
-      ticks : Watch
-      ticks = record w { clock = max w.clock now }
-
-      was : IsGiven l.own e.ids.active.id (number_of e) (cut_against e.numbers) (frames_at e now) d
-      was = given d refl
-
-      moment : max w.clock now ≡ max e.closing.clock now
-      moment = ap (λ (n : ℕ). max n now) (watched_before.flight opened).tells.clock
+      ready = ready_is now
 
       c : Composes before draft.end
       c = composes g.leaving before may
 
-      -- it has as many bytes as was told of it
-      number : number_of draft.end ≡ number_of e
-      number = draft_number g.leaving before may ∙ ap (λ (x : End). number_of x) ready
+      s : Sent
+      s = draft_sent e now draft
 
-      cut : cut_against draft.end.numbers ≡ cut_against e.numbers
-      cut = ap (λ (x : Numbers). cut_against x) c.numbers ∙ ap (λ (x : End). cut_against x.numbers) ready
+      ticks : Watch
+      ticks = record w { clock = max w.clock now }
 
-      near : number_of draft.end - cut_against draft.end.numbers < 2 ^ 31
-      near = rw (number, cut) was.near
+      is : behind_poll now states.Open (gives_datagram (datagram_of l.own draft) (after_given l.own draft)) ≡ record ticks { left = rest; own = w.own ++ s ∷ []; flight = and_sent s w.flight }
+      is = behind_given now states.Open draft (after_given l.own draft) (draft_number g.leaving before may ∙ ap (λ (x : End). number_of x) ready)
+          (ap (λ (x : Numbers). cut_against x) c.numbers ∙ ap (λ (x : End). cut_against x.numbers) ready) (number_small e.filter e.numbers (bounds_none l.own e bound).0).1 (λ ordinary. open_knows now opened)
+          (subst (λ (x : Draft). IsSent l.own (draft_sent e now x) (datagram_of l.own draft)) same (sent (datagram_of l.own draft) refl)) left
 
-      size : length d ≡ datagram_size draft
-      size = let long = sent_length l.own.header l.own.packet lawful.width lawful.tag (number_of draft.end) (cut_against draft.end.numbers) draft.end.ids.active.id (payload_of draft) near in omega arith
-
-      above : cut_against e.numbers ≤ number_of e
-      above = let more = (allocated_near e.filter e.numbers.next).0 in let less : cut_against e.numbers ≤ e.numbers.next = behind in omega arith
-
-      -- the observer reads it as it was sent
-      read : sent_as (opened_packet l.taker.header l.taker.packet (own_id_length + 1) (acknowledged w.intake.took) d) (acknowledged w.intake.took) (max w.clock now) d ≡ s ∷ []
-      read =
-          ap (λ (n : ℕ). sent_as (opened_packet l.taker.header l.taker.packet (own_id_length + 1) n d) n (max w.clock now) d) (sym (knows opened))
-          ∙ sent_read l.own l.taker e.ids.active.id (number_of e) (cut_against e.numbers) (frames_at e now) d was mates lawful above (max w.clock now)
-          ∙ ap (λ (n : ℕ). record { id = e.ids.active.id; number = number_of e; reference = cut_against e.numbers; frames = frames_at e now; moment = n; size = length d } ∷ []) moment
-          ∙ ap (λ (n : ℕ). record { id = e.ids.active.id; number = number_of e; reference = cut_against e.numbers; frames = frames_at e now; moment = max e.closing.clock now; size = n } ∷ []) size
-
-      is : behind_poll now states.Open (sends true l.own (ready_at e now)) ≡ record ticks { left = rest; own = w.own ++ s ∷ []; flight = and_flying s w.flight }
-      is =
-          ap (λ (v : Watch). watch_given true l v) (came_quiet l t w refl)
-          ∙ ap (λ (ds : List (List ℕ)). watch_sent l.taker ds ticks) left
-          ∙ ap (λ (ss : List Sent). record ticks { left = rest; own = w.own ++ ss; flight = and_all_sent ss w.flight }) read
-          ∙ ap (λ (b : Bool). record ticks { left = rest; own = w.own ++ s ∷ []; flight = if b then w.flight else and_flying s w.flight }) (sent_closeless e now)
+      flies : record ticks { left = rest; own = w.own ++ s ∷ []; flight = and_sent s w.flight } ≡ record ticks { left = rest; own = w.own ++ s ∷ []; flight = and_flying s w.flight }
+      flies = ap (λ (b : Bool). record ticks { left = rest; own = w.own ++ s ∷ []; flight = if b then w.flight else and_flying s w.flight }) (sent_closeless e now)
 
       after : IsWatched l.terms (record ticks { left = rest; own = w.own ++ s ∷ []; flight = and_flying s w.flight }) (after_given l.own draft)
       after = record {
-        path = by_going (λ (x : End). x.path.generation ≡ 0) l.own draft (λ pacing. ap (λ (x : Path). x.generation) c.path ∙ ready_path now);
+        path = by_going (λ (x : End). x.path.generation ≡ 0) l.own draft (λ going. ap (λ (x : Path). x.generation) c.path ∙ ready_path now);
         flight = λ still.
             let open_still : g.end.closing.state ≡ states.Open = ap (λ (x : End). x.closing.state) ready ∙ opened in
-            draft_waits l.own l.terms (max w.clock now) g.leaving before s w.flight may (ready_path now) (ap (λ (x : End). number_of x) (sym ready)) (ap (λ (x : End). x.closing.clock) (sym ready)) refl refl
+            draft_waits l.own l.terms (max w.clock now) g.leaving before s w.flight may (ready_path now) (ap (λ (x : End). number_of x) (sym ready))
+            (ap (λ (b : Bool). moment_for b (max e.closing.clock now)) (sent_closeless e now) ∙ ap (λ (x : End). x.closing.clock) (sym ready)) refl refl
             (ready_stands e now stands open_still).stands.lies (allocated_near before.filter before.numbers.next).0 ((moment_watched now opened).flight open_still);
       }
+
+  -- an end that closes or is closing gives its close, or nothing
+  module _ (now : ℕ) (state : State) (y : End) (number : number_of y ≡ number_of e) (cut : cut_against y.numbers ≡ cut_against e.numbers) (due : Owes y) (closed : y.closing.state ≡ states.Open → ⊥)
+      (path : y.path.generation ≡ 0) (same : draft_given l.own e now ≡ close_draft l.own y) where
+    one_close : (f : FrameValue) → close_to_go l.own y ≡ Some f → GoesOn now state (closes_if (Some f) l.own y)
+    one_close f goes sent left =
+        subst (λ (x : Draft). ((behind_poll now state (closes_if (Some f) l.own y)).own ≡ w.own ++ draft_sent e now x ∷ []) × IsWatched l.terms (behind_poll now state (closes_if (Some f) l.own y)) (after_close l.own draft)) (sym alike)
+        (ap (λ (v : Watch). v.own) is, closed_watched l.terms _ _ path closed)
+      where
+        draft : Draft
+        draft = draft_as (poll.closing f) y
+
+        alike : draft_given l.own e now ≡ draft
+        alike = same ∙ ap (λ (o : Option FrameValue). close_if o y) goes
+
+        near : number_of e - cut_against e.numbers < 2 ^ 31
+        near = subst (λ (n : ℕ). n - cut_against e.numbers < 2 ^ 31) number (subst (λ (n : ℕ). number_of y - n < 2 ^ 31) cut (close_small l.own y f goes).1)
+
+        -- it closes
+        closing_so : list_any is_close (frames_padded draft) ≡ true
+        closing_so = ap (λ (b : Bool). b || list_any is_close (replicate (zeros_behind draft) padding)) (closes_is f (close_is l.own y due f goes))
+
+        is : behind_poll now state (closes_if (Some f) l.own y) ≡ record (record w { clock = clock_behind w.clock (moment_of state false (calls.Poll now)) }) { left = rest; own = w.own ++ draft_sent e now draft ∷ []; flight = and_sent (draft_sent e now draft) w.flight }
+        is = behind_given now state draft (after_close l.own draft) number cut near (λ ordinary. (let clash : true ≡ false = sym closing_so ∙ ordinary in cc))
+            (subst (λ (x : Draft). IsSent l.own (draft_sent e now x) (datagram_of l.own draft)) alike (sent (datagram_of l.own draft) refl)) left
+
+    closes_on : (o : Option FrameValue) → close_to_go l.own y ≡ o → GoesOn now state (closes_if o l.own y)
+    closes_on None none = none_goes_on now state y (closed_watched l.terms _ _ path closed)
+    closes_on (Some f) goes = one_close f goes
+
+  -- an open end that closes
+  close_goes_on : (now : ℕ) → e.closing.state ≡ states.Open → (reason : LostReason) → bounds l.own e ≡ Some reason → GoesOn now states.Open (closes l.own (closed_by reason (ready_at e now).end))
+  close_goes_on now opened reason bound = closes_on now states.Open y (ap (λ (x : End). number_of x) (ready_is now)) (ap (λ (x : End). cut_against x.numbers) (ready_is now)) (error_owes reason (ready_at e now).end) (λ still. cc) (ready_path now)
+      (ap (λ (state : State). given_in state (bounds l.own e) l.own e now) opened ∙ ap (λ (o : Option LostReason). given_in states.Open o l.own e now) bound) (close_to_go l.own y) refl
+    where
+      y : End
+      y = closed_by reason (ready_at e now).end
 
   -- an open end
   open_goes_on : (now : ℕ) → e.closing.state ≡ states.Open → (b : Bool) → goes (ready_at e now) ≡ b → GoesOn now states.Open (polled_if b l.own (ready_at e now))
   open_goes_on now opened false none = none_goes_on now states.Open (rests (ready_at e now)) (let i = moment_watched now opened in record { path = i.path; flight = i.flight })
-  open_goes_on now opened true some = go (can_number (ready_at e now).end.numbers)
+  open_goes_on now opened true some = subst (λ (o : Option LostReason). GoesOn now states.Open (sends o l.own (ready_at e now))) (ap (λ (x : End). bounds l.own x) (sym (ready_is now))) (go (bounds l.own e) refl)
     where
-      go : (c : Bool) → GoesOn now states.Open (sends c l.own (ready_at e now))
-      go true = one_goes_on now opened some
-      go false = none_goes_on now states.Open (closed_by reasons.NumberLimit (ready_at e now).end) (closed_watched l.terms _ _ (ready_path now) (λ still. cc))
+      go : (o : Option LostReason) → bounds l.own e ≡ o → GoesOn now states.Open (sends o l.own (ready_at e now))
+      go None bound = one_goes_on now opened bound
+      go (Some reason) bound = close_goes_on now opened reason bound
+
+  -- a closing end
+  closing_goes_on : (now : ℕ) → e.closing.state ≡ states.Closing → GoesOn now states.Closing (closes l.own (with_closing e (ticked e.closing now)))
+  closing_goes_on now is = closes_on now states.Closing (with_closing e (ticked e.closing now)) refl refl owes (λ still. (let clash : states.Closing ≡ states.Open = sym is ∙ still in cc)) watched_before.path
+      (ap (λ (state : State). given_in state (bounds l.own e) l.own e now) is) (close_to_go l.own (with_closing e (ticked e.closing now))) refl
 
   -- any end that doesn't fail
   poll_goes_on : (now : ℕ) (state : State) → e.closing.state ≡ state → fails (answers.Poll (polled_in state l.own e now).answer) ≡ false → GoesOn now state (polled_in state l.own e now)
   poll_goes_on now states.Open opened served = open_goes_on now opened (goes (ready_at e now)) refl
-  poll_goes_on now states.Closing is served = none_goes_on now states.Closing e watched_before
+  poll_goes_on now states.Closing is served = closing_goes_on now is
   poll_goes_on now states.Drained is served = none_goes_on now states.Drained e watched_before
   poll_goes_on now states.Failed is served = cc
 
@@ -345,7 +441,7 @@ module _ (l : Lens) (rest : List (List ℕ)) (lawful : IsLawful l.own) (mates : 
 -- ---- a timeout
 
 -- both say whether a moment has come
-past_same : (o : Option ℕ) (clock : ℕ) → has_come o clock ≡ is_past o clock
+pub past_same : (o : Option ℕ) (clock : ℕ) → has_come o clock ≡ is_past o clock
 past_same None clock = refl
 past_same (Some moment) clock = refl
 
@@ -370,8 +466,8 @@ abbrev pub at_time : Terms → Watch → ℕ → Watch
 at_time t w now = watch_moment true t (record w { clock = max w.clock now })
 
 -- the timers of acknowledgements and of the pacer leave what the observer knows of
-others_held : (x : Expiry) (e : End) → held (after_others x e) ≡ held e
-others_held x e = by_expiring Same Same each (λ f i. i) x e refl
+pub others_held : (words : ℕ → ℕ) (x : Expiry) (e : End) → x.idle ≡ false → held (after_others words x e) ≡ held e
+others_held words x e busy = ap (λ (b : Bool). held (unless_idle b words x e)) busy ∙ by_busy words Same Same each (λ f i. i) x e refl
   where
     Same : End → Type 0
     Same f = held f ≡ held e
@@ -382,7 +478,7 @@ others_held x e = by_expiring Same Same each (λ f i. i) x e refl
 
 -- a timeout at an open end
 open_timeout : (p : Policy) (t : Terms) (w : Watch) (e : End) (now : ℕ) → OpenStands e → e.path.generation ≡ 0 → Waits t w.clock w.flight (held e) → IsWatched t (at_time t w now) (timed_out_in states.Open p e now).end
-open_timeout p t w e now s path i = record { path = generation; flight = λ still. waits }
+open_timeout p t w e now s path i = record { path = generation; flight = λ still. waits (busy expiry.idle still) }
   where
     begins : End
     begins = with_closing e (ticked e.closing now)
@@ -396,12 +492,24 @@ open_timeout p t w e now s path i = record { path = generation; flight = λ stil
     after : Waits t (max w.clock now) (if expires then expired_for w.flight.loss_time t (max w.clock now) w.flight else w.flight) (held (loss_expired expires begins))
     after = expired_waits t (max w.clock now) w.flight begins (ticked_waits t w.clock now w.flight (held e) i) expires
 
-    waits : Waits t (max w.clock now) (at_time t w now).flight (held (after_others expiry (loss_expired expires begins)))
-    waits = subst (λ (h : Held). Waits t (max w.clock now) (at_time t w now).flight h) (sym (others_held expiry (loss_expired expires begins)))
+    -- an end that is open still wasn't idle for too long
+    busy : (b : Bool) → (unless_idle b p.words expiry (loss_expired expires begins)).closing.state ≡ states.Open → b ≡ false
+    busy true still = cc
+    busy false still = refl
+
+    waits : expiry.idle ≡ false → Waits t (max w.clock now) (at_time t w now).flight (held (after_others p.words expiry (loss_expired expires begins)))
+    waits none = subst (λ (h : Held). Waits t (max w.clock now) (at_time t w now).flight h) (sym (others_held p.words expiry (loss_expired expires begins) none))
         (subst (λ (b : Bool). Waits t (max w.clock now) (if b then expired_for w.flight.loss_time t (max w.clock now) w.flight else w.flight) (held (loss_expired expires begins))) (timer_expires t w e now s i) after)
 
-    generation : (after_others expiry (loss_expired expires begins)).path.generation ≡ 0
-    generation = ap (λ (h : Held). h.generation) (others_held expiry (loss_expired expires begins)) ∙ expired_path expires begins ∙ path
+    Here : End → Type 0
+    Here f = f.path.generation ≡ 0
+
+    each : (s : Expired) (f : End) → Here f → Here (expiring.after s f)
+    each expiring.of_acks f j = j
+    each s f j = j
+
+    generation : (after_others p.words expiry (loss_expired expires begins)).path.generation ≡ 0
+    generation = by_expiring p.words Here Here each (λ f j. j) (λ f j. j) expiry (loss_expired expires begins) (expired_path expires begins ∙ path)
 
 -- a timeout takes the moment over, and expired timers leave what is watched
 pub timeout_watched : (p : Policy) (t : Terms) (w : Watch) (e : End) (now : ℕ) → LossStands e → IsWatched t w e → IsWatched t (watch_moment (is_timely e.closing.state (calls.Timeout now)) t (record w { clock = clock_behind w.clock (moment_of e.closing.state false (calls.Timeout now)) })) (timed_out p e now).end
@@ -409,17 +517,21 @@ timeout_watched p t w e now stands i = go e.closing.state refl
   where
     go : (state : State) → e.closing.state ≡ state → IsWatched t (watch_moment (is_timely state (calls.Timeout now)) t (record w { clock = clock_behind w.clock (moment_of state false (calls.Timeout now)) })) (timed_out_in state p e now).end
     go states.Open opened = open_timeout p t w e now (stands opened) i.path (i.flight opened)
-    go states.Closing is = i
+    go states.Closing is = by_waits (IsWatched t w) (has_come e.timers.close (ticked e.closing now).clock) (with_closing e (ticked e.closing now))
+        (closed_watched t w _ i.path (λ opened. cc)) (closed_watched t w _ i.path (λ opened. (let clash : states.Closing ≡ states.Open = sym is ∙ opened in cc)))
     go states.Drained is = i
     go states.Failed is = i
 
--- what losses keep, and a moment, other timers and other packets to acknowledge, an open end keeps there with what is in flight
-pub timeout_flies : (P : List Sent → List Sent → End → Type 0) → Loses P → ((flying acked : List Sent) (c : Closing) (pending : Pending) (timers : Timers) (e : End) → P flying acked e → P flying acked (record e { closing = c; acknowledging = pending; timers = timers }))
+-- what losses keep, and a moment, other timers and other packets to acknowledge, an open end keeps
+-- there with what is in flight
+pub timeout_flies : (P : List Sent → List Sent → End → Type 0) → Loses P
+    → ((flying acked : List Sent) (c : Closing) (pending : Pending) (timers : Timers) (signals : Signals) (validation : Validation) (e : End) → P flying acked e → P flying acked (record e { closing = c; acknowledging = pending; timers = timers; waiting = record e.waiting { signals = signals }; validation = validation }))
     → (p : Policy) (t : Terms) (w : Watch) (e : End) (now : ℕ) → OpenStands e → Waits t w.clock w.flight (held e) → P w.flight.flying w.flight.acked e → P (at_time t w now).flight.flying (at_time t w now).flight.acked (timed_out_in states.Open p e now).end
 timeout_flies P c others p t w e now s i holds =
-    by_expiring Here Here each (λ f j. others (at_time t w now).flight.flying (at_time t w now).flight.acked f.closing f.acknowledging (with_loss_timer f).timers f j) expiry (loss_expired expires begins)
+    by_expiring p.words Here Here each (λ f j. others flying acked f.closing f.acknowledging (with_loss_timer f).timers f.waiting.signals f.validation f j)
+    (λ f j. let g : End = drained_by reasons.Idle f in others flying acked g.closing f.acknowledging g.timers f.waiting.signals f.validation f j) expiry (loss_expired expires begins)
     (subst (λ (b : Bool). P (if b then expired_for w.flight.loss_time t (max w.clock now) w.flight else w.flight).flying (if b then expired_for w.flight.loss_time t (max w.clock now) w.flight else w.flight).acked (loss_expired expires begins)) (timer_expires t w e now s i)
-    (expired_flies P c t (max w.clock now) w.flight begins (ticked_waits t w.clock now w.flight (held e) i) (others w.flight.flying w.flight.acked (ticked e.closing now) e.acknowledging e.timers e holds) expires))
+    (expired_flies P c t (max w.clock now) w.flight begins (ticked_waits t w.clock now w.flight (held e) i) (others w.flight.flying w.flight.acked (ticked e.closing now) e.acknowledging e.timers e.waiting.signals e.validation e holds) expires))
   where
     begins : End
     begins = with_closing e (ticked e.closing now)
@@ -430,12 +542,21 @@ timeout_flies P c others p t w e now s i holds =
     expires : Bool
     expires = expiry.loss
 
+    flying : List Sent
+    flying = (at_time t w now).flight.flying
+
+    acked : List Sent
+    acked = (at_time t w now).flight.acked
+
     Here : End → Type 0
-    Here = P (at_time t w now).flight.flying (at_time t w now).flight.acked
+    Here = P flying acked
 
     each : (s : Expired) (f : End) → Here f → Here (expiring.after s f)
-    each expiring.of_acks f j = let g : End = acks_expired true f in others (at_time t w now).flight.flying (at_time t w now).flight.acked f.closing g.acknowledging g.timers f j
-    each expiring.of_pacer f j = let g : End = pacing_expired true f in others (at_time t w now).flight.flying (at_time t w now).flight.acked f.closing f.acknowledging g.timers f j
+    each expiring.of_acks f j = let g : End = acks_expired true f in others flying acked f.closing g.acknowledging g.timers f.waiting.signals f.validation f j
+    each expiring.of_pacer f j = let g : End = pacing_expired true f in others flying acked f.closing f.acknowledging g.timers f.waiting.signals f.validation f j
+    each expiring.of_keep_alive f j = let g : End = keep_alive_expired true f in others flying acked f.closing f.acknowledging g.timers g.waiting.signals f.validation f j
+    each (expiring.of_path word) f j = let g : End = challenged word f in others flying acked f.closing f.acknowledging g.timers g.waiting.signals g.validation f j
+    each expiring.of_last_path f j = others flying acked f.closing f.acknowledging (with_path_timer f.timers None) f.waiting.signals f.validation f j
 
 -- ---- other calls
 
@@ -459,16 +580,6 @@ pub record Leaves (e f : End) : Type 0 where
   pub peer : f.peer_params ≡ e.peer_params
   pub path : f.path.generation ≡ e.path.generation
   pub rtt : f.path.rtt ≡ e.path.rtt
-
--- a call at no moment leaves it
-pub leaves_call : (p : Policy) (e : End) (theirs : List (List ℕ)) (call : Call) (a : Answer) → is_delivery call ≡ false → is_poll call ≡ false → is_timeout call ≡ false → Leaves e (after_call p e theirs call a)
-leaves_call p e theirs call a apart silent other = by_plain_call p e theirs (Leaves e) call a cases_keep
-  where
-    cases_keep : Plain p e call (Leaves e)
-    cases_keep (cases.times now expiry) is = cc
-    cases_keep (cases.polls now) is = cc
-    cases_keep (cases.hears arrival d) is = cc
-    cases_keep c may = record { state = refl; clock = refl; numbers = refl; tracking = refl; transport = refl; peer = refl; path = refl; rtt = refl }
 
 -- an end that was left so is watched as it was
 pub leaves_watched : (t : Terms) (w : Watch) (e f : End) → Leaves e f → IsWatched t w e → IsWatched t w f
@@ -498,3 +609,16 @@ open_named states.Open numbers i is k = k.named
 open_named states.Closing numbers i is k = cc
 open_named states.Drained numbers i is k = cc
 open_named states.Failed numbers i is k = cc
+
+-- any call that is neither a delivery nor a poll nor a timeout leaves an end watched as it was
+pub quiet_watched : (t : Terms) (w : Watch) (p : Policy) (e : End) (theirs : List (List ℕ)) (call : Call) (a : Answer) → is_delivery call ≡ false → is_poll call ≡ false → is_timeout call ≡ false → IsWatched t w e → IsWatched t w (after_call p e theirs call a)
+quiet_watched t w p e theirs call a apart silent other i = by_plain_call p e theirs (IsWatched t w) call a cases_keep
+  where
+    cases_keep : Plain p e call (IsWatched t w)
+    cases_keep (cases.times now expiry) is = cc
+    cases_keep (cases.polls now) is = cc
+    cases_keep (cases.hears arrival d) is = cc
+    cases_keep (cases.waits now b) is = cc
+    cases_keep (cases.closes reason f now) may = closed_watched t w _ i.path (λ still. cc)
+    cases_keep (cases.changes_id b) may = by_next_id (IsWatched t w) e b i (λ c. record { path = i.path; flight = i.flight }) (λ c most. record { path = i.path; flight = i.flight })
+    cases_keep c may = leaves_watched t w e _ (record { state = refl; clock = refl; numbers = refl; tracking = refl; transport = refl; peer = refl; path = refl; rtt = refl }) i

@@ -1,4 +1,5 @@
--- A number that came is told by what is kept of those that came: it is one of them, or lies a whole span below one.
+-- A number that came is told by what is kept of those that came: it is one of them, or lies a whole
+-- span below one.
 use Rattle.std.proofs.Common.{◌≡◌, ℕ, ◌+◌, Bool, true, false, List, [], ◌∷◌, refl, sym, ap, ◌∙◌, inl, inr}
 use Rattle.std.specs.Prelude.{◌⊎◌, ◌==◌, ◌||◌, nat_le}
 use Rattle.std.proofs.lemmas.Bool.{or_left, or_right, or_cases, eq-eqb, eqb-true, le-leb, leb-true}

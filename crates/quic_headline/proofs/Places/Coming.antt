@@ -9,7 +9,7 @@ use Rattle.quic_machine.specs.declared.run.Answer.{Answer}
 use Rattle.quic_machine.specs.declared.run.Answer.TheVariants as answers
 use Rattle.quic_machine.specs.End.{End}
 use Rattle.quic_machine.specs.Receive.{Outcome, received}
-use Rattle.quic_machine.specs.Machine.{IsAnswer, IsDelivered, after_delivered, after_call, fails}
+use Rattle.quic_machine.specs.Machine.{IsAnswer, IsDelivered, after_delivered, after_call, fails, says_last}
 use Rattle.quic_machine.specs.CallCases.{is_delivery}
 use Rattle.quic_headline.specs.Runs.{Intake, In, handed, and_handed, and_told, nothing_came}
 use Rattle.quic_headline.specs.Observer.{Sent}
@@ -34,7 +34,8 @@ came_same x y call a none =
 
 -- ---- any call
 
--- What a delivery rests on: the one gave each datagram as it was sent, and the other knows what came.
+-- What a delivery rests on: the one gave each datagram as it was sent, and the other knows what
+-- came.
 pub record Meets (x y : Party) : Type 0 where
   pub each : InStep (IsSent x.policy) x.sents x.given
   pub knows : KnowsIn y.end.closing.state y.end.numbers (came_to y x)
@@ -51,11 +52,11 @@ pub record Comes (x y : Party) (call : Call) (a : Answer) (P : End → Intake �
 module _ (x y : Party) (a : Answer) (joined : AreJoined x y) (served : fails a ≡ false) (meets : Meets y x) (P : End → Intake → Type 0) where
   -- a delivery, by whether there is such a datagram
   delivered : (delivery : Delivery) (o : Option (List ℕ)) → slice_get y.given delivery.index ≡ o → IsDelivered x.policy x.end delivery o a → Comes x y (calls.Deliver delivery) a P
-      → P (after_delivered x.policy x.end delivery o) (came_to (called x y.given (calls.Deliver delivery) a) y)
+      → P (after_delivered x.policy x.end (delivered_by (says_last a) delivery) o) (came_to (called x y.given (calls.Deliver delivery) a) y)
   delivered delivery None at is c = subst (λ (i : Intake). P x.end i) (sym (came_same x y (calls.Deliver delivery) a (ap (λ (b : Answer). handed y.final (calls.Deliver delivery) b) is))) (c.none delivery refl)
   delivered delivery (Some d) at (inr is) c = cc
   delivered delivery (Some d) at (inl is) c =
-      let o : Outcome = received x.policy x.end (delivered_by delivery) d in
+      let o : Outcome = received x.policy x.end (delivered_by (says_last a) delivery) d in
       let found = step_at (IsSent y.policy) y.sents y.given delivery.index d meets.each at in
       let s : Sent = found.0 in
       let more = joined.y_more in
@@ -65,7 +66,7 @@ module _ (x y : Party) (a : Answer) (joined : AreJoined x y) (served : fails a �
       ∙ ap (λ (b : Answer). and_handed x.end.closing.state (handed y.final (calls.Deliver delivery) b) x.policy b (came_to x y)) is
       ∙ ap (λ (h : Option (List ℕ)). and_handed x.end.closing.state h x.policy (answers.Deliver o.answer) (came_to x y)) there in
       subst (λ (i : Intake). P o.end i) (sym came)
-      (by_arrival y.policy x.policy s.id s.number s.reference s.frames d found.2 x.end (delivered_by delivery) (came_to x y) (λ (r : Outcome) (i : Intake). P r.end i) joined.to_x joined.y_lawful meets.knows (c.comes delivery refl s found.1))
+      (by_arrival y.policy x.policy s.id s.number s.reference s.frames d found.2 x.end (delivered_by (says_last a) delivery) (came_to x y) (λ (r : Outcome) (i : Intake). P r.end i) joined.to_x joined.y_lawful meets.knows (c.comes delivery refl s found.1))
 
   -- what holds in each case holds of the end behind its call, and of what came
   pub by_coming : (call : Call) → IsAnswer x.policy x.end y.given call a → Comes x y call a P → P (called x y.given call a).end (came_to (called x y.given call a) y)

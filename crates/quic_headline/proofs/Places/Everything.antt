@@ -1,20 +1,25 @@
--- All that holds between the ends of an honest run, in one group: packets, streams, what observers know and what is read; and the clauses of it.
-use Rattle.std.proofs.Common.{◌≡◌, ◌≤◌, ℕ, length, sym, subst}
+-- All that holds between the ends of an honest run, in one group: packets, streams, what observers
+-- know and what is read; and the clauses of it.
+use Rattle.std.proofs.Common.{◌≡◌, ◌≤◌, ℕ, suc, true, Some, length, sym, subst}
+use Rattle.std.specs.Prelude.{slice_get}
 use Rattle.quic_wire_core.specs.declared.stream_id.Side.{Side}
 use Rattle.quic_machine.specs.declared.answers.State.TheVariants as states
+use Rattle.quic_machine.specs.declared.run.Call.TheVariants as calls
+use Rattle.quic_machine.specs.declared.run.Answer.{Answer}
+use Rattle.quic_machine.specs.declared.run.View.{View}
 use Rattle.quic_machine.specs.Machine.{World, end_at}
-use Rattle.quic_headline.specs.Runs.{Run, LeadsTo, AreServed}
+use Rattle.quic_headline.specs.Runs.{Run, state_in, LeadsTo, AreServed}
 use Rattle.quic_headline.specs.InFlight.{TracksInFlight}
-use Rattle.quic_headline.specs.Causes.{NumberLimit}
+use Rattle.quic_headline.specs.Causes.{KeysLast, NumberLimit}
 use Rattle.quic_headline.specs.Duties.{DutiesStand}
 use Rattle.quic_headline.specs.Grown.{GrownLimitsWait}
 use Rattle.quic_headline.specs.Messages.{MessagesAtMostOnce}
 use Rattle.quic_headline.specs.Headline.{IsHonest, IsRun, OrderedPrefix, Slices, Once, EndAfterAll, BlockedOnlyWithoutBytes, AcceptsAll, FinishedMeansArrived, AcknowledgedWereTaken, NamesWereTaken, OpensExactly, NewestOpens, NumbersRise}
-use Rattle.quic_headline.specs.ConnectionIds.{SentToFirstId, NoUnknownId, FirstIdStays}
+use Rattle.quic_headline.specs.ConnectionIds.{IdsAreIssued, UnknownOnlyWhereRetired, ToldIdsAreKnown, NewestOpensAtEnd}
 use Rattle.quic_headline.specs.Moments.{LossMoments, LossTimerQuiet, AckMoments}
 use Rattle.quic_headline.specs.Resets.{ResetsAreTold}
 use Rattle.quic_headline.specs.Ids.{IdsAreNew, AcceptedWereOpened}
-use Rattle.quic_headline.specs.Polls.{AskingGoesWhereLet, ProbesPass}
+use Rattle.quic_headline.specs.Polls.{IsMade, IsLimited, AskingGoesWhereLet, ProbesPass}
 use Rattle.quic_headline.specs.Sizes.{SizesMove, DatagramsAreSized}
 use Rattle.quic_headline.specs.AppLimited.{MayCount}
 use Rattle.quic_headline.specs.Telling.{ControllersAreTold}
@@ -23,7 +28,7 @@ use Rattle.quic_headline.proofs.Packets.Probes.{ready_state}
 use Rattle.quic_headline.proofs.Packets.MayGo.{AreReady}
 use Rattle.quic_headline.proofs.Packets.Group.{PacketsHold}
 use Rattle.quic_headline.proofs.Packets.Sight.{Sight}
-use Rattle.quic_headline.proofs.Places.Parties.{Party}
+use Rattle.quic_headline.proofs.Places.Parties.{Party, with_shown, shown_at}
 use Rattle.quic_headline.proofs.Places.Groups.{Way, Nothing, And, Group, both, beside, over, early_group}
 use Rattle.quic_headline.proofs.Places.Placed.{Placed, placed}
 use Rattle.quic_headline.proofs.Places.Order as order
@@ -40,6 +45,7 @@ use Rattle.quic_headline.proofs.Halves.Arrived.{Arrives}
 use Rattle.quic_headline.proofs.Amounts.Opens.{OfGiven, given_group}
 use Rattle.quic_headline.proofs.Amounts.NewIds.{IsGot, got_once}
 use Rattle.quic_headline.proofs.Amounts.NewIds as new_ids
+use Rattle.quic_headline.proofs.Causes.Ordinary.{Unclosed, unclosed_group}
 use Rattle.quic_headline.proofs.Causes.UsedUp.{Shut, shut_group}
 use Rattle.quic_headline.proofs.Causes.UsedUp as used_up
 use Rattle.quic_headline.proofs.Channel.Names.{NamesHold, names_group}
@@ -125,9 +131,13 @@ module _ (Ready : Way) (ready : IsReadying Ready) where
 
   -- ---- why ends close
 
+  -- and that open ends gave no closes
+  pub all_unclosed : Group Nothing (And All Unclosed)
+  all_unclosed = beside Nothing All Unclosed all unclosed_group
+
   -- and why an end closed
-  pub all_shut : Group Nothing (And All Shut)
-  all_shut = both Nothing All Shut all (shut_group (And Nothing All) (λ x y h. h.1.0.0))
+  pub all_shut : Group Nothing (And (And All Unclosed) Shut)
+  all_shut = both Nothing (And All Unclosed) Shut all_unclosed (shut_group (And Nothing (And All Unclosed)) (λ x y h. h.1.0.0.0) (λ x y h. h.1.1))
 
   -- ---- where duties are
 
@@ -212,17 +222,23 @@ module _ (Ready : Way) (ready : IsReadying Ready) where
     pub opens_exactly : OpensExactly r
     opens_exactly = together.all_open Streams (streams_spell Rest goes) (streams_group Rest goes rest) r end honest run
 
+    pub keys_last : KeysLast r
+    keys_last = together.all_last Streams (streams_spell Rest goes) (streams_group Rest goes rest) r end honest run
+
     pub newest_opens : NewestOpens r
     newest_opens = together.all_newest Streams (streams_spell Rest goes) (streams_group Rest goes rest) r end honest run
 
-    pub sent_to_first_id : SentToFirstId r
-    sent_to_first_id = together.all_sent Streams (streams_spell Rest goes) (streams_group Rest goes rest) r end honest run
+    pub ids_are_issued : IdsAreIssued r
+    ids_are_issued = together.all_issued Streams (streams_spell Rest goes) (streams_group Rest goes rest) r end honest run
 
-    pub no_unknown_id : NoUnknownId r
-    no_unknown_id = together.none_unknown Streams (streams_spell Rest goes) (streams_group Rest goes rest) r end honest run
+    pub unknown_only_where_retired : UnknownOnlyWhereRetired r
+    unknown_only_where_retired = together.all_unknown Streams (streams_spell Rest goes) (streams_group Rest goes rest) r end honest run
 
-    pub first_id_stays : FirstIdStays r
-    first_id_stays = together.all_stay Streams (streams_spell Rest goes) (streams_group Rest goes rest) r end honest run
+    pub told_ids_are_known : ToldIdsAreKnown r
+    told_ids_are_known = together.all_told Streams (streams_spell Rest goes) (streams_group Rest goes rest) r end honest run
+
+    pub newest_opens_at_end : NewestOpensAtEnd r
+    newest_opens_at_end = together.all_newest_at_end Streams (streams_spell Rest goes) (streams_group Rest goes rest) r end honest run
 
     pub numbers_rise : NumbersRise r
     numbers_rise = together.all_rise Streams (streams_spell Rest goes) (streams_group Rest goes rest) r end honest run
@@ -243,7 +259,7 @@ module _ (Ready : Way) (ready : IsReadying Ready) where
     messages_at_most_once = together.all_messages Streams (streams_spell Rest goes) (streams_group Rest goes rest) r end honest run
 
     pub number_limit : NumberLimit r
-    number_limit = used_up.number_limit (And All Shut) (record { packets = λ x y h. h.0.0.0; sight = λ x y h. h.0.1; shut = λ x y h. h.1 }) r end honest (placed (And All Shut) all_shut r end honest run)
+    number_limit = used_up.number_limit (And (And All Unclosed) Shut) (record { sight = λ x y h. h.0.0.1; shut = λ x y h. h.1 }) r end honest (placed (And (And All Unclosed) Shut) all_shut r end honest run)
 
     pub duties_stand : DutiesStand r
     duties_stand = ledger.duties_stand (And (And (And All Arrives) Said) Flying)
@@ -265,5 +281,6 @@ module _ (Ready : Way) (ready : IsReadying Ready) where
     pub datagrams_are_sized : DatagramsAreSized r
     datagrams_are_sized = sized.datagrams_are_sized Streams (streams_spell Rest goes) all r end honest run
 
-    pub probes_pass : ProbesPass r
-    probes_pass = probes.probes_pass Streams (streams_spell Rest goes) all r end honest run
+    pub probes_pass : ((side : Side) (i now : ℕ) (a : Answer) (v : View) (w next : World) → IsMade r i side (calls.Poll now) a w next → LeadsTo r (suc i) next → slice_get r.views i ≡ Some v → state_in v side ≡ states.Open
+        → (end_at side w).closing.state ≡ states.Open → (with_shown (end_at side w) (shown_at side w)).path.blocked ≡ true → IsLimited r side (suc i) v) → ProbesPass r
+    probes_pass limits = probes.probes_pass Streams (streams_spell Rest goes) all r end honest run limits

@@ -1,4 +1,5 @@
--- What the observer of an end knows at each place of a run: how what went was sent, and that an open end waits for what is in flight.
+-- What the observer of an end knows at each place of a run: how what went was sent, and that an
+-- open end waits for what is in flight.
 use Rattle.std.proofs.Common.{◌≡◌, ℕ, take, map, sym, ap, ◌∙◌, subst}
 use Rattle.quic_wire_core.specs.declared.stream_id.Side.{Side}
 use Rattle.quic_wire_core.specs.StreamId.{other_side}

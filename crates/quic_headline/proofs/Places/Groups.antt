@@ -1,11 +1,12 @@
--- What holds of the two ends of a run, concern by concern: a group says what one gives and the other takes, and stays by any call.
+-- What holds of the two ends of a run, concern by concern: a group says what one gives and the
+-- other takes, and stays by any call.
 use Rattle.std.specs.Prelude.{ℕ, ◌≡◌, false, Some}
 use Rattle.quic_machine.specs.declared.run.Call.{Call}
 use Rattle.quic_machine.specs.declared.run.Answer.{Answer}
 use Rattle.quic_machine.specs.Machine.{IsAnswer, fails}
 use Rattle.quic_headline.specs.Runs.{In, ids_of}
 use Rattle.quic_headline.specs.Headline.{used, CodeIsSmall}
-use Rattle.quic_headline.proofs.Places.Parties.{Party, called, showing, AreJoined, turned, Beginning, begun_as, AreMade}
+use Rattle.quic_headline.proofs.Places.Parties.{Party, called, showing, AreJoined, turned, Beginning, begun_as, AreMade, Shown}
 
 -- what is said of one that gives and one that takes
 abbrev pub Way : Type 1
@@ -33,12 +34,13 @@ pub record Calls (B : Way) (x y : Party) (call : Call) (a : Answer) : Type 0 whe
   pub gives_behind : B (called x y.given call a) y
   pub takes_behind : B y (called x y.given call a)
 
--- G holds at the start and stays, over what B says: where the end that calls gives, where it takes, and whichever windows both ends read.
+-- G holds at the start and stays, over what B says: where the end that calls gives, where it takes,
+-- and whichever windows both ends read.
 pub record Group (B G : Way) : Type 0 where
   pub first : (x y : Beginning) → AreMade x y → B (begun_as x y) (begun_as y x) → B (begun_as y x) (begun_as x y) → G (begun_as x y) (begun_as y x)
   pub writer : (x y : Party) (call : Call) (a : Answer) → Calls B x y call a → G x y → G y x → G (called x y.given call a) y
   pub reader : (x y : Party) (call : Call) (a : Answer) → Calls B x y call a → G x y → G y x → G y (called x y.given call a)
-  pub shows : (x y : Party) (here there : ℕ) → B (showing x here) (showing y there) → B (showing y there) (showing x here) → G x y → G y x → G (showing x here) (showing y there)
+  pub shows : (x y : Party) (here there : Shown) → B (showing x here) (showing y there) → B (showing y there) (showing x here) → G x y → G y x → G (showing x here) (showing y there)
 
 -- a call behind which another group holds too
 further : (B G : Way) → Group B G → (x y : Party) (call : Call) (a : Answer) → Calls B x y call a → G x y → G y x → Calls (And B G) x y call a
@@ -119,12 +121,13 @@ pub record Before (B : Way) (x y : Party) (call : Call) (a : Answer) : Type 0 wh
   pub gives : B x y
   pub takes : B y x
 
--- G holds at the start, whatever else does, a call keeps it where B holds before, and it stays whichever windows both ends read.
+-- G holds at the start, whatever else does, a call keeps it where B holds before, and it stays
+-- whichever windows both ends read.
 pub record Early (B G : Way) : Type 0 where
   pub first : (x y : Beginning) → AreMade x y → G (begun_as x y) (begun_as y x)
   pub writer : (x y : Party) (call : Call) (a : Answer) → Before B x y call a → G x y → G y x → G (called x y.given call a) y
   pub reader : (x y : Party) (call : Call) (a : Answer) → Before B x y call a → G x y → G y x → G y (called x y.given call a)
-  pub shows : (x y : Party) (here there : ℕ) → G x y → G (showing x here) (showing y there)
+  pub shows : (x y : Party) (here there : Shown) → G x y → G (showing x here) (showing y there)
 
 -- what holds before a call, said less
 less_before : (B C : Way) → ((x y : Party) → C x y → B x y) → (x y : Party) (call : Call) (a : Answer) → Before C x y call a → Before B x y call a

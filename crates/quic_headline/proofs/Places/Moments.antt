@@ -94,7 +94,8 @@ told_further side state told event a events answers v views next is =
     sym (append_assoc told (told_by side state event a) (told_at side (state_in v side) events answers views))
     ∙ ap (λ (s : State). (told ++ told_by side state event a) ++ told_at side s events answers views) (ap (λ (u : View). state_in u side) is ∙ state_shown side next)
 
--- E holds of each event and its answer, with what was told at both ends before it; P holds at each place.
+-- E holds of each event and its answer, with what was told at both ends before it; P holds at each
+-- place.
 module _ (k : Policies) (end : World) (E : RunEvent → Answer → List Told → List Told → Type 0) (P : World → List Told → List Told → Type 0)
     (step : (w next : World) (event : RunEvent) (a : Answer) (client server : List Told) → P w client server → E event a client server → IsStep k w event a next → fails a ≡ false → Grown w end → Grown next end
     → P next (client ++ told_by Client w.client.closing.state event a) (server ++ told_by Server w.server.closing.state event a)) where
@@ -103,7 +104,8 @@ module _ (k : Policies) (end : World) (E : RunEvent → Answer → List Told →
   FromHere w events answers views client server = (j : ℕ) (event : RunEvent) (a : Answer) → slice_get events j ≡ Some event → slice_get answers j ≡ Some a
       → E event a (client ++ told_at Client w.client.closing.state events (take j answers) views) (server ++ told_at Server w.server.closing.state events (take j answers) views)
 
-  -- the ends at a place of a run that begins here, how the run comes there and goes on from there, and the states that the views show
+  -- the ends at a place of a run that begins here, how the run comes there and goes on from there,
+  -- and the states that the views show
   pub record Moment (first : World) (i : ℕ) (events : List RunEvent) (answers : List Answer) (views : List View) (client server : List Told) : Type 0 where
     pub world : World
     pub holds : P world client server

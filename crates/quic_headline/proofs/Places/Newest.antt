@@ -1,4 +1,5 @@
--- A datagram opens as it was sent where its taker took none above it: its number was cut against one that the taker took.
+-- A datagram opens as it was sent where its taker took none above it: its number was cut against
+-- one that the taker took.
 use Rattle.std.proofs.Common.{◌≡◌, ℕ, zero, suc, ◌+◌, ◌≤◌, Bool, true, List, [], ◌∷◌, Some, refl, sym, ap, ◌∙◌, subst, inl, inr, arith}
 use Rattle.std.specs.Prelude.{slice_get}
 use Rattle.std.proofs.lemmas.Bool.{eq-eqb}
@@ -27,7 +28,7 @@ use Rattle.quic_headline.proofs.Timers.Watched.{Observed}
 -- ---- one datagram
 
 -- what stands at a place of both lists
-stands_both : {Y X : Type 0} (P : Y → X → Type 0) (ys : List Y) (xs : List X) (k : ℕ) (y : Y) (x : X) → InStep P ys xs → slice_get ys k ≡ Some y → slice_get xs k ≡ Some x → In y ys × P y x
+pub stands_both : {Y X : Type 0} (P : Y → X → Type 0) (ys : List Y) (xs : List X) (k : ℕ) (y : Y) (x : X) → InStep P ys xs → slice_get ys k ≡ Some y → slice_get xs k ≡ Some x → In y ys × P y x
 stands_both P (v ∷ ys) (u ∷ xs) zero y x a e f =
     let same : v ≡ y = cc in
     let other : u ≡ x = cc in
@@ -39,7 +40,8 @@ stands_both P [] [] k y x a e f = cc
 stands_both P [] (u ∷ xs) k y x a e f = absurd a
 stands_both P (v ∷ ys) [] k y x a e f = absurd a
 
--- one that was sent so opens so where this number is expected, which is neither below what its number was cut against nor more than one above its number
+-- one that was sent so opens so where this number is expected, which is neither below what its
+-- number was cut against nor more than one above its number
 opens_sent : (p q : Policy) (s : Sent) (d : List ℕ) → IsSent p s d → CanOpen p q → IsLawful p → (x : ℕ) → s.reference ≤ x → x ≤ s.number + 1 → OpensAs s (opens_by_key q x d)
 opens_sent p q s d g mates lawful x low high = record {
   opening = shown s.number s.reference g.payload;

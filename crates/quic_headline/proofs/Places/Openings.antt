@@ -1,4 +1,5 @@
--- What opens, what is named, and the numbers that rise, at each place of a run: the clauses that the packets alone give.
+-- What opens, what is named, and the numbers that rise, at each place of a run: the clauses that
+-- the packets alone give.
 use Rattle.std.proofs.Common.{◌≡◌, ℕ, Bool, true, false, List, [], ◌∷◌, ◌++◌, take, length, map, Option, refl, sym, ap, ◌∙◌, subst}
 use Rattle.std.specs.Prelude.{◌↔◌}
 use Rattle.std.specs.Option.{is_some}
@@ -17,7 +18,7 @@ use Rattle.quic_spaces.specs.Numbers.{expected}
 use Rattle.quic_machine.specs.Start.{IsLawful}
 use Rattle.quic_machine.specs.End.{End}
 use Rattle.quic_machine.specs.Opens.{opens, would_open}
-use Rattle.quic_machine.specs.Machine.{World, policy_at, injected_if}
+use Rattle.quic_machine.specs.Machine.{World, policy_at, says_last, injected_if}
 use Rattle.quic_machine.specs.RunLaws.{one_run}
 use Rattle.quic_headline.specs.Runs.{Run, Packet, Intake, In, IsTaken, IsNamed, until, given_until, count_given, AreServed, opens_by_key, expected_behind}
 use Rattle.quic_headline.specs.Observer.{Sent, Watch, first_watch, frames_opened, watch, took, sents_until, references_until}
@@ -35,21 +36,21 @@ use Rattle.quic_headline.proofs.Places.Placed.{party_at, Placed, watch_is, answe
 -- ---- injections
 
 -- whether bytes open is told by the answer
-told_by_answer : (p : Policy) (e : End) (injection : Injection) (a : Answer) (b c : Bool) → b ≡ c → a ≡ injected_if b p e injection → (a ≡ answers.Opens) ↔ (c ≡ true)
-told_by_answer p e injection a true c same is = (λ told. sym same, λ opened. is)
-told_by_answer p e injection a false c same is = (λ told. cc, λ opened. cc)
+told_by_answer : (p : Policy) (e : End) (injection : Injection) (a : Answer) (b c last : Bool) → b ≡ c → a ≡ injected_if b last p e injection → (a ≡ answers.Opens) ↔ (c ≡ true)
+told_by_answer p e injection a true c last same is = (λ told. sym same, λ opened. is)
+told_by_answer p e injection a false c last same is = (λ told. cc, λ opened. cc)
 
 -- an end that expects this number answers by it
-opens_by : (p : Policy) (e : End) (injection : Injection) (a : Answer) (x : ℕ) → expected e.numbers ≡ x → a ≡ injected_if (would_open p e injection.bytes) p e injection
+opens_by : (p : Policy) (e : End) (injection : Injection) (a : Answer) (x : ℕ) → expected e.numbers ≡ x → a ≡ injected_if (would_open p e injection.bytes) (says_last a) p e injection
     → (a ≡ answers.Opens) ↔ (is_some (opens p (known e.ids) x injection.bytes) ≡ true)
 opens_by p e injection a x expects is =
     let d : List ℕ = injection.bytes in
-    told_by_answer p e injection a (would_open p e d) (is_some (opens p (known e.ids) x d)) (ap (λ (n : ℕ). is_some (opens p (known e.ids) n d)) expects) is
+    told_by_answer p e injection a (would_open p e d) (is_some (opens p (known e.ids) x d)) (says_last a) (ap (λ (n : ℕ). is_some (opens p (known e.ids) n d)) expects) is
 
 -- ---- what ACK frames name
 
--- what the ACK frames of a datagram name that was given was taken, where its taker has the mates of its giver's keys, whatever
--- number the taker reads it with
+-- what the ACK frames of a datagram name that was given was taken, where its taker has the mates of
+-- its giver's keys, whatever number the taker reads it with
 names_taken : (p q : Policy) (sents : List Sent) (given : List (List ℕ)) (packets : List Packet) → CanOpen p q → IsLawful p → InStep (IsSent p) sents given → NameTaken sents packets
     → (x number : ℕ) (d : List ℕ) → In d given → IsNamedIn (frames_opened (opens_by_key q x d)) number → IsTaken packets number
 names_taken p q sents given packets mates lawful all taken x number d i named =

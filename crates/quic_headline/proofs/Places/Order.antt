@@ -1,4 +1,5 @@
--- What was read of a stream, in the headline's words: a prefix, slices, offsets that differ, and all offsets.
+-- What was read of a stream, in the headline's words: a prefix, slices, offsets that differ, and
+-- all offsets.
 use Rattle.std.proofs.Common.{◌≡◌, ℕ, ◌+◌, ◌<◌, ◌≤◌, eqb, ltb, List, [], ◌∷◌, ◌++◌, length, take, drop, Bool, true, false, not, ◌||◌, Some, refl, sym, ap, ◌∙◌, inl, inr, arith}
 use Rattle.std.specs.List.{IsDistinct, AllByRecursion}
 use Rattle.std.proofs.lemmas.List.{append_assoc}

@@ -22,27 +22,27 @@ use Rattle.quic_machine.specs.End.{End, IsMade, new_end, with_window}
 use Rattle.quic_machine.specs.Control.{Control}
 use Rattle.quic_machine.specs.Heard.{Heard}
 use Rattle.quic_machine.specs.Start.{AreStarted}
-use Rattle.quic_machine.specs.Machine.{World, Policies, IsAnswer, IsLeft, IsStep, after_call, reads_window, end_left, end_at, end_met, control_at, given_by, gives, policy_at, fails, Follows, view_of}
+use Rattle.quic_machine.specs.Machine.{World, Policies, IsAnswer, IsLeft, IsStep, after_call, reads_window, end_left, end_at, end_met, control_at, given_by, gives, policy_at, fails, Follows, view_of, heard_at}
 use Rattle.quic_headline.specs.Runs.{Run, Told, In, given_of, told_by, ids_of, until, state_at, LeadsTo, AreServed}
 use Rattle.quic_headline.specs.Observer.{Sent, terms_of, watch}
 use Rattle.quic_headline.specs.Headline.{IsHonest, IsRun, IsAt, used, CodeIsSmall}
 use Rattle.quic_headline.specs.Amounts.{making_at}
-use Rattle.quic_headline.proofs.Places.Parties.{sents_by, told_of, Party, called, watch_of, AreJoined, turned, Beginning, begun_as, AreMade}
+use Rattle.quic_headline.proofs.Places.Parties.{sents_by, told_of, Party, called, watch_of, AreJoined, turned, Beginning, begun_as, AreMade, Shown, with_shown, shown_at, shown_by}
 use Rattle.quic_headline.proofs.Places.Groups.{Way, Nothing, Calls, Group, turned_makings}
 use Rattle.quic_headline.proofs.Places.Moments.{Grown, grown, Moment, moment, last_view}
 
 -- ---- how an honest run begins
 
 -- what an end is made as
-made_is : {E : Type 0} (side : Side) (settings : Settings) (windows : Windows) (r : Result ParameterValues E) (theirs : ParameterValues) (own_id peer_id : List ℕ) (now : ℕ) (validated : Bool) (word : ℕ) (e : End) → r ≡ Ok theirs → IsMade side settings windows r own_id peer_id now validated word e
-    → e ≡ new_end side settings windows theirs own_id peer_id now validated word
-made_is side settings windows r theirs own_id peer_id now validated word e is made = rw is at made
+made_is : {E : Type 0} (side : Side) (settings : Settings) (windows : Windows) (r : Result ParameterValues E) (theirs : ParameterValues) (own_id peer_id : List ℕ) (now : ℕ) (validated : Bool) (words : ℕ → ℕ) (e : End) → r ≡ Ok theirs → IsMade side settings windows r own_id peer_id now validated words e
+    → e ≡ new_end side settings windows theirs own_id peer_id now validated words
+made_is side settings windows r theirs own_id peer_id now validated words e is made = rw is at made
 
 -- the ends as they were made
 pub start_is : (w : World) (s : AreStarted w) (side : Side)
-    → end_at side w ≡ new_end side (making_at side w s).settings (making_at side w s).windows (parameters_of (making_at (other_side side) w s).settings) (making_at side w s).id (making_at (other_side side) w s).id (making_at side w s).moment (making_at side w s).validated (making_at side w s).word
-start_is w s Client = made_is Client s.client_making.settings s.client_making.windows (parameters_at s.server_making.parameters) (parameters_of s.server_making.settings) s.client_making.id s.server_making.id s.client_making.moment s.client_making.validated s.client_making.word w.client s.server_is.says s.client
-start_is w s Server = made_is Server s.server_making.settings s.server_making.windows (parameters_at s.client_making.parameters) (parameters_of s.client_making.settings) s.server_making.id s.client_making.id s.server_making.moment s.server_making.validated s.server_making.word w.server s.client_is.says s.server
+    → end_at side w ≡ new_end side (making_at side w s).settings (making_at side w s).windows (parameters_of (making_at (other_side side) w s).settings) (making_at side w s).id (making_at (other_side side) w s).id (making_at side w s).moment (making_at side w s).validated (making_at side w s).words
+start_is w s Client = made_is Client s.client_making.settings s.client_making.windows (parameters_at s.server_making.parameters) (parameters_of s.server_making.settings) s.client_making.id s.server_making.id s.client_making.moment s.client_making.validated s.client_making.words w.client s.server_is.says s.client
+start_is w s Server = made_is Server s.server_making.settings s.server_making.windows (parameters_at s.client_making.parameters) (parameters_of s.client_making.settings) s.server_making.id s.client_making.id s.server_making.moment s.server_making.validated s.server_making.words w.server s.client_is.says s.server
 
 -- the id that an end is known by first
 abbrev pub first_id : Run → Side → List ℕ
@@ -71,8 +71,8 @@ party r side w sents told = record {
 abbrev pub party_at : Run → ℕ → World → Side → List Sent → Party
 party_at r i w side sents = party r side w sents (until r side i)
 
--- A group at a place of a run, told of one of its ends: how the run comes there and goes on, how what both ends gave was sent, and what
--- holds where this end gives and where it takes.
+-- A group at a place of a run, told of one of its ends: how the run comes there and goes on, how
+-- what both ends gave was sent, and what holds where this end gives and where it takes.
 pub record Placed (G : Way) (r : Run) (end : World) (side : Side) (i : ℕ) : Type 0 where
   pub world : World
   pub leads : LeadsTo r i world
@@ -104,7 +104,7 @@ next_answer k w end events answers (v ∷ views) event a f = f.1.answer
 
 -- what is answered at a place
 pub answered : (r : Run) (w end : World) (i : ℕ) (side : Side) (call : Call) (a : Answer) → Follows r.keys w (drop i r.events) (drop i r.answers) (drop i r.views) end → IsAt r i side call a
-    → IsAnswer (policy_at side r.keys) (reads_window (control_at side w) call (end_at side w)) (given_by (other_side side) w) call a
+    → IsAnswer (policy_at side r.keys) (reads_window (control_at side w) (heard_at side w) call (end_at side w)) (given_by (other_side side) w) call a
 answered r w end i side call a f at =
     let event : RunEvent = record { side = side; call = call } in
     next_answer r.keys w end (drop (suc i) r.events) (drop (suc i) r.answers) (drop i r.views) event a (rw (first_left r.events i event at.event, first_left r.answers i a at.answer) at f)
@@ -137,8 +137,8 @@ told_there Client client server = client
 told_there Server client server = server
 
 -- what an event leaves, where memory served
-left_by : (p : Policy) (control : Control) (e next : End) (theirs : List (List ℕ)) (call : Call) (a : Answer) → fails a ≡ false → IsLeft (fails a) p control e theirs call a next → next ≡ end_left p control e theirs call a
-left_by p control e next theirs call a served is = subst (λ (b : Bool). IsLeft b p control e theirs call a next) served is
+left_by : (p : Policy) (control : Control) (heard : Heard) (e next : End) (theirs : List (List ℕ)) (call : Call) (a : Answer) → fails a ≡ false → IsLeft (fails a) p control heard e theirs call a next → next ≡ end_left p control heard e theirs call a
+left_by p control heard e next theirs call a served is = subst (λ (b : Bool). IsLeft b p control heard e theirs call a next) served is
 
 module _ (G : Way) (g : Group Nothing G) (r : Run) (end : World) (honest : IsHonest r) (run : IsRun r end) where
   -- how an end began
@@ -235,11 +235,11 @@ module _ (G : Way) (g : Group Nothing G) (r : Run) (end : World) (honest : IsHon
           let y : Party = party r Server w h.server_sents server in
           let c : Calls Nothing x y call a =
           called_bare x y call a (joined_at here h.client_sents h.server_sents client server (same_grown w here refl refl grows))
-          (joined_at after (h.client_sents ++ sents_by met call a) h.server_sents (client ++ told_of call a met.closing.state ∷ []) server (subst (λ (v : World). Grown v end) is grows_behind)) answer served uses in
+          (joined_at after (h.client_sents ++ sents_by r.keys.client met call a) h.server_sents (client ++ told_of call a met.closing.state ∷ []) server (subst (λ (v : World). Grown v end) is grows_behind)) answer served uses in
           subst (λ (s : State). Holds next (client ++ told_of call a s ∷ []) (server ++ [])) same
           (subst (λ (v : World). Holds v (client ++ told_of call a met.closing.state ∷ []) (server ++ [])) (sym is)
           (subst (λ (ts : List Told). Holds after (client ++ told_of call a met.closing.state ∷ []) ts) (sym (append-nil server)) (record {
-            client_sents = h.client_sents ++ sents_by met call a;
+            client_sents = h.client_sents ++ sents_by r.keys.client met call a;
             server_sents = h.server_sents;
             to_server = g.writer x y call a c there back;
             to_client = g.reader x y call a c there back;
@@ -247,15 +247,15 @@ module _ (G : Way) (g : Group Nothing G) (r : Run) (end : World) (honest : IsHon
 
       -- the client makes a call, and a poll reads a window first
       client_meets : (call : Call) → Uses (record { side = Client; call = call }) a client server → IsStep r.keys w (record { side = Client; call = call }) a next
-          → next ≡ record w { client = end_left r.keys.client w.client_control w.client w.from_server call a; from_client = w.from_client ++ gives r.keys.client (reads_window w.client_control call w.client) call a; client_control = next.client_control; client_heard = next.client_heard }
+          → next ≡ record w { client = end_left r.keys.client w.client_control w.client_heard w.client w.from_server call a; from_client = w.from_client ++ gives r.keys.client (reads_window w.client_control w.client_heard call w.client) call a; client_control = next.client_control; client_heard = next.client_heard }
           → Holds next (client ++ told_of call a w.client.closing.state ∷ []) (server ++ [])
       client_meets (calls.Poll now) uses step is =
-          let window : ℕ = w.client_control [] in
+          let shown : Shown = shown_at Client w in
           let x : Party = party r Client w h.client_sents client in
           let y : Party = party r Server w h.server_sents server in
-          client_calls (calls.Poll now) (with_window w.client window) refl uses step.answer is
-          (g.shows x y window y.end.path.window tt tt h.to_server h.to_client)
-          (g.shows y x y.end.path.window window tt tt h.to_client h.to_server)
+          client_calls (calls.Poll now) (with_shown w.client shown) refl uses step.answer is
+          (g.shows x y shown (shown_by y.end) tt tt h.to_server h.to_client)
+          (g.shows y x (shown_by y.end) shown tt tt h.to_client h.to_server)
       client_meets call uses step is = client_calls call w.client refl uses step.answer is h.to_server h.to_client
 
       -- the server makes a call, and has become this end for it
@@ -270,27 +270,27 @@ module _ (G : Way) (g : Group Nothing G) (r : Run) (end : World) (honest : IsHon
           let y : Party = party r Client w h.client_sents client in
           let c : Calls Nothing x y call a =
           called_bare x y call a (turned y x (joined_at here h.client_sents h.server_sents client server (same_grown w here refl refl grows)))
-          (turned y (called x y.given call a) (joined_at after h.client_sents (h.server_sents ++ sents_by met call a) client (server ++ told_of call a met.closing.state ∷ []) (subst (λ (v : World). Grown v end) is grows_behind))) answer served uses in
+          (turned y (called x y.given call a) (joined_at after h.client_sents (h.server_sents ++ sents_by r.keys.server met call a) client (server ++ told_of call a met.closing.state ∷ []) (subst (λ (v : World). Grown v end) is grows_behind))) answer served uses in
           subst (λ (s : State). Holds next (client ++ []) (server ++ told_of call a s ∷ [])) same
           (subst (λ (v : World). Holds v (client ++ []) (server ++ told_of call a met.closing.state ∷ [])) (sym is)
           (subst (λ (ts : List Told). Holds after ts (server ++ told_of call a met.closing.state ∷ [])) (sym (append-nil client)) (record {
             client_sents = h.client_sents;
-            server_sents = h.server_sents ++ sents_by met call a;
+            server_sents = h.server_sents ++ sents_by r.keys.server met call a;
             to_server = g.reader x y call a c there back;
             to_client = g.writer x y call a c there back;
           })))
 
       -- the server makes a call, and a poll reads a window first
       server_meets : (call : Call) → Uses (record { side = Server; call = call }) a client server → IsStep r.keys w (record { side = Server; call = call }) a next
-          → next ≡ record w { server = end_left r.keys.server w.server_control w.server w.from_client call a; from_server = w.from_server ++ gives r.keys.server (reads_window w.server_control call w.server) call a; server_control = next.server_control; server_heard = next.server_heard }
+          → next ≡ record w { server = end_left r.keys.server w.server_control w.server_heard w.server w.from_client call a; from_server = w.from_server ++ gives r.keys.server (reads_window w.server_control w.server_heard call w.server) call a; server_control = next.server_control; server_heard = next.server_heard }
           → Holds next (client ++ []) (server ++ told_of call a w.server.closing.state ∷ [])
       server_meets (calls.Poll now) uses step is =
-          let window : ℕ = w.server_control [] in
+          let shown : Shown = shown_at Server w in
           let x : Party = party r Server w h.server_sents server in
           let y : Party = party r Client w h.client_sents client in
-          server_calls (calls.Poll now) (with_window w.server window) refl uses step.answer is
-          (g.shows x y window y.end.path.window tt tt h.to_client h.to_server)
-          (g.shows y x y.end.path.window window tt tt h.to_server h.to_client)
+          server_calls (calls.Poll now) (with_shown w.server shown) refl uses step.answer is
+          (g.shows x y shown (shown_by y.end) tt tt h.to_client h.to_server)
+          (g.shows y x (shown_by y.end) shown tt tt h.to_server h.to_client)
       server_meets call uses step is = server_calls call w.server refl uses step.answer is h.to_client h.to_server
 
       go : (side : Side) (call : Call) → Uses (record { side = side; call = call }) a client server → IsStep r.keys w (record { side = side; call = call }) a next
@@ -298,13 +298,13 @@ module _ (G : Way) (g : Group Nothing G) (r : Run) (end : World) (honest : IsHon
       go Client call uses step =
           let control : Control = next.client_control in
           let heard : Heard = next.client_heard in
-          let given : List (List ℕ) = w.from_client ++ gives r.keys.client (reads_window w.client_control call w.client) call a in
-          client_meets call uses step (step.others ∙ ap (λ (e : End). record w { client = e; from_client = given; client_control = control; client_heard = heard }) (left_by r.keys.client w.client_control w.client next.client w.from_server call a served step.end))
+          let given : List (List ℕ) = w.from_client ++ gives r.keys.client (reads_window w.client_control w.client_heard call w.client) call a in
+          client_meets call uses step (step.others ∙ ap (λ (e : End). record w { client = e; from_client = given; client_control = control; client_heard = heard }) (left_by r.keys.client w.client_control w.client_heard w.client next.client w.from_server call a served step.end))
       go Server call uses step =
           let control : Control = next.server_control in
           let heard : Heard = next.server_heard in
-          let given : List (List ℕ) = w.from_server ++ gives r.keys.server (reads_window w.server_control call w.server) call a in
-          server_meets call uses step (step.others ∙ ap (λ (e : End). record w { server = e; from_server = given; server_control = control; server_heard = heard }) (left_by r.keys.server w.server_control w.server next.server w.from_client call a served step.end))
+          let given : List (List ℕ) = w.from_server ++ gives r.keys.server (reads_window w.server_control w.server_heard call w.server) call a in
+          server_meets call uses step (step.others ∙ ap (λ (e : End). record w { server = e; from_server = given; server_control = control; server_heard = heard }) (left_by r.keys.server w.server_control w.server_heard w.server next.server w.from_client call a served step.end))
 
   -- before the first event
   holds_first : Holds r.start [] []

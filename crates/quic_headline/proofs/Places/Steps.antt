@@ -12,7 +12,7 @@ use Rattle.quic_machine.specs.Opens.{would_open}
 use Rattle.quic_machine.specs.Calls.{is_open}
 use Rattle.quic_machine.specs.StreamCalls.{IsRead, IsStreamAnswer}
 use Rattle.quic_machine.specs.End.{End}
-use Rattle.quic_machine.specs.Machine.{IsAnswer, IsDelivered, gives, gave, fails}
+use Rattle.quic_machine.specs.Machine.{IsAnswer, IsDelivered, says_last, gives, gave, fails}
 use Rattle.quic_machine.specs.Poll.{polled}
 use Rattle.quic_machine.specs.Timeouts.{timed_out}
 use Rattle.quic_machine.specs.CallCases.{is_poll}
@@ -58,10 +58,13 @@ only_polls_give p e theirs calls.Ping a other is = ap gave is
 only_polls_give p e theirs (calls.Poll now) a other is = cc
 only_polls_give p e theirs (calls.Timeout now) a other is = either_gives a _ _ refl refl is
 only_polls_give p e theirs (calls.Deliver delivery) a other is = delivery_gives p e delivery (slice_get theirs delivery.index) a is
-only_polls_give p e theirs (calls.Inject injection) a other is = ap gave is ∙ injected_gives (would_open p e injection.bytes) p e injection
+only_polls_give p e theirs (calls.Inject injection) a other is = ap gave is ∙ injected_gives (would_open p e injection.bytes) (says_last a) p e injection
 only_polls_give p e theirs calls.Event a other is = ap gave is
 only_polls_give p e theirs (calls.Timer timer) a other is = ap gave is
 only_polls_give p e theirs calls.NextTimeout a other is = ap gave is
+only_polls_give p e theirs calls.State a other is = ap gave is
+only_polls_give p e theirs (calls.Close close) a other is = ap gave is
+only_polls_give p e theirs calls.UseNextId a other is = either_gives a _ _ refl refl is
 only_polls_give p e theirs (calls.Send message makes_room) a other is = either_gives a _ _ refl refl is
 only_polls_give p e theirs calls.Recv a other is = ap gave is
 only_polls_give p e theirs call a other is = streams_give (is_open e.closing.state) e.streams call a is

@@ -5,14 +5,14 @@ use Rattle.quic_headline.specs.Duties.{DutiesStand}
 use Rattle.quic_headline.specs.Grown.{GrownLimitsWait}
 use Rattle.quic_headline.specs.Messages.{MessagesAtMostOnce}
 use Rattle.quic_headline.specs.InFlight.{TracksInFlight}
-use Rattle.quic_headline.specs.Causes.{NumberLimit}
+use Rattle.quic_headline.specs.Causes.{KeysLast, NumberLimit}
+use Rattle.quic_headline.specs.ConnectionIds.{IdsAreIssued, UnknownOnlyWhereRetired, ToldIdsAreKnown, NewestOpensAtEnd}
 use Rattle.quic_headline.specs.Moments.{LossMoments, LossTimerQuiet, AckMoments}
 use Rattle.quic_headline.specs.Resets.{ResetsAreTold}
 use Rattle.quic_headline.specs.Ids.{IdsAreNew, AcceptedWereOpened}
-use Rattle.quic_headline.specs.Polls.{PacerSetsItsTimer, AskingGoesWhereLet, ProbesPass, WindowIsOfHistory}
+use Rattle.quic_headline.specs.Polls.{PacerSetsItsTimer, AskingGoesWhereLet, WindowIsOfHistory}
 use Rattle.quic_headline.specs.Sizes.{SizeIsOfHistory, SizesMove, DatagramsAreSized}
 use Rattle.quic_headline.specs.Headline.{IsHonest, IsRun, OrderedPrefix, Slices, Once, EndAfterAll, BlockedOnlyWithoutBytes, AcceptsAll, FinishedMeansArrived, AcknowledgedWereTaken, NamesWereTaken, OpensExactly, NewestOpens, NumbersRise}
-use Rattle.quic_headline.specs.ConnectionIds.{SentToFirstId, NoUnknownId, FirstIdStays}
 use Rattle.quic_headline.proofs.Halves.Ready.{Ready, ready_probes, ready_group}
 use Rattle.quic_headline.proofs.Places.Everything as everything
 use Rattle.quic_headline.proofs.Steps.Pacing as pacing
@@ -71,17 +71,23 @@ names_were_taken = everything.names_were_taken Ready ready
 pub opens_exactly : (r : Run) (end : World) → IsHonest r → IsRun r end → OpensExactly r
 opens_exactly = everything.opens_exactly Ready ready
 
+pub keys_last : (r : Run) (end : World) → IsHonest r → IsRun r end → KeysLast r
+keys_last = everything.keys_last Ready ready
+
 pub newest_opens : (r : Run) (end : World) → IsHonest r → IsRun r end → NewestOpens r
 newest_opens = everything.newest_opens Ready ready
 
-pub sent_to_first_id : (r : Run) (end : World) → IsHonest r → IsRun r end → SentToFirstId r
-sent_to_first_id = everything.sent_to_first_id Ready ready
+pub ids_are_issued : (r : Run) (end : World) → IsHonest r → IsRun r end → IdsAreIssued r
+ids_are_issued = everything.ids_are_issued Ready ready
 
-pub no_unknown_id : (r : Run) (end : World) → IsHonest r → IsRun r end → NoUnknownId r
-no_unknown_id = everything.no_unknown_id Ready ready
+pub unknown_only_where_retired : (r : Run) (end : World) → IsHonest r → IsRun r end → UnknownOnlyWhereRetired r
+unknown_only_where_retired = everything.unknown_only_where_retired Ready ready
 
-pub first_id_stays : (r : Run) (end : World) → IsHonest r → IsRun r end → FirstIdStays r
-first_id_stays = everything.first_id_stays Ready ready
+pub told_ids_are_known : (r : Run) (end : World) → IsHonest r → IsRun r end → ToldIdsAreKnown r
+told_ids_are_known = everything.told_ids_are_known Ready ready
+
+pub newest_opens_at_end : (r : Run) (end : World) → IsHonest r → IsRun r end → NewestOpensAtEnd r
+newest_opens_at_end = everything.newest_opens_at_end Ready ready
 
 pub numbers_rise : (r : Run) (end : World) → IsHonest r → IsRun r end → NumbersRise r
 numbers_rise = everything.numbers_rise Ready ready
@@ -130,6 +136,3 @@ sizes_move = everything.sizes_move Ready ready
 
 pub datagrams_are_sized : (r : Run) (end : World) → IsHonest r → IsRun r end → DatagramsAreSized r
 datagrams_are_sized = everything.datagrams_are_sized Ready ready
-
-pub probes_pass : (r : Run) (end : World) → IsHonest r → IsRun r end → ProbesPass r
-probes_pass = everything.probes_pass Ready ready

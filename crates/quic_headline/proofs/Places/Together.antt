@@ -1,4 +1,5 @@
--- The groups of a run put together: over one of streams, the packets, what observers know of them, and the timers; and the clauses that these give.
+-- The groups of a run put together: over one of streams, the packets, what observers know of them,
+-- and the timers; and the clauses that these give.
 use Rattle.std.proofs.Common.{ℕ}
 use Rattle.quic_wire_core.specs.declared.stream_id.Side.{Side}
 use Rattle.quic_streams_state.specs.State.{Streams}
@@ -9,7 +10,8 @@ use Rattle.quic_headline.specs.Runs.{Run, AreServed}
 use Rattle.quic_headline.specs.InFlight.{TracksInFlight}
 use Rattle.quic_headline.specs.Messages.{MessagesAtMostOnce}
 use Rattle.quic_headline.specs.Headline.{IsHonest, IsRun, AcknowledgedWereTaken, NamesWereTaken, OpensExactly, NewestOpens, NumbersRise}
-use Rattle.quic_headline.specs.ConnectionIds.{SentToFirstId, NoUnknownId, FirstIdStays}
+use Rattle.quic_headline.specs.Causes.{KeysLast}
+use Rattle.quic_headline.specs.ConnectionIds.{IdsAreIssued, UnknownOnlyWhereRetired, ToldIdsAreKnown, NewestOpensAtEnd}
 use Rattle.quic_headline.specs.Moments.{LossMoments, LossTimerQuiet, AckMoments}
 use Rattle.quic_headline.proofs.Packets.Composed.{Spelling}
 use Rattle.quic_headline.proofs.Packets.Going.{Bringing, spellable_next}
@@ -22,10 +24,13 @@ use Rattle.quic_headline.proofs.Places.Placed.{Placed, placed, placed_less}
 use Rattle.quic_headline.proofs.Places.Openings.{acknowledged_were_taken, names_were_taken, opens_exactly}
 use Rattle.quic_headline.proofs.Places.Flights.{numbers_rise, tracks_in_flight}
 use Rattle.quic_headline.proofs.Places.Newest.{newest_opens}
-use Rattle.quic_headline.proofs.Places.Destined.{sent_to_first_id, no_unknown_id, first_id_stays}
+use Rattle.quic_headline.proofs.Causes.Sealed.{Seals, seals_group, keys_last}
+use Rattle.quic_headline.proofs.Destined.Own.{KnowsOwn, own_group}
+use Rattle.quic_headline.proofs.Destined.Issued.{Addresses, addresses_group, ids_are_issued}
+use Rattle.quic_headline.proofs.Destined.Known.{unknown_only_where_retired, told_ids_are_known, newest_opens_at_end}
 use Rattle.quic_headline.proofs.Timers.Watched.{Observed}
 use Rattle.quic_headline.proofs.Timers.LossMoments.{loss_moments}
-use Rattle.quic_headline.proofs.Timers.AckMoments.{InDebt, debt_group, ack_moments}
+use Rattle.quic_headline.proofs.Timers.FirstDue.{Indebted, debt_group, ack_moments}
 use Rattle.quic_headline.proofs.Timers.Quiet.{Unnamed, quiet_group, loss_timer_quiet}
 use Rattle.quic_headline.proofs.Messages.Group.{AtMostOnce, messages_group}
 use Rattle.quic_headline.proofs.Messages.Clause.{messages_at_most_once}
@@ -41,7 +46,7 @@ pub record Spells (H : Way) : Type 1 where
 module _ (H : Way) (s : Spells H) where
   -- what goes of an end next has a form
   spells : (x y : Party) → AreJoined x y → And Nothing H x y → And Nothing H y x → PacketsHold x y → PacketsHold y x → SpellsNext x.end
-  spells x y joined there back p q = spellable_next s.known s.spelling s.bringing x.end q.acks (has_room x y p joined.y_long) (s.holds x y p there.1)
+  spells x y joined there back p q = spellable_next s.known s.spelling s.bringing x.end q.acks (has_room x y p) (s.holds x y p there.1)
 
   module _ (streams : Group PacketsHold H) where
     -- the packets and the streams
@@ -90,14 +95,23 @@ module _ (H : Way) (s : Spells H) where
       pub all_newest : NewestOpens r
       all_newest = newest_opens r end honest (observed_at Refers (over PacketsHold Observed Refers (λ x y h. h.0) refers_group))
 
-      pub all_sent : SentToFirstId r
-      all_sent = sent_to_first_id r end honest observed_place
+      pub all_last : KeysLast r
+      all_last = keys_last r end honest (observed_at Seals (over PacketsHold Observed Seals (λ x y h. h.0) seals_group))
 
-      pub none_unknown : NoUnknownId r
-      none_unknown = no_unknown_id r end honest packets_place
+      own_place : (side : Side) (i : ℕ) → AreServed r i → Placed (And Observed KnowsOwn) r end side i
+      own_place = observed_at KnowsOwn (over PacketsHold Observed KnowsOwn (λ x y h. h.0) own_group)
 
-      pub all_stay : FirstIdStays r
-      all_stay = first_id_stays r end honest packets_place
+      pub all_unknown : UnknownOnlyWhereRetired r
+      all_unknown = unknown_only_where_retired r end honest own_place
+
+      pub all_told : ToldIdsAreKnown r
+      all_told = told_ids_are_known r end honest own_place
+
+      pub all_newest_at_end : NewestOpensAtEnd r
+      all_newest_at_end = newest_opens_at_end r end honest own_place all_newest
+
+      pub all_issued : IdsAreIssued r
+      all_issued = ids_are_issued r end honest (observed_at Addresses (over PacketsHold Observed Addresses (λ x y h. h.0) addresses_group))
 
       pub all_rise : NumbersRise r
       all_rise = numbers_rise r end honest observed_place
@@ -112,7 +126,7 @@ module _ (H : Way) (s : Spells H) where
       all_quiet = loss_timer_quiet r end honest (observed_at Unnamed quiet_group)
 
       pub all_due : AckMoments r
-      all_due = ack_moments r end honest (observed_at InDebt debt_group)
+      all_due = ack_moments r end honest (observed_at Indebted debt_group)
 
       pub all_messages : MessagesAtMostOnce r
       all_messages = messages_at_most_once Observed r end (observed_at AtMostOnce (over PacketsHold Observed AtMostOnce (λ x y h. h.0) messages_group))

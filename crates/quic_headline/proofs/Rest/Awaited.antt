@@ -1,5 +1,7 @@
--- At an open end where a packet that asks came since the last acknowledgement went, one is due, or the timer of acknowledgements is set: each call keeps that.
+-- At an open end where a packet that asks came since the last acknowledgement went, one is due, or
+-- the timer of acknowledgements is set: each call keeps that.
 use Rattle.std.proofs.Common.{◌≡◌, ℕ, ◌<◌, ◌⊎◌, Bool, true, false, not, ◌||◌, ◌&&◌, cond, List, Option, Some, None, refl, sym, ap, ◌∙◌, subst, inl, inr, arith, ◌≤◌, max}
+use Rattle.quic_wire.specs.Value.{FrameValue}
 use Rattle.std.specs.Prelude.{if◌then◌else◌, nat_lt, is_none}
 use Rattle.std.specs.Option.{is_some}
 use Rattle.std.proofs.lemmas.Bool.{and_parts, or_left, lt-ltb}
@@ -19,7 +21,7 @@ use Rattle.quic_machine.specs.Policy.{Policy}
 use Rattle.quic_machine.specs.Closing.{ticked}
 use Rattle.quic_machine.specs.Start.{AreStarted}
 use Rattle.quic_machine.specs.End.{End, with_closing, closed_by, with_ack_timer}
-use Rattle.quic_machine.specs.Receive.{timers_after}
+use Rattle.quic_machine.specs.Receive.{timers_after, take_frame}
 use Rattle.quic_spaces.specs.Acknowledging.{ack_due, with_due}
 use Rattle.quic_machine.specs.Poll.{Polled, Draft, polled, draft_as, lazied_as, Leaving, whole, alone, nothing}
 use Rattle.quic_machine.specs.Timeouts.{Expiry, loss_judged}
@@ -29,15 +31,19 @@ use Rattle.quic_machine.specs.Puts as puts
 use Rattle.quic_machine.specs.LeaveCases.{at_expiry, Expired, by_timers}
 use Rattle.quic_machine.specs.CallCases.{Plain, by_plain_call}
 use Rattle.quic_machine.specs.CallCases as cases
-use Rattle.quic_machine.specs.FrameCases.{Settling, Receives, named, acked_keeps, losses_keep, frame_keeps, frame_leaves, by_received, apart_same}
+use Rattle.quic_machine.specs.FrameCases.{Settling, Receives, named, acked_keeps, losses_keep, frame_keeps, frame_leaves, by_received, IsApart, apart_leaves, with_apart}
+use Rattle.quic_headline.proofs.Packets.Apart.{apart_acks, by_waits, by_next_id, next_acks}
 use Rattle.quic_machine.specs.Steps as steps
 use Rattle.quic_machine.specs.PollCases.{ready_at, ready_leaves, by_poll_to, draft_at, may_leave_at}
 use Rattle.quic_headline.proofs.Places.Placed.{start_is}
 use Rattle.quic_headline.proofs.Timers.BothEnds.{AtBoth, run_keeps}
 use Rattle.quic_headline.proofs.Packets.Probes.{by_going}
 use Rattle.quic_machine.specs.LeaveCases as expiring
+use Rattle.quic_headline.proofs.Packets.Closes.{by_closes}
+use Rattle.quic_headline.proofs.Packets.Heard.{by_taken}
 
--- Where packets that ask were counted, an acknowledgement is due or the timer is set; it was set only for such a packet, and to 25 ms behind the clock at the latest.
+-- Where packets that ask were counted, an acknowledgement is due or the timer is set; it was set
+-- only for such a packet, and to 25 ms behind the clock at the latest.
 pub record Comes (due : Bool) (asking : ℕ) (since timer : Option ℕ) (clock : ℕ) : Type 0 where
   pub waits : 0 < asking → (due ≡ true) ⊎ (is_some timer ≡ true)
   pub counted : is_some since ≡ true → 0 < asking
@@ -66,7 +72,8 @@ closed_awaited reason e opened = cc
 more_due : (b : Bool) (p : Pending) (timer : Option ℕ) (clock : ℕ) → AckComes p timer clock → AckComes (record p { due = p.due || b }) timer clock
 more_due b p timer clock c = record { waits = λ some. elim (c.waits some) [ inl due ↦ inl (or_left p.due b due) | inr set ↦ inr set ]; counted = c.counted; known = c.known; soon = c.soon }
 
--- a packet that asks: the timer is set, or an acknowledgement was due or is now, or the timer was set before
+-- a packet that asks: the timer is set, or an acknowledgement was due or is now, or the timer was
+-- set before
 asking_comes : (t : Timers) (p : Pending) (now n : ℕ) (s : Seen) (b : Bool) → starts_wait (asking_counted p n s) ≡ b → AckComes p t.max_ack_delay now
     → AckComes (cond b (record (asking_counted p n s) { since = Some now }) (asking_counted p n s)) (if b then with_ack_timer t (Some (ack_due now)) else t).max_ack_delay now
 asking_comes t p now n s true is c = record { waits = λ some. inr refl; counted = λ some. omega arith; known = λ set. refl; soon = λ moment set. (let same : ack_due now ≡ moment = cc in omega arith) }
@@ -92,14 +99,25 @@ settling : Settling IsAwaited
 settling (steps.known n) e i = i
 settling s e i = i
 
+-- a frame apart from streams leaves what is to be acknowledged, and its timer
+apart_awaited : (f : FrameValue) (e : End) → IsApart f → IsAwaited e → IsAwaited (take_frame f e).end
+apart_awaited f e is i = apart_leaves (λ (x : End). x.acknowledging ≡ e.acknowledging → IsAwaited x) f e is (λ c same. still same) (λ c most same. still same) (apart_acks f e is)
+  where
+    still : {p : Pending} → p ≡ e.acknowledging → e.closing.state ≡ states.Open → AckComes p e.timers.max_ack_delay e.closing.clock
+    still same opened = subst (λ (a : Pending). AckComes a e.timers.max_ack_delay e.closing.clock) (sym same) (i opened)
+
 receives : Receives IsAwaited
 receives = record {
   notes = λ n e i. i;
   begins = λ now n e i opened. later e.acknowledging e.timers.max_ack_delay e.closing.clock now (i opened);
-  frame = frame_keeps IsAwaited (record { ack = λ rises a e i. acked_keeps IsAwaited settling rises a (named a e) i; on_streams = λ f e on i. frame_leaves IsAwaited f e on (λ t. i); apart = λ f e is i. subst IsAwaited (sym (apart_same f e is)) i; message = λ m e i. i });
-  takes = λ n asks mark e i opened.
-      packet_comes asks e.timers (with_due (is_congested mark) (after_insert e.acknowledging n e.closing.clock)) e.closing.clock n e.numbers.opened (more_due (is_congested mark) e.acknowledging e.timers.max_ack_delay e.closing.clock (i opened));
+  frame = frame_keeps IsAwaited (record { ack = λ rises a e i. acked_keeps IsAwaited settling rises a (named a e) i; on_streams = λ f e on i. frame_leaves IsAwaited f e on (λ t. i); apart = apart_awaited; message = λ m e i. i });
+  takes = λ n asks mark e i. by_taken IsAwaited n asks mark e (λ idle alive opened.
+      packet_comes asks e.timers (with_due (is_congested mark) (after_insert e.acknowledging n e.closing.clock)) e.closing.clock n e.numbers.opened (more_due (is_congested mark) e.acknowledging e.timers.max_ack_delay e.closing.clock (i opened)));
   closes = λ reason e i. closed_awaited reason e;
+  drains = λ close e i opened. cc;
+  asks_close = λ e i. i;
+  exhausts = λ now e i. closed_awaited reasons.KeyLimit (with_closing e (ticked e.closing now));
+  draws = λ words e i. i;
 }
 
 -- ---- a poll
@@ -126,7 +144,8 @@ polled_awaited p e now i = by_poll_to p e now (λ (q : Polled). IsAwaited q.end)
   silent = i;
   failed = i;
   nothing = λ is none. ready_awaited e now i;
-  closes = closed_awaited reasons.NumberLimit (ready_at e now).end;
+  repeats = λ is. by_closes p (with_closing e (ticked e.closing now)) (λ (q : Polled). IsAwaited q.end) (λ opened. let clash : states.Closing ≡ states.Open = sym is ∙ opened in cc) (λ f goes opened. let clash : states.Closing ≡ states.Open = sym is ∙ opened in cc);
+  closes = λ reason bound. by_closes p (closed_by reason (ready_at e now).end) (λ (q : Polled). IsAwaited q.end) (closed_awaited reason (ready_at e now).end) (λ f goes opened. cc);
   gives = λ is may some. by_going IsAwaited p (draft_at e now) (λ pacing. draft_awaited (ready_at e now).leaving (ready_at e now).end (may_leave_at e now) (ready_awaited e now i));
 })
 
@@ -139,20 +158,25 @@ judged_awaited (Some moment) e i = losses_keep IsAwaited settling e i
 
 -- where the timer of acknowledgements expires, one is due
 expires_awaited : (s : Expired) (e : End) → IsAwaited e → IsAwaited (expiring.after s e)
-expires_awaited expiring.of_acks e i = λ opened. record { waits = λ some. inl (lt-ltb 0 e.acknowledging.asking some); counted = (i opened).counted; known = λ set. cc; soon = λ moment set. cc }
-expires_awaited s e i = i
+expires_awaited expiring.of_acks e i opened = record { waits = λ some. inl (lt-ltb 0 e.acknowledging.asking some); counted = (i opened).counted; known = λ set. cc; soon = λ moment set. cc }
+expires_awaited s e i opened = i opened
 
-expired_awaited : (e : End) (now : ℕ) (expiry : Expiry) → IsAwaited e → IsAwaited (at_expiry e now expiry)
-expired_awaited e now expiry i =
-    by_timers IsAwaited IsAwaited judged_awaited expires_awaited (λ f j. j) expiry (with_closing e (ticked e.closing now)) (λ opened. later e.acknowledging e.timers.max_ack_delay e.closing.clock now (i opened))
+expired_awaited : (words : ℕ → ℕ) (e : End) (now : ℕ) (expiry : Expiry) → IsAwaited e → IsAwaited (at_expiry words e now expiry)
+expired_awaited words e now expiry i =
+    by_timers words IsAwaited IsAwaited judged_awaited expires_awaited (λ f j. j) (λ f j opened. cc) expiry (with_closing e (ticked e.closing now)) (λ opened. later e.acknowledging e.timers.max_ack_delay e.closing.clock now (i opened))
 
 pub call_awaited : (p : Policy) (e : End) (theirs : List (List ℕ)) (call : Call) (a : Answer) → IsAwaited e → IsAwaited (after_call p e theirs call a)
 call_awaited p e theirs call a i = by_plain_call p e theirs IsAwaited call a cases_keep
   where
     cases_keep : Plain p e call IsAwaited
-    cases_keep (cases.times now expiry) may = expired_awaited e now expiry i
+    cases_keep (cases.times now expiry) may = expired_awaited p.words e now expiry i
     cases_keep (cases.polls now) may = polled_awaited p e now i
     cases_keep (cases.hears arrival d) may = by_received IsAwaited receives p e arrival d i
+    cases_keep (cases.closes reason f now) may = λ opened. cc
+    cases_keep (cases.waits now b) may = by_waits IsAwaited b (with_closing e (ticked e.closing now)) (λ opened. cc) (λ opened. later e.acknowledging e.timers.max_ack_delay e.closing.clock now (i opened))
+    cases_keep (cases.changes_id b) may =
+        let comes : (p : Pending) → p ≡ e.acknowledging → e.closing.state ≡ states.Open → AckComes p e.timers.max_ack_delay e.closing.clock = λ p same opened. subst (λ (q : Pending). AckComes q e.timers.max_ack_delay e.closing.clock) (sym same) (i opened) in
+        by_next_id (λ (x : End). x.acknowledging ≡ e.acknowledging → IsAwaited x) e b (λ same. i) (λ c same. comes (with_apart e c).acknowledging same) (λ c most same. comes (with_apart e c).acknowledging same) (next_acks e b)
     cases_keep c may = i
 
 -- ---- a run
@@ -171,6 +195,6 @@ starts_awaited w s = (
 pub acks_awaited_run : (k : Policies) (w end : World) (events : List RunEvent) (told : List Answer) (views : List View) → AreStarted w → Follows k w events told views end → AtBoth IsAwaited end
 acks_awaited_run k w end events told views s f = run_keeps IsAwaited (record {
   call = call_awaited;
-  shows = λ window e i. i;
+  shows = λ window blocked e i. i;
   stops = λ e next is opened. let clash : states.Failed ≡ states.Open = sym is.0 ∙ opened in cc;
 }) k w end events told views f (starts_awaited w s)

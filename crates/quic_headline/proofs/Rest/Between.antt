@@ -1,4 +1,5 @@
--- Behind the last call at an end, the end and its controller stay as that call left them, while only the other end is called.
+-- Behind the last call at an end, the end and its controller stay as that call left them, while
+-- only the other end is called.
 use Rattle.std.proofs.Common.{◌≡◌, ℕ, zero, suc, ◌<◌, ◌≤◌, List, [], ◌∷◌, ◌++◌, take, Bool, true, false, Some, refl, sym, ap, ◌∙◌, arith}
 use Rattle.std.specs.Prelude.{slice_get, if◌then◌else◌}
 use Rattle.std.specs.List.{list_any}
@@ -66,7 +67,8 @@ left_alone (suc i) side state k w end (e ∷ events) (a ∷ answers) (v ∷ view
 
 -- ---- the last call at an end
 
--- The last call at one of the ends of a run, by which it came to some ends: where it stands, what it was answered, the ends behind it, and that nothing was told there since.
+-- The last call at one of the ends of a run, by which it came to some ends: where it stands, what
+-- it was answered, the ends behind it, and that nothing was told there since.
 pub record LastCall (i : ℕ) (side : Side) (state : State) (k : Policies) (w end : World) (events : List RunEvent) (answers : List Answer) (views : List View) (t : Told) : Type 0 where
   pub place : ℕ
   pub below : place < i

@@ -1,4 +1,5 @@
--- Where an end rests, what was written there has arrived: each duty waits, is under way or has come, and nothing waits nor is under way.
+-- Where an end rests, what was written there has arrived: each duty waits, is under way or has
+-- come, and nothing waits nor is under way.
 use Rattle.std.proofs.Common.{◌≡◌, ℕ, List, [], ◌∷◌, map, true, false, refl, sym, ap, ◌∙◌, inl, inr}
 use Rattle.std.specs.List.{list_any}
 use Rattle.std.proofs.lemmas.Bool.{or_parts}

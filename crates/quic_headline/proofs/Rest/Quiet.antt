@@ -1,4 +1,5 @@
--- An end that rests has nothing left to do: nothing of it waits, nor is held back, and it waits for nothing that asks for an acknowledgement.
+-- An end that rests has nothing left to do: nothing of it waits, nor is held back, and it waits for
+-- nothing that asks for an acknowledgement.
 use Rattle.std.proofs.Common.{◌≡◌, ℕ, zero, suc, ◌+◌, ◌*◌, ◌≤◌, List, [], ◌∷◌, take, Bool, true, false, ◌&&◌, ◌==◌, Option, Some, None, refl, sym, ap, ◌∙◌, subst, arith}
 use Rattle.std.specs.Prelude.{slice_get, sum_by, if◌then◌else◌}
 use Rattle.std.specs.Option.{is_some}
@@ -24,7 +25,7 @@ use Rattle.quic_headline.specs.Runs.{Run, LeadsTo, AreServed, state_in}
 use Rattle.quic_headline.specs.Headline.{IsHonest, IsRun, LossTimerFollows}
 use Rattle.quic_headline.specs.Moments.{timers_in}
 use Rattle.quic_headline.specs.Polls.{GaveNothing, window_in}
-use Rattle.quic_headline.specs.Rest.{view_behind, poll_of_nothing, Rests, HaveRoom, HasNothingLeft, RestIsQuiet}
+use Rattle.quic_headline.specs.Rest.{validated_in, view_behind, poll_of_nothing, Rests, HaveRoom, HasNothingLeft, RestIsQuiet}
 use Rattle.quic_headline.proofs.Packets.Group.{has_room}
 use Rattle.quic_headline.proofs.Places.Parties.{Party}
 use Rattle.quic_headline.proofs.Places.Moments.{state_shown}
@@ -34,7 +35,7 @@ use Rattle.quic_headline.proofs.Places.Theorems.{ready}
 use Rattle.quic_headline.proofs.Halves.Ready.{Ready}
 use Rattle.quic_headline.proofs.Timers.Starts.{loss_timers_run}
 use Rattle.quic_headline.proofs.Steps.Windows.{History, history}
-use Rattle.quic_headline.proofs.Held.Behind.{window_shown, none_due, held_there, window_at}
+use Rattle.quic_headline.proofs.Held.Behind.{met, window_shown, unblocked, none_due, held_there, window_at}
 use Rattle.quic_headline.proofs.Held.Silent.{IsHeld, full, paced}
 use Rattle.quic_headline.proofs.Rest.Between.{LastCall, last_call, served_sooner}
 use Rattle.quic_headline.proofs.Rest.Sizes.{window_holds_two}
@@ -64,6 +65,10 @@ shown_behind r w (suc i) v leads there = shown r w i v leads there
 timers_shown : (side : Side) (w : World) → timers_in (view_of w) side ≡ each_timer (end_at side w).timers
 timers_shown Client w = refl
 timers_shown Server w = refl
+
+validated_shown : (side : Side) (w : World) → validated_in (view_of w) side ≡ (end_at side w).path.validated
+validated_shown Client w = refl
+validated_shown Server w = refl
 
 not_set : (o : Option ℕ) → Some o ≡ Some None → o ≡ None
 not_set o is = cc
@@ -126,9 +131,14 @@ module _ (r : Run) (end : World) (honest : IsHonest r) (run : IsRun r end) (room
   served_there : AreServed r (suc j)
   served_there = (let below = found.below in served_sooner i (suc j) r.answers (omega arith) served)
 
+  -- its address was validated, so that what goes there has no limit
+  unlimited : (met r side j at.now found.view there found.leads gave).path.blocked ≡ false
+  unlimited = unblocked r side j at.now found.view there found.leads gave
+      (ap (λ (x : End). x.path.validated) (sym same) ∙ sym (validated_shown side w) ∙ ap (λ (v : View). validated_in v side) (sym seen) ∙ at.validated)
+
   -- no acknowledgement was due
   no_ack_due : can_send e.acknowledging ≡ false
-  no_ack_due = ap (λ (x : End). can_send x.acknowledging) same ∙ none_due r side j at.now found.view there found.leads gave
+  no_ack_due = ap (λ (x : End). can_send x.acknowledging) same ∙ none_due r side j at.now found.view there found.leads gave unlimited
 
   -- the window is what the controller shows
   window_read : (end_at side there).path.window ≡ control_at side there []
@@ -153,7 +163,7 @@ module _ (r : Run) (end : World) (honest : IsHonest r) (run : IsRun r end) (room
       let x : Party = party_at r i here.world side here.sents in
       let y : Party = party_at r i here.world (other_side side) here.theirs in
       let is : here.world ≡ w = (one_run r.keys (take i r.answers) r.start (take i r.events) (take i r.views) (take i r.views) here.world w served here.leads leads).1 in
-      subst (λ (v : World). 1200 ≤ current_mtu (end_at side v).path) is (has_room x y here.gives.0.0 here.joined.y_long).1
+      subst (λ (v : World). 1200 ≤ current_mtu (end_at side v).path) is (has_room x y here.gives.0.0).1
 
   -- so neither window nor pacer holds anything back
   not_held : IsHeld (end_at side there) → ⊥
@@ -173,7 +183,7 @@ module _ (r : Run) (end : World) (honest : IsHonest r) (run : IsRun r end) (room
   nothing_to_go = go (asks_to_go e) refl
     where
       go : (b : Bool) → asks_to_go e ≡ b → b ≡ false
-      go true is = absurd (not_held (held_there r side j at.now found.view there found.leads gave (sym (ap asks_to_go same) ∙ is)))
+      go true is = absurd (not_held (held_there r side j at.now found.view there found.leads gave unlimited (sym (ap asks_to_go same) ∙ is)))
       go false is = refl
 
   has_nothing_left : HasNothingLeft e

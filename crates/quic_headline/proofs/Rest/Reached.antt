@@ -1,4 +1,5 @@
--- What an end has to acknowledge reaches each number that it took, or a greater one, until the peer acknowledges a datagram whose ACK frame has no lesser greatest number.
+-- What an end has to acknowledge reaches each number that it took, or a greater one, until the peer
+-- acknowledges a datagram whose ACK frame has no lesser greatest number.
 use Rattle.std.proofs.Common.{◌≡◌, ℕ, ◌<◌, ◌≤◌, ◌⊎◌, Bool, true, false, List, [], ◌∷◌, length, Option, Some, None, refl, sym, ◌∙◌, subst, inl, inr, arith}
 use Rattle.std.proofs.lemmas.Bool.{cases_lt}
 use Rattle.quic_sets.specs.Runs.{Run, Has, AreRunsFrom, AreRuns}
@@ -88,7 +89,8 @@ known_on old new was is number sents packets k = record {
 
 -- ---- the frames of a packet that comes
 
--- A packet comes with these frames to an end that sent these datagrams, and is taken with the others.
+-- A packet comes with these frames to an end that sent these datagrams, and is taken with the
+-- others.
 module _ (sents : List Sent) (took : List Packet) (number : ℕ) (frames : List FrameValue) (all : (a : AckValue) (k : ℕ) → In (ack a) frames → names a k ≡ true → IsNamed took k) where
   -- the number is reached at an end, or known
   abbrev Here : End → Type 0
@@ -163,7 +165,7 @@ module _ (sents : List Sent) (took : List Packet) (number : ℕ) (frames : List 
       (λ a is. ack_reached (names_ungiven a e) a e (subst (λ (g : FrameValue). In g frames) (sym is) among) tracked i)
       (λ other on. frame_leaves Here f e on (λ t. i))
       (λ other m same. subst Here (sym same) i)
-      (λ other apart. apart_leaves Here f e apart (λ c. i))
+      (λ other apart. apart_leaves Here f e apart (λ c. i) (λ c most. i))
 
   -- it stays reached, or is known, behind all frames
   pub frames_reached : (e : End) → AreTracked sents e.tracking.packets → Here e → Here (passed frames e).end

@@ -1,4 +1,5 @@
--- The window of an end holds two of its datagrams: of each size that datagrams take, the controller was told, or the path began with a greater one.
+-- The window of an end holds two of its datagrams: of each size that datagrams take, the controller
+-- was told, or the path began with a greater one.
 use Rattle.std.proofs.Common.{◌≡◌, ℕ, ◌*◌, ◌≤◌, List, take, false, sym, subst, arith}
 use Rattle.std.specs.List.{list_any}
 use Rattle.quic_wire_core.specs.declared.stream_id.Side.{Side}
@@ -26,7 +27,8 @@ use Rattle.quic_headline.proofs.Steps.Resized.{last_more, history_tells}
 
 -- ---- sizes that are told
 
--- A controller was told only sizes that fit two bytes, and the last of them, or the first where none was told, is no less than the size of the datagrams of its end.
+-- A controller was told only sizes that fit two bytes, and the last of them, or the first where
+-- none was told, is no less than the size of the datagrams of its end.
 pub record IsSizedBy (side : Side) (size : ℕ) (w : World) (told : List Told) : Type 0 where
   pub sized : AreSized told
   pub within : current_mtu (end_at side w).path ≤ last_size size told
@@ -65,7 +67,8 @@ starts_sized w s side = subst (HasSize 1200 MAX_UDP_PAYLOAD) (sym (start_is w s 
     is_making Client = s.client_is
     is_making Server = s.server_is
 
--- what the controller shows that was told all that the calls up to a place tell holds two datagrams of the size that they have there
+-- what the controller shows that was told all that the calls up to a place tell holds two datagrams
+-- of the size that they have there
 pub window_holds_two : (r : Run) → IsHonest r → HaveRoom r.start → (side : Side) (i : ℕ) (w : World) (told : List Told) → AreServed r i → IsHistory r side i w told → 2 * current_mtu (end_at side w).path ≤ control_at side r.start told
 window_holds_two r honest room side i w told served was =
     let sized = size_of_history side r.keys r.start w (take i r.events) (take i r.answers) told (first_mtu (end_at side r.start).transport) served was (starts_within r.start honest.start side) (starts_sized r.start honest.start side) in

@@ -1,4 +1,5 @@
--- The packets that ask and came since an end gave an ACK frame: it counts them, and what it has to acknowledge reaches each that the peer doesn't know of.
+-- The packets that ask and came since an end gave an ACK frame: it counts them, and what it has to
+-- acknowledge reaches each that the peer doesn't know of.
 use Rattle.std.proofs.Common.{◌≡◌, ℕ, ◌+◌, ◌-◌, ◌^◌, ◌<◌, Bool, true, false, cond, min, List, [], ◌∷◌, ◌++◌, map, Option, Some, Ok, refl, sym, ap, ◌∙◌, subst, inl, inr, arith}
 use Rattle.std.specs.Prelude.{if◌then◌else◌}
 use Rattle.std.specs.List.{list_any}
@@ -17,6 +18,7 @@ use Rattle.quic_machine.specs.Receive.{asks_in, after_taken, Outcome}
 use Rattle.quic_machine.specs.Machine.{after_call}
 use Rattle.quic_machine.specs.CallCases.{is_delivery}
 use Rattle.quic_machine.specs.FrameCases.{named, begun}
+use Rattle.quic_machine.specs.IdFrames.{drawn}
 use Rattle.quic_headline.specs.Runs.{Packet, Intake, In, Told, IsNamed, names, folded}
 use Rattle.quic_headline.specs.Observer.{Sent, Watch, first_watch, news, Lens, watch_told}
 use Rattle.quic_headline.specs.Moments.{acknowledges}
@@ -95,8 +97,8 @@ module _ (e : End) (now n : ℕ) (frames : List FrameValue) (i : Intake) (sents 
   abbrev due : Option EcnCodepoint → Pending
   due mark = with_due (is_congested mark) (after_insert left.acknowledging n left.closing.clock)
 
-  abbrev after : Option EcnCodepoint → End
-  after mark = after_taken n (asks_in (map Ok frames)) mark left
+  abbrev after : (ℕ → ℕ) → Option EcnCodepoint → End
+  after words mark = drawn words (after_taken n (asks_in (map Ok frames)) mark left)
 
   runs : AreRuns left.acknowledging.runs
   runs = ((keeps_frames frames (begun e now n)).acks acks).runs.runs
@@ -109,36 +111,36 @@ module _ (e : End) (now n : ℕ) (frames : List FrameValue) (i : Intake) (sents 
   passed_on number was = frames_reached sents taken number frames named_here (begun e now n) tracked
       (elim was [ inl known ↦ inl (known_on sents sents i.took taken number (λ s j. j) (λ p j. inr j) known) | inr reached ↦ inr reached ])
 
-  after_runs : (mark : Option EcnCodepoint) → (after mark).acknowledging.runs ≡ at_most (with_one left.acknowledging.runs n)
-  after_runs mark = packet_runs (due mark) left.closing.clock n (asks_in (map Ok frames)) left.numbers.opened
+  after_runs : (words : ℕ → ℕ) (mark : Option EcnCodepoint) → (after words mark).acknowledging.runs ≡ at_most (with_one left.acknowledging.runs n)
+  after_runs words mark = packet_runs (due mark) left.closing.clock n (asks_in (map Ok frames)) left.numbers.opened
 
-  counts : (mark : Option EcnCodepoint) → (asks_in (map Ok frames) ≡ true → 0 < (after mark).acknowledging.asking) × (0 < left.acknowledging.asking → 0 < (after mark).acknowledging.asking)
-  counts mark = taken_counts (asks_in (map Ok frames)) (due mark) left.closing.clock n left.numbers.opened
+  counts : (words : ℕ → ℕ) (mark : Option EcnCodepoint) → (asks_in (map Ok frames) ≡ true → 0 < (after words mark).acknowledging.asking) × (0 < left.acknowledging.asking → 0 < (after words mark).acknowledging.asking)
+  counts words mark = taken_counts (asks_in (map Ok frames)) (due mark) left.closing.clock n left.numbers.opened
 
   -- the packet itself
-  newest : (mark : Option EcnCodepoint) (p : Packet) → (list_any asks frames ≡ true) × (p.number ≡ n) → Owes sents taken (after mark) p.number
-  newest mark p is = record {
-    counted = (counts mark).0 (asks_same frames ∙ is.0);
-    reached = inr (subst (λ (k : ℕ). Reaches (after mark).acknowledging.runs k) (sym is.1) (subst (λ (rs : List Run). Reaches rs n) (sym (after_runs mark)) (one_reached n left.acknowledging.runs runs)));
+  newest : (words : ℕ → ℕ) (mark : Option EcnCodepoint) (p : Packet) → (list_any asks frames ≡ true) × (p.number ≡ n) → Owes sents taken (after words mark) p.number
+  newest words mark p is = record {
+    counted = (counts words mark).0 (asks_same frames ∙ is.0);
+    reached = inr (subst (λ (k : ℕ). Reaches (after words mark).acknowledging.runs k) (sym is.1) (subst (λ (rs : List Run). Reaches rs n) (sym (after_runs words mark)) (one_reached n left.acknowledging.runs runs)));
   }
 
   -- one that was owed before
-  older : (mark : Option EcnCodepoint) (p : Packet) → Owes sents i.took e p.number → Owes sents taken (after mark) p.number
-  older mark p owes = record {
-    counted = (counts mark).1 (subst (λ (k : ℕ). 0 < k) (sym (ap (λ (p : Pending). p.asking) (frames_acks frames (begun e now n)))) owes.counted);
+  older : (words : ℕ → ℕ) (mark : Option EcnCodepoint) (p : Packet) → Owes sents i.took e p.number → Owes sents taken (after words mark) p.number
+  older words mark p owes = record {
+    counted = (counts words mark).1 (subst (λ (k : ℕ). 0 < k) (sym (ap (λ (p : Pending). p.asking) (frames_acks frames (begun e now n)))) owes.counted);
     reached = elim (passed_on p.number owes.reached) [
       | inl known ↦ inl known
-      | inr reached ↦ inr (subst (λ (rs : List Run). Reaches rs p.number) (sym (after_runs mark)) (more_reached n p.number left.acknowledging.runs runs reached))
+      | inr reached ↦ inr (subst (λ (rs : List Run). Reaches rs p.number) (sym (after_runs words mark)) (more_reached n p.number left.acknowledging.runs runs reached))
     ];
   }
 
-  taken_owes : (mark : Option EcnCodepoint) → OwesAll sents i.took e ps → OwesAll sents taken (after mark) (asking_among (news i (with_taken i n frames)) ++ ps)
-  taken_owes mark owes = subst (λ (qs : List Packet). OwesAll sents taken (after mark) (asking_among qs ++ ps)) (sym (one_new i n frames)) all
+  taken_owes : (words : ℕ → ℕ) (mark : Option EcnCodepoint) → OwesAll sents i.took e ps → OwesAll sents taken (after words mark) (asking_among (news i (with_taken i n frames)) ++ ps)
+  taken_owes words mark owes = subst (λ (qs : List Packet). OwesAll sents taken (after words mark) (asking_among qs ++ ps)) (sym (one_new i n frames)) all
     where
-      all : OwesAll sents taken (after mark) (asking_among (packet ∷ []) ++ ps)
+      all : OwesAll sents taken (after words mark) (asking_among (packet ∷ []) ++ ps)
       all p among = elim (in_append p (asking_among (packet ∷ [])) ps among) [
-        | inl new ↦ newest mark p (asking_one packet p new)
-        | inr old ↦ older mark p (owes p old)
+        | inl new ↦ newest words mark p (asking_one packet p new)
+        | inr old ↦ older words mark p (owes p old)
       ]
 
   -- each case of a delivery
@@ -146,12 +148,14 @@ module _ (e : End) (now n : ℕ) (frames : List FrameValue) (i : Intake) (sents 
   arrivals_owe owes = record {
     ignored = λ reason opened. none_more sents i ps e (owes opened) opened;
     noted = λ state reason opened. absurd (let clash : states.Closing ≡ states.Open = sym state ∙ opened in cc);
-    takes = λ state new none mark opened. taken_owes mark (owes state);
-    refuses = λ state new f is opened. absurd cc;
+    takes = λ words state new none mark opened. taken_owes words mark (owes state);
+    drains = λ words state new close is opened. absurd cc;
+    refuses = λ words state new f is opened. absurd cc;
+    exhausts = λ state opened. absurd cc;
   }
 
 -- behind any call that gives no ACK frame
-call_owes : (x y : Party) (call : Call) (a : Answer) → Calls Observed x y call a → (ps : List Packet) → acknowledges (sents_by x.end call a) ≡ false → (x.end.closing.state ≡ states.Open → OwesAll x.sents (came_to x y).took x.end ps)
+call_owes : (x y : Party) (call : Call) (a : Answer) → Calls Observed x y call a → (ps : List Packet) → acknowledges (sents_by x.policy x.end call a) ≡ false → (x.end.closing.state ≡ states.Open → OwesAll x.sents (came_to x y).took x.end ps)
     → OwesMore x.sents (came_to x y) ps (called x y.given call a).end (came_to (called x y.given call a) y)
 call_owes x y call a c ps none owes = by_coming x y a c.joined c.served (meets y x c.takes.0) (OwesMore x.sents (came_to x y) ps) call c.answer (record {
   apart = λ apart opened. none_more x.sents (came_to x y) ps (after_call x.policy x.end y.given call a) (apart_owes apart (was_open x.policy x.end y.given call a opened)) opened;
@@ -189,13 +193,13 @@ module _ (x y : Party) (call : Call) (a : Answer) (c : Calls Observed x y call a
   watch_within = same_watch (lens x y) x.told (none_unanswered (first_watch x.final x.began x.initial_rtt))
 
   -- what isn't answered behind a call: an ACK frame that goes ends it
-  pub packets_told : (unanswered_of (called x y.given call a) y).packets ≡ (if acknowledges (sents_by x.end call a) then [] else asking_among (news (came_to x y) (came_to (called x y.given call a) y)) ++ before.packets)
+  pub packets_told : (unanswered_of (called x y.given call a) y).packets ≡ (if acknowledges (sents_by x.policy x.end call a) then [] else asking_among (news (came_to x y) (came_to (called x y.given call a) y)) ++ before.packets)
   packets_told =
       let after : Watch = watch_behind x y call a c before.watch watch_within in
       ap (λ (v : Unanswered). v.packets) (folded_more (unanswered_told (lens x y)) x.told (told_of call a x.end.closing.state) (none_unanswered (first_watch x.final x.began x.initial_rtt)))
       ∙ ap (λ (ss : List Sent). if acknowledges ss then [] else asking_among (news before.watch.intake after.intake) ++ before.packets) (went_behind x y call a c before.watch watch_within)
-      ∙ ap (λ (j : Intake). if acknowledges (sents_by x.end call a) then [] else asking_among (news j after.intake) ++ before.packets) (came_before x y call a c before.watch watch_within)
-      ∙ ap (λ (j : Intake). if acknowledges (sents_by x.end call a) then [] else asking_among (news (came_to x y) j) ++ before.packets) (came_behind x y call a c before.watch watch_within)
+      ∙ ap (λ (j : Intake). if acknowledges (sents_by x.policy x.end call a) then [] else asking_among (news j after.intake) ++ before.packets) (came_before x y call a c before.watch watch_within)
+      ∙ ap (λ (j : Intake). if acknowledges (sents_by x.policy x.end call a) then [] else asking_among (news (came_to x y) j) ++ before.packets) (came_behind x y call a c before.watch watch_within)
 
 -- While x is open, it owes an acknowledgement of each.
 pub record Answers (x y : Party) : Type 0 where
@@ -210,7 +214,7 @@ owes_sent old more took e number o = record {
 
 -- so it does behind any call
 answers_step : (x y : Party) (call : Call) (a : Answer) → Calls Observed x y call a → Answers x y → Answers (called x y.given call a) y
-answers_step x y call a c i = record { owes = λ opened p among. by_acks (acknowledges (sents_by x.end call a)) refl opened p (subst (λ (ps : List Packet). In p ps) (packets_told x y call a c) among) }
+answers_step x y call a c i = record { owes = λ opened p among. by_acks (acknowledges (sents_by x.policy x.end call a)) refl opened p (subst (λ (ps : List Packet). In p ps) (packets_told x y call a c) among) }
   where
     ps : List Packet
     ps = (unanswered_of x y).packets
@@ -218,10 +222,10 @@ answers_step x y call a c i = record { owes = λ opened p among. by_acks (acknow
     took : List Packet
     took = (came_to (called x y.given call a) y).took
 
-    by_acks : (b : Bool) → acknowledges (sents_by x.end call a) ≡ b → (called x y.given call a).end.closing.state ≡ states.Open → (p : Packet)
+    by_acks : (b : Bool) → acknowledges (sents_by x.policy x.end call a) ≡ b → (called x y.given call a).end.closing.state ≡ states.Open → (p : Packet)
         → In p (if b then [] else asking_among (news (came_to x y) (came_to (called x y.given call a) y)) ++ ps) → Owes (called x y.given call a).sents took (called x y.given call a).end p.number
     by_acks true some opened p among = absurd among
-    by_acks false none opened p among = owes_sent x.sents (sents_by x.end call a) took (called x y.given call a).end p.number (call_owes x y call a c ps none i.owes opened p among)
+    by_acks false none opened p among = owes_sent x.sents (sents_by x.policy x.end call a) took (called x y.given call a).end p.number (call_owes x y call a c ps none i.owes opened p among)
 
 -- over the packets and what observers know of them
 pub answers_group : Group Observed Answers

@@ -1,4 +1,5 @@
--- A STREAM frame is acknowledged: its stream is told to be finished where that was the last of it, and not before.
+-- A STREAM frame is acknowledged: its stream is told to be finished where that was the last of it,
+-- and not before.
 use Rattle.std.proofs.Common.{◌≡◌, ℕ, ◌+◌, ◌<◌, ◌≤◌, Bool, true, false, [], ◌∷◌, Option, Some, None, refl, sym, ap, ◌∙◌, subst, ◌⊎◌, inl, inr, arith}
 use Rattle.std.specs.Prelude.{◌&&◌, not, if◌then◌else◌}
 use Rattle.std.specs.Option.{is_some}

@@ -1,4 +1,5 @@
--- Datagrams are acknowledged: their end knows of all that stands in them, and tells each stream finished of which that was the last.
+-- Datagrams are acknowledged: their end knows of all that stands in them, and tells each stream
+-- finished of which that was the last.
 use Rattle.std.proofs.Common.{◌≡◌, ℕ, ◌+◌, ◌<◌, ◌≤◌, true, List, [], ◌∷◌, ◌++◌, length, Option, Some, None, refl, sym, ap, ◌∙◌, subst, ◌⊎◌, inl, inr}
 use Rattle.quic_wire.specs.Value.{FrameValue, StreamValue, stream}
 use Rattle.quic_send_buffer.specs.declared.stream_meta.StreamMeta.{StreamMeta}

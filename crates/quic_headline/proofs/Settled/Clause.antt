@@ -1,4 +1,5 @@
--- Where an open end has nothing left to tell, each stream was told finished that is wholly acknowledged, once, and no other.
+-- Where an open end has nothing left to tell, each stream was told finished that is wholly
+-- acknowledged, once, and no other.
 use Rattle.std.proofs.Common.{◌≡◌, ℕ, ◌<◌, ◌≤◌, Bool, true, false, List, [], ◌∷◌, length, Option, Some, None, refl, sym, ap, ◌∙◌, subst, inl, inr, arith}
 use Rattle.std.specs.Prelude.{◌==◌, ◌&&◌, option_map, if◌then◌else◌}
 use Rattle.std.specs.Option.{is_some}

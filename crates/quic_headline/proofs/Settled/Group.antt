@@ -1,5 +1,5 @@
--- What an observer counts as acknowledged in flight, an open end knows so of its streams; and each stream is told to be finished once, where all of it is. It holds at each
--- place of an honest run.
+-- What an observer counts as acknowledged in flight, an open end knows so of its streams; and each
+-- stream is told to be finished once, where all of it is. It holds at each place of an honest run.
 use Rattle.std.proofs.Common.{◌≡◌, ℕ, ◌+◌, ◌<◌, ◌≤◌, Bool, true, false, List, [], ◌∷◌, ◌++◌, append-nil, Option, Some, None, refl, sym, ap, ◌∙◌, subst, inl, inr, arith}
 use Rattle.std.specs.Prelude.{if◌then◌else◌, max, option_map}
 use Rattle.quic_wire.specs.Value.{FrameValue, StreamValue, stream}
@@ -28,9 +28,9 @@ use Rattle.quic_machine.specs.declared.run.Delivery.{Delivery}
 use Rattle.quic_machine.specs.declared.run.Answer.{Answer}
 use Rattle.quic_machine.specs.declared.run.Answer.TheVariants as answers
 use Rattle.quic_machine.specs.Policy.{Policy}
-use Rattle.quic_machine.specs.Closing.{Closing, loss_to_tell}
+use Rattle.quic_machine.specs.Closing.{Closing, loss_to_tell, ticked}
 use Rattle.quic_machine.specs.Tracking.{TrackedPacket, Carried, streams_in}
-use Rattle.quic_machine.specs.End.{End, streams_at}
+use Rattle.quic_machine.specs.End.{End, streams_at, with_closing}
 use Rattle.quic_spaces.specs.Numbers.{Numbers, number_opened}
 use Rattle.quic_machine.specs.Acked.{stream_lost, streams_lost, carried_lost, packets_lost}
 use Rattle.quic_machine.specs.Calls.{is_open, tells_message, tells_of, message_told, others_told}
@@ -46,8 +46,9 @@ use Rattle.quic_machine.specs.Opens.{own_id_length}
 use Rattle.quic_machine.specs.declared.answers.Event.{Event}
 use Rattle.quic_machine.specs.Steps as steps
 use Rattle.quic_headline.specs.Runs.{Told, Packet, Intake, In, acknowledged, and_told, finish_told_by, finishes_told}
-use Rattle.quic_headline.specs.Observer.{Sent, Terms, Flight, HoldsOffset, HoldsEnd, Watch, Lens, first_watch, has_opened, moment_of, clock_behind, after_packets, after_frames, and_sent, and_flying, closes_of, and_all_sent, loss_due, is_past, expired_for, sent_as, watch_sent, watch_given, is_timely, watch_moment, watch_came, watch_told}
+use Rattle.quic_headline.specs.Observer.{Sent, next_number, Terms, Flight, HoldsOffset, HoldsEnd, Watch, Lens, first_watch, has_opened, moment_of, clock_behind, after_packets, after_frames, and_sent, and_flying, closes_of, and_all_sent, loss_due, is_past, expired_for, sent_as, watch_sent, watch_given, is_timely, watch_moment, watch_came, watch_told}
 use Rattle.quic_headline.specs.InFlight.{all_offsets}
+use Rattle.quic_headline.proofs.Packets.Apart.{by_waits, by_next_id}
 use Rattle.quic_headline.proofs.Packets.Invariant.{IsSent, AreTracked, WereSent, carried_stream}
 use Rattle.quic_headline.proofs.Packets.Growth.{step_of}
 use Rattle.quic_headline.proofs.Packets.Intakes.{folded_more}
@@ -119,8 +120,11 @@ module _ (arrived : ℕ → ℕ → Type 0) (end_arrived : ℕ → Type 0) (k : 
           on_streams = λ on answer. cc;
           on_messages = λ on answer. i;
           pings = i;
-          times = λ now expiry set. by_expired e now (λ (f : End). Settling arrived end_arrived k n w f.streams) (λ pending tracking timers runs packets. i)
-              (λ pending timers runs. expiry_stays (λ (t : Streams). Settling arrived end_arrived k n w t.state) e now (losing e.tracking.packets ends) i pending timers) expiry;
+          closes = λ reason f now own. i;
+          waits = λ now b set. by_waits (λ (f : End). Settling arrived end_arrived k n w f.streams) b (with_closing e (ticked e.closing now)) i i;
+          changes_id = λ uses answer. by_next_id (λ (f : End). Settling arrived end_arrived k n w f.streams) e a i (λ c. i) (λ c most. i);
+          times = λ now expiry set. by_expired p.words e now (λ (f : End). Settling arrived end_arrived k n w f.streams) (λ pending tracking timers waits asked runs packets. i)
+              (λ pending timers waits asked runs. expiry_stays (λ (t : Streams). Settling arrived end_arrived k n w t.state) e now (losing e.tracking.packets ends) i pending timers waits asked) (λ x j. j) expiry;
           polls = λ now set. cc;
           hears = λ arrival d set. cc;
           tells = λ asks. cc;
@@ -172,7 +176,7 @@ sent_acked (s ∷ ss) f = sent_acked ss (and_sent s f) ∙ go (closes_of s)
 
 datagram_acked : (taker : Policy) (ds : List (List ℕ)) (w : Watch) → (watch_sent taker ds w).flight.acked ≡ w.flight.acked
 datagram_acked taker [] w = refl
-datagram_acked taker (d ∷ ds) w = sent_acked (sent_as (opened_packet taker.header taker.packet (own_id_length + 1) (acknowledged w.intake.took) d) (acknowledged w.intake.took) w.clock d) w.flight
+datagram_acked taker (d ∷ ds) w = sent_acked (sent_as (opened_packet taker.header taker.packet (own_id_length + 1) (next_number w.own) d) (acknowledged w.intake.took) w.clock d) w.flight
 
 given_acked : (b : Bool) (l : Lens) (w : Watch) → (watch_given b l w).flight.acked ≡ w.flight.acked
 given_acked false l w = refl
@@ -319,7 +323,7 @@ module _ (sents : List Sent) (w : ℕ → Wrote) (says : (s : Sent) → In s sen
     marked = λ flying acked m marking e i. i;
     on_streams = λ flying acked f e among on i. (i.0, settling_frame (λ id o. HoldsOffset acked id o) (λ id. HoldsEnd acked id) (known_of sents acked) n w f e on (small f among) i.1);
     message = λ flying acked m e i. i;
-    apart = λ flying acked f e among apart i. apart_leaves (λ (g : End). AllSent sents flying × Open sents w n acked g) f e apart (λ c. i);
+    apart = λ flying acked f e among apart i. apart_leaves (λ (g : End). AllSent sents flying × Open sents w n acked g) f e apart (λ c. i) (λ c most. i);
   }
 
 -- ---- a packet of any end, taken or refused
@@ -354,7 +358,8 @@ module _ (took : List Packet) (sents : List Sent) (n : ℕ → ℕ) (w : ℕ →
 abbrev pub told_so : Party → ℕ → ℕ
 told_so x id = finishes_told id x.told
 
--- x gives: it was told of no stream twice that it is finished; and while it is open, it knows what an observer counts as acknowledged
+-- x gives: it was told of no stream twice that it is finished; and while it is open, it knows what
+-- an observer counts as acknowledged
 pub record Settled (x y : Party) : Type 0 where
   pub always : Always (told_so x) (wrote x.told) x.end
   pub still : x.end.closing.state ≡ states.Open → Open x.sents (wrote x.told) (told_so x) (acks x y) x.end
@@ -389,7 +394,7 @@ module _ (B : Way) (b : SettlesOver B) (x y : Party) (call : Call) (a : Answer) 
 
   -- each case of a delivery, whether the packet is taken or refused
   always_arrives : (now : ℕ) (d : Sent) → In d y.sents → Arrivals x.end now d.number d.frames (came_to x y) (λ (o : Outcome) (i : Intake). Always (told_so x) (wrote x.told) o.end)
-  always_arrives now d among = record { ignored = λ reason. s.always; noted = λ state reason. s.always; takes = λ state new none mark. after; refuses = λ state new f is. after }
+  always_arrives now d among = record { ignored = λ reason. s.always; noted = λ state reason. s.always; takes = λ words state new none mark. after; drains = λ words state new close is. after; refuses = λ words state new f is. after; exhausts = λ state. s.always }
     where
       took : List Packet
       took = (came_to y x).took
@@ -400,7 +405,7 @@ module _ (B : Way) (b : SettlesOver B) (x y : Party) (call : Call) (a : Answer) 
         names = λ ak e i j. j;
         on_streams = λ f e i on j. settling_frame Any AnyEnd nothing_known (told_so x) (wrote x.told) f e on (small d among f i) j;
         message = λ m e j. j;
-        apart = λ f e i apart j. apart_leaves (Always (told_so x) (wrote x.told)) f e apart (λ c. j);
+        apart = λ f e i apart j. apart_leaves (Always (told_so x) (wrote x.told)) f e apart (λ c. j) (λ c most. j);
       }) (begun x.end now d.number) (λ ak i k named. takes.named d ak k among i named) gives.tracked s.always
 
   -- of an open end
@@ -409,8 +414,10 @@ module _ (B : Way) (b : SettlesOver B) (x y : Party) (call : Call) (a : Answer) 
   still_arrives delivery is d among = record {
     ignored = λ reason still. before still;
     noted = λ state reason still. (let clash : states.Closing ≡ states.Open = sym state ∙ still in cc);
-    takes = λ state new none mark still. taken state none;
-    refuses = λ state new f is still. cc;
+    takes = λ words state new none mark still. taken state none;
+    drains = λ words state new close is still. cc;
+    refuses = λ words state new f is still. cc;
+    exhausts = λ state still. cc;
   }
     where
       before : x.end.closing.state ≡ states.Open → Open x.sents (wrote x.told) (told_so x) (acked_with x.terms x.end.closing.state call (watch_of x y) (came_to x y)) x.end
@@ -482,7 +489,7 @@ module _ (B : Way) (b : SettlesOver B) (x y : Party) (call : Call) (a : Answer) 
   open_before : is_delivery call ≡ false → (after_call x.policy x.end y.given call a).closing.state ≡ states.Open → x.end.closing.state ≡ states.Open
   open_before apart still = elim (call_closes x.policy x.end y.given call a apart) [
     | inl k ↦ sym k.state ∙ still
-    | inr shut ↦ (let clash : states.Drained ≡ states.Open = sym shut.1 ∙ still in cc)
+    | inr shut ↦ absurd (shut.shut still)
   ]
 
   -- where nothing came, as much is acknowledged
@@ -510,7 +517,7 @@ open_as : (w : ℕ → Wrote) (n : ℕ → ℕ) (e : End) (sents more acked held
 open_as w n e sents more acked held same alike i = subst (λ (ss : List Sent). Open ss w n held e) (sym same) (subst (λ (ss : List Sent). Open sents w n ss e) (sym alike) i)
 
 still_on : (B : Way) → SettlesOver B → (x y : Party) (call : Call) (a : Answer) → Calls B x y call a → Settled x y → (called x y.given call a).end.closing.state ≡ states.Open
-    → Open (x.sents ++ sents_by x.end call a) (wrote (x.told ++ told_of call a x.end.closing.state ∷ [])) (told_so (called x y.given call a)) (acks (called x y.given call a) y) (called x y.given call a).end
+    → Open (x.sents ++ sents_by x.policy x.end call a) (wrote (x.told ++ told_of call a x.end.closing.state ∷ [])) (told_so (called x y.given call a)) (acks (called x y.given call a) y) (called x y.given call a).end
 still_on B b x y (calls.Deliver delivery) a c s still =
     let call : Call = calls.Deliver delivery in
     let acked : List Sent = acked_with x.terms x.end.closing.state call (watch_of x y) (came_to (called x y.given call a) y) in
@@ -521,12 +528,12 @@ still_on B b x y (calls.Poll now) a c s still =
     let call : Call = calls.Poll now in
     let answer : a ≡ answers.Poll (polled x.policy x.end now).answer = poll_answer x.policy x.end now a c.answer c.served in
     let acked : List Sent = acks x y in
-    let more : List Sent = x.sents ++ sent_if (gave (answers.Poll (polled x.policy x.end now).answer)) (sent_by x.end now) in
-    open_as (wrote (x.told ++ told_of call a x.end.closing.state ∷ [])) (told_so (called x y.given call a)) (called x y.given call a).end more (x.sents ++ sents_by x.end call a) acked (acks (called x y.given call a) y)
-    (ap (λ (r : Answer). x.sents ++ sent_if (gave r) (sent_by x.end now)) answer) (acks_same B b x y call a c s refl)
+    let more : List Sent = x.sents ++ sent_if (gave (answers.Poll (polled x.policy x.end now).answer)) (sent_by x.policy x.end now) in
+    open_as (wrote (x.told ++ told_of call a x.end.closing.state ∷ [])) (told_so (called x y.given call a)) (called x y.given call a).end more (x.sents ++ sents_by x.policy x.end call a) acked (acks (called x y.given call a) y)
+    (ap (λ (r : Answer). x.sents ++ sent_if (gave r) (sent_by x.policy x.end now)) answer) (acks_same B b x y call a c s refl)
     (settling_same (λ id o. HoldsOffset acked id o) (λ id. HoldsEnd acked id) (known_of more acked) (told_so x) (told_so (called x y.given call a)) (wrote x.told) (wrote (x.told ++ told_of call a x.end.closing.state ∷ [])) (called x y.given call a).end.streams
     (told_then B b x y call a c s refl) (done_then B b x y call a c s)
-    (poll_settles (λ id o. HoldsOffset acked id o) (λ id. HoldsEnd acked id) (told_so x) (wrote x.told) x.policy x.end now x.sents acked (s.still (open_before B b x y call a c s refl still))))
+    (poll_settles (λ id o. HoldsOffset acked id o) (λ id. HoldsEnd acked id) (told_so x) (wrote x.told) x.policy x.end now x.sents acked (s.still (open_before B b x y call a c s refl still)) still))
 still_on B b x y calls.Event a c s still =
     let call : Call = calls.Event in
     let acked : List Sent = acks x y in

@@ -1,5 +1,5 @@
--- What an end knows of what was sent and acknowledged on each stream, and how often the stream was told to be finished: a half in use was never told so, one that is
--- done once, unless it was reset.
+-- What an end knows of what was sent and acknowledged on each stream, and how often the stream was
+-- told to be finished: a half in use was never told so, one that is done once, unless it was reset.
 use Rattle.std.proofs.Common.{◌≡◌, ℕ, ◌<◌, Bool, true, false, List, [], ◌∷◌, Option, Some, None, refl, sym, ap, ◌∙◌, inl, inr, arith}
 use Rattle.std.specs.Prelude.{◌||◌, ◌&&◌, not, if◌then◌else◌}
 use Rattle.std.specs.Option.{is_some, is_none}
@@ -48,7 +48,8 @@ IsKnown k id h = ((o : ℕ) → k.sent id o → o < h.buffer.unsent) × ((o : �
 
 -- ---- a stream
 
--- how often it was told that a stream is finished, with what waits to be told; and whether it was reset
+-- how often it was told that a stream is finished, with what waits to be told; and whether it was
+-- reset
 pub record Tells : Type 0 where
   pub times : ℕ → ℕ
   pub reset : ℕ → Bool

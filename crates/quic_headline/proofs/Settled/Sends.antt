@@ -20,15 +20,18 @@ use Rattle.quic_streams_laws.specs.Written.{Wrote}
 use Rattle.quic_streams_laws.specs.AcknowledgedLaws.{half_arrived}
 use Rattle.quic_machine.specs.declared.run.Answer.TheVariants as answers
 use Rattle.quic_machine.specs.Policy.{Policy}
-use Rattle.quic_machine.specs.End.{End}
-use Rattle.quic_machine.specs.Poll.{Draft, Polled, polled, draft_as, draft_of, Leaving, Ready}
-use Rattle.quic_machine.specs.PollCases.{frames_padded, by_poll, at_poll}
+use Rattle.quic_machine.specs.End.{End, closed_by, with_closing}
+use Rattle.quic_machine.specs.declared.answers.State.TheVariants as states
+use Rattle.quic_machine.specs.Poll.{Draft, Polled, polled, draft_as, draft_of, zeros_behind, Leaving, Ready}
+use Rattle.quic_machine.specs.PollCases.{ready_at, draft_at, may_leave_at, by_poll, at_poll}
 use Rattle.quic_machine.specs.DraftLaws.{Writing, by_leave, MayLeave}
 use Rattle.quic_machine.specs.Puts as puts
 use Rattle.quic_machine.specs.Machine.{gave}
+use Rattle.quic_machine.specs.Closing.{ticked}
+use Rattle.quic_headline.proofs.Packets.Closes.{by_closes}
 use Rattle.quic_headline.specs.Runs.{In}
 use Rattle.quic_headline.specs.Observer.{Sent}
-use Rattle.quic_headline.proofs.Places.Parties.{sent_by, sent_if}
+use Rattle.quic_headline.proofs.Places.Parties.{sent_as, sent_by, sent_if}
 use Rattle.quic_headline.proofs.Places.Told.{in_left, in_last}
 use Rattle.quic_headline.proofs.Packets.Growth.{in_more}
 use Rattle.quic_headline.proofs.Duties.Flies.{frame_bytes}
@@ -39,7 +42,8 @@ use Rattle.quic_headline.proofs.Settled.Half.{Known, KnowsMore, Tells, UnusedSet
 use Rattle.quic_headline.proofs.Settled.Acked.{telling}
 use Rattle.quic_headline.proofs.Settled.Words.{Settling, is_reset, retold}
 use Rattle.quic_headline.proofs.Settled.Carried.{known_of}
-use Rattle.quic_headline.proofs.Packets.Probes.{may_leave}
+use Rattle.quic_headline.proofs.Packets.Probes.{may_leave, ready_state, by_going}
+use Rattle.quic_headline.proofs.Packets.Sends.{by_sends}
 
 -- a frame is no STREAM frame
 abbrev pub IsNoStream : FrameValue → Type 0
@@ -232,27 +236,23 @@ module _ (arrived : ℕ → ℕ → Type 0) (end_arrived : ℕ → Type 0) (n : 
     silent = i;
     failed = i;
     nothing = λ c. i;
-    closes = λ c. i;
+    repeats = λ is. by_closes p (with_closing e (ticked e.closing now)) (λ (r : Polled). Settling arrived end_arrived nothing_known n w r.end.streams) i (λ f goes. i);
+    closes = λ reason c bound. by_closes p (closed_by reason (at_poll e now c)) (λ (r : Polled). Settling arrived end_arrived nothing_known n w r.end.streams) i (λ f goes. i);
     gives = λ leaving c left is may ready some.
         let x : End = at_poll e now c in
         draft_settles arrived end_arrived n w (λ fs. nothing_known) nothing_goes leaving x (may_leave e now leaving x ready) i;
   })
 
-  -- what it gives is known besides
-  pub poll_settles : (sents acks : List Sent) → Settling arrived end_arrived (known_of sents acks) n w e.streams
-      → Settling arrived end_arrived (known_of (sents ++ sent_if (gave (answers.Poll (polled p e now).answer)) (sent_by e now)) acks) n w (polled p e now).end.streams
-  poll_settles sents acks i = by_poll p e now (λ (r : Polled). Settling arrived end_arrived (known_of (sents ++ sent_if (gave (answers.Poll r.answer)) (sent_by e now)) acks) n w r.end.streams) (record {
-    silent = same;
-    failed = same;
-    nothing = λ c. same;
-    closes = λ c. same;
-    gives = λ leaving c left is may ready some.
-        let x : End = at_poll e now c in
-        let d : Draft = draft_as leaving x in
-        let first = holds_less arrived end_arrived n w (known_of sents acks) (known_of (sents ++ drafted [] ∷ []) acks) e.streams (none_drafted sents acks) i in
-        holds_less arrived end_arrived n w (known_of (sents ++ drafted d.frames ∷ []) acks) (known_of (sents ++ sent_by e now ∷ []) acks) d.end.streams
-        (padded_less sents acks (sent_by e now) d.frames _ (ap (λ (g : Ready). frames_padded (draft_of g)) ready))
-        (draft_settles arrived end_arrived n w (λ fs. known_of (sents ++ drafted fs ∷ []) acks) (drafts_go sents acks) leaving x (may_leave e now leaving x ready) first);
+  -- what it gives is known besides, where it leaves the end open
+  pub poll_settles : (sents acks : List Sent) → Settling arrived end_arrived (known_of sents acks) n w e.streams → (polled p e now).end.closing.state ≡ states.Open
+      → Settling arrived end_arrived (known_of (sents ++ sent_if (gave (answers.Poll (polled p e now).answer)) (sent_by p e now)) acks) n w (polled p e now).end.streams
+  poll_settles sents acks i = by_sends p e now (λ (r : Polled) (ss : List Sent). r.end.closing.state ≡ states.Open → Settling arrived end_arrived (known_of (sents ++ ss) acks) n w r.end.streams) (record {
+    silent = λ opened. same;
+    failed = λ opened. same;
+    repeats = λ is. ((λ opened. let clash : states.Closing ≡ states.Open = sym is ∙ opened in cc), λ f goes opened. let clash : states.Closing ≡ states.Open = sym is ∙ opened in cc);
+    nothing = λ is none opened. subst (λ (s : StreamsState). Settling arrived end_arrived (known_of (sents ++ []) acks) n w s) (sym (ready_state e now)) same;
+    closes = λ reason is bound. ((λ opened. cc), λ f goes opened. cc);
+    gives = λ is bound some opened. by_going (λ (z : End). Settling arrived end_arrived (known_of (sents ++ sent_as e now (draft_at e now) ∷ []) acks) n w z.streams) p (draft_at e now) (λ going. given);
   })
     where
       same : Settling arrived end_arrived (known_of (sents ++ []) acks) n w e.streams
@@ -269,3 +269,13 @@ module _ (arrived : ℕ → ℕ → Type 0) (end_arrived : ℕ → Type 0) (n : 
         where
           stood : (g : StreamValue) (x : Sent) → In x (sents ++ drafted [] ∷ []) → In (stream g) x.frames → In x sents
           stood g x i j = elim (in_more x (drafted []) sents i) [ inl there ↦ there | inr is ↦ absurd (subst (λ (z : Sent). In (stream g) z.frames) is j) ]
+
+      given : Settling arrived end_arrived (known_of (sents ++ sent_as e now (draft_at e now) ∷ []) acks) n w (draft_at e now).end.streams
+      given =
+          let g : Ready = ready_at e now in
+          let d : Draft = draft_at e now in
+          let first = subst (λ (s : StreamsState). Settling arrived end_arrived (known_of (sents ++ drafted [] ∷ []) acks) n w s) (sym (ready_state e now))
+          (holds_less arrived end_arrived n w (known_of sents acks) (known_of (sents ++ drafted [] ∷ []) acks) e.streams (none_drafted sents acks) i) in
+          holds_less arrived end_arrived n w (known_of (sents ++ drafted d.frames ∷ []) acks) (known_of (sents ++ sent_as e now d ∷ []) acks) d.end.streams
+          (padded_less sents acks (sent_as e now d) d.frames (zeros_behind d) refl)
+          (draft_settles arrived end_arrived n w (λ fs. known_of (sents ++ drafted fs ∷ []) acks) (drafts_go sents acks) g.leaving g.end (may_leave_at e now) first)

@@ -1,4 +1,5 @@
--- No word about streams but an acknowledgement, and what is told, changes which streams wait to be told finished.
+-- No word about streams but an acknowledgement, and what is told, changes which streams wait to be
+-- told finished.
 use Rattle.std.proofs.Common.{◌≡◌, ℕ, ◌+◌, Bool, true, false, List, [], ◌∷◌, length, Option, Some, None, Result, Ok, Err, refl, ap, ◌∙◌, arith}
 use Rattle.std.specs.Prelude.{zero, suc, ◌==◌, ◌&&◌, ◌||◌, not, nat_le, nat_lt, take, ℤ}
 use Rattle.std.specs.Option.{is_some}

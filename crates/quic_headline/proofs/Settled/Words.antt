@@ -1,4 +1,5 @@
--- What an end knows of what was sent on its streams, and how often it was told of each that it is finished, stays with calls and with frames that come.
+-- What an end knows of what was sent on its streams, and how often it was told of each that it is
+-- finished, stays with calls and with frames that come.
 use Rattle.std.proofs.Common.{◌≡◌, ℕ, zero, suc, ◌+◌, Bool, true, false, List, length, Option, Some, None, Result, Ok, Err, refl, sym, ap, subst}
 use Rattle.std.specs.Prelude.{◌==◌, ◌||◌, not, if◌then◌else◌, take}
 use Rattle.std.specs.List.{concat}

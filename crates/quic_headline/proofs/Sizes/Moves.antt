@@ -1,4 +1,5 @@
--- From one view of an open end to the next its size stays, grows to that of a probe that is acknowledged between them, or falls to the least that is configured.
+-- From one view of an open end to the next its size stays, grows to that of a probe that is
+-- acknowledged between them, or falls to the least that is configured.
 use Rattle.std.proofs.Common.{◌≡◌, ◌⊎◌, ℕ, zero, suc, ◌<◌, ◌≤◌, max, List, [], ◌∷◌, take, true, false, Option, Some, None, inl, inr, refl, sym, ap, ◌∙◌, subst, arith}
 use Rattle.std.specs.Prelude.{slice_get}
 use Rattle.std.proofs.lemmas.Bool.{cases_lt}
@@ -21,7 +22,7 @@ use Rattle.quic_machine.specs.End.{End, with_closing}
 use Rattle.quic_machine.specs.Acked.{verdict, losses_detected}
 use Rattle.quic_machine.specs.Receive.{Outcome}
 use Rattle.quic_machine.specs.Timeouts.{Expiry}
-use Rattle.quic_machine.specs.Machine.{World, Policies, after_call, reads_window, given_by, end_at, control_at, policy_at, Follows, view_of}
+use Rattle.quic_machine.specs.Machine.{World, Policies, after_call, reads_window, given_by, end_at, control_at, policy_at, Follows, view_of, heard_at}
 use Rattle.quic_machine.specs.RunLaws.{one_run}
 use Rattle.quic_machine.specs.CallCases.{Plain, is_delivery, by_plain_call}
 use Rattle.quic_machine.specs.CallCases as cases
@@ -32,6 +33,7 @@ use Rattle.quic_headline.specs.Observer.{Sent, Watch}
 use Rattle.quic_headline.specs.Headline.{IsHonest, IsRun}
 use Rattle.quic_headline.specs.Polls.{mtu_in, IsMade}
 use Rattle.quic_headline.specs.Sizes.{WasProbed, SizesMove}
+use Rattle.quic_headline.proofs.Packets.Apart.{by_waits, by_next_id}
 use Rattle.quic_headline.proofs.Packets.Searches.{losses_search}
 use Rattle.quic_headline.proofs.Packets.Sizes.{polled_search}
 use Rattle.quic_headline.proofs.Packets.Delivered.{Arrivals, arrived, with_taken}
@@ -89,8 +91,8 @@ moves_first x y sight search quiet opened = record { inside = λ s among. among;
 abbrev Falls : End → End → Type 0
 Falls e f = (f.path.discovery.size ≡ e.path.discovery.size) ⊎ (f.path.discovery.size ≡ e.path.discovery.bursts.least)
 
-expired_falls : (e : End) (now : ℕ) (expiry : Expiry) → Falls e (at_expiry e now expiry)
-expired_falls e now expiry = by_expired e now (Falls e) (λ pending tracking timers runs packets. inl refl) (λ pending timers runs. lost) expiry
+expired_falls : (words : ℕ → ℕ) (e : End) (now : ℕ) (expiry : Expiry) → Falls e (at_expiry words e now expiry)
+expired_falls words e now expiry = by_expired words e now (Falls e) (λ pending tracking timers waits asked runs packets. inl refl) (λ pending timers waits asked runs. lost) (λ x j. j) expiry
   where
     begins : End
     begins = with_closing e (ticked e.closing now)
@@ -105,9 +107,12 @@ apart_falls : (p : Policy) (e : End) (theirs : List (List ℕ)) (call : Call) (a
 apart_falls p e theirs call a apart = by_plain_call p e theirs (Falls e) call a keep
   where
     keep : Plain p e call (Falls e)
-    keep (cases.times now expiry) may = expired_falls e now expiry
+    keep (cases.times now expiry) may = expired_falls p.words e now expiry
     keep (cases.polls now) may = inl (polled_search (λ (d : Discovery). d.size ≡ e.path.discovery.size) (λ moment number d same. same) p e now refl)
     keep (cases.hears arrival d) is = (let clash : true ≡ false = sym is ∙ apart in cc)
+    keep (cases.closes reason f now) may = inl refl
+    keep (cases.waits now b) may = by_waits (Falls e) b (with_closing e (ticked e.closing now)) (inl refl) (inl refl)
+    keep (cases.changes_id a) may = by_next_id (Falls e) e a (inl refl) (λ c. inl refl) (λ c most. inl refl)
     keep c may = inl refl
 
 -- ---- the clause
@@ -159,8 +164,10 @@ module _ (G : Way) (g : Group Nothing G) (packets : (x y : Party) → G x y → 
     arrives s = record {
       ignored = λ reason still. inl refl;
       noted = λ state reason still. (let clash : states.Closing ≡ states.Open = sym state ∙ still in cc);
-      takes = λ state new none mark still. taken state none;
-      refuses = λ state new f is still. cc;
+      takes = λ words state new none mark still. taken state none;
+      drains = λ words state new close is still. cc;
+      refuses = λ words state new f is still. cc;
+      exhausts = λ state still. cc;
     }
       where
         taken : x.end.closing.state ≡ states.Open → (arrived x.end delivery.now s.number s.frames).fault ≡ None
@@ -206,7 +213,8 @@ module _ (G : Way) (g : Group Nothing G) (packets : (x y : Party) → G x y → 
               },
             ))
 
-  -- what is known of the search of an end at a place: to which size it falls, and that it has no less
+  -- what is known of the search of an end at a place: to which size it falls, and that it has no
+  -- less
   falls_to : (i : ℕ) (side : Side) (w : World) → AreServed r i → LeadsTo r i w → ((end_at side w).path.discovery.bursts.least ≡ (end_at side r.start).transport.min_mtu) × ((end_at side r.start).transport.min_mtu ≤ (end_at side w).path.discovery.size)
   falls_to i side w served leads =
       let at = placed G g r end honest run side i served in
@@ -223,10 +231,10 @@ module _ (G : Way) (g : Group Nothing G) (packets : (x y : Party) → G x y → 
   apart_moves : (i : ℕ) (side : Side) (call : Call) (a : Answer) (w next : World) → is_delivery call ≡ false → IsMade r i side call a w next → MovedTo side i w next
   apart_moves i side call a w next apart m =
       let e : End = end_at side w in
-      let read : End = reads_window (control_at side w) call e in
+      let read : End = reads_window (control_at side w) (heard_at side w) call e in
       let p : Policy = policy_at side r.keys in
       let left : end_at side next ≡ after_call p read (given_by (other_side side) w) call a = made_end r i side call a w next m in
-      let same : read.path.discovery ≡ e.path.discovery = reads_search (control_at side w) call e in
+      let same : read.path.discovery ≡ e.path.discovery = reads_search (control_at side w) (heard_at side w) call e in
       let least = (falls_to i side w (served_before r.answers i m.served) m.leads).0 in
       let size : (end_at side next).path.discovery.size ≡ (after_call p read (given_by (other_side side) w) call a).path.discovery.size = ap (λ (x : End). x.path.discovery.size) left in
       elim (apart_falls p read (given_by (other_side side) w) call a apart) [

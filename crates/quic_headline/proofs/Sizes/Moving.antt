@@ -1,5 +1,6 @@
--- How the size moves while an open end takes the frames of a packet, against what its observer knows to be in flight: it grows to that of a probe that is acknowledged,
--- or falls to the least that is configured.
+-- How the size moves while an open end takes the frames of a packet, against what its observer
+-- knows to be in flight: it grows to that of a probe that is acknowledged, or falls to the least
+-- that is configured.
 use Rattle.std.proofs.Common.{◌≡◌, ◌⊎◌, ℕ, ◌≤◌, List, [], ◌∷◌, ◌++◌, Option, Some, None, inl, inr, refl, sym, ap, ◌∙◌, subst, arith}
 use Rattle.std.proofs.lemmas.List.{append_assoc, append-nil}
 use Rattle.quic_config.specs.declared.mtu_discovery.TheConstants.{MAX_UDP_PAYLOAD}
@@ -31,7 +32,8 @@ pub record CameBy (flew acked : List Sent) (size : ℕ) : Type 0 where
   pub pinged : IsPinged sent
   pub sized : sent.size ≡ size
 
--- the size is as it was; or it fell to the least one, and no probe is open; or it grew to that of such a one
+-- the size is as it was; or it fell to the least one, and no probe is open; or it grew to that of
+-- such a one
 abbrev pub HasMoved : List Sent → List Sent → ℕ → ℕ → Discovery → Type 0
 HasMoved flew acked least before d = (d.size ≡ before) ⊎ (((d.size ≡ least) × IsShut d) ⊎ ((before ≤ d.size) × CameBy flew acked d.size))
 
@@ -143,5 +145,5 @@ module _ (flew : List Sent) (least before : ℕ) where
     marked = λ flying acked counts marking e m. m;
     on_streams = λ flying acked f e among on m. frame_leaves (Moves flying acked) f e on (λ t. m);
     message = λ flying acked q e m. m;
-    apart = λ flying acked f e among apart m. apart_leaves (Moves flying acked) f e apart (λ c. m);
+    apart = λ flying acked f e among apart m. apart_leaves (Moves flying acked) f e apart (λ c. m) (λ c most. m);
   }

@@ -1,4 +1,5 @@
--- The probe that is open at an end was sent as PING and zeros alone, of the size that datagrams have once it is acknowledged.
+-- The probe that is open at an end was sent as PING and zeros alone, of the size that datagrams
+-- have once it is acknowledged.
 use Rattle.std.proofs.Common.{◌≡◌, ◌⊎◌, ℕ, ◌<◌, Bool, true, false, List, [], ◌∷◌, ◌++◌, Option, Some, None, inl, inr, refl, sym, ap, ◌∙◌, subst, arith, append-nil}
 use Rattle.quic_config.specs.Configs.{SearchSettings}
 use Rattle.quic_config.specs.Transport.{TransportSettings, transport_of, first_mtu}
@@ -15,26 +16,28 @@ use Rattle.quic_machine.specs.declared.run.Answer.TheVariants as answers
 use Rattle.quic_machine.specs.Policy.{Policy}
 use Rattle.quic_machine.specs.Parts.{Path}
 use Rattle.quic_machine.specs.Closing.{ticked}
-use Rattle.quic_machine.specs.End.{End, number_of, with_closing}
+use Rattle.quic_machine.specs.End.{End, number_of, with_closing, closed_by}
 use Rattle.quic_machine.specs.Control.{Gated, with_pacing_timer}
 use Rattle.quic_machine.specs.Sizes.{after_lost, may_search, search_names, search_asked}
-use Rattle.quic_machine.specs.Poll.{Polled, datagram_size, after_given, probed, gated, waits, probe, Ready, probe_named, searched_if, free_if, held_if, leaves_if, leaves, goes_as, draft_as, polled}
+use Rattle.quic_machine.specs.Poll.{Polled, datagram_size, after_given, probed, gated, waits, probe, Ready, probe_named, searched_if, free_if, held_if, leaves_if, leaves, leaves_unless, goes_as, draft_as, polled}
 use Rattle.quic_machine.specs.Machine.{after_call, gave}
 use Rattle.quic_machine.specs.DraftLaws.{HasRoom}
-use Rattle.quic_machine.specs.FrameCases.{by_searched}
+use Rattle.quic_machine.specs.FrameCases.{by_searched, apart_leaves}
 use Rattle.quic_machine.specs.CallCases.{Plain, is_poll, by_plain_call}
 use Rattle.quic_machine.specs.CallCases as cases
-use Rattle.quic_machine.specs.PollCases.{ready_at, draft_at, frames_padded, gate_leaves, probe_leaves, ready_leaves, composes, may_leave_at, by_poll_to}
+use Rattle.quic_machine.specs.PollCases.{ready_at, draft_at, frames_padded, gate_leaves, probe_leaves, ready_leaves, composes, may_leave_at}
 use Rattle.quic_headline.specs.Runs.{In}
 use Rattle.quic_headline.specs.Observer.{Sent}
 use Rattle.quic_headline.specs.Telling.{IsPinged}
+use Rattle.quic_headline.proofs.Packets.Sends.{by_sends}
+use Rattle.quic_headline.proofs.Packets.Apart.{by_waits, by_next_id}
 use Rattle.quic_headline.proofs.Packets.Growth.{in_more}
 use Rattle.quic_headline.proofs.Packets.Given.{allocated_near}
 use Rattle.quic_headline.proofs.Packets.Probes.{by_going}
 use Rattle.quic_headline.proofs.Packets.Stays.{stays_call}
 use Rattle.quic_headline.proofs.Packets.Sizes.{HasSize, Searching, received_size, expired_size, polled_search, sized_call}
 use Rattle.quic_headline.proofs.Packets.Group.{PacketsHold, has_room}
-use Rattle.quic_headline.proofs.Places.Parties.{sent_by, sent_if, sents_by, Party, called}
+use Rattle.quic_headline.proofs.Places.Parties.{sent_as, sent_by, sent_if, sents_by, Party, called}
 use Rattle.quic_headline.proofs.Places.Groups.{Way, Calls, Group}
 use Rattle.quic_headline.proofs.Places.Steps.{poll_answer}
 use Rattle.quic_headline.proofs.Places.Told.{in_right}
@@ -74,9 +77,12 @@ call_fewer p e theirs call a silent = by_plain_call p e theirs (λ (x : End). Fe
     still n size is = is
 
     keep : Plain p e call (λ (x : End). Fewer e.path.discovery x.path.discovery)
-    keep (cases.times now expiry) may = expired_size (λ s. Fewer e.path.discovery s.discovery) (searching e.path.discovery) e now expiry still
+    keep (cases.times now expiry) may = expired_size (λ s. Fewer e.path.discovery s.discovery) (searching e.path.discovery) p.words e now expiry still
     keep (cases.polls now) is = (let clash : true ≡ false = sym is ∙ silent in cc)
-    keep (cases.hears arrival d) may = received_size (λ s. Fewer e.path.discovery s.discovery) (searching e.path.discovery) p e arrival d still
+    keep (cases.hears arrival d) may = received_size (λ s. Fewer e.path.discovery s.discovery) (searching e.path.discovery) (λ f x is i. apart_leaves (λ (y : End). Fewer e.path.discovery y.path.discovery) f x is (λ c. i) (λ c most. i)) p e arrival d still
+    keep (cases.closes reason f now) may = still
+    keep (cases.waits now b) may = by_waits (λ (x : End). Fewer e.path.discovery x.path.discovery) b (with_closing e (ticked e.closing now)) still still
+    keep (cases.changes_id a) may = by_next_id (λ (x : End). Fewer e.path.discovery x.path.discovery) e a still (λ c. still) (λ c most. still)
     keep c may = still
 
 -- ---- a poll
@@ -115,13 +121,20 @@ leaves_fewer g = go g.held
     go false = waits_case (waits g.end)
 
 ready_fewer : (e : End) (now : ℕ) → Fewer e.path.discovery (ready_at e now).end.path.discovery ⊎ ((size : ℕ) × ((ready_at e now).leaving ≡ probe size))
-ready_fewer e now = subst (λ (d : Discovery). Fewer d (ready_at e now).end.path.discovery ⊎ ((size : ℕ) × ((ready_at e now).leaving ≡ probe size))) same (leaves_fewer (gated (probed x)))
+ready_fewer e now = go (probed x).path.blocked
   where
     x : End
     x = with_pacing_timer (with_closing e (ticked e.closing now)) None
 
+    carried : (probed x).path.discovery ≡ e.path.discovery
+    carried = ap (λ (z : End). z.path.discovery) (probe_leaves x)
+
     same : (gated (probed x)).end.path.discovery ≡ e.path.discovery
-    same = ap (λ (z : End). z.path.discovery) (gate_leaves (probed x)) ∙ ap (λ (z : End). z.path.discovery) (probe_leaves x)
+    same = ap (λ (z : End). z.path.discovery) (gate_leaves (probed x)) ∙ carried
+
+    go : (b : Bool) → Fewer e.path.discovery (leaves_unless b (probed x)).end.path.discovery ⊎ ((size : ℕ) × ((leaves_unless b (probed x)).leaving ≡ probe size))
+    go true = inl (subst (λ (d : Discovery). Fewer e.path.discovery d) (sym carried) (λ n size is. is))
+    go false = subst (λ (d : Discovery). Fewer d (leaves (gated (probed x))).end.path.discovery ⊎ ((size : ℕ) × ((leaves (gated (probed x))).leaving ≡ probe size))) same (leaves_fewer (gated (probed x)))
 
 module _ (p : Policy) (e : End) (now : ℕ) (sents : List Sent) (room : HasRoom e) (sized : IsSized 1200 MAX_UDP_PAYLOAD e.path.discovery) (under : (s : Sent) → In s sents → s.number < e.numbers.next) (i : IsProbed sents e.numbers.next e.path.discovery) where
   -- nothing goes
@@ -132,10 +145,14 @@ module _ (p : Policy) (e : End) (now : ℕ) (sents : List Sent) (room : HasRoom 
   fresh : (size : ℕ) → acknowledged_probe (number_of e) e.path.discovery ≡ Some size → ⊥
   fresh size is = let low = i.below (number_of e) size is in let near = allocated_near e.filter e.numbers.next in absurd (omega arith)
 
+  -- what an open end composed, as it was sent
+  abbrev draft_sent : Sent
+  draft_sent = sent_as e now (draft_at e now)
+
   -- what goes is no probe
-  one_goes : (next : ℕ) (d : Discovery) → number_of e < next → Fewer e.path.discovery d → IsProbed (sents ++ sent_by e now ∷ []) next d
+  one_goes : (next : ℕ) (d : Discovery) → number_of e < next → Fewer e.path.discovery d → IsProbed (sents ++ draft_sent ∷ []) next d
   one_goes next d above fewer = record {
-    probes = λ s among size is. elim (in_more s (sent_by e now) sents among) [
+    probes = λ s among size is. elim (in_more s (draft_sent) sents among) [
       | inl old ↦ i.probes s old size (fewer s.number size is)
       | inr new ↦ absurd (fresh size (ap (λ (t : Sent). acknowledged_probe t.number e.path.discovery) (sym new) ∙ fewer s.number size is))
     ];
@@ -143,9 +160,9 @@ module _ (p : Policy) (e : End) (now : ℕ) (sents : List Sent) (room : HasRoom 
   }
 
   -- what goes is a probe
-  probe_sent : (size : ℕ) → (ready_at e now).leaving ≡ probe size → (next : ℕ) → number_of e < next → IsProbed (sents ++ sent_by e now ∷ []) next (ready_at e now).end.path.discovery
+  probe_sent : (size : ℕ) → (ready_at e now).leaving ≡ probe size → (next : ℕ) → number_of e < next → IsProbed (sents ++ draft_sent ∷ []) next (ready_at e now).end.path.discovery
   probe_sent size leaves next above = record {
-    probes = λ s among m is. elim (in_more s (sent_by e now) sents among) [
+    probes = λ s among m is. elim (in_more s (draft_sent) sents among) [
       | inl old ↦ elim (opened s.number m is) [
         | inl before ↦ i.probes s old m before
         | inr new ↦ absurd (let low = under s old in let near = allocated_near e.filter e.numbers.next in let same = new.0 in omega arith)
@@ -177,21 +194,20 @@ module _ (p : Policy) (e : End) (now : ℕ) (sents : List Sent) (room : HasRoom 
         | inr new ↦ inr (new.0, same_size (search_names (begun e now)) m q.named new.1)
       ]
 
-      pinged : IsPinged (sent_by e now)
+      pinged : IsPinged (draft_sent)
       pinged = record { zeros = _; alone = ap (λ (g : Ready). frames_padded (draft_as g.leaving g.end)) q.is }
 
-      long : (sent_by e now).size ≡ q.size
+      long : (draft_sent).size ≡ q.size
       long =
           let above = (named_sized 1200 MAX_UDP_PAYLOAD e.path.discovery (begun e now).closing.clock q.size sized q.named).0 in
           ap (λ (g : Ready). datagram_size (draft_as g.leaving g.end)) q.is ∙ probe_size q.size (search_asked (begun e now)) room above
 
   -- what an open end knows behind a poll
-  abbrev Knows : Polled → Type 0
-  Knows r = r.end.closing.state ≡ states.Open → ((s : Sent) → In s (sents ++ sent_if (gave (answers.Poll r.answer)) (sent_by e now)) → s.number < r.end.numbers.next)
-      → IsProbed (sents ++ sent_if (gave (answers.Poll r.answer)) (sent_by e now)) r.end.numbers.next r.end.path.discovery
+  abbrev Knows : Polled → List Sent → Type 0
+  Knows r more = r.end.closing.state ≡ states.Open → ((s : Sent) → In s (sents ++ more) → s.number < r.end.numbers.next) → IsProbed (sents ++ more) r.end.numbers.next r.end.path.discovery
 
-  polled_knows : Knows (polled p e now)
-  polled_knows = by_poll_to p e now Knows (record {
+  polled_knows : Knows (polled p e now) (sent_if (gave (answers.Poll (polled p e now).answer)) (sent_by p e now))
+  polled_knows = by_sends p e now Knows (record {
     silent = λ opened below. none_goes;
     failed = λ opened below. none_goes;
     nothing = λ is none opened below.
@@ -200,13 +216,14 @@ module _ (p : Policy) (e : End) (now : ℕ) (sents : List Sent) (room : HasRoom 
           | inl fewer ↦ subst (λ (n : ℕ). IsProbed (sents ++ []) n (ready_at e now).end.path.discovery) (sym next) (fewer_probed (sents ++ []) e.numbers.next e.path.discovery (ready_at e now).end.path.discovery fewer none_goes)
           | inr goes_so ↦ absurd (let clash : true ≡ false = sym (ap goes_as goes_so.1) ∙ none in cc)
         ];
-    closes = λ opened below. cc;
+    repeats = λ is. (λ opened below. let clash : states.Closing ≡ states.Open = sym is ∙ opened in cc, λ f goes opened below. let clash : states.Closing ≡ states.Open = sym is ∙ opened in cc);
+    closes = λ reason is bound. (λ opened below. cc, λ f goes opened below. cc);
     gives = λ is may some opened below.
         let f : End = after_given p (draft_at e now) in
-        let above : number_of e < f.numbers.next = below (sent_by e now) (in_right (sent_by e now) sents (sent_by e now ∷ []) (inl refl)) in
+        let above : number_of e < f.numbers.next = below draft_sent (in_right draft_sent sents (draft_sent ∷ []) (inl refl)) in
         let search : f.path.discovery ≡ (ready_at e now).end.path.discovery =
         by_going (λ (x : End). x.path.discovery ≡ (ready_at e now).end.path.discovery) p (draft_at e now) (λ pacing. ap (λ (x : Path). x.discovery) (composes (ready_at e now).leaving (ready_at e now).end (may_leave_at e now)).path) in
-        subst (λ (d : Discovery). IsProbed (sents ++ sent_by e now ∷ []) f.numbers.next d) (sym search) (elim (ready_fewer e now) [
+        subst (λ (d : Discovery). IsProbed (sents ++ draft_sent ∷ []) f.numbers.next d) (sym search) (elim (ready_fewer e now) [
           | inl fewer ↦ one_goes f.numbers.next (ready_at e now).end.path.discovery above fewer
           | inr goes_so ↦ probe_sent goes_so.0 goes_so.1 f.numbers.next above
         ]);
@@ -218,7 +235,8 @@ module _ (p : Policy) (e : End) (now : ℕ) (sents : List Sent) (room : HasRoom 
 abbrev pub KnowsProbe : Way
 KnowsProbe x y = x.end.closing.state ≡ states.Open → IsProbed x.sents x.end.numbers.next x.end.path.discovery
 
--- The search of an end: a black hole makes the size fall to the configured least, and no size is below it; and the open probe was sent.
+-- The search of an end: a black hole makes the size fall to the configured least, and no size is
+-- below it; and the open probe was sent.
 pub record KnowsSearch (x y : Party) : Type 0 where
   pub floor : x.end.path.discovery.bursts.least ≡ x.made.transport.min_mtu
   pub sized : HasSize x.made.transport.min_mtu MAX_UDP_PAYLOAD x.end
@@ -237,9 +255,12 @@ call_floor : (p : Policy) (e : End) (theirs : List (List ℕ)) (call : Call) (a 
 call_floor p e theirs call a least i = by_plain_call p e theirs (λ (x : End). x.path.discovery.bursts.least ≡ least) call a cases_keep
   where
     cases_keep : Plain p e call (λ (x : End). x.path.discovery.bursts.least ≡ least)
-    cases_keep (cases.times now expiry) may = expired_size (λ s. s.discovery.bursts.least ≡ least) (falling least) e now expiry i
+    cases_keep (cases.times now expiry) may = expired_size (λ s. s.discovery.bursts.least ≡ least) (falling least) p.words e now expiry i
     cases_keep (cases.polls now) may = polled_search (λ (d : Discovery). d.bursts.least ≡ least) (λ moment number d same. same) p e now i
-    cases_keep (cases.hears arrival d) may = received_size (λ s. s.discovery.bursts.least ≡ least) (falling least) p e arrival d i
+    cases_keep (cases.hears arrival d) may = received_size (λ s. s.discovery.bursts.least ≡ least) (falling least) (λ f x is i. apart_leaves (λ (y : End). y.path.discovery.bursts.least ≡ least) f x is (λ c. i) (λ c most. i)) p e arrival d i
+    cases_keep (cases.closes reason f now) may = i
+    cases_keep (cases.waits now b) may = by_waits (λ (x : End). x.path.discovery.bursts.least ≡ least) b (with_closing e (ticked e.closing now)) i i
+    cases_keep (cases.changes_id a) may = by_next_id (λ (x : End). x.path.discovery.bursts.least ≡ least) e a i (λ c. i) (λ c most. i)
     cases_keep c may = i
 
 -- at first it is the configured least
@@ -260,13 +281,13 @@ first_none most t n size = go t.mtu_discovery_config
 
 module _ (B : Way) (packets : (x y : Party) → B x y → PacketsHold x y) where
   -- a call that is no poll
-  quiet_on : (x y : Party) (call : Call) (a : Answer) → is_poll call ≡ false → sents_by x.end call a ≡ [] → KnowsProbe x y → KnowsProbe (called x y.given call a) y
+  quiet_on : (x y : Party) (call : Call) (a : Answer) → is_poll call ≡ false → sents_by x.policy x.end call a ≡ [] → KnowsProbe x y → KnowsProbe (called x y.given call a) y
   quiet_on x y call a silent unsent i opened =
       let f : End = after_call x.policy x.end y.given call a in
       let before = i (was_open x.policy x.end y.given call a opened) in
       let next = (stays_call x.policy x.end y.given call a silent).next in
       let known : IsProbed x.sents x.end.numbers.next f.path.discovery = fewer_probed x.sents x.end.numbers.next x.end.path.discovery f.path.discovery (call_fewer x.policy x.end y.given call a silent) before in
-      subst (λ (n : ℕ). IsProbed (x.sents ++ sents_by x.end call a) n f.path.discovery) (sym next)
+      subst (λ (n : ℕ). IsProbed (x.sents ++ sents_by x.policy x.end call a) n f.path.discovery) (sym next)
       (subst (λ (ss : List Sent). IsProbed (x.sents ++ ss) x.end.numbers.next f.path.discovery) (sym unsent) (rw (append-nil x.sents) known))
 
   -- a poll
@@ -275,11 +296,11 @@ module _ (B : Way) (packets : (x y : Party) → B x y → PacketsHold x y) where
       let here = packets x y c.gives in
       let there = packets (called x y.given (calls.Poll now) a) y c.gives_behind in
       let said = poll_answer x.policy x.end now a c.answer c.served in
-      let sents : List Sent = x.sents ++ sent_if (gave (answers.Poll (polled x.policy x.end now).answer)) (sent_by x.end now) in
-      let same : x.sents ++ sents_by x.end (calls.Poll now) a ≡ sents = ap (λ (b : Answer). x.sents ++ sent_if (gave b) (sent_by x.end now)) said in
+      let sents : List Sent = x.sents ++ sent_if (gave (answers.Poll (polled x.policy x.end now).answer)) (sent_by x.policy x.end now) in
+      let same : x.sents ++ sents_by x.policy x.end (calls.Poll now) a ≡ sents = ap (λ (b : Answer). x.sents ++ sent_if (gave b) (sent_by x.policy x.end now)) said in
       let f : End = (polled x.policy x.end now).end in
       subst (λ (ss : List Sent). IsProbed ss f.numbers.next f.path.discovery) (sym same)
-      (polled_knows x.policy x.end now x.sents (has_room x y here c.joined.y_long) here.sized here.gives.below (i (was_open x.policy x.end y.given (calls.Poll now) a opened)) opened
+      (polled_knows x.policy x.end now x.sents (has_room x y here) here.sized here.gives.below (i (was_open x.policy x.end y.given (calls.Poll now) a opened)) opened
       (subst (λ (ss : List Sent). (s : Sent) → In s ss → s.number < f.numbers.next) same there.gives.below))
 
   probes_on : (x y : Party) (call : Call) (a : Answer) → Calls B x y call a → KnowsProbe x y → KnowsProbe (called x y.given call a) y

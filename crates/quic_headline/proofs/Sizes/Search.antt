@@ -1,4 +1,5 @@
--- What each step of a search for a size leaves: the probe that is open, the size to which a black hole makes it fall, and the size itself.
+-- What each step of a search for a size leaves: the probe that is open, the size to which a black
+-- hole makes it fall, and the size itself.
 use Rattle.std.proofs.Common.{◌≡◌, ◌⊎◌, ℕ, cond, Bool, true, false, [], ◌∷◌, Option, Some, None, inl, inr, refl, sym, ap, ◌∙◌}
 use Rattle.std.specs.Prelude.{◌==◌}
 use Rattle.std.specs.Option.{option_map, option_and_then}
@@ -80,7 +81,8 @@ lost_fewer now lost d n size is = all_fewer (of_search.open_probe d) lost d n si
     asked [] is = is
     asked (p ∷ ps) is = asked_fewer now (with_lost lost d) n size is
 
--- it is asked for a size: the probe that is open behind was open before, or it is the one that it names, under the number that was handed in
+-- it is asked for a size: the probe that is open behind was open before, or it is the one that it
+-- names, under the number that was handed in
 pub polled_fewer : (now number : ℕ) (d : Discovery) (n size : ℕ) → acknowledged_probe n (after_poll now number d) ≡ Some size → (acknowledged_probe n d ≡ Some size) ⊎ ((n ≡ number) × (poll_names now d ≡ Some size))
 polled_fewer now number d n size is = plan_case d.plan is
   where

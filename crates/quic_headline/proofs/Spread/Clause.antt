@@ -1,14 +1,12 @@
--- At each place of an honest run the pacer of an open end is that which the run's lists say; and so polls hold to it.
-use Rattle.std.proofs.Common.{◌≡◌, ℕ, zero, suc, ◌<◌, ◌≤◌, Bool, true, false, List, [], ◌∷◌, ◌++◌, length, take, Option, Some, None, Ok, refl, sym, ap, ◌∙◌, subst, ◌⊎◌, inl, inr, arith}
+-- At each place of an honest run the pacer of an open end is that which the run's lists say; and so
+-- polls hold to it.
+use Rattle.std.proofs.Common.{◌≡◌, ℕ, zero, suc, ◌<◌, ◌≤◌, true, false, ◌||◌, List, [], ◌∷◌, length, Option, Some, None, refl, sym, ap, ◌∙◌, ◌⊎◌, inl, inr, arith}
 use Rattle.std.specs.Prelude.{slice_get}
-use Rattle.std.proofs.lemmas.Bool.{both_ways}
 use Rattle.std.proofs.lemmas.Option.{slice_get_within}
 use Rattle.quic_wire_core.specs.declared.stream_id.Side.{Side}
 use Rattle.quic_wire_core.specs.declared.stream_id.Side.TheVariants.{Client, Server}
 use Rattle.quic_wire_core.specs.StreamId.{other_side}
 use Rattle.quic_congestion.specs.Pacer.{Pacing, Ask, pacing_after}
-use Rattle.quic_spaces.specs.Marks.{is_congested}
-use Rattle.quic_machine.specs.declared.answers.State.{State}
 use Rattle.quic_machine.specs.declared.answers.State.TheVariants as states
 use Rattle.quic_machine.specs.declared.run.RunEvent.{RunEvent}
 use Rattle.quic_machine.specs.declared.run.Call.{Call}
@@ -18,32 +16,31 @@ use Rattle.quic_machine.specs.declared.run.Answer.TheVariants as answers
 use Rattle.quic_machine.specs.declared.run.EndView.{EndView}
 use Rattle.quic_machine.specs.declared.run.View.{View}
 use Rattle.quic_machine.specs.Policy.{Policy}
-use Rattle.quic_machine.specs.Opens.{own_id_length}
 use Rattle.quic_machine.specs.Closing.{ticked}
-use Rattle.quic_machine.specs.End.{End, with_closing, with_window}
-use Rattle.quic_machine.specs.Control.{paced_until}
+use Rattle.quic_machine.specs.End.{End, with_closing}
 use Rattle.quic_machine.specs.Timeouts.{loss_judged}
-use Rattle.quic_machine.specs.Poll.{Polled, message_waits, polled}
-use Rattle.quic_machine.specs.FrameCases.{Settling, Receives, named, acked_keeps, losses_keep, frame_keeps, frame_leaves, apart_leaves, by_received}
-use Rattle.quic_machine.specs.LeaveCases.{Expired, by_timers}
-use Rattle.quic_machine.specs.LeaveCases as expiring
+use Rattle.quic_machine.specs.Poll.{message_waits, polled}
+use Rattle.quic_machine.specs.FrameCases.{Settling, Receives, named, acked_keeps, losses_keep, frame_keeps, frame_leaves, by_received, apart_leaves}
 use Rattle.quic_machine.specs.Steps as steps
 use Rattle.quic_machine.specs.CallCases.{Plain, is_poll, by_plain_call}
 use Rattle.quic_machine.specs.CallCases as cases
-use Rattle.quic_machine.specs.Machine.{World, after_call, reads_window, end_at, control_at, given_by, policy_at, gave, view_of}
+use Rattle.quic_machine.specs.Machine.{World, after_call, end_at, given_by, policy_at, gave}
 use Rattle.quic_machine.specs.RunLaws.{as_many_views}
-use Rattle.quic_headline.specs.Runs.{Run, In, same_side, state_in, given_of, folded, until, LeadsTo, AreServed}
-use Rattle.quic_headline.specs.Observer.{Sent, Watch, first_watch, watch, lens_of, sents_until}
-use Rattle.quic_headline.specs.Headline.{IsHonest, IsRun, IsAt}
-use Rattle.quic_headline.specs.Polls.{pacing_timer, bytes_flying, seen_of, seen_at, pacing_at, pacer_names, PacingBehind, IsMade, GaveNothing, GaveAsking, IsFull, IsPaced, IsHeldBack, IsToGo, IsSizeProbe, AreLetting}
+use Rattle.quic_machine.specs.LeaveCases.{by_timers, Expired}
+use Rattle.quic_machine.specs.LeaveCases as expiring
+use Rattle.quic_headline.specs.Runs.{Run, In, same_side, LeadsTo, AreServed}
+use Rattle.quic_headline.specs.Observer.{Watch, watch}
+use Rattle.quic_headline.specs.Headline.{IsHonest, IsRun}
+use Rattle.quic_headline.specs.Polls.{pacing_timer, seen_of, seen_at, pacing_at, pacer_names, IsMade, GaveNothing, GaveAsking, IsFull, IsHeldBack, IsLimited, IsToGo, IsSizeProbe}
 use Rattle.quic_headline.specs.Telling.{bytes_asking}
-use Rattle.quic_headline.specs.Waited.{Wants, wants_told, no_wants, wants}
-use Rattle.quic_headline.specs.Spread.{gone_at, ask_at, names_for, paces_by, paces_in, paces_at, pacer_at, named_at, HoldsToPacer, HoldsBy, PacerIsOfHistory}
-use Rattle.quic_headline.proofs.Packets.Group.{PacketsHold, has_room}
-use Rattle.quic_headline.proofs.Places.Told.{in_append}
-use Rattle.quic_headline.proofs.Places.Parties.{sent_by, sent_if, sents_by, Party, watch_of}
-use Rattle.quic_headline.proofs.Places.Groups.{Way, Nothing, And, Group, both, over}
-use Rattle.quic_headline.proofs.Places.Moments.{last_seen, last_view}
+use Rattle.quic_headline.specs.Waited.{Wants, wants}
+use Rattle.quic_headline.proofs.Packets.Quiet.{HaveHeardNothing}
+use Rattle.quic_headline.specs.Spread.{gone_at, names_for, paces_by, paces_in, paces_at, pacer_at, named_at, HoldsToPacer, HoldsBy, SearchesApart, PacerIsOfHistory}
+use Rattle.quic_headline.proofs.Packets.Apart.{by_waits, by_next_id}
+use Rattle.quic_headline.proofs.Packets.Group.{has_room}
+use Rattle.quic_headline.proofs.Places.Parties.{sent_by, sent_if, sents_by, Party, watch_of, with_shown, shown_at}
+use Rattle.quic_headline.proofs.Places.Groups.{Way, Nothing, And, Group, both, beside, over}
+use Rattle.quic_headline.proofs.Places.Moments.{last_seen}
 use Rattle.quic_headline.proofs.Places.Placed.{party_at}
 use Rattle.quic_headline.proofs.Places.Steps.{poll_answer}
 use Rattle.quic_headline.proofs.Places.Together.{Spells}
@@ -57,17 +54,18 @@ use Rattle.quic_headline.proofs.Held.Messages.{AreShort, short_group, short_wait
 use Rattle.quic_headline.proofs.Held.Clause.{polls_send_what_waits}
 use Rattle.quic_headline.proofs.Messages.Lists.{waiting_is}
 use Rattle.quic_headline.proofs.Rest.Between.{step_leaves}
+use Rattle.quic_headline.proofs.Sizes.Apart.{ProbesApart, apart_group}
 use Rattle.quic_headline.proofs.Sizes.Moves.{did_there}
 use Rattle.quic_headline.proofs.Steps.Made.{served_before, made_served, made_end, MadeAt, made_at, polling, PollHolds, poll_holds, observed_poll, sents_more}
-use Rattle.quic_headline.proofs.Steps.Windows.{first_lead}
-use Rattle.quic_headline.proofs.Steps.Pacing.{polled_paces, pacer_sets_its_timer}
+use Rattle.quic_headline.proofs.Steps.Pacing.{names_shown, pacer_sets_its_timer}
 use Rattle.quic_headline.proofs.Tellings.Clause.{view_before}
 use Rattle.quic_headline.proofs.Timers.Still.{was_open}
 use Rattle.quic_headline.proofs.Timers.Watched.{Observed, went_is, timers_behind, open_behind}
 use Rattle.quic_headline.proofs.Waited.Group.{wants_of, Wanting, wanting_group}
-use Rattle.quic_headline.proofs.Spread.Pings.{Pinging, pinging_group}
+use Rattle.quic_headline.proofs.Spread.Pings.{Pinging, ObservedWanting, pinging_group}
 use Rattle.quic_headline.proofs.Spread.Gates.{ask, names}
 use Rattle.quic_headline.proofs.Spread.Polls.{Knows, asked_alike, polled_spread}
+use Rattle.quic_headline.proofs.Packets.Heard.{by_taken}
 
 -- ---- any call but a poll
 
@@ -86,42 +84,52 @@ receives_same e = record {
   frame = frame_keeps (SamePacer e) (record {
     ack = λ rises a x i. acked_keeps (SamePacer e) (settling e) rises a (named a x) i;
     on_streams = λ f x on i. frame_leaves (SamePacer e) f x on (λ t. i);
-    apart = λ f x is i. apart_leaves (SamePacer e) f x is (λ c. i);
+    apart = λ f x is i. apart_leaves (SamePacer e) f x is (λ c. i) (λ c most. i);
     message = λ m x i. i;
   });
-  takes = λ n asks mark x i. i;
+  takes = λ n asks mark x i. by_taken (SamePacer e) n asks mark x (λ idle alive. i);
   closes = λ reason x i. i;
+  drains = λ close x i. i;
+  asks_close = λ x i. i;
+  exhausts = λ now x i. i;
+  draws = λ words x i. i;
 }
 
 judged_same : (e : End) (moment : Option ℕ) (x : End) → SamePacer e x → SamePacer e (loss_judged moment x)
 judged_same e None x i = i
 judged_same e (Some moment) x i = losses_keep (SamePacer e) (settling e) x i
 
-expires_same : (e : End) (s : Expired) (x : End) → SamePacer e x → SamePacer e (expiring.after s x)
-expires_same e expiring.of_acks x i = i
-expires_same e s x i = i
-
 pacer_stays : (p : Policy) (e : End) (theirs : List (List ℕ)) (call : Call) (a : Answer) → is_poll call ≡ false → SamePacer e (after_call p e theirs call a)
 pacer_stays p e theirs call a other = by_plain_call p e theirs (SamePacer e) call a keep
   where
+    each : (s : Expired) (x : End) → SamePacer e x → SamePacer e (expiring.after s x)
+    each expiring.of_acks x i = i
+    each s x i = i
+
     keep : Plain p e call (SamePacer e)
-    keep (cases.times now expiry) may = by_timers (SamePacer e) (SamePacer e) (judged_same e) (expires_same e) (λ f j. j) expiry (with_closing e (ticked e.closing now)) refl
+    keep (cases.times now expiry) may = by_timers p.words (SamePacer e) (SamePacer e) (λ o x i. judged_same e o x i) each (λ x i. i) (λ x i. i) expiry (with_closing e (ticked e.closing now)) refl
     keep (cases.polls now) is = cc
     keep (cases.hears arrival d) may = by_received (SamePacer e) (receives_same e) p e arrival d refl
+    keep (cases.closes reason f now) may = refl
+    keep (cases.waits now b) may = by_waits (SamePacer e) b (with_closing e (ticked e.closing now)) refl refl
+    keep (cases.changes_id a) may = by_next_id (SamePacer e) e a refl (λ c. refl) (λ c most. refl)
     keep c may = refl
 
 -- ---- what is known
 
--- all that is known of the packets and the streams, what is wanted, that PING waits where it was asked for, and how long messages are
+-- all that is known of the packets and the streams, what is wanted, that PING waits where it was
+-- asked for, how long messages are, and probes of sizes
 abbrev Known : Way
-Known = And (And (And (everything.All Ready ready) Wanting) Pinging) AreShort
+Known = And (And (And (everything.All Ready ready) Wanting) Pinging) (And AreShort ProbesApart)
 
 known : Group Nothing Known
-known = both Nothing (And (And (everything.All Ready ready) Wanting) Pinging) AreShort
+known = both Nothing (And (And (everything.All Ready ready) Wanting) Pinging) (And AreShort ProbesApart)
     (both Nothing (And (everything.All Ready ready) Wanting) Pinging
     (both Nothing (everything.All Ready ready) Wanting (everything.all Ready ready) (over Observed (And Nothing (everything.All Ready ready)) Wanting (λ x y h. (h.1.0.0, h.1.1)) wanting_group))
-    (over Observed (And Nothing (And (everything.All Ready ready) Wanting)) Pinging (λ x y h. (h.1.0.0.0, h.1.0.1)) pinging_group))
+    (over ObservedWanting (And Nothing (And (everything.All Ready ready) Wanting)) Pinging (λ x y h. ((h.1.0.0.0, h.1.0.1), h.1.1)) pinging_group))
+    (beside (And Nothing (And (And (everything.All Ready ready) Wanting) Pinging)) AreShort ProbesApart
     (short_group (And Nothing (And (And (everything.All Ready ready) Wanting) Pinging)) (λ x y h. h.1.0.0.0.0))
+    (apart_group (And Nothing (And (And (everything.All Ready ready) Wanting) Pinging)) (λ x y h. h.1.0.0.0.0)))
 
 -- what is known of the streams
 abbrev Streams : Way
@@ -130,12 +138,6 @@ Streams = everything.Streams Ready ready
 spells : Spells Streams
 spells = streams_spell (everything.Rest Ready ready) (everything.goes Ready ready)
 
--- two truths that follow from one another are one
-same_truth : (a b : Bool) → (a ≡ true → b ≡ true) → (b ≡ true → a ≡ true) → a ≡ b
-same_truth true b there back = sym (there refl)
-same_truth false true there back = back refl
-same_truth false false there back = refl
-
 -- one that waits is among those that wait
 first_waits : (ms : List (List ℕ)) → 0 < length ms → (m : List ℕ) × In m ms
 first_waits [] some = absurd (omega arith)
@@ -143,10 +145,10 @@ first_waits (m ∷ ms) some = (m, inl refl)
 
 -- ---- a poll
 
-module _ (r : Run) (end : World) (honest : IsHonest r) (run : IsRun r end) where
+module _ (r : Run) (end : World) (honest : IsHonest r) (run : IsRun r end) (quiet : HaveHeardNothing r.start) where
   module _ (i : ℕ) (side : Side) (now : ℕ) (a : Answer) (w next : World) (m : IsMade r i side (calls.Poll now) a w next) (opened : (end_at side w).closing.state ≡ states.Open) where
     abbrev e : End
-    e = with_window (end_at side w) (control_at side w [])
+    e = with_shown (end_at side w) (shown_at side w)
 
     abbrev p : Policy
     p = policy_at side r.keys
@@ -177,8 +179,8 @@ module _ (r : Run) (end : World) (honest : IsHonest r) (run : IsRun r end) where
     seen : seen_at r side i ≡ seen_of side w
     seen = last_seen side r.keys i r.start w r.events r.answers r.views m.leads
 
-    pub knows : Knows r side i e
-    knows =
+    pub knows : SearchesApart r side → Knows r side i e
+    knows apart =
         let flight = h.gives.0.0.0.1.watched.flight opened in
         record {
           probes = ap (λ (v : Watch). v.flight.probes) h.seen ∙ flight.probes;
@@ -186,7 +188,10 @@ module _ (r : Run) (end : World) (honest : IsHonest r) (run : IsRun r end) where
           clock = ap (λ (v : Watch). v.clock) h.seen ∙ flight.tells.clock;
           flying = ap (λ (v : Watch). bytes_asking v.flight.flying) h.seen ∙ sym (bytes_of_end e (watch_of x y).flight.flying h.gives.0.0.0.1.watched.path flight.tells.waits);
           messages = waiting_is r end honest run side i w within was_served m.leads;
-          pinged = ap (λ (v : Wants). v.pinged) wants_is ∙ same_truth (wants_of x y).pinged e.waiting.signals.ping (h.gives.0.1.pinged opened) (h.gives.0.0.1.wanted opened).pinged;
+          asked = λ set. h.gives.0.1.pinged opened (sym (ap (λ (v : Wants). v.pinged) wants_is) ∙ set);
+          waits = λ set. ap (λ (v : Wants). v.pinged || v.probed) wants_is ∙ (h.gives.0.0.1.wanted opened).pinged set;
+          sized = h.gives.0.0.0.0.0.sized;
+          apart = h.gives.1.1.apart apart;
           size = ap (λ (u : EndView). u.current_mtu) seen;
           window = ap (λ (u : EndView). u.window) seen;
         }
@@ -195,9 +200,9 @@ module _ (r : Run) (end : World) (honest : IsHonest r) (run : IsRun r end) where
     said = poll_answer p e now a m.step.answer (made_served r i side (calls.Poll now) a w next m)
 
     -- what went is what the end gave
-    went_there : gone_at r side i ≡ sent_if (gave (answers.Poll (polled p e now).answer)) (sent_by e now)
+    went_there : gone_at r side i ≡ sent_if (gave (answers.Poll (polled p e now).answer)) (sent_by p e now)
     went_there =
-        went_is (watch r side i) (watch r side (suc i)) (sents_by e (calls.Poll now) a) (sents_more r i side now a w (observed_poll Streams r i side now a w (record {
+        went_is (watch r side i) (watch r side (suc i)) (sents_by p e (calls.Poll now) a) (sents_more r i side now a w (observed_poll Streams r i side now a w (record {
           sents = h.sents;
           theirs = h.theirs;
           joined = h.joined;
@@ -207,7 +212,7 @@ module _ (r : Run) (end : World) (honest : IsHonest r) (run : IsRun r end) where
           seen = h.seen;
           seen_behind = h.seen_behind;
         })))
-        ∙ ap (λ (b : Answer). sent_if (gave b) (sent_by e now)) said
+        ∙ ap (λ (b : Answer). sent_if (gave b) (sent_by p e now)) said
 
     left : end_at side next ≡ (polled p e now).end
     left = made_end r i side (calls.Poll now) a w next m
@@ -217,13 +222,13 @@ module _ (r : Run) (end : World) (honest : IsHonest r) (run : IsRun r end) where
     message_fits some =
         let one = first_waits e.messages.queues.outgoing some in
         let packets = h.gives.0.0.0.0.0 in
-        short_waits e one.0 (has_room x y packets h.joined.y_long) (ap (λ (own : List ℕ). length own) packets.active ∙ h.joined.y_long) h.gives.1.short one.1
+        short_waits e one.0 (has_room x y packets) packets.long.peer.used h.gives.1.0.short one.1
 
     -- so the pacer behind it is that of the lists, if it was before
-    pub poll_spread : (v : View) → LeadsTo r (suc i) next → slice_get r.views i ≡ Some v → (end_at side next).closing.state ≡ states.Open → (end_at side next).path.pacing ≡ pacing_after (paces_by (calls.Poll now) r side i v) (end_at side w).path.pacing
-    poll_spread v leads there still =
+    pub poll_spread : SearchesApart r side → (v : View) → LeadsTo r (suc i) next → slice_get r.views i ≡ Some v → (end_at side next).closing.state ≡ states.Open → (end_at side next).path.pacing ≡ pacing_after (paces_by (calls.Poll now) r side i v) (end_at side w).path.pacing
+    poll_spread apart v leads there still =
         ap (λ (z : End). z.path.pacing) left
-        ∙ polled_spread spells.known spells.spelling spells.bringing r side i v p e now knows h.takes.0.0.0.0.0.acks (has_room x y h.gives.0.0.0.0.0 h.joined.y_long) (spells.holds x y h.gives.0.0.0.0.0 h.gives.0.0.0.0.1 now) message_fits opened
+        ∙ polled_spread spells.known spells.spelling spells.bringing r side i v p e now (knows apart) h.takes.0.0.0.0.0.acks (has_room x y h.gives.0.0.0.0.0) (spells.holds x y h.gives.0.0.0.0.0 h.gives.0.0.0.0.1) message_fits opened
         (sym (ap (λ (z : End). z.closing.state) left) ∙ still)
         (ap (λ (ts : List (Option ℕ)). slice_get ts 6) (timers_behind r next i v side leads there) ∙ ap (λ (z : End). Some z.timers.pacing) left)
         went_there
@@ -235,56 +240,57 @@ module _ (r : Run) (end : World) (honest : IsHonest r) (run : IsRun r end) where
   Paced side i w = (end_at side w).closing.state ≡ states.Open → (end_at side w).path.pacing ≡ pacer_at r side i
 
   -- a call of its own
-  own_next : (side : Side) (call : Call) (a : Answer) (i : ℕ) (v : View) (w next : World) → IsMade r i side call a w next → LeadsTo r (suc i) next → slice_get r.views i ≡ Some v → Paced side i w → (end_at side next).closing.state ≡ states.Open
+  own_next : (side : Side) (call : Call) (a : Answer) (i : ℕ) (v : View) (w next : World) → SearchesApart r side → IsMade r i side call a w next → LeadsTo r (suc i) next → slice_get r.views i ≡ Some v → Paced side i w → (end_at side next).closing.state ≡ states.Open
       → (end_at side next).path.pacing ≡ pacing_after (paces_by call r side i v) (pacer_at r side i)
-  own_next side (calls.Poll now) a i v w next m leads there before still =
-      let opened : (end_at side w).closing.state ≡ states.Open = was_open (policy_at side r.keys) (with_window (end_at side w) (control_at side w [])) (given_by (other_side side) w) (calls.Poll now) a (sym (ap (λ (z : End). z.closing.state) (made_end r i side (calls.Poll now) a w next m)) ∙ still) in
-      poll_spread i side now a w next m opened v leads there still ∙ ap (λ (q : Pacing). pacing_after (paces_by (calls.Poll now) r side i v) q) (before opened)
-  own_next side call a i v w next m leads there before still =
+  own_next side (calls.Poll now) a i v w next apart m leads there before still =
+      let opened : (end_at side w).closing.state ≡ states.Open = was_open (policy_at side r.keys) (with_shown (end_at side w) (shown_at side w)) (given_by (other_side side) w) (calls.Poll now) a (sym (ap (λ (z : End). z.closing.state) (made_end r i side (calls.Poll now) a w next m)) ∙ still) in
+      poll_spread i side now a w next m opened apart v leads there still ∙ ap (λ (q : Pacing). pacing_after (paces_by (calls.Poll now) r side i v) q) (before opened)
+  own_next side call a i v w next apart m leads there before still =
       let made : end_at side next ≡ after_call (policy_at side r.keys) (end_at side w) (given_by (other_side side) w) call a = made_end r i side call a w next m in
       let opened : (end_at side w).closing.state ≡ states.Open = was_open (policy_at side r.keys) (end_at side w) (given_by (other_side side) w) call a (sym (ap (λ (z : End). z.closing.state) made) ∙ still) in
       ap (λ (z : End). z.path.pacing) made ∙ pacer_stays (policy_at side r.keys) (end_at side w) (given_by (other_side side) w) call a refl ∙ before opened
 
   -- one call more, at either end
-  at_next : (side by : Side) (call : Call) (a : Answer) (i : ℕ) (v : View) (w next : World) → IsMade r i by call a w next → LeadsTo r (suc i) next → slice_get r.views i ≡ Some v → Paced side i w → Paced side (suc i) next
-  at_next side by call a i v w next m leads there before still =
-      go side by call m before still
+  at_next : (side by : Side) (call : Call) (a : Answer) (i : ℕ) (v : View) (w next : World) → SearchesApart r side → IsMade r i by call a w next → LeadsTo r (suc i) next → slice_get r.views i ≡ Some v → Paced side i w → Paced side (suc i) next
+  at_next side by call a i v w next apart m leads there before still =
+      go side by call apart m before still
       ∙ sym (ap (λ (o : Option RunEvent). pacing_after (paces_at o (slice_get r.views i) r side i) (pacer_at r side i)) m.at.event
       ∙ ap (λ (o : Option View). pacing_after (paces_at (Some (record { side = by; call = call })) o r side i) (pacer_at r side i)) there)
     where
-      go : (side by : Side) (call : Call) → IsMade r i by call a w next → Paced side i w → (end_at side next).closing.state ≡ states.Open
+      go : (side by : Side) (call : Call) → SearchesApart r side → IsMade r i by call a w next → Paced side i w → (end_at side next).closing.state ≡ states.Open
           → (end_at side next).path.pacing ≡ pacing_after (paces_in (same_side by side) call r side i v) (pacer_at r side i)
-      go Client Client call m before still = own_next Client call a i v w next m leads there before still
-      go Server Server call m before still = own_next Server call a i v w next m leads there before still
-      go Client Server call m before still =
+      go Client Client call apart m before still = own_next Client call a i v w next apart m leads there before still
+      go Server Server call apart m before still = own_next Server call a i v w next apart m leads there before still
+      go Client Server call apart m before still =
           let stays : next.client ≡ w.client = (step_leaves Client r.keys w next (record { side = Server; call = call }) a refl m.step).end in
           ap (λ (z : End). z.path.pacing) stays ∙ before (sym (ap (λ (z : End). z.closing.state) stays) ∙ still)
-      go Server Client call m before still =
+      go Server Client call apart m before still =
           let stays : next.server ≡ w.server = (step_leaves Server r.keys w next (record { side = Client; call = call }) a refl m.step).end in
           ap (λ (z : End). z.path.pacing) stays ∙ before (sym (ap (λ (z : End). z.closing.state) stays) ∙ still)
 
   -- so it is at each place behind a view
-  behind : (i : ℕ) (side : Side) (v : View) (w : World) → AreServed r (suc i) → slice_get r.views i ≡ Some v → LeadsTo r (suc i) w → ((u : World) → LeadsTo r i u → Paced side i u) → Paced side (suc i) w
-  behind i side v w served there leads before =
+  behind : (i : ℕ) (side : Side) (v : View) (w : World) → SearchesApart r side → AreServed r (suc i) → slice_get r.views i ≡ Some v → LeadsTo r (suc i) w → ((u : World) → LeadsTo r i u → Paced side i u) → Paced side (suc i) w
+  behind i side v w apart served there leads before =
       let did = did_there i r.keys r.start end r.events r.answers r.views v run.follows there in
       let last = last_step r.keys i r.start w r.events r.answers r.views did.event did.answer did.at_event did.at_answer leads in
-      at_next side did.event.side did.event.call did.answer i v last.before w (record { at = record { event = did.at_event; answer = did.at_answer }; leads = last.leads; step = last.step; served = served }) leads there (before last.before last.leads)
+      at_next side did.event.side did.event.call did.answer i v last.before w apart (record { at = record { event = did.at_event; answer = did.at_answer }; leads = last.leads; step = last.step; served = served }) leads there (before last.before last.leads)
 
-  at_place : (i : ℕ) (side : Side) (v : View) (w : World) → AreServed r i → slice_get r.views i ≡ Some v → LeadsTo r i w → Paced side i w
-  at_place zero side v w served there leads = λ opened. ap (λ (u : World). (end_at side u).path.pacing) leads
-  at_place (suc i) side v w served there leads =
+  at_place : (i : ℕ) (side : Side) (v : View) (w : World) → SearchesApart r side → AreServed r i → slice_get r.views i ≡ Some v → LeadsTo r i w → Paced side i w
+  at_place zero side v w apart served there leads = λ opened. ap (λ (u : World). (end_at side u).path.pacing) leads
+  at_place (suc i) side v w apart served there leads =
       let before = view_before i r.views v there in
-      behind i side before.0 w served before.1 leads (λ u leads_there. at_place i side before.0 u (served_before r.answers i served) before.1 leads_there)
+      behind i side before.0 w apart served before.1 leads (λ u leads_there. at_place i side before.0 u apart (served_before r.answers i served) before.1 leads_there)
 
   -- ---- the clause
 
   -- what an end names in a poll is what the lists say that it names
-  names_alike : (i : ℕ) (side : Side) (now : ℕ) (a : Answer) (v : View) (w next : World) → IsMade r i side (calls.Poll now) a w next → slice_get r.views i ≡ Some v → (end_at side w).closing.state ≡ states.Open → pacer_names side w now ≡ named_at r side i now
-  names_alike i side now a v w next m there opened =
-      let e : End = with_window (end_at side w) (control_at side w []) in
-      names e now
-      ∙ ap (λ (q : Pacing). names_for q (ask e now)) (at_place i side v w (served_before r.answers i m.served) there m.leads opened)
-      ∙ ap (λ (x : Ask). names_for (pacer_at r side i) x) (sym (asked_alike r side i e now (knows i side now a w next m opened)))
+  names_alike : (i : ℕ) (side : Side) (now : ℕ) (a : Answer) (v : View) (w next : World) → SearchesApart r side → IsMade r i side (calls.Poll now) a w next → slice_get r.views i ≡ Some v → (end_at side w).closing.state ≡ states.Open → pacer_names side w now ≡ named_at r side i now
+  names_alike i side now a v w next apart m there opened =
+      let e : End = with_shown (end_at side w) (shown_at side w) in
+      sym (names_shown side w now)
+      ∙ names e now
+      ∙ ap (λ (q : Pacing). names_for q (ask e now)) (at_place i side v w apart (served_before r.answers i m.served) there m.leads opened)
+      ∙ ap (λ (x : Ask). names_for (pacer_at r side i) x) (sym (asked_alike r side i e now (knows i side now a w next m opened apart)))
 
   -- the timer in a view
   timer_shown : (i : ℕ) (side : Side) (v : View) (next : World) → LeadsTo r (suc i) next → slice_get r.views i ≡ Some v → pacing_timer v side ≡ Some (pacing_at side next)
@@ -294,9 +300,9 @@ module _ (r : Run) (end : World) (honest : IsHonest r) (run : IsRun r end) where
   timer_before i side w leads = ap (λ (u : EndView). slice_get u.timers 6) (last_seen side r.keys i r.start w r.events r.answers r.views leads)
 
   -- a poll holds to the pacer
-  module _ (i : ℕ) (side : Side) (now : ℕ) (a : Answer) (v : View) (w next : World) (m : IsMade r i side (calls.Poll now) a w next) (leads : LeadsTo r (suc i) next) (there : slice_get r.views i ≡ Some v) (opened : (end_at side w).closing.state ≡ states.Open) where
+  module _ (i : ℕ) (side : Side) (now : ℕ) (a : Answer) (v : View) (w next : World) (apart : SearchesApart r side) (m : IsMade r i side (calls.Poll now) a w next) (leads : LeadsTo r (suc i) next) (there : slice_get r.views i ≡ Some v) (opened : (end_at side w).closing.state ≡ states.Open) where
     alike : pacer_names side w now ≡ named_at r side i now
-    alike = names_alike i side now a v w next m there opened
+    alike = names_alike i side now a v w next apart m there opened
 
     sets : (pacing_timer v side ≡ Some None) ⊎ (pacing_timer v side ≡ Some (named_at r side i now))
     sets = elim (pacer_sets_its_timer r i side (calls.Poll now) a w next m opened) [
@@ -315,20 +321,22 @@ module _ (r : Run) (end : World) (honest : IsHonest r) (run : IsRun r end) where
     one_named moment shown (inl none) = (let clash : ◌≡◌ {A = Option (Option ℕ)} (Some None) (Some (Some moment)) = sym none ∙ shown in cc)
     one_named moment shown (inr set) = (let same : ◌≡◌ {A = Option (Option ℕ)} (Some (named_at r side i now)) (Some (Some moment)) = sym set ∙ shown in cc)
 
-    waits : (id : ℕ) → GaveNothing r side i now v → IsToGo r side (suc i) id → IsFull r side (suc i) v ⊎ ((moment : ℕ) × (named_at r side i now ≡ Some moment) × (pacing_timer v side ≡ Some (Some moment)))
-    waits id gave to_go = elim (polls_send_what_waits r end honest run side i now id v m.served gave to_go) [
-      | inl full ↦ inl full
-      | inr paced ↦ inr (paced.moment, one_named paced.moment paced.shown sets, paced.shown)
-    ]
+    waits : (id : ℕ) → GaveNothing r side i now v → IsToGo r side (suc i) id → IsFull r side (suc i) v ⊎ (((moment : ℕ) × (named_at r side i now ≡ Some moment) × (pacing_timer v side ≡ Some (Some moment))) ⊎ IsLimited r side (suc i) v)
+    waits id gave to_go = go (polls_send_what_waits r end honest run quiet side i now id v m.served gave to_go)
+      where
+        go : IsHeldBack r side (suc i) v ⊎ IsLimited r side (suc i) v → IsFull r side (suc i) v ⊎ (((moment : ℕ) × (named_at r side i now ≡ Some moment) × (pacing_timer v side ≡ Some (Some moment))) ⊎ IsLimited r side (suc i) v)
+        go (inl (inl full)) = inl full
+        go (inl (inr paced)) = inr (inl (paced.moment, one_named paced.moment paced.shown sets, paced.shown))
+        go (inr limited) = inr (inr limited)
 
     pub holds : HoldsToPacer r side i now v
     holds = record { sets = sets; lets = lets; waits = waits }
 
   -- any call does
-  call_holds : (call : Call) (i : ℕ) (side : Side) (a : Answer) (v : View) (w next : World) → IsMade r i side call a w next → LeadsTo r (suc i) next → slice_get r.views i ≡ Some v → (end_at side next).closing.state ≡ states.Open → HoldsBy call r side i v
-  call_holds (calls.Poll now) i side a v w next m leads there still =
-      holds i side now a v w next m leads there (was_open (policy_at side r.keys) (with_window (end_at side w) (control_at side w [])) (given_by (other_side side) w) (calls.Poll now) a (sym (ap (λ (z : End). z.closing.state) (made_end r i side (calls.Poll now) a w next m)) ∙ still))
-  call_holds call i side a v w next m leads there still =
+  call_holds : (call : Call) (i : ℕ) (side : Side) (a : Answer) (v : View) (w next : World) → SearchesApart r side → IsMade r i side call a w next → LeadsTo r (suc i) next → slice_get r.views i ≡ Some v → (end_at side next).closing.state ≡ states.Open → HoldsBy call r side i v
+  call_holds (calls.Poll now) i side a v w next apart m leads there still =
+      holds i side now a v w next apart m leads there (was_open (policy_at side r.keys) (with_shown (end_at side w) (shown_at side w)) (given_by (other_side side) w) (calls.Poll now) a (sym (ap (λ (z : End). z.closing.state) (made_end r i side (calls.Poll now) a w next m)) ∙ still))
+  call_holds call i side a v w next apart m leads there still =
       let opened : (end_at side w).closing.state ≡ states.Open = was_open (policy_at side r.keys) (end_at side w) (given_by (other_side side) w) call a (sym (ap (λ (z : End). z.closing.state) (made_end r i side call a w next m)) ∙ still) in
       elim (pacer_sets_its_timer r i side call a w next m opened) [
         | inl none ↦ inl (timer_shown i side v next leads there ∙ ap (λ (o : Option ℕ). Some o) none)
@@ -336,9 +344,9 @@ module _ (r : Run) (end : World) (honest : IsHonest r) (run : IsRun r end) where
       ]
 
   pub holds_everywhere : PacerIsOfHistory r
-  holds_everywhere side i call a v served at there still =
+  holds_everywhere side i call a v served at there still apart =
       let found : MadeAt r i side call a = made_at Known known r end honest run i side call a at served in
-      call_holds call i side a v found.before found.behind found.made found.leads there (open_behind r found.behind i v side found.leads there still)
+      call_holds call i side a v found.before found.behind apart found.made found.leads there (open_behind r found.behind i v side found.leads there still)
 
-pub pacer_is_of_history : (r : Run) (end : World) → IsHonest r → IsRun r end → PacerIsOfHistory r
-pacer_is_of_history r end honest run = holds_everywhere r end honest run
+pub pacer_is_of_history : (r : Run) (end : World) → IsHonest r → IsRun r end → HaveHeardNothing r.start → PacerIsOfHistory r
+pacer_is_of_history r end honest run quiet = holds_everywhere r end honest run quiet

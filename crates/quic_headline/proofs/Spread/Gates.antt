@@ -1,21 +1,22 @@
--- What an end holds that was made ready to give, by whether window and pacer were asked: its pacer, the timer of it, and whether what goes asks for an acknowledgement.
-use Rattle.std.proofs.Common.{◌≡◌, ℕ, Bool, true, false, Option, Some, None, refl, sym, ap, ◌∙◌, subst, ◌⊎◌, inl, inr}
+-- What an end holds that was made ready to give, by whether window and pacer were asked: its pacer,
+-- the timer of it, and whether what goes asks for an acknowledgement.
+use Rattle.std.proofs.Common.{◌≡◌, ℕ, Bool, true, false, Some, None, refl, sym, ap, ◌∙◌, subst, inl, inr}
 use Rattle.std.specs.Prelude.{max, ◌==◌}
 use Rattle.std.proofs.lemmas.Bool.{and_parts, and_cases, or_cases, or_parts, both_ways, eqb-true, eq-eqb}
-use Rattle.quic_congestion.specs.Pacer.{Pacing, Ask, after_ask, answer_of}
+use Rattle.quic_congestion.specs.Pacer.{Ask, after_ask}
 use Rattle.quic_recovery_core.specs.PendingAcks.{can_send}
 use Rattle.quic_machine.specs.Parts.{Path, current_mtu}
 use Rattle.quic_machine.specs.End.{End}
-use Rattle.quic_machine.specs.Control.{is_window_full, paced_rtt, if_later, paced_until, pacer_asked, with_pacing_timer, Gated, lets, holds}
+use Rattle.quic_machine.specs.Control.{is_window_full, paced_rtt, paced_until, pacer_asked, with_pacing_timer, Gated, lets, holds}
 use Rattle.quic_machine.specs.Sizes.{may_search, search_names, search_asked}
-use Rattle.quic_machine.specs.Poll.{waits, asking, probed, lazied, composed, asks_to_go, is_gated, gated, whole, alone, probe, nothing, Leaving, Ready, leaves, draft_as, draft_of}
+use Rattle.quic_machine.specs.Poll.{waits, asking, probed, lazied, composed, asks_to_go, is_gated, whole, probe, Ready, leaves, leaves_unless, goes, draft_of}
 use Rattle.quic_machine.specs.DraftLaws.{lazy_due}
 use Rattle.quic_machine.specs.PollCases.{ready_at, by_probed, probe_leaves, by_gate, by_leaves}
 use Rattle.quic_headline.specs.Spread.{names_for}
 use Rattle.quic_headline.proofs.Packets.Invariant.{Acks}
 use Rattle.quic_headline.proofs.Steps.Probes.{begun}
 use Rattle.quic_headline.proofs.Steps.Idle.{mute_composed}
-use Rattle.quic_headline.proofs.Steps.Probing.{IsProbing, unprobed, probe_goes}
+use Rattle.quic_headline.proofs.Steps.Probing.{IsProbing, unprobed}
 
 -- what the pacer of an end is asked in a poll at a moment
 abbrev pub ask : End → ℕ → Ask
@@ -29,8 +30,11 @@ pub data IsReadied (e : End) (now : ℕ) (g : Ready) : Type 0 where
   passes : names_for e.path.pacing (ask e now) ≡ None → e.tracking.probes ≡ 0 → is_window_full e ≡ false → asks_to_go e ≡ true → g ≡ record { leaving = whole; end = pacer_asked (begun e now) } → IsReadied e now g
   -- the window is full
   full : g.end.timers.pacing ≡ None → g.end.path.pacing ≡ e.path.pacing → e.tracking.probes ≡ 0 → is_window_full e ≡ true → asking (draft_of g).frames ≡ false → IsReadied e now g
-  -- neither was asked: a probe of losses waits, or nothing that asks; then what asks is a probe of a size
+  -- neither was asked: a probe of losses waits, or nothing that asks; then what asks is a probe of
+  -- a size
   free : g.end.timers.pacing ≡ None → g.end.path.pacing ≡ e.path.pacing → (e.tracking.probes ≡ 0 → (asks_to_go e ≡ false) × (asking (draft_of g).frames ≡ true → IsProbing (begun e now) g)) → IsReadied e now g
+  -- nothing more may go to an address that isn't validated
+  limited : g.end.timers.pacing ≡ None → g.end.path.pacing ≡ e.path.pacing → goes g ≡ false → IsReadied e now g
 
 module _ (e : End) (now : ℕ) where
   -- the end that asks
@@ -140,9 +144,13 @@ module _ (e : End) (now : ℕ) where
       found none size idle may named = subst (λ (z : End). IsProbing z (record { leaving = probe size; end = search_asked x })) (unprobed (begun e now) none) (record { size = size; is = refl; idle = idle; may = may; named = named })
 
   pub readied : Acks e.acknowledging e.marks.came → IsReadied e now (ready_at e now)
-  readied acks = by_gate x (λ (f : Gated). IsReadied e now (leaves f)) (record {
-    free = λ gate. when_free acks gate;
-    full = λ gate is. when_full gate is;
-    lets = λ gate room until. when_let gate room until;
-    holds = λ moment gate room until. when_held moment gate until;
-  })
+  readied acks = go x.path.blocked
+    where
+      go : (b : Bool) → IsReadied e now (leaves_unless b x)
+      go true = limited stops (ap (λ (p : Path). p.pacing) same_path) refl
+      go false = by_gate x (λ (f : Gated). IsReadied e now (leaves f)) (record {
+        free = λ gate. when_free acks gate;
+        full = λ gate is. when_full gate is;
+        lets = λ gate room until. when_let gate room until;
+        holds = λ moment gate room until. when_held moment gate until;
+      })

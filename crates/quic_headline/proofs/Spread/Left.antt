@@ -1,11 +1,12 @@
--- Where something waits that asks, and what is composed of it doesn't ask, a message waits: it had no room beside an ACK frame.
-use Rattle.std.proofs.Common.{◌≡◌, ℕ, ◌+◌, ◌-◌, ◌<◌, ◌≤◌, Bool, true, false, ◌||◌, List, [], ◌∷◌, ◌++◌, length, map, refl, sym, ap, ◌∙◌, subst, ◌⊎◌, inl, inr, arith}
+-- Where something waits that asks, and what is composed of it doesn't ask, a message waits: it had
+-- no room beside an ACK frame.
+use Rattle.std.proofs.Common.{◌≡◌, ◌+◌, ◌<◌, ◌≤◌, Bool, true, false, ◌||◌, List, [], ◌∷◌, length, map, refl, sym, ◌∙◌, subst, ◌⊎◌, inl, inr, arith}
 use Rattle.std.specs.Prelude.{not}
 use Rattle.std.specs.List.{list_any}
 use Rattle.std.proofs.lemmas.Bool.{or_cases, or_left, or_right, and_parts, both_ways}
 use Rattle.std.proofs.lemmas.List.Folds.{list_any-append}
 use Rattle.quic_wire_core.specs.Law.{length-shortest, varint_size_le}
-use Rattle.quic_wire.specs.Value.{StreamValue, ack, stream, datagram, ping, asks}
+use Rattle.quic_wire.specs.Value.{StreamValue, ack, stream, datagram, asks}
 use Rattle.quic_wire.specs.AckGrammar.{AckFits}
 use Rattle.quic_wire.specs.Writing.{width_of, spelling}
 use Rattle.quic_wire.proofs.AckSet.{set_length}
@@ -13,23 +14,21 @@ use Rattle.quic_wire.proofs.FrameRange.{size_most}
 use Rattle.quic_wire.proofs.FrameWritten.{spelling_length}
 use Rattle.quic_recovery_core.specs.PendingAcks.{most_ack_runs, can_send, is_filled}
 use Rattle.quic_retransmits.specs.declared.retransmits.ControlKind.{ControlKind}
-use Rattle.quic_streams_parts.specs.Queue.{first_queued}
-use Rattle.quic_streams_parts.specs.Table.{at}
-use Rattle.quic_streams_state.specs.declared.state.StreamsState.{StreamsState}
 use Rattle.quic_streams_state.specs.State.{Streams}
 use Rattle.quic_streams_state.specs.Waiting.{is_empty, can_send_stream_data}
 use Rattle.quic_streams_state.specs.Frames as of_streams
 use Rattle.quic_streams_state.specs.Frames.{Sent}
+use Rattle.quic_machine.specs.Parts.{signals_wait}
 use Rattle.quic_machine.specs.End.{End, streams_at}
-use Rattle.quic_machine.specs.Poll.{Draft, no_frames, frame_room, left, no_stream_frames, with_signal_frames, ping_if, with_control_frames, with_message_frames, with_stream_frames, with_asking, ack_of, with_ack, composed_if, composed, lazied, asking, message_waits, asks_to_go, waits}
-use Rattle.quic_machine.specs.DraftLaws.{HasRoom, drops_of, entry_of, half_of, message_of, room_most, by_entries, by_messages, by_streams}
+use Rattle.quic_machine.specs.Poll.{Draft, no_frames, frame_room, left, no_stream_frames, with_signal_frames, with_control_frames, with_message_frames, with_stream_frames, with_asking, ack_of, with_ack, composed_if, composed, lazied, asking, message_waits, asks_to_go}
+use Rattle.quic_machine.specs.DraftLaws.{HasRoom, signal_asks, half_of, room_most, by_signals, by_entries, by_messages, by_streams}
 use Rattle.quic_machine.specs.Puts.{without_entry}
 use Rattle.quic_headline.proofs.Packets.Invariant.{Acks}
 use Rattle.quic_headline.proofs.Packets.Entries.{control_of}
 use Rattle.quic_headline.proofs.Packets.Composed.{Spelling, ack_form}
 use Rattle.quic_headline.proofs.Packets.Going.{Bringing, BringsFirst, first_goes}
 use Rattle.quic_headline.proofs.Steps.Moved.{has_probe}
-use Rattle.quic_headline.proofs.Steps.Probes.{Asks, still_asks, last_asks, asks_stay, control_asks, composed_asks}
+use Rattle.quic_headline.proofs.Steps.Probes.{Asks, last_asks, asks_stay, control_asks, composed_asks}
 use Rattle.quic_headline.proofs.Waited.Drafts.{composed_asking}
 
 -- ---- a frame of a stream
@@ -72,17 +71,17 @@ AsksOrBare d x = Asks x ⊎ IsBare d x
 -- so it is behind what goes but for the bytes of streams
 before_streams : (d : Draft) → AsksOrBare d (with_message_frames (with_control_frames (with_signal_frames d)))
 before_streams d = by_messages (AsksOrBare d) (λ x m ms is fit before. inl (last_asks x (datagram m) refl)) (with_control_frames (with_signal_frames d))
-    (by_entries (AsksOrBare d) drops (λ x kind f is before. inl (last_asks x f (control_asks f (control_of f kind is.of_kind)))) (with_signal_frames d) (pinged d.end.waiting.signals.ping))
+    (by_entries (AsksOrBare d) drops (λ x kind f is before. inl (last_asks x f (control_asks f (control_of f kind is.of_kind)))) (with_signal_frames d) signals)
   where
     drops : (x : Draft) (kind : ControlKind) → AsksOrBare d x → AsksOrBare d (without_entry x kind)
     drops x kind (inl is) = inl is
     drops x kind (inr b) = inr (record { bytes = b.bytes; room = b.room; streams = b.streams })
 
-    pinged : (b : Bool) → AsksOrBare d (ping_if b d)
-    pinged true = inl (last_asks d ping refl)
-    pinged false = inr (record { bytes = refl; room = refl; streams = refl })
+    signals : AsksOrBare d (with_signal_frames d)
+    signals = by_signals (AsksOrBare d) (λ x f left is before. inl (last_asks x f (signal_asks f is))) d (inr (record { bytes = refl; room = refl; streams = refl }))
 
--- where a stream has something to send, and there is room for a frame of it, something goes that asks
+-- where a stream has something to send, and there is room for a frame of it, something goes that
+-- asks
 with_asking_asks : (d : Draft) → length d.bytes + 33 ≤ frame_room d.end → BringsFirst d.end.streams → Asks (with_asking d)
 with_asking_asks d room b = go (before_streams d)
   where
@@ -116,10 +115,10 @@ module _ (K : Streams → Type 0) (k : Spelling K) (c : Bringing K) where
           (with_asking_asks (with_ack (no_frames (lazied e))) (ack_spares (lazied e) (record { runs = acks.runs; small = acks.small; counts = acks.counts }) filled (room_most (lazied e) short)) b)
 
       by_kind : can_send (lazied e).acknowledging ≡ true → message_waits e ≡ true
-      by_kind due = elim (or_cases e.waiting.signals.ping (not (is_empty e.waiting.frames e.streams) || (message_waits e || can_send_stream_data e.streams)) wants) [
-        | inl pinged ↦ probes (or_left e.waiting.signals.ping (not (is_empty e.waiting.frames e.streams)) pinged)
+      by_kind due = elim (or_cases (signals_wait e.waiting.signals) (not (is_empty e.waiting.frames e.streams) || (message_waits e || can_send_stream_data e.streams)) wants) [
+        | inl pinged ↦ probes (or_left (signals_wait e.waiting.signals) (not (is_empty e.waiting.frames e.streams)) pinged)
         | inr more ↦ elim (or_cases (not (is_empty e.waiting.frames e.streams)) (message_waits e || can_send_stream_data e.streams) more) [
-          | inl some ↦ probes (or_right e.waiting.signals.ping (not (is_empty e.waiting.frames e.streams)) some)
+          | inl some ↦ probes (or_right (signals_wait e.waiting.signals) (not (is_empty e.waiting.frames e.streams)) some)
           | inr others ↦ elim (or_cases (message_waits e) (can_send_stream_data e.streams) others) [
             | inl some ↦ some
             | inr queued ↦ never (behind_ack due (c.queued (streams_at e) i queued))

@@ -1,5 +1,6 @@
--- What asks for an acknowledgement goes, where no probe of losses waits, only where the window has room for it and the pacer names no later moment (RFC 9002, sections 7 and
--- 7.7), or as a probe of a size.
+-- What asks for an acknowledgement goes, where no probe of losses waits, only where the window has
+-- room for it and the pacer names no later moment (RFC 9002, sections 7 and 7.7), or as a probe of
+-- a size.
 use Rattle.std.proofs.Common.{◌≡◌, ℕ, ◌+◌, ◌<◌, [], Bool, true, false, Some, None, Ok, refl, sym, ap, ◌∙◌, subst, ◌⊎◌, inl, inr}
 use Rattle.std.specs.Prelude.{◌==◌}
 use Rattle.std.proofs.lemmas.Bool.{leb-false, eq-eqb, and_cases, or_cases, both_ways}
@@ -8,10 +9,10 @@ use Rattle.quic_machine.specs.declared.run.Call.TheVariants as calls
 use Rattle.quic_machine.specs.declared.run.Answer.TheVariants as answers
 use Rattle.quic_machine.specs.declared.run.EndView.{EndView}
 use Rattle.quic_machine.specs.Parts.{current_mtu}
-use Rattle.quic_machine.specs.End.{End, with_window}
+use Rattle.quic_machine.specs.End.{End}
 use Rattle.quic_machine.specs.Control.{bytes_in_flight, paced_until, pacer_asked, with_pacing_timer, Gated, lets, holds}
-use Rattle.quic_machine.specs.Poll.{waits, asking, probed, lazied, composed, asks_to_go, is_gated, gated, Ready, leaves, goes, draft_of}
-use Rattle.quic_machine.specs.Machine.{World, end_at, control_at}
+use Rattle.quic_machine.specs.Poll.{zeros_behind, waits, asking, probed, lazied, composed, asks_to_go, is_gated, gated, Ready, leaves, leaves_unless, goes, draft_of, polled}
+use Rattle.quic_machine.specs.Machine.{World, end_at, control_at, policy_at}
 use Rattle.quic_machine.specs.DraftLaws.{lazy_due}
 use Rattle.quic_machine.specs.PollCases.{ready_at, draft_at, by_gate, by_leaves}
 use Rattle.quic_headline.specs.Runs.{Run}
@@ -26,9 +27,11 @@ use Rattle.quic_headline.proofs.Places.Groups.{Way, Nothing, And, Group}
 use Rattle.quic_headline.proofs.Steps.Made.{one_behind, served_before, made_at}
 use Rattle.quic_headline.proofs.Steps.Probes.{begun}
 use Rattle.quic_headline.proofs.Steps.Idle.{mute_composed}
-use Rattle.quic_headline.proofs.Steps.Probing.{IsProbing, unprobed}
+use Rattle.quic_headline.proofs.Steps.Pacing.{names_shown}
+use Rattle.quic_headline.proofs.Steps.Probing.{IsGiving, IsProbing, unprobed}
 use Rattle.quic_headline.proofs.Steps.Probing as probing
 use Rattle.quic_wire_core.specs.declared.stream_id.Side.{Side}
+use Rattle.quic_headline.proofs.Places.Parties.{with_shown, shown_at}
 
 -- ---- window and pacer
 
@@ -86,19 +89,28 @@ let_go e acks none = by_gate e (λ (g : Gated). Goes (leaves g)) (record {
       probes = λ size free idle may named some asks. inr (record { size = size; is = refl; idle = idle; may = may; named = named });
     })
 
+-- so it is where nothing more may go to an address that isn't validated: nothing goes
+let_leave : (e : End) → Acks e.acknowledging e.marks.came → e.tracking.probes ≡ 0 → (b : Bool) → goes (leaves_unless b e) ≡ true → asking (draft_of (leaves_unless b e)).frames ≡ true → IsLet e ⊎ IsProbing e (leaves_unless b e)
+let_leave e acks none true = λ some asks. cc
+let_leave e acks none false = let_go e acks none
+
 -- ---- the clause
 
 module _ (H : Way) (g : Group Nothing (And (And PacketsHold H) Sight)) (r : Run) (end : World) (honest : IsHonest r) (run : IsRun r end) where
   module _ (side : Side) (i now : ℕ) (gave : GaveAsking r side i now) (w next : World) (m : IsMade r i side (calls.Poll now) (answers.Poll (Ok (Some gave.one.transmit))) w next) (none : (watch r side i).flight.probes ≡ 0) where
     abbrev e : End
-    e = with_window (end_at side w) (control_at side w [])
+    e = with_shown (end_at side w) (shown_at side w)
+
+    -- it is no close
+    gives : IsGiving (policy_at side r.keys) e now gave.one.transmit (polled (policy_at side r.keys) e now).end gave.one.sent
+    gives = probing.asking_gives H g r end honest run side i now gave.one w next m gave.asks
 
     asks : asking (draft_at e now).frames ≡ true
-    asks = sym (asking_padded (draft_at e now).frames _) ∙ ap (λ (s : Sent). asks_of s) (probing.same H g r end honest run side i now gave.one w next m) ∙ gave.asks
+    asks = sym (asking_padded (draft_at e now).frames (zeros_behind (draft_at e now))) ∙ ap (λ (s : Sent). asks_of s) (sym gives.sent) ∙ gave.asks
 
     -- the end has no probe of losses that waits, so that nothing changes for one
     no_probe : e.tracking.probes ≡ 0
-    no_probe = sym (probing.probes H g r end honest run side i now gave.one w next m) ∙ none
+    no_probe = sym (probing.probes H g r end honest run side i now gave.one w next m gives) ∙ none
 
     quiet : probed (begun e now) ≡ begun e now
     quiet = unprobed (begun e now) no_probe
@@ -108,22 +120,22 @@ module _ (H : Way) (g : Group Nothing (And (And PacketsHold H) Sight)) (r : Run)
 
     free : IsLet (begun e now) ⊎ IsProbing (begun e now) (ready_at e now)
     free = subst (λ (z : End). IsLet z ⊎ IsProbing z (ready_at e now)) quiet
-        (let_go (probed (begun e now)) (subst (λ (z : End). Acks z.acknowledging z.marks.came) (sym quiet) (record { runs = acks.runs; small = acks.small; counts = acks.counts })) (ap (λ (z : End). z.tracking.probes) quiet ∙ no_probe) (probing.gives H g r end honest run side i now gave.one w next m).some asks)
+        (let_leave (probed (begun e now)) (subst (λ (z : End). Acks z.acknowledging z.marks.came) (sym quiet) (record { runs = acks.runs; small = acks.small; counts = acks.counts })) (ap (λ (z : End). z.tracking.probes) quiet ∙ no_probe) (probed (begun e now)).path.blocked gives.some asks)
 
     -- what lets the end give it, is seen before
     lets_it : IsLet (begun e now) → AreLetting r side i now
     lets_it is = record {
       room = subst (λ (u : EndView). bytes_flying r side i + u.current_mtu < u.window) (sym (probing.seen H g r end honest run side i now gave.one w next m))
-          (subst (λ (n : ℕ). n + current_mtu (end_at side w).path < control_at side w []) (probing.flight H g r end honest run side i now gave.one w next m) is.room);
-      unpaced = λ v leads. subst (λ (x : World). pacer_names side x now ≡ None) (one_behind r i w v (served_before r.answers i gave.one.served) m.leads leads) (ap (λ (z : End). paced_until z) quiet ∙ is.unpaced);
+          (subst (λ (n : ℕ). n + current_mtu (end_at side w).path < control_at side w []) (probing.flight H g r end honest run side i now gave.one w next m gives) is.room);
+      unpaced = λ v leads. subst (λ (x : World). pacer_names side x now ≡ None) (one_behind r i w v (served_before r.answers i gave.one.served) m.leads leads) (sym (names_shown side w now) ∙ ap (λ (z : End). paced_until z) quiet ∙ is.unpaced);
     }
 
-  -- where no probe of losses waits, what asks goes only where the window has room for it beside what is in flight and the pacer names no later moment, or as a probe of a
-  -- size
+  -- where no probe of losses waits, what asks goes only where the window has room for it beside
+  -- what is in flight and the pacer names no later moment, or as a probe of a size
   pub asking_goes_where_let : AskingGoesWhereLet r
   asking_goes_where_let side i now gave none =
       let at = made_at (And (And PacketsHold H) Sight) g r end honest run i side (calls.Poll now) (answers.Poll (Ok (Some gave.one.transmit))) gave.one.poll gave.one.served in
       elim (free side i now gave at.before at.behind at.made none) [
         | inl is ↦ inl (lets_it side i now gave at.before at.behind at.made none is)
-        | inr is ↦ inr (probing.is_probe H g r end honest run side i now gave.one at.before at.behind at.made is at.leads)
+        | inr is ↦ inr (probing.is_probe H g r end honest run side i now gave.one at.before at.behind at.made (gives side i now gave at.before at.behind at.made none) is at.leads)
       ]

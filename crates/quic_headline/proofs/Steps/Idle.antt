@@ -60,7 +60,8 @@ none_first kind p s n f first = go (waiting kind p) refl first
 
 -- ---- drafts that don't ask
 
--- No frame of a draft asks, those that it has leave no room for the oldest message of an end, and nothing else waits that would go.
+-- No frame of a draft asks, those that it has leave no room for the oldest message of an end, and
+-- nothing else waits that would go.
 record IsMute (e : End) (d : Draft) : Type 0 where
   asks : asking d.frames ≡ false
   long : 3 ≤ length d.bytes
@@ -126,7 +127,7 @@ room_more e =
     let between : ℕ = number_of e - cut_against e.numbers in
     go (nat_lt (2 * between) 256) (nat_lt (2 * between) 65536) (nat_lt (2 * between) 16777216)
   where
-    go : (a b c : Bool) → current_mtu e.path - (1 + length e.ids.active.id + (if a then 1 else (if b then 2 else (if c then 3 else 4))) + 16) ≤ least_room e + 3
+    go : (a b c : Bool) → current_mtu e.path - (1 + length e.ids.peer.id + (if a then 1 else (if b then 2 else (if c then 3 else 4))) + 16) ≤ least_room e + 3
     go true b c = omega arith
     go false true c = omega arith
     go false false true = omega arith

@@ -21,9 +21,11 @@ use Rattle.quic_headline.specs.Runs.{Run, Told, In, given_of, told_by, told_at, 
 use Rattle.quic_headline.specs.Observer.{Sent, Watch, first_watch, watch_told, watch, sents_until}
 use Rattle.quic_headline.specs.Headline.{IsHonest, IsRun, IsAt, used, CodeIsSmall}
 use Rattle.quic_headline.specs.Polls.{IsMade}
+use Rattle.quic_machine.specs.Heard.{Heard}
+use Rattle.quic_machine.specs.Validation.{with_blocked, is_blocked}
 use Rattle.quic_headline.proofs.Packets.Group.{PacketsHold}
 use Rattle.quic_headline.proofs.Packets.Sight.{Sight}
-use Rattle.quic_headline.proofs.Places.Parties.{sents_by, told_of, Party, called, showing, lens, watch_of, AreJoined}
+use Rattle.quic_headline.proofs.Places.Parties.{sents_by, told_of, Party, called, showing, lens, watch_of, AreJoined, shown_at, shown_by}
 use Rattle.quic_headline.proofs.Places.Groups.{Way, Nothing, And, Calls, Group}
 use Rattle.quic_headline.proofs.Places.Moments.{Grown, grown, told_none}
 use Rattle.quic_headline.proofs.Places.Placed.{party_at, Placed, placed, first_left, watch_is}
@@ -95,14 +97,14 @@ module _ (r : Run) (i : ℕ) (side : Side) (call : Call) (a : Answer) (w next : 
   made_served = served_at r.answers i a m.served m.at.answer
 
   -- the end as it leaves it
-  pub made_end : end_at side next ≡ after_call (policy_at side r.keys) (reads_window (control_at side w) call (end_at side w)) (given_by (other_side side) w) call a
-  made_end = subst (λ (b : Bool). IsLeft b (policy_at side r.keys) (control_at side w) (end_at side w) (given_by (other_side side) w) call a (end_at side next)) made_served m.step.end
+  pub made_end : end_at side next ≡ after_call (policy_at side r.keys) (reads_window (control_at side w) (heard_at side w) call (end_at side w)) (given_by (other_side side) w) call a
+  made_end = subst (λ (b : Bool). IsLeft b (policy_at side r.keys) (control_at side w) (heard_at side w) (end_at side w) (given_by (other_side side) w) call a (end_at side next)) made_served m.step.end
 
 -- ---- a call and what holds at it
 
 -- one end at a place where it is called: a poll reads which window its controller shows
 abbrev pub calling : Run → ℕ → World → Side → Call → List Sent → Party
-calling r i w side call sents = record (party_at r i w side sents) { end = reads_window (control_at side w) call (end_at side w) }
+calling r i w side call sents = record (party_at r i w side sents) { end = reads_window (control_at side w) (heard_at side w) call (end_at side w) }
 
 -- A group at a place where an end is called, and behind the call.
 pub record CallHolds (G : Way) (r : Run) (i : ℕ) (side : Side) (call : Call) (a : Answer) (w : World) : Type 0 where
@@ -117,20 +119,20 @@ pub record CallHolds (G : Way) (r : Run) (i : ℕ) (side : Side) (call : Call) (
   pub seen_behind : watch r side (suc i) ≡ watch_of (called (calling r i w side call sents) (given_by (other_side side) w) call a) (party_at r i w (other_side side) theirs)
 
 -- that reads the window leaves the state
-reads_state : (control : Control) (call : Call) (e : End) → (reads_window control call e).closing.state ≡ e.closing.state
-reads_state control (calls.Poll now) e = refl
-reads_state control call e = refl
+reads_state : (control : Control) (heard : Heard) (call : Call) (e : End) → (reads_window control heard call e).closing.state ≡ e.closing.state
+reads_state control heard (calls.Poll now) e = refl
+reads_state control heard call e = refl
 
 -- what holds of an end, whichever window it read, holds where it is called
-pub reads_either : (P : End → Type 0) (control : Control) (call : Call) (e : End) → P e → P (with_window e (control [])) → P (reads_window control call e)
-reads_either P control (calls.Poll now) e bare shown = shown
-reads_either P control call e bare shown = bare
+pub reads_either : (P : End → Type 0) (control : Control) (heard : Heard) (call : Call) (e : End) → P e → P (with_blocked (with_window e (control [])) (is_blocked e heard)) → P (reads_window control heard call e)
+reads_either P control heard (calls.Poll now) e bare shown = shown
+reads_either P control heard call e bare shown = bare
 
 -- ---- a poll
 
 -- one end at a place, once it read that its controller shows its window
 abbrev pub polling : Run → ℕ → World → Side → List Sent → Party
-polling r i w side sents = showing (party_at r i w side sents) (control_at side w [])
+polling r i w side sents = showing (party_at r i w side sents) (shown_at side w)
 
 -- so it is at a poll
 abbrev pub PollHolds : Way → Run → ℕ → Side → ℕ → Answer → World → Type 0
@@ -173,7 +175,8 @@ one_more k w end event a events answers [] f = absurd f
 one_more k w end event a events answers (v ∷ views) f = record { next = f.0; views = views; step = f.1; goes_on = f.3 }
 
 module _ (G : Way) (g : Group Nothing G) (r : Run) (end : World) (honest : IsHonest r) (run : IsRun r end) where
-  -- it holds so at each call that was answered and served, which names a stream of its end if any, and a code
+  -- it holds so at each call that was answered and served, which names a stream of its end if any,
+  -- and a code
   pub call_holds : (i : ℕ) (side : Side) (call : Call) (a : Answer) (w next : World) → ((id : ℕ) → used call ≡ Some id → In id (ids_of (until r side i))) → CodeIsSmall call → IsMade r i side call a w next → CallHolds G r i side call a w
   call_holds i side call a w next uses small m = record {
     sents = at.sents;
@@ -215,10 +218,10 @@ module _ (G : Way) (g : Group Nothing G) (r : Run) (end : World) (honest : IsHon
       takes_bare = subst (λ (v : World). G (party_at r i v (other_side side) at.theirs) (party_at r i v side at.sents)) same at.takes
 
       gives_now : G x y
-      gives_now = reads_either (λ (e : End). G (record bare { end = e }) y) (control_at side w) call (end_at side w) gives_bare (g.shows bare y (control_at side w []) y.end.path.window tt tt gives_bare takes_bare)
+      gives_now = reads_either (λ (e : End). G (record bare { end = e }) y) (control_at side w) (heard_at side w) call (end_at side w) gives_bare (g.shows bare y (shown_at side w) (shown_by y.end) tt tt gives_bare takes_bare)
 
       takes_now : G y x
-      takes_now = reads_either (λ (e : End). G y (record bare { end = e })) (control_at side w) call (end_at side w) takes_bare (g.shows y bare y.end.path.window (control_at side w []) tt tt takes_bare gives_bare)
+      takes_now = reads_either (λ (e : End). G y (record bare { end = e })) (control_at side w) (heard_at side w) call (end_at side w) takes_bare (g.shows y bare (shown_by y.end) (shown_at side w) tt tt takes_bare gives_bare)
 
       joined : AreJoined x y
       joined =
@@ -279,7 +282,7 @@ module _ (G : Way) (g : Group Nothing G) (r : Run) (end : World) (honest : IsHon
 
       -- the call is told last
       state : state_at r side i ≡ x.end.closing.state
-      state = sym (ap (λ (v : World). (end_at side v).closing.state) (sym same) ∙ at.state) ∙ sym (reads_state (control_at side w) call (end_at side w))
+      state = sym (ap (λ (v : World). (end_at side v).closing.state) (sym same) ∙ at.state) ∙ sym (reads_state (control_at side w) (heard_at side w) call (end_at side w))
 
       told_more : until r side (suc i) ≡ until r side i ++ told_of call a x.end.closing.state ∷ []
       told_more =
@@ -298,8 +301,8 @@ module _ (G : Way) (g : Group Nothing G) (r : Run) (end : World) (honest : IsHon
       record { before = last.before; behind = behind.world; made = record { at = at; leads = last.leads; step = last.step; served = served }; leads = behind.leads }
 
 -- what an end sent behind a poll is what it sent before, and what the poll gave
-pub sents_more : (r : Run) (i : ℕ) (side : Side) (now : ℕ) (a : Answer) (w : World) → PollHolds Observed r i side now a w → sents_until r side (suc i) ≡ sents_until r side i ++ sents_by (reads_window (control_at side w) (calls.Poll now) (end_at side w)) (calls.Poll now) a
+pub sents_more : (r : Run) (i : ℕ) (side : Side) (now : ℕ) (a : Answer) (w : World) → PollHolds Observed r i side now a w → sents_until r side (suc i) ≡ sents_until r side i ++ sents_by (policy_at side r.keys) (reads_window (control_at side w) (heard_at side w) (calls.Poll now) (end_at side w)) (calls.Poll now) a
 sents_more r i side now a w h =
     ap (λ (v : Watch). v.own) h.seen_behind
     ∙ h.behind.1.own
-    ∙ ap (λ (ss : List Sent). ss ++ sents_by (reads_window (control_at side w) (calls.Poll now) (end_at side w)) (calls.Poll now) a) (sym (ap (λ (v : Watch). v.own) h.seen ∙ h.gives.1.own))
+    ∙ ap (λ (ss : List Sent). ss ++ sents_by (policy_at side r.keys) (reads_window (control_at side w) (heard_at side w) (calls.Poll now) (end_at side w)) (calls.Poll now) a) (sym (ap (λ (v : Watch). v.own) h.seen ∙ h.gives.1.own))

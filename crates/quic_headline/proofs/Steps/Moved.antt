@@ -1,7 +1,9 @@
--- Where a probe waits, something waits for it to carry: PING, or what has to be told of streams (RFC 9002, section 6.2.4).
+-- Where a probe waits, something waits for it to carry: PING, or what has to be told of streams
+-- (RFC 9002, section 6.2.4).
 use Rattle.std.proofs.Common.{◌≡◌, ℕ, [], ◌∷◌, Bool, true, false, Option, Some, None, refl, sym, ap, subst}
 use Rattle.std.specs.Prelude.{not, ◌||◌, nat_lt, if◌then◌else◌}
-use Rattle.std.proofs.lemmas.Bool.{or_right}
+use Rattle.std.proofs.lemmas.Bool.{or_left, or_right}
+use Rattle.std.specs.Option.{is_some}
 use Rattle.quic_streams_parts.specs.Table.{Table}
 use Rattle.quic_retransmits.specs.Retransmits.{merged}
 use Rattle.quic_streams_state.specs.declared.state.StreamsState.{StreamsState}
@@ -34,7 +36,7 @@ pub probe_has : (e : End) → nat_lt 0 e.tracking.probes ≡ true → has_probe 
 probe_has e waits = subst (λ (b : Bool). has_probe (probe_if b e) ≡ true) (sym waits) (filled (is_empty e.waiting.frames e.streams) refl)
   where
     moved : (o : Option (ℕ × TrackedPacket)) → first_record e.streams e.tracking.packets ≡ o → has_probe (record_moved o e) ≡ true
-    moved None is = refl
+    moved None is = or_left (signals_wait (record e.waiting.signals { ping = true })) (not (is_empty e.waiting.frames e.streams)) (or_right (is_some e.waiting.signals.challenge) (is_some e.waiting.signals.response || true) (or_right (is_some e.waiting.signals.response) true refl))
     moved (Some p) is = or_right (signals_wait e.waiting.signals) (not (is_empty (merged e.waiting.frames p.1.carried.retransmits) e.streams)) (ap not (merged_fills e.waiting.frames p.1.carried.retransmits e.streams (first_has e.streams e.tracking.packets p is)))
 
     filled : (b : Bool) → is_empty e.waiting.frames e.streams ≡ b → has_probe (probe_filled b e) ≡ true

@@ -1,5 +1,6 @@
--- The timer of the pacer of an open end: a poll sets it to the moment that the pacer names, or stops it; any other call leaves it or stops it.
-use Rattle.std.proofs.Common.{◌≡◌, ℕ, Bool, true, false, List, [], Option, Some, None, refl, sym, ap, subst, ◌⊎◌, inl, inr}
+-- The timer of the pacer of an open end: a poll sets it to the moment that the pacer names, or
+-- stops it; any other call leaves it or stops it.
+use Rattle.std.proofs.Common.{◌≡◌, ℕ, Bool, true, false, List, [], Option, Some, None, refl, sym, ap, ◌∙◌, subst, ◌⊎◌, inl, inr}
 use Rattle.std.specs.Prelude.{if◌then◌else◌}
 use Rattle.quic_spaces.specs.Marks.{is_congested}
 use Rattle.quic_wire_core.specs.StreamId.{other_side}
@@ -15,24 +16,29 @@ use Rattle.quic_machine.specs.declared.run.Answer.{Answer}
 use Rattle.quic_machine.specs.Policy.{Policy}
 use Rattle.quic_machine.specs.Closing.{ticked}
 use Rattle.quic_spaces.specs.Numbers.{can_number}
-use Rattle.quic_machine.specs.End.{End, with_closing, with_ack_timer, with_window}
+use Rattle.quic_machine.specs.End.{End, with_closing, with_ack_timer, with_window, closed_by}
 use Rattle.quic_machine.specs.Control.{Gated, paced_until, with_pacing_timer}
 use Rattle.quic_machine.specs.Timeouts.{loss_judged}
-use Rattle.quic_machine.specs.Poll.{gated, probed, goes, sends, polled_if, polled_in, polled, Ready}
+use Rattle.quic_machine.specs.Poll.{gated, probed, goes, sends, polled_if, polled_in, polled, Ready, leaves_unless, bounds}
 use Rattle.quic_machine.specs.Receive.{timers_after}
 use Rattle.quic_spaces.specs.Acknowledging.{with_due}
-use Rattle.quic_machine.specs.Machine.{after_call, end_at, control_at, given_by, policy_at}
+use Rattle.quic_wire_core.specs.declared.stream_id.Side.{Side}
+use Rattle.quic_machine.specs.Machine.{World, after_call, end_at, control_at, given_by, policy_at}
 use Rattle.quic_machine.specs.CallCases.{Plain, is_poll, by_plain_call}
 use Rattle.quic_machine.specs.CallCases as cases
 use Rattle.quic_machine.specs.FrameCases.{Settling, Receives, named, acked_keeps, losses_keep, frame_keeps, frame_leaves, by_received, apart_leaves}
 use Rattle.quic_machine.specs.Steps as steps
-use Rattle.quic_machine.specs.PollCases.{ready_at, draft_at, probe_leaves, by_gate, search_leaves, composes, may_leave_at}
+use Rattle.quic_machine.specs.PollCases.{ready_at, draft_at, probe_leaves, by_probed, by_gate, search_leaves, composes, may_leave_at}
 use Rattle.quic_headline.specs.Runs.{Run}
 use Rattle.quic_headline.specs.Polls.{PacerSetsItsTimer, pacing_at, pacer_names}
 use Rattle.quic_headline.proofs.Packets.Probes.{by_going}
 use Rattle.quic_headline.proofs.Steps.Made.{made_end}
 use Rattle.quic_machine.specs.LeaveCases.{Expired, by_timers}
 use Rattle.quic_machine.specs.LeaveCases as expiring
+use Rattle.quic_machine.specs.declared.answers.LostReason.{LostReason}
+use Rattle.quic_headline.proofs.Places.Parties.{with_shown, shown_at}
+use Rattle.quic_headline.proofs.Packets.Closes.{closes_left}
+use Rattle.quic_headline.proofs.Packets.Apart.{by_waits, by_next_id}
 
 -- the timer isn't set, or is set as this says
 abbrev Paces : Option ℕ → End → Type 0
@@ -48,18 +54,36 @@ asking_end e now = probed (with_pacing_timer (with_closing e (ticked e.closing n
 abbrev names : End → ℕ → Option ℕ
 names e now = paced_until (asking_end e now)
 
+-- what waits for a probe to carry names no other
+probed_names : (x : End) → paced_until (probed x) ≡ paced_until x
+probed_names x = by_probed x (λ (z : End). paced_until z ≡ paced_until x) refl refl (λ q probes is. refl)
+
+-- nor does whether more may go to the address
+pub names_shown : (side : Side) (w : World) (now : ℕ) → names (with_shown (end_at side w) (shown_at side w)) now ≡ pacer_names side w now
+names_shown side w now =
+    let e : End = with_window (end_at side w) (control_at side w []) in
+    let x : End = with_pacing_timer (with_closing e (ticked e.closing now)) None in
+    let f : End = with_shown (end_at side w) (shown_at side w) in
+    let y : End = with_pacing_timer (with_closing f (ticked f.closing now)) None in
+    let same : paced_until y ≡ paced_until x = refl in
+    probed_names y ∙ same ∙ sym (probed_names x)
+
 -- its timer is stopped first
 stopped : (e : End) (now : ℕ) → (asking_end e now).timers.pacing ≡ None
 stopped e now = ap (λ (x : End). x.timers.pacing) (probe_leaves (with_pacing_timer (with_closing e (ticked e.closing now)) None))
 
 -- where window and pacer were asked
 gated_paces : (e : End) (now : ℕ) → Paces (names e now) (ready_at e now).end
-gated_paces e now = subst (Paces (names e now)) (sym (search_leaves (gated (asking_end e now)))) (by_gate (asking_end e now) (λ (g : Gated). (g.end.timers.pacing ≡ None) ⊎ (g.end.timers.pacing ≡ names e now)) (record {
-  free = λ is. inl (stopped e now);
-  full = λ asks is. inl (stopped e now);
-  lets = λ asks room is. inl (stopped e now);
-  holds = λ moment asks room is. inr (sym is);
-}))
+gated_paces e now = go (asking_end e now).path.blocked
+  where
+    go : (b : Bool) → Paces (names e now) (leaves_unless b (asking_end e now)).end
+    go true = inl (stopped e now)
+    go false = subst (Paces (names e now)) (sym (search_leaves (gated (asking_end e now)))) (by_gate (asking_end e now) (λ (g : Gated). (g.end.timers.pacing ≡ None) ⊎ (g.end.timers.pacing ≡ names e now)) (record {
+      free = λ is. inl (stopped e now);
+      full = λ asks is. inl (stopped e now);
+      lets = λ asks room is. inl (stopped e now);
+      holds = λ moment asks room is. inr (sym is);
+    }))
 
 -- so it is behind a poll of an open end
 pub polled_paces : (p : Policy) (e : End) (now : ℕ) → e.closing.state ≡ states.Open → Paces (names e now) (polled p e now).end
@@ -68,15 +92,15 @@ polled_paces p e now opened = subst (λ (s : State). Paces (names e now) (polled
     g : Ready
     g = ready_at e now
 
-    given : goes g ≡ true → Paces (names e now) (sends true p g).end
+    given : goes g ≡ true → Paces (names e now) (sends None p g).end
     given some = by_going (Paces (names e now)) p (draft_at e now) (λ pacing. subst (λ (o : Option ℕ). (o ≡ None) ⊎ (o ≡ names e now)) (sym (composes g.leaving g.end (may_leave_at e now)).pacing) (gated_paces e now))
 
-    number_case : goes g ≡ true → (b : Bool) → Paces (names e now) (sends b p g).end
-    number_case some true = given some
-    number_case some false = inl refl
+    bound_case : goes g ≡ true → (o : Option LostReason) → Paces (names e now) (sends o p g).end
+    bound_case some None = given some
+    bound_case some (Some reason) = closes_left p (closed_by reason g.end) (Paces (names e now)) (inl refl) (λ f goes. inl refl)
 
     going_case : (b : Bool) → goes g ≡ b → Paces (names e now) (polled_if b p g).end
-    going_case true some = number_case some (can_number g.end.numbers)
+    going_case true some = bound_case some (bounds p g.end)
     going_case false none = gated_paces e now
 
 -- ---- any other call
@@ -100,9 +124,13 @@ module _ (o : Option ℕ) where
   receives = record {
     notes = λ n e i. i;
     begins = λ now n e i. i;
-    frame = frame_keeps (Paces o) (record { ack = λ rises a e i. acked_keeps (Paces o) settling rises a (named a e) i; on_streams = λ f e on i. frame_leaves (Paces o) f e on (λ t. i); apart = λ f e is i. apart_leaves (Paces o) f e is (λ c. i); message = λ m e i. i });
+    frame = frame_keeps (Paces o) (record { ack = λ rises a e i. acked_keeps (Paces o) settling rises a (named a e) i; on_streams = λ f e on i. frame_leaves (Paces o) f e on (λ t. i); apart = λ f e is i. apart_leaves (Paces o) f e is (λ c. i) (λ c most. i); message = λ m e i. i });
     takes = λ n asks mark e i. subst (λ (q : Option ℕ). (q ≡ None) ⊎ (q ≡ o)) (sym (pacing_after e.timers (with_due (is_congested mark) (after_insert e.acknowledging n e.closing.clock)) e.closing.clock n asks e.numbers.opened)) i;
     closes = λ reason e i. inl refl;
+    drains = λ close e i. inl refl;
+    asks_close = λ e i. i;
+    exhausts = λ now e i. inl refl;
+    draws = λ words e i. i;
   }
 
   -- losses that are judged leave it
@@ -120,14 +148,17 @@ module _ (o : Option ℕ) where
   other_paces p e theirs call a other i = by_plain_call p e theirs (Paces o) call a keep
     where
       keep : Plain p e call (Paces o)
-      keep (cases.times now expiry) may = by_timers (Paces o) (Paces o) judged_paces expires_paces (λ f j. j) expiry (with_closing e (ticked e.closing now)) i
+      keep (cases.times now expiry) may = by_timers p.words (Paces o) (Paces o) judged_paces expires_paces (λ f j. j) (λ f j. inl refl) expiry (with_closing e (ticked e.closing now)) i
       keep (cases.polls now) is = cc
       keep (cases.hears arrival d) may = by_received (Paces o) receives p e arrival d i
+      keep (cases.closes reason f now) may = inl refl
+      keep (cases.waits now b) may = by_waits (Paces o) b (with_closing e (ticked e.closing now)) (inl refl) i
+      keep (cases.changes_id a) may = by_next_id (Paces o) e a i (λ c. i) (λ c most. i)
       keep c may = i
 
 -- ---- the clause
 
 -- the timer of the pacer is set only to the moment that the pacer named in the last poll
 pub pacer_sets_its_timer : (r : Run) → PacerSetsItsTimer r
-pacer_sets_its_timer r i side (calls.Poll now) a w next m opened = subst (Paces (pacer_names side w now)) (sym (made_end r i side (calls.Poll now) a w next m)) (polled_paces (policy_at side r.keys) (with_window (end_at side w) (control_at side w [])) now opened)
+pacer_sets_its_timer r i side (calls.Poll now) a w next m opened = subst (Paces (pacer_names side w now)) (sym (made_end r i side (calls.Poll now) a w next m)) (subst (λ (o : Option ℕ). Paces o (polled (policy_at side r.keys) (with_shown (end_at side w) (shown_at side w)) now).end) (names_shown side w now) (polled_paces (policy_at side r.keys) (with_shown (end_at side w) (shown_at side w)) now opened))
 pacer_sets_its_timer r i side call a w next m opened = subst (Paces (pacing_at side w)) (sym (made_end r i side call a w next m)) (other_paces (pacing_at side w) (policy_at side r.keys) (end_at side w) (given_by (other_side side) w) call a refl (inr refl))

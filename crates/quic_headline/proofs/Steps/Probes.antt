@@ -1,9 +1,11 @@
--- Where a probe waits, a poll that leaves its end open gives a datagram that asks for an acknowledgement (RFC 9002, sections 6.2.4 and 7.5).
-use Rattle.std.proofs.Common.{◌≡◌, ℕ, suc, ◌+◌, ◌-◌, ◌<◌, ◌≤◌, ◌^◌, [], ◌∷◌, ◌++◌, length, Bool, true, false, Some, None, Ok, refl, sym, ap, ◌∙◌, subst, ◌⊎◌, inl, inr, arith}
-use Rattle.std.specs.Prelude.{not, ◌||◌, ◌==◌}
+-- Where a probe waits, a poll that leaves its end open gives a datagram that asks for an
+-- acknowledgement (RFC 9002, sections 6.2.4 and 7.5).
+use Rattle.std.proofs.Common.{◌≡◌, ℕ, suc, ◌+◌, ◌-◌, ◌<◌, ◌≤◌, ◌^◌, [], ◌∷◌, ◌++◌, length, Bool, true, false, Some, None, Ok, refl, sym, ap, ◌∙◌, subst, ◌⊎◌, inl, inr, arith, Option}
+use Rattle.std.specs.Prelude.{not, ◌||◌, ◌==◌, slice_get}
 use Rattle.std.proofs.lemmas.Bool.{lt-ltb, or_left, or_right, and_right, and_parts, not-true, ne_eqb}
 use Rattle.std.proofs.lemmas.List.{length-append}
 use Rattle.std.proofs.lemmas.List.Folds.{list_any-append}
+use Rattle.quic_wire_core.specs.declared.stream_id.Side.{Side}
 use Rattle.quic_wire_core.specs.StreamId.{other_side}
 use Rattle.quic_wire.specs.Value.{FrameValue, padding, ack, connection_close, application_close, asks}
 use Rattle.quic_recovery_core.specs.PendingAcks.{Pending, is_filled, can_send}
@@ -19,22 +21,25 @@ use Rattle.quic_machine.specs.declared.answers.Transmit.{Transmit}
 use Rattle.quic_machine.specs.declared.run.Call.TheVariants as calls
 use Rattle.quic_machine.specs.declared.run.Answer.{Answer}
 use Rattle.quic_machine.specs.declared.run.Answer.TheVariants as answers
+use Rattle.quic_machine.specs.declared.run.View.{View}
 use Rattle.quic_machine.specs.Parts.{current_mtu, signals_wait}
 use Rattle.quic_machine.specs.Policy.{Policy}
 use Rattle.quic_machine.specs.Closing.{ticked}
 use Rattle.quic_machine.specs.Ids.{Ids}
 use Rattle.quic_machine.specs.Tracking.{Tracking, TrackedPacket, forgotten, without_packet, asking_sent, after_sent}
-use Rattle.quic_machine.specs.End.{End, number_of, with_closing, with_window, streams_at}
+use Rattle.quic_machine.specs.End.{End, number_of, with_closing, with_window, streams_at, closed_by}
 use Rattle.quic_machine.specs.Control.{Gated, lets, gated_if, with_pacing_timer}
-use Rattle.quic_machine.specs.Poll.{gated, mark_of, Polled, Draft, no_frames, frame_room, with_control_frames, with_message_frames, with_stream_frames, with_asking, ack_of, with_ack, ack_fits, ack_if, composed_if, composed, datagram_of, asking, packet_of, probed, lazied, message_waits, asks_to_go, draft_of, sends, polled_if, polled_in, polled, whole, Ready, leaves, free_if, waits, goes, with_signal_frames}
+use Rattle.quic_machine.specs.Poll.{gated, mark_of, Polled, Draft, no_frames, frame_room, with_control_frames, with_message_frames, with_stream_frames, with_asking, ack_of, with_ack, ack_fits, ack_if, composed_if, composed, datagram_of, asking, packet_of, probed, lazied, message_waits, asks_to_go, draft_of, sends, polled_if, polled_in, polled, whole, Ready, leaves, free_if, waits, goes, with_signal_frames, bounds}
 use Rattle.quic_machine.specs.Machine.{World, end_at, control_at, policy_at}
 use Rattle.quic_machine.specs.DraftLaws.{Writing, drops_of, entry_of, half_of, message_of, HasRoom, room_most, by_entries, by_messages, by_streams, signal_asks, by_some_signal, no_signal}
 use Rattle.quic_machine.specs.Puts as puts
-use Rattle.quic_machine.specs.PollCases.{ready_at, frames_padded, frames_at, by_probed, composes}
-use Rattle.quic_headline.specs.Runs.{Run}
+use Rattle.quic_machine.specs.PollCases.{ready_at, draft_at, frames_padded, frames_at, by_probed, probe_leaves, composes}
+use Rattle.quic_headline.specs.Runs.{Run, state_in, LeadsTo}
 use Rattle.quic_headline.specs.Headline.{IsHonest, IsRun, IsAt}
-use Rattle.quic_headline.specs.Observer.{Watch, watch, sents_until}
-use Rattle.quic_headline.specs.Polls.{IsMade, ProbesPass}
+use Rattle.quic_headline.specs.Observer.{Watch, asks_of, watch, sents_until}
+use Rattle.quic_headline.specs.Polls.{IsMade, IsLimited, GaveAsking, ProbesPass}
+use Rattle.quic_machine.specs.declared.answers.LostReason.{LostReason}
+use Rattle.quic_headline.proofs.Packets.Closes.{by_closes}
 use Rattle.quic_headline.proofs.Packets.Invariant.{CountsFit, Acks}
 use Rattle.quic_headline.proofs.Packets.Entries.{IsControl, control_of}
 use Rattle.quic_headline.proofs.Packets.Composed.{Spelling, ack_leaves}
@@ -43,7 +48,7 @@ use Rattle.quic_headline.proofs.Packets.Flying.{asking_padded}
 use Rattle.quic_headline.proofs.Packets.Probes.{by_going}
 use Rattle.quic_headline.proofs.Packets.Group.{PacketsHold, has_room}
 use Rattle.quic_headline.proofs.Packets.Sight.{Sight}
-use Rattle.quic_headline.proofs.Places.Parties.{sent_by, sents_by, Party}
+use Rattle.quic_headline.proofs.Places.Parties.{given_in, sent_as, sent_by, sents_by, Party, with_shown, shown_at}
 use Rattle.quic_headline.proofs.Places.Groups.{Way, Nothing, And, Group}
 use Rattle.quic_headline.proofs.Places.Placed.{party_at}
 use Rattle.quic_headline.proofs.Places.Steps.{poll_answer}
@@ -51,6 +56,7 @@ use Rattle.quic_headline.proofs.Places.Together.{Spells}
 use Rattle.quic_headline.proofs.Timers.Watched.{open_behind}
 use Rattle.quic_headline.proofs.Timers.Still.{was_open}
 use Rattle.quic_headline.proofs.Steps.Made.{made_served, made_end, MadeAt, made_at, polling, PollHolds, poll_holds, observed_poll, sents_more}
+use Rattle.quic_headline.proofs.Held.Silent.{may_go}
 use Rattle.quic_headline.proofs.Steps.Moved.{has_probe, probe_has}
 
 -- ---- drafts that ask
@@ -90,8 +96,9 @@ more_ask : (d : Draft) → Asks d → Asks (with_stream_frames (with_message_fra
 more_ask d is = by_streams Asks (half_of Asks asks_stay) (with_message_frames d) (by_messages Asks (message_of Asks asks_stay) d is)
 
 module _ (K : Streams → Type 0) (k : Spelling K) (c : Bringing K) where
-  -- frames of control go behind a draft that leaves room for one, where something waits beside the bytes of streams
-  control_frames_ask : (d : Draft) → length d.bytes + 25 ≤ frame_room d.end → K (streams_at d.end) → is_empty d.end.waiting.frames d.end.streams ≡ false → Asks (with_control_frames d)
+  -- frames of control go behind a draft that leaves room for one, where something waits beside the
+  -- bytes of streams
+  control_frames_ask : (d : Draft) → length d.bytes + 54 ≤ frame_room d.end → K (streams_at d.end) → is_empty d.end.waiting.frames d.end.streams ≡ false → Asks (with_control_frames d)
   control_frames_ask d room i waits = go (control_or_none d)
     where
       go : Asks (with_control_frames d) ⊎ (length (with_control_frames d).frames ≡ length d.frames) → Asks (with_control_frames d)
@@ -103,7 +110,7 @@ module _ (K : Streams → Type 0) (k : Spelling K) (c : Bringing K) where
           absurd (omega arith)
 
   -- so what asks does, where something waits for a probe
-  with_asking_asks : (d : Draft) → length d.bytes + 25 ≤ frame_room d.end → K (streams_at d.end) → has_probe d.end ≡ true → Asks (with_asking d)
+  with_asking_asks : (d : Draft) → length d.bytes + 54 ≤ frame_room d.end → K (streams_at d.end) → has_probe d.end ≡ true → Asks (with_asking d)
   with_asking_asks d room i waits = signalled (signals_wait d.end.waiting.signals) refl waits
     where
       signalled : (b : Bool) → signals_wait d.end.waiting.signals ≡ b → (b || not (is_empty d.end.waiting.frames d.end.streams)) ≡ true → Asks (with_asking d)
@@ -158,18 +165,18 @@ module _ (e : End) (now : ℕ) (probes : 0 < e.tracking.probes) where
   ungated : gated readied ≡ lets readied
   ungated = ap (λ (b : Bool). gated_if b readied) (and_right (asks_to_go readied) (readied.tracking.probes == 0) (ne_eqb readied.tracking.probes 0 (λ none. (let same = readied_probes in omega arith))))
 
-  -- nor is the search for a size: all goes that waits
-  pub ready_whole : ready_at e now ≡ record { leaving = whole; end = readied }
-  ready_whole = ap (λ (g : Gated). leaves g) ungated ∙ ap (λ (b : Bool). free_if b readied) readied_waits
+  -- nor is the search for a size: all goes that waits, where more may go to its address
+  pub ready_whole : e.path.blocked ≡ false → ready_at e now ≡ record { leaving = whole; end = readied }
+  ready_whole free = may_go e now free ∙ ap (λ (g : Gated). leaves g) ungated ∙ ap (λ (b : Bool). free_if b readied) readied_waits
 
 -- What a poll gives where a probe waits: a datagram that asks, and one probe fewer waits.
 record GivesProbe (p : Policy) (e : End) (now : ℕ) : Type 0 where
   transmit : Transmit
   answer : (polled p e now).answer ≡ Ok (Some transmit)
-  asks : asking (frames_at e now) ≡ true
+  asks : asks_of (sent_by p e now) ≡ true
   fewer : (polled p e now).end.tracking.probes + 1 ≡ e.tracking.probes
 
-module _ (K : Streams → Type 0) (k : Spelling K) (c : Bringing K) (p : Policy) (e : End) (now : ℕ) (probes : 0 < e.tracking.probes) (acks : Acks e.acknowledging e.marks.came) (short : HasRoom e) (streams : K (streams_at (ready_at e now).end)) where
+module _ (K : Streams → Type 0) (k : Spelling K) (c : Bringing K) (p : Policy) (e : End) (now : ℕ) (probes : 0 < e.tracking.probes) (acks : Acks e.acknowledging e.marks.came) (short : HasRoom e) (streams : K (streams_at (ready_at e now).end)) (free : e.path.blocked ≡ false) where
   -- the end where something waits for each probe
   abbrev x : End
   x = probed (begun e now)
@@ -195,25 +202,25 @@ module _ (K : Streams → Type 0) (k : Spelling K) (c : Bringing K) (p : Policy)
   all_goes = record { leaving = whole; end = x }
 
   let_so : ready_at e now ≡ all_goes
-  let_so = ready_whole e now probes
+  let_so = ready_whole e now probes free
 
   -- which asks
   goes_asks : Asks (composed (lazied x))
   goes_asks = composed_asks K k c (lazied x) (let there = subst (λ (p : Pending). Acks p e.marks.came) (sym same_acks) acks in record { runs = there.runs; small = there.small; counts = subst CountsFit (sym same_came) there.counts })
-      (subst (λ (ids : Ids). length ids.active.id ≤ 20) (sym same_ids) short.0, subst (λ (n : ℕ). 1200 ≤ n) (sym same_size) short.1, subst (λ (n : ℕ). n < 2 ^ 16) (sym same_size) short.2) (subst (λ (g : Ready). K (streams_at g.end)) let_so streams) (readied_has e now probes)
+      (subst (λ (ids : Ids). length ids.peer.id ≤ 20) (sym same_ids) short.0, subst (λ (n : ℕ). 1200 ≤ n) (sym same_size) short.1, subst (λ (n : ℕ). n < 2 ^ 16) (sym same_size) short.2) (subst (λ (g : Ready). K (streams_at g.end)) let_so streams) (readied_has e now probes)
 
   -- and so do the frames of its datagram
   frames_ask : asking (frames_at e now) ≡ true
   frames_ask = ap (λ (g : Ready). asking (frames_padded (draft_of g))) let_so ∙ asking_padded (composed (lazied x)).frames _ ∙ goes_asks
 
-  -- a poll of an open end gives it, unless the numbers are used up
-  polled_as : e.closing.state ≡ states.Open → polled p e now ≡ sends (can_number x.numbers) p all_goes
+  -- a poll of an open end gives it, unless the numbers or the key are used up
+  polled_as : e.closing.state ≡ states.Open → polled p e now ≡ sends (bounds p x) p all_goes
   polled_as opened =
       ap (λ (s : State). polled_in s p e now) opened
       ∙ ap (λ (g : Ready). polled_if (goes g) p g) let_so
 
   -- one probe fewer waits behind it
-  fewer : (sends true p all_goes).end.tracking.probes + 1 ≡ e.tracking.probes
+  fewer : (sends None p all_goes).end.tracking.probes + 1 ≡ e.tracking.probes
   fewer =
       let d : Draft = composed (lazied x) in
       let tracking : d.end.tracking ≡ x.tracking = (composes whole x tt).tracking in
@@ -223,35 +230,31 @@ module _ (K : Streams → Type 0) (k : Spelling K) (c : Bringing K) (p : Policy)
 
   -- so a poll that leaves an open end open gives it
   gives_probe : e.closing.state ≡ states.Open → (polled p e now).end.closing.state ≡ states.Open → GivesProbe p e now
-  gives_probe opened still = go (can_number x.numbers) (polled_as opened)
+  gives_probe opened still = go (bounds p x) refl (polled_as opened)
     where
-      go : (b : Bool) → polled p e now ≡ sends b p all_goes → GivesProbe p e now
-      go true is = record {
-        transmit = record { size = length (datagram_of p (draft_of all_goes)); ecn = mark_of (sends true p all_goes).end.path.marking };
+      -- what goes of an open end whose numbers and key last
+      ordinary : bounds p x ≡ None → sent_by p e now ≡ sent_as e now (draft_at e now)
+      ordinary none =
+          ap (λ (s : State). sent_as e now (given_in s (bounds p e) p e now)) opened
+          ∙ ap (λ (o : Option LostReason). sent_as e now (given_in states.Open o p e now)) (sym (ap (λ (z : End). bounds p z) (probe_leaves (begun e now))) ∙ none)
+
+      go : (o : Option LostReason) → bounds p x ≡ o → polled p e now ≡ sends o p all_goes → GivesProbe p e now
+      go None none is = record {
+        transmit = record { size = length (datagram_of p (draft_of all_goes)); ecn = mark_of (sends None p all_goes).end.path.marking };
         answer = ap (λ (q : Polled). q.answer) is;
-        asks = frames_ask;
+        asks = ap asks_of (ordinary none) ∙ frames_ask;
         fewer = ap (λ (q : Polled). q.end.tracking.probes + 1) is ∙ fewer;
       }
-      go false is = let clash : states.Drained ≡ states.Open = sym (ap (λ (q : Polled). q.end.closing.state) is) ∙ still in cc
+      go (Some reason) bound is = by_closes p (closed_by reason x) (λ (q : Polled). q.end.closing.state ≡ states.Open → GivesProbe p e now) (λ none. cc) (λ f goes none. cc) (sym (ap (λ (q : Polled). q.end.closing.state) is) ∙ still)
 
 -- ---- the clause
 
 module _ (H : Way) (s : Spells H) (g : Group Nothing (And (And PacketsHold H) Sight)) (r : Run) (end : World) (honest : IsHonest r) (run : IsRun r end) where
-  -- where a probe waits, a poll that leaves its end open gives a datagram that asks, and one probe fewer waits then
-  pub probes_pass : ProbesPass r
-  probes_pass side i now a v served at there opened_behind waits = (
-    record {
-      one = record {
-        transmit = gives.transmit;
-        poll = subst (λ (b : Answer). IsAt r i side (calls.Poll now) b) said at;
-        served = served;
-        sent = sent_by e now;
-        went = sents_more r i side now a w (observed_poll H r i side now a w h) ∙ ap (λ (b : Answer). sents_until r side i ++ sents_by e (calls.Poll now) b) said;
-      };
-      asks = gives.asks;
-    },
-    ap (λ (n : ℕ). n + 1) probes_behind ∙ gives.fewer ∙ sym probes_before,
-  )
+  -- where a probe waits, a poll that leaves its end open gives a datagram that asks, and one probe
+  -- fewer waits then; unless nothing more may go to its address, as the lists say then
+  pub probes_pass : ((side : Side) (i now : ℕ) (a : Answer) (v : View) (w next : World) → IsMade r i side (calls.Poll now) a w next → LeadsTo r (suc i) next → slice_get r.views i ≡ Some v → state_in v side ≡ states.Open
+      → (end_at side w).closing.state ≡ states.Open → (with_shown (end_at side w) (shown_at side w)).path.blocked ≡ true → IsLimited r side (suc i) v) → ProbesPass r
+  probes_pass limits side i now a v served at there opened_behind waits = go e.path.blocked refl
     where
       called_there : MadeAt r i side (calls.Poll now) a
       called_there = made_at (And (And PacketsHold H) Sight) g r end honest run i side (calls.Poll now) a at served
@@ -278,7 +281,7 @@ module _ (H : Way) (s : Spells H) (g : Group Nothing (And (And PacketsHold H) Si
       p = policy_at side r.keys
 
       e : End
-      e = with_window (end_at side w) (control_at side w [])
+      e = with_shown (end_at side w) (shown_at side w)
 
       left : end_at side next ≡ (polled p e now).end
       left = made_end r i side (calls.Poll now) a w next m
@@ -297,8 +300,27 @@ module _ (H : Way) (s : Spells H) (g : Group Nothing (And (And PacketsHold H) Si
       probes_behind : (watch r side (suc i)).flight.probes ≡ (polled p e now).end.tracking.probes
       probes_behind = ap (λ (u : Watch). u.flight.probes) h.seen_behind ∙ (h.behind.1.watched.flight still).probes
 
-      gives : GivesProbe p e now
-      gives = gives_probe s.known s.spelling s.bringing p e now (subst (λ (n : ℕ). 0 < n) probes_before waits) h.takes.0.0.acks (has_room x y h.gives.0.0 h.joined.y_long) (s.holds x y h.gives.0.0 h.gives.0.1 now) opened still
+      passes : e.path.blocked ≡ false → GaveAsking r side i now × ((watch r side (suc i)).flight.probes + 1 ≡ (watch r side i).flight.probes)
+      passes free = (
+        record {
+          one = record {
+            transmit = gives.transmit;
+            poll = subst (λ (b : Answer). IsAt r i side (calls.Poll now) b) said at;
+            served = served;
+            sent = sent_by p e now;
+            went = sents_more r i side now a w (observed_poll H r i side now a w h) ∙ ap (λ (b : Answer). sents_until r side i ++ sents_by p e (calls.Poll now) b) said;
+          };
+          asks = gives.asks;
+        },
+        ap (λ (n : ℕ). n + 1) probes_behind ∙ gives.fewer ∙ sym probes_before,
+      )
+        where
+          gives : GivesProbe p e now
+          gives = gives_probe s.known s.spelling s.bringing p e now (subst (λ (n : ℕ). 0 < n) probes_before waits) h.takes.0.0.acks (has_room x y h.gives.0.0) (s.holds x y h.gives.0.0 h.gives.0.1 now) free opened still
 
-      said : a ≡ answers.Poll (Ok (Some gives.transmit))
-      said = poll_answer p e now a m.step.answer (made_served r i side (calls.Poll now) a w next m) ∙ ap answers.Poll gives.answer
+          said : a ≡ answers.Poll (Ok (Some gives.transmit))
+          said = poll_answer p e now a m.step.answer (made_served r i side (calls.Poll now) a w next m) ∙ ap answers.Poll gives.answer
+
+      go : (b : Bool) → e.path.blocked ≡ b → (GaveAsking r side i now × ((watch r side (suc i)).flight.probes + 1 ≡ (watch r side i).flight.probes)) ⊎ IsLimited r side (suc i) v
+      go true blocked = inr (limits side i now a v w next m called_there.leads there opened_behind opened blocked)
+      go false free = inl (passes free)

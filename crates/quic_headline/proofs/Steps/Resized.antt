@@ -1,4 +1,5 @@
--- Each size that datagrams of an end take is told to its controller: the size that a view shows is the last that was told, or that with which the path began.
+-- Each size that datagrams of an end take is told to its controller: the size that a view shows is
+-- the last that was told, or that with which the path began.
 use Rattle.std.proofs.Common.{◌≡◌, ℕ, suc, ◌≤◌, List, [], ◌∷◌, ◌++◌, take, length, Bool, true, false, not, ◌||◌, ◌&&◌, ◌==◌, Option, Some, None, Result, Ok, Err, refl, sym, ap, ◌∙◌, subst, arith}
 use Rattle.std.specs.Prelude.{if◌then◌else◌, slice_get, sum_by}
 use Rattle.std.specs.List.{list_any}
@@ -7,7 +8,7 @@ use Rattle.std.proofs.lemmas.List.Elements.{All-nil, All-cons, All-head, All-tai
 use Rattle.quic_wire_core.specs.declared.stream_id.Side.{Side}
 use Rattle.quic_wire_core.specs.declared.stream_id.Side.TheVariants.{Client, Server}
 use Rattle.quic_wire_core.specs.declared.shared.EcnCodepoint.{EcnCodepoint}
-use Rattle.quic_wire.specs.Value.{FrameValue, AckValue, ack, datagram}
+use Rattle.quic_wire.specs.Value.{FrameValue, AckValue, ack, datagram, new_connection_id, retire_connection_id, path_response}
 use Rattle.quic_wire.specs.Items.{items}
 use Rattle.quic_wire.specs.declared.frame.InvalidFrame.{InvalidFrame}
 use Rattle.quic_packet.specs.Header.{key_phase, reserved_bits}
@@ -47,14 +48,15 @@ use Rattle.quic_machine.specs.End.{End, with_closing, with_numbers}
 use Rattle.quic_machine.specs.Control.{Control, flies, told_sent, told_packet, told_acks_ended, last_sent}
 use Rattle.quic_machine.specs.Sizes.{is_resized, told_if_resized, told_size, with_acked, search_acked, told_packets, others_of, after_lost, is_persistent, told_congested, told_losses}
 use Rattle.quic_machine.specs.Acked.{packet_acked, packets_acked, losses_detected, after_named, verdict, told_detected, told_grown, told_taken, told_seen, told_marks, told_of_losses, told_named, told_acked, counts_answer, sampled, measured, without_acked, losses_taken}
-use Rattle.quic_machine.specs.Receive.{Fault, violation, Progress, message_judged, take_frame, unless_fault, take_items, take_payload, ends_as, asks_in, dropped, by_state, opened_to, opened_as, headed, received_in, is_above, names_ungiven, is_empty, take_item, told_ack, told_item, told_unless, told_items, told_payload, told_by_state, told_opened, told_opened_as, told_headed, told_received_in, opening}
+use Rattle.quic_machine.specs.Receive.{Fault, violation, Progress, message_judged, take_frame, unless_fault, take_items, take_payload, ends_as, asks_in, dropped, by_state, opened_to, opened_as, headed, received_in, is_above, names_ungiven, is_empty, take_item, told_ack, told_item, told_unless, told_items, told_payload, told_by_state, told_opened, told_opened_as, told_headed, told_received_in, opening, broke, too_many_pieces, closed_by_peer, unopened_in, is_read, drawn_if}
 use Rattle.quic_machine.specs.Poll.{Ready, polled, ready, goes, asking, datagram_size, draft_of, told_if, told_polled_in}
+use Rattle.quic_machine.specs.Poll as poll
 use Rattle.quic_machine.specs.End.{number_of}
 use Rattle.quic_machine.specs.Timeouts.{Expiry, expiry_at, loss_judged, loss_expired, timed_out_in, told_judged, told_expired, told_timed_out_in}
-use Rattle.quic_machine.specs.FrameCases.{named, ack_taken, by_marks}
+use Rattle.quic_machine.specs.FrameCases.{named, ack_taken, by_marks, apart_leaves}
 use Rattle.quic_machine.specs.CallCases.{Plain, is_delivery, is_poll, is_timeout, by_plain_call}
 use Rattle.quic_machine.specs.CallCases as cases
-use Rattle.quic_machine.specs.Machine.{World, Policies, IsStep, IsLeft, after_delivered, after_call, reads_window, end_left, fails, tells, told_delivered, view_of}
+use Rattle.quic_machine.specs.Machine.{World, Policies, IsStep, IsLeft, after_delivered, after_call, reads_window, end_left, fails, tells, told_delivered, view_of, says_last}
 use Rattle.quic_headline.specs.Runs.{Run}
 use Rattle.quic_headline.specs.Headline.{IsRun}
 use Rattle.quic_headline.specs.Polls.{mtu_in, search_at, told_by_step, WasTold}
@@ -65,6 +67,10 @@ use Rattle.quic_headline.proofs.Places.Moments.{last_view}
 use Rattle.quic_headline.proofs.Steps.Windows.{history, first_lead}
 use Rattle.quic_machine.specs.LeaveCases.{Expired, by_expiring}
 use Rattle.quic_machine.specs.LeaveCases as expiring
+use Rattle.quic_machine.specs.Heard.{Heard}
+use Rattle.quic_time.specs.Timers.{has_come}
+use Rattle.std.specs.Option.{is_none}
+use Rattle.quic_headline.proofs.Packets.Apart.{by_waits, by_next_id}
 
 -- ---- what tells no size
 
@@ -87,7 +93,7 @@ none_sent true e size number = (tt, tt)
 none_sent false e size number = tt
 
 none_packet : (e : End) (p : ℕ × TrackedPacket) → SayNoSize (told_packet e p)
-none_packet e p = go p.1.asks
+none_packet e p = go (p.1.asks && is_none e.validation.challenge)
   where
     go : (b : Bool) → SayNoSize (if b then Acked e.closing.clock p.1.time_sent p.1.size e.path.app_limited e.path.rtt ∷ [] else [])
     go true = (tt, tt)
@@ -121,11 +127,11 @@ none_if : (b : Bool) (g : Ready) → SayNoSize (told_if b g)
 none_if true g = none_sent (asking (draft_of g).frames) (draft_of g).end (datagram_size (draft_of g)) (number_of (draft_of g).end)
 none_if false g = tt
 
-none_polled : (s : State) (e : End) (now : ℕ) → SayNoSize (told_polled_in s e now)
-none_polled states.Open e now = (let g : Ready = ready (with_closing e (ticked e.closing now)) in none_if (goes g && can_number g.end.numbers) g)
-none_polled states.Closing e now = tt
-none_polled states.Drained e now = tt
-none_polled states.Failed e now = tt
+none_polled : (s : State) (p : Policy) (e : End) (now : ℕ) → SayNoSize (told_polled_in s p e now)
+none_polled states.Open p e now = (let g : Ready = ready (with_closing e (ticked e.closing now)) in none_if (goes g && is_none (poll.bounds p g.end)) g)
+none_polled states.Closing p e now = tt
+none_polled states.Drained p e now = tt
+none_polled states.Failed p e now = tt
 
 -- ---- sizes that are told
 
@@ -256,6 +262,9 @@ item_tells (Ok (datagram m)) e = go (received_answer e.transport.datagram_receiv
     go : (r : Result Bool ReceivedError) → Tells e.path.discovery [] (message_judged r m e).end.path.discovery
     go (Ok first) = still e.path.discovery [] tt
     go (Err error) = still e.path.discovery [] tt
+item_tells (Ok (new_connection_id f)) e = apart_leaves (λ (x : End). Tells e.path.discovery [] x.path.discovery) (new_connection_id f) e tt (λ c. still e.path.discovery [] tt) (λ c most. still e.path.discovery [] tt)
+item_tells (Ok (retire_connection_id n)) e = apart_leaves (λ (x : End). Tells e.path.discovery [] x.path.discovery) (retire_connection_id n) e tt (λ c. still e.path.discovery [] tt) (λ c most. still e.path.discovery [] tt)
+item_tells (Ok (path_response token)) e = apart_leaves (λ (x : End). Tells e.path.discovery [] x.path.discovery) (path_response token) e tt (λ c. still e.path.discovery [] tt) (λ c most. still e.path.discovery [] tt)
 item_tells (Ok f) e = still e.path.discovery [] tt
 item_tells (Err x) e = still e.path.discovery [] tt
 
@@ -280,7 +289,9 @@ payload_tells first is e = go (not (reserved_bits first == 0) || is_empty is)
 
 ends_tell : (fault : Option Fault) (asks : Bool) (n : ℕ) (mark : Option EcnCodepoint) (d : Discovery) (ts : List Told) (e : End) → Tells d ts e.path.discovery → Tells d ts (ends_as fault asks n mark e).end.path.discovery
 ends_tell None asks n mark d ts e t = t
-ends_tell (Some fault) asks n mark d ts e t = t
+ends_tell (Some (closed_by_peer close)) asks n mark d ts e t = t
+ends_tell (Some (broke error)) asks n mark d ts e t = t
+ends_tell (Some too_many_pieces) asks n mark d ts e t = t
 
 by_state_tells : (s : State) (o : Opening) (arrival : Arrival) (e : End) → Tells e.path.discovery (told_by_state s o arrival.now e) (by_state s o arrival e).end.path.discovery
 by_state_tells states.Open o arrival e =
@@ -303,13 +314,25 @@ opened_tells o arrival e = go (key_phase o.first) (is_duplicate e.numbers.opened
     go false true = still e.path.discovery [] tt
     go false false = by_state_tells e.closing.state o arrival noted
 
-opened_as_tells : (o : Option Opening) (arrival : Arrival) (e : End) → Tells e.path.discovery (told_opened_as o arrival.now e) (opened_as o arrival e).end.path.discovery
-opened_as_tells None arrival e = still e.path.discovery [] tt
-opened_as_tells (Some o) arrival e = opened_tells o arrival e
+unopened_tells : (s : State) (b : Bool) (arrival : Arrival) (e : End) → Tells e.path.discovery [] (unopened_in s b arrival e).end.path.discovery
+unopened_tells states.Open true arrival e = still e.path.discovery [] tt
+unopened_tells states.Open false arrival e = still e.path.discovery [] tt
+unopened_tells states.Closing b arrival e = still e.path.discovery [] tt
+unopened_tells states.Drained b arrival e = still e.path.discovery [] tt
+unopened_tells states.Failed b arrival e = still e.path.discovery [] tt
+
+-- ids that are drawn leave the search
+drawn_tells : (b : Bool) (p : Policy) (d : Discovery) (ts : List Told) (e : End) → Tells d ts e.path.discovery → Tells d ts (drawn_if b p e).path.discovery
+drawn_tells true p d ts e t = t
+drawn_tells false p d ts e t = t
+
+opened_as_tells : (o : Option Opening) (p : Policy) (arrival : Arrival) (e : End) → Tells e.path.discovery (told_opened_as o arrival.now e) (opened_as o p arrival e).end.path.discovery
+opened_as_tells None p arrival e = unopened_tells e.closing.state arrival.last arrival e
+opened_as_tells (Some o) p arrival e = drawn_tells (is_read (opened_to o arrival e).answer) p e.path.discovery (told_opened o arrival.now e) (opened_to o arrival e).end (opened_tells o arrival e)
 
 headed_tells : (r : Result (List ℕ) HeaderError) (p : Policy) (e : End) (arrival : Arrival) (d : List ℕ) → Tells e.path.discovery (told_headed r p e arrival.now d) (headed r p e arrival d).end.path.discovery
 headed_tells (Err error) p e arrival d = still e.path.discovery [] tt
-headed_tells (Ok id) p e arrival d = opened_as_tells (opening p e d) arrival e
+headed_tells (Ok id) p e arrival d = opened_as_tells (opening p e d) p arrival e
 
 received_tells : (s : State) (p : Policy) (e : End) (arrival : Arrival) (d : List ℕ) → Tells e.path.discovery (told_received_in s p e arrival.now d) (received_in s p e arrival d).end.path.discovery
 received_tells states.Failed p e arrival d = still e.path.discovery [] tt
@@ -317,9 +340,9 @@ received_tells states.Drained p e arrival d = still e.path.discovery [] tt
 received_tells states.Open p e arrival d = headed_tells (decoded (fixed_length_id own_id_length) (known e.ids) d) p e arrival d
 received_tells states.Closing p e arrival d = headed_tells (decoded (fixed_length_id own_id_length) (known e.ids) d) p e arrival d
 
-delivered_tells : (p : Policy) (e : End) (delivery : Delivery) (o : Option (List ℕ)) → Tells e.path.discovery (told_delivered p e delivery.now o) (after_delivered p e delivery o).path.discovery
-delivered_tells p e delivery None = still e.path.discovery [] tt
-delivered_tells p e delivery (Some d) = received_tells e.closing.state p e (delivered_by delivery) d
+delivered_tells : (p : Policy) (e : End) (arrival : Arrival) (o : Option (List ℕ)) → Tells e.path.discovery (told_delivered p e arrival.now o) (after_delivered p e arrival o).path.discovery
+delivered_tells p e arrival None = still e.path.discovery [] tt
+delivered_tells p e arrival (Some d) = received_tells e.closing.state p e arrival d
 
 -- timers expire
 judged_tells : (o : Option ℕ) (e : End) → Tells e.path.discovery (told_judged o e) (loss_judged o e).path.discovery
@@ -331,7 +354,7 @@ expired_tells true e = judged_tells e.tracking.loss_time e
 expired_tells false e = still e.path.discovery [] tt
 
 timed_out_tells : (s : State) (p : Policy) (e : End) (now : ℕ) → Tells e.path.discovery (told_timed_out_in s e now) (timed_out_in s p e now).end.path.discovery
-timed_out_tells states.Open p e now = by_expiring TellsSo TellsSo others (λ f i. i) x (loss_expired x.loss begun) (expired_tells x.loss begun)
+timed_out_tells states.Open p e now = by_expiring p.words TellsSo TellsSo others (λ f i. i) (λ f i. i) x (loss_expired x.loss begun) (expired_tells x.loss begun)
   where
     begun : End
     begun = with_closing e (ticked e.closing now)
@@ -346,15 +369,15 @@ timed_out_tells states.Open p e now = by_expiring TellsSo TellsSo others (λ f i
     others : (s : Expired) (f : End) → TellsSo f → TellsSo (expiring.after s f)
     others expiring.of_acks f i = i
     others s f i = i
-timed_out_tells states.Closing p e now = still e.path.discovery [] tt
+timed_out_tells states.Closing p e now = by_waits (λ (f : End). Tells e.path.discovery [] f.path.discovery) (has_come e.timers.close (ticked e.closing now).clock) (with_closing e (ticked e.closing now)) (still e.path.discovery [] tt) (still e.path.discovery [] tt)
 timed_out_tells states.Drained p e now = still e.path.discovery [] tt
 timed_out_tells states.Failed p e now = still e.path.discovery [] tt
 
 -- an end is polled
-polled_tells : (p : Policy) (e : End) (now : ℕ) → Tells e.path.discovery (told_polled_in e.closing.state e now) (polled p e now).end.path.discovery
-polled_tells p e now = quiet e.path.discovery (polled p e now).end.path.discovery (told_polled_in e.closing.state e now)
+polled_tells : (p : Policy) (e : End) (now : ℕ) → Tells e.path.discovery (told_polled_in e.closing.state p e now) (polled p e now).end.path.discovery
+polled_tells p e now = quiet e.path.discovery (polled p e now).end.path.discovery (told_polled_in e.closing.state p e now)
     (λ h. polled_search (bounds.IsSized 1200 MAX_UDP_PAYLOAD) (sized_polled 1200 MAX_UDP_PAYLOAD) p e now h)
-    (polled_search (λ (d : Discovery). d.size ≡ current_mtu e.path) (λ moment number d same. same) p e now refl) (none_polled e.closing.state e now)
+    (polled_search (λ (d : Discovery). d.size ≡ current_mtu e.path) (λ moment number d same. same) p e now refl) (none_polled e.closing.state p e now)
 
 -- the search stays behind other calls
 pub others_leave : (p : Policy) (e : End) (theirs : List (List ℕ)) (call : Call) (a : Answer) → is_delivery call ≡ false → is_poll call ≡ false → is_timeout call ≡ false → (after_call p e theirs call a).path.discovery ≡ e.path.discovery
@@ -364,6 +387,9 @@ others_leave p e theirs call a apart silent timeless = by_plain_call p e theirs 
     keep (cases.times now expiry) is = (let clash : true ≡ false = sym is ∙ timeless in cc)
     keep (cases.polls now) is = (let clash : true ≡ false = sym is ∙ silent in cc)
     keep (cases.hears arrival d) is = (let clash : true ≡ false = sym is ∙ apart in cc)
+    keep (cases.closes reason f now) may = refl
+    keep (cases.waits now b) may = by_waits (λ (x : End). x.path.discovery ≡ e.path.discovery) b (with_closing e (ticked e.closing now)) refl refl
+    keep (cases.changes_id a) may = by_next_id (λ (x : End). x.path.discovery ≡ e.path.discovery) e a refl (λ c. refl) (λ c most. refl)
     keep c may = refl
 
 other_tells : (p : Policy) (e : End) (theirs : List (List ℕ)) (call : Call) (a : Answer) → is_delivery call ≡ false → is_poll call ≡ false → is_timeout call ≡ false → Tells e.path.discovery [] (after_call p e theirs call a).path.discovery
@@ -373,35 +399,35 @@ other_tells p e theirs call a apart silent timeless = subst (λ (f : Discovery).
 pub call_tells : (p : Policy) (e : End) (theirs : List (List ℕ)) (call : Call) (a : Answer) → Tells e.path.discovery (tells p e theirs call) (after_call p e theirs call a).path.discovery
 call_tells p e theirs (calls.Poll now) a = polled_tells p e now
 call_tells p e theirs (calls.Timeout now) a = timed_out_tells e.closing.state p e now
-call_tells p e theirs (calls.Deliver delivery) a = delivered_tells p e delivery (slice_get theirs delivery.index)
+call_tells p e theirs (calls.Deliver delivery) a = delivered_tells p e (delivered_by (says_last a) delivery) (slice_get theirs delivery.index)
 call_tells p e theirs call a = other_tells p e theirs call a refl refl refl
 
 -- ---- one step
 
 -- a poll that reads the window leaves the search
-pub reads_search : (control : Control) (call : Call) (e : End) → (reads_window control call e).path.discovery ≡ e.path.discovery
-reads_search control (calls.Poll now) e = refl
-reads_search control call e = refl
+pub reads_search : (control : Control) (heard : Heard) (call : Call) (e : End) → (reads_window control heard call e).path.discovery ≡ e.path.discovery
+reads_search control heard (calls.Poll now) e = refl
+reads_search control heard call e = refl
 
 -- so does a step, whichever end it is made at
 pub step_tells : (side : Side) (k : Policies) (w next : World) (event : RunEvent) (a : Answer) → fails a ≡ false → IsStep k w event a next → Tells (search_at side w) (told_by_step side k w event) (search_at side next)
 step_tells side k w next event a served s = go side event.side event.call s
   where
     -- the end that is called
-    called : (p : Policy) (control : Control) (e left : End) (theirs : List (List ℕ)) (call : Call) → IsLeft (fails a) p control e theirs call a left → Tells e.path.discovery (tells p (reads_window control call e) theirs call) left.path.discovery
-    called p control e left theirs call is =
-        let read : End = reads_window control call e in
-        let ends : left ≡ end_left p control e theirs call a = subst (λ (b : Bool). IsLeft b p control e theirs call a left) served is in
+    called : (p : Policy) (control : Control) (heard : Heard) (e left : End) (theirs : List (List ℕ)) (call : Call) → IsLeft (fails a) p control heard e theirs call a left → Tells e.path.discovery (tells p (reads_window control heard call e) theirs call) left.path.discovery
+    called p control heard e left theirs call is =
+        let read : End = reads_window control heard call e in
+        let ends : left ≡ end_left p control heard e theirs call a = subst (λ (b : Bool). IsLeft b p control heard e theirs call a left) served is in
         subst (λ (x : End). Tells e.path.discovery (tells p read theirs call) x.path.discovery) (sym ends)
-        (subst (λ (d : Discovery). Tells d (tells p read theirs call) (after_call p read theirs call a).path.discovery) (reads_search control call e) (call_tells p read theirs call a))
+        (subst (λ (d : Discovery). Tells d (tells p read theirs call) (after_call p read theirs call a).path.discovery) (reads_search control heard call e) (call_tells p read theirs call a))
 
     -- the other end is as it was
     other : (d f : Discovery) → f ≡ d → Tells d [] f
     other d f same = subst (λ (x : Discovery). Tells d [] x) (sym same) (still d [] tt)
 
     go : (side by : Side) (call : Call) → IsStep k w (record { side = by; call = call }) a next → Tells (search_at side w) (told_by_step side k w (record { side = by; call = call })) (search_at side next)
-    go Client Client call s = called k.client w.client_control w.client next.client w.from_server call s.end
-    go Server Server call s = called k.server w.server_control w.server next.server w.from_client call s.end
+    go Client Client call s = called k.client w.client_control w.client_heard w.client next.client w.from_server call s.end
+    go Server Server call s = called k.server w.server_control w.server_heard w.server next.server w.from_client call s.end
     go Client Server call s = other w.client.path.discovery next.client.path.discovery (ap (λ (v : World). v.client.path.discovery) s.others)
     go Server Client call s = other w.server.path.discovery next.server.path.discovery (ap (λ (v : World). v.server.path.discovery) s.others)
 
@@ -427,7 +453,8 @@ pub size_there : (side : Side) (w : World) → mtu_in (view_of w) side ≡ (sear
 size_there Client w = refl
 size_there Server w = refl
 
--- the size that a view shows is the last that the controller of its end was told of, or that with which the path began
+-- the size that a view shows is the last that the controller of its end was told of, or that with
+-- which the path began
 pub size_is_of_history : (r : Run) (end : World) → IsRun r end → SizeIsOfHistory r
 size_is_of_history r end run side i v served there =
     let lead = first_lead (suc i) r.keys r.start r.events r.answers r.views end run.follows in

@@ -12,7 +12,7 @@ use Rattle.quic_machine.specs.declared.run.Call.{Call}
 use Rattle.quic_machine.specs.declared.run.Answer.{Answer}
 use Rattle.quic_machine.specs.declared.run.View.{View}
 use Rattle.quic_machine.specs.Control.{Control, after_told}
-use Rattle.quic_machine.specs.Machine.{World, Policies, IsTold, IsStep, end_at, end_met, control_at, given_by, policy_at, tells, fails, Follows, view_of}
+use Rattle.quic_machine.specs.Machine.{World, Policies, IsTold, IsStep, end_at, end_met, control_at, given_by, policy_at, tells, fails, Follows, view_of, heard_at}
 use Rattle.quic_headline.specs.Runs.{Run}
 use Rattle.quic_headline.specs.Headline.{IsRun}
 use Rattle.quic_headline.specs.Polls.{window_in, told_by_step, WasTold, WindowIsOfHistory}
@@ -20,7 +20,8 @@ use Rattle.quic_headline.proofs.Places.Moments.{last_view}
 
 -- ---- one step
 
--- the controller of one end shows at the second of two ends of a run what it shows at the first once it was told this
+-- the controller of one end shows at the second of two ends of a run what it shows at the first
+-- once it was told this
 abbrev pub ShowsAfter : Side → World → World → List Told → Type 0
 ShowsAfter side w end told = (more : List Told) → control_at side end more ≡ control_at side w (told ++ more)
 
@@ -28,7 +29,7 @@ ShowsAfter side w end told = (more : List Told) → control_at side end more ≡
 told_control : (k : Policies) (w next : World) (event : RunEvent) (a : Answer) → fails a ≡ false → IsStep k w event a next
     → control_at event.side next ≡ after_told (control_at event.side w) (tells (policy_at event.side k) (end_met w event) (given_by (other_side event.side) w) event.call)
 told_control k w next event a served s =
-    subst (λ (b : Bool). IsTold b (policy_at event.side k) (control_at event.side w) (end_at event.side w) (given_by (other_side event.side) w) event.call (control_at event.side next)) served s.control
+    subst (λ (b : Bool). IsTold b (policy_at event.side k) (control_at event.side w) (heard_at event.side w) (end_at event.side w) (given_by (other_side event.side) w) event.call (control_at event.side next)) served s.control
 
 -- and that of the other end nothing
 pub step_shows : (side : Side) (k : Policies) (w next : World) (event : RunEvent) (a : Answer) → fails a ≡ false → IsStep k w event a next → ShowsAfter side w next (told_by_step side k w event)
@@ -90,7 +91,8 @@ window_there : (side : Side) (w : World) → window_in (view_of w) side ≡ cont
 window_there Client w = refl
 window_there Server w = refl
 
--- the window that a view shows is that which the controller shows once it was told what the calls up to there tell
+-- the window that a view shows is that which the controller shows once it was told what the calls
+-- up to there tell
 pub window_is_of_history : (r : Run) (end : World) → IsRun r end → WindowIsOfHistory r
 window_is_of_history r end run side i v served there =
     let lead = first_lead (suc i) r.keys r.start r.events r.answers r.views end run.follows in

@@ -1,8 +1,8 @@
 -- What a controller is told of an ACK frame is what may be told of the datagrams in flight that it
 -- acknowledges (RFC 9002, sections 7 and 7.1).
 use Rattle.std.proofs.Common.{◌≡◌, ℕ, ◌-◌, ◌<◌, ◌≤◌, min, Bool, true, false, not, cond, List, [], ◌∷◌, ◌++◌, length, Option, Some, None, Result, Ok, Err, refl, sym, ap, ◌∙◌, subst, inl, inr, arith}
-use Rattle.std.specs.Prelude.{if◌then◌else◌, nat_lt}
-use Rattle.std.specs.Option.{option_and_then}
+use Rattle.std.specs.Prelude.{if◌then◌else◌, ◌&&◌, nat_lt}
+use Rattle.std.specs.Option.{option_and_then, is_some, is_none}
 use Rattle.std.proofs.lemmas.Bool.{eq-eqb, ltb-true}
 use Rattle.std.proofs.lemmas.List.{append_assoc}
 use Rattle.quic_time.specs.Rtt.{Rtt, sampled_rtt, with_sample}
@@ -40,16 +40,28 @@ use Rattle.quic_headline.proofs.Tellings.Losses.{waited_last, size_told, losses_
 -- ---- each that is acknowledged
 
 -- a packet that asks counts
-packet_told : (e : End) (now : ℕ) (s : Sent) (p : ℕ × TrackedPacket) → now ≡ e.closing.clock → IsWaited s p → told_packet e p ≡ told_if (asks_of s) (Acked now s.moment s.size e.path.app_limited e.path.rtt)
-packet_told e now s p clock w =
-    ap (λ (b : Bool). if b then Acked e.closing.clock p.1.time_sent p.1.size e.path.app_limited e.path.rtt ∷ [] else []) w.asks
-    ∙ ap (λ (n : ℕ). if asks_of s then Acked n p.1.time_sent p.1.size e.path.app_limited e.path.rtt ∷ [] else []) (sym clock)
-    ∙ ap (λ (n : ℕ). if asks_of s then Acked now n p.1.size e.path.app_limited e.path.rtt ∷ [] else []) w.time
-    ∙ go (asks_of s) w.size
+packet_told : (e : End) (now : ℕ) (challenged : Bool) (s : Sent) (p : ℕ × TrackedPacket) → now ≡ e.closing.clock → is_none e.validation.challenge ≡ not challenged → IsWaited s p → told_packet e p ≡ told_if (asks_of s && not challenged) (Acked now s.moment s.size e.path.app_limited e.path.rtt)
+packet_told e now challenged s p clock free w =
+    ap (λ (b : Bool). if b && is_none e.validation.challenge then Acked e.closing.clock p.1.time_sent p.1.size e.path.app_limited e.path.rtt ∷ [] else []) w.asks
+    ∙ ap (λ (b : Bool). if asks_of s && b then Acked e.closing.clock p.1.time_sent p.1.size e.path.app_limited e.path.rtt ∷ [] else []) free
+    ∙ ap (λ (n : ℕ). if asks_of s && not challenged then Acked n p.1.time_sent p.1.size e.path.app_limited e.path.rtt ∷ [] else []) (sym clock)
+    ∙ ap (λ (n : ℕ). if asks_of s && not challenged then Acked now n p.1.size e.path.app_limited e.path.rtt ∷ [] else []) w.time
+    ∙ go (asks_of s) (not challenged) w.size
   where
-    go : (b : Bool) → p.1.size ≡ (if b then s.size else 0) → (if b then Acked now s.moment p.1.size e.path.app_limited e.path.rtt ∷ [] else []) ≡ told_if b (Acked now s.moment s.size e.path.app_limited e.path.rtt)
-    go true size = ap (λ (n : ℕ). Acked now s.moment n e.path.app_limited e.path.rtt ∷ []) size
-    go false size = refl
+    go : (b c : Bool) → p.1.size ≡ (if b then s.size else 0) → (if b && c then Acked now s.moment p.1.size e.path.app_limited e.path.rtt ∷ [] else []) ≡ told_if (b && c) (Acked now s.moment s.size e.path.app_limited e.path.rtt)
+    go true true size = ap (λ (n : ℕ). Acked now s.moment n e.path.app_limited e.path.rtt ∷ []) size
+    go true false size = refl
+    go false c size = refl
+
+-- whether the peer has a challenge to answer
+none_is : (o : Option ℕ) → is_none o ≡ not (is_some o)
+none_is None = refl
+none_is (Some word) = refl
+
+-- it has one only where its address wasn't validated first
+some_unvalidated : (o : Option ℕ) (validated : Bool) → (validated ≡ true → o ≡ None) → is_some o ≡ true → validated ≡ false
+some_unvalidated o false none some = refl
+some_unvalidated o true none some = (let clash : false ≡ true = sym (ap (λ (x : Option ℕ). is_some x) (none refl)) ∙ some in cc)
 
 -- the open probe has no less than the least size
 pub may_probe : (least : ℕ) (d : Discovery) (s : Sent) → IsSized least MAX_UDP_PAYLOAD d → (size : ℕ) → acknowledged_probe s.number d ≡ Some size → IsPinged s × (s.size ≡ size) → MayProbe least s
@@ -84,21 +96,21 @@ probe_told least d s p w probes = go (acknowledged_probe p.0 d) refl
         (is_resized d f, (λ grows. found.0), size_told d f s.size (inr (acked_size p.0 p.1.size d (Some size) is ∙ sym found.1)))
 
 -- each in turn
-acked_told : (least now : ℕ) (ss : List Sent) (ps : Table TrackedPacket) (e : End) → now ≡ e.closing.clock → AreWaited ss ps → IsSized least MAX_UDP_PAYLOAD e.path.discovery → Probes ss e.path.discovery → TellsAcked least now e.path.app_limited e.path.rtt ss (told_packets e ps)
-acked_told least now [] [] e clock w sized probes = refl
-acked_told least now (s ∷ ss) (p ∷ ps) e clock w sized probes =
+acked_told : (least now : ℕ) (challenged : Bool) (ss : List Sent) (ps : Table TrackedPacket) (e : End) → now ≡ e.closing.clock → is_none e.validation.challenge ≡ not challenged → AreWaited ss ps → IsSized least MAX_UDP_PAYLOAD e.path.discovery → Probes ss e.path.discovery → TellsAcked least now challenged e.path.app_limited e.path.rtt ss (told_packets e ps)
+acked_told least now challenged [] [] e clock free w sized probes = refl
+acked_told least now challenged (s ∷ ss) (p ∷ ps) e clock free w sized probes =
     let d : Discovery = e.path.discovery in
     let rest : List Told = told_packets (search_acked p e) ps in
     let one = probe_told least d s p w.0 (λ size is. (may_probe least d s sized size is (probes s (inl refl) size is), (probes s (inl refl) size is).1)) in (
       one.0,
       one.1,
       rest,
-      acked_told least now ss ps (search_acked p e) clock w.1 (sized_acked least MAX_UDP_PAYLOAD p.0 p.1.size d sized).0 (λ t i size is. probes t (inr i) size (acked_fewer p.0 p.1.size d t.number size is)),
-      ap (λ (ts : List Told). ts ++ told_probe p d ++ rest) (packet_told e now s p clock w.0)
-          ∙ ap (λ (ts : List Told). told_if (asks_of s) (Acked now s.moment s.size e.path.app_limited e.path.rtt) ++ ts ++ rest) one.2,
+      acked_told least now challenged ss ps (search_acked p e) clock free w.1 (sized_acked least MAX_UDP_PAYLOAD p.0 p.1.size d sized).0 (λ t i size is. probes t (inr i) size (acked_fewer p.0 p.1.size d t.number size is)),
+      ap (λ (ts : List Told). ts ++ told_probe p d ++ rest) (packet_told e now challenged s p clock free w.0)
+          ∙ ap (λ (ts : List Told). told_if (asks_of s && not challenged) (Acked now s.moment s.size e.path.app_limited e.path.rtt) ++ ts ++ rest) one.2,
     )
-acked_told least now [] (p ∷ ps) e clock w sized probes = absurd w
-acked_told least now (s ∷ ss) [] e clock w sized probes = absurd w
+acked_told least now challenged [] (p ∷ ps) e clock free w sized probes = absurd w
+acked_told least now challenged (s ∷ ss) [] e clock free w sized probes = absurd w
 
 -- ---- marks
 
@@ -219,7 +231,7 @@ pub frame_set : (j : Judging) (f : FrameValue) (e : End) → IsSet j e → IsSet
 frame_set j = frame_keeps (IsSet j) (record {
   ack = λ rises a e i. named_set j (acked_by a (named a e).tracking.packets) rises a (named a e) i;
   on_streams = λ f e on i. frame_leaves (IsSet j) f e on (λ t. i);
-  apart = λ f e is i. apart_leaves (IsSet j) f e is (λ c. i);
+  apart = λ f e is i. apart_leaves (IsSet j) f e is (λ c. i) (λ c most. i);
   message = λ m e i. i;
 })
 
@@ -234,11 +246,13 @@ timed_moves flew least before flying acked ps rises a e m = go (measured rises a
 module _ (j : Judging) (now : ℕ) (flew : List Sent) (before : ℕ) where
   -- an ACK frame that names these
   settled_told : (ss others : List Sent) (ps : Table TrackedPacket) (rises : Bool) (a : AckValue) (f : Flight) (e : End) → rises ≡ is_greatest f.named a.largest → ((s : Sent) → In s ss → In s f.flying) → ((s : Sent) → In s others → In s f.flying)
-      → ((s : Sent) → In s ss → In s others → ⊥) → AreWaited ss ps → AreWaited others (not_acked_by a e.tracking.packets) → Tells j.terms now (counted a f) (held e) → IsSet j e → Moves flew j.settings.min_mtu before f.flying f.acked e
+      → ((s : Sent) → In s ss → In s others → ⊥) → AreWaited ss ps → AreWaited others (not_acked_by a e.tracking.packets) → Tells j.terms now (counted a f) (held e) → IsSet j e → (j.validated ≡ true → e.validation.challenge ≡ None) → Moves flew j.settings.min_mtu before f.flying f.acked e
       → TellsSettled j now a ss others f (told_of_losses ps rises a e ++ told_marks rises ps a (losses_taken ps rises a e))
-  settled_told ss others ps rises a f e is inside stays apart acked stay w set moves = record {
+  settled_told ss others ps rises a f e is inside stays apart acked stay w set unasked moves = record {
+    challenged = is_some e.validation.challenge;
+    unvalidated = some_unvalidated e.validation.challenge j.validated unasked;
     each = told_packets e ps;
-    acks = subst (λ (b : Bool). TellsAcked j.settings.min_mtu now b f.rtt ss (told_packets e ps)) set.limited (subst (λ (r : Rtt). TellsAcked j.settings.min_mtu now e.path.app_limited r ss (told_packets e ps)) (sym w.rtt) (acked_told j.settings.min_mtu now ss ps e w.clock acked moves.sized (λ s i size shown. moves.probes s (moves.inside s (inside s i)) size shown)));
+    acks = subst (λ (b : Bool). TellsAcked j.settings.min_mtu now (is_some e.validation.challenge) b f.rtt ss (told_packets e ps)) set.limited (subst (λ (r : Rtt). TellsAcked j.settings.min_mtu now (is_some e.validation.challenge) e.path.app_limited r ss (told_packets e ps)) (sym w.rtt) (acked_told j.settings.min_mtu now (is_some e.validation.challenge) ss ps e w.clock (none_is e.validation.challenge) acked moves.sized (λ s i size shown. moves.probes s (moves.inside s (inside s i)) size shown)));
     lost = told_detected true x;
     losses = losses_told j now true (acked_flight j.terms now a ss others f) x told (timed_set j ps rises a e set).first (timed_set j ps rises a e set).settings measured after.floor (λ s i size shown. may_probe j.settings.min_mtu x.path.discovery s after.sized size shown (after.probes s (after.inside s i) size shown));
     marks = marked.0;
@@ -280,8 +294,8 @@ module _ (j : Judging) (now : ℕ) (flew : List Sent) (before : ℕ) where
 
   -- one that names these, or none
   pub named_told : (ss others : List Sent) (ps : Table TrackedPacket) (rises : Bool) (a : AckValue) (f : Flight) (e : End) → rises ≡ is_greatest f.named a.largest → ((s : Sent) → In s ss → In s f.flying) → ((s : Sent) → In s others → In s f.flying)
-      → ((s : Sent) → In s ss → In s others → ⊥) → AreWaited ss ps → AreWaited others (not_acked_by a e.tracking.packets) → Tells j.terms now (counted a f) (held e) → IsSet j e → Moves flew j.settings.min_mtu before f.flying f.acked e → TellsNamed j now a ss others f (told_named ps rises a e)
-  named_told [] others [] rises a f e is inside stays apart acked stay w set moves = refl
-  named_told (s ∷ ss) others (p ∷ ps) rises a f e is inside stays apart acked stay w set moves = settled_told (s ∷ ss) others (p ∷ ps) rises a f e is inside stays apart acked stay w set moves
-  named_told [] others (p ∷ ps) rises a f e is inside stays apart acked stay w set moves = absurd acked
-  named_told (s ∷ ss) others [] rises a f e is inside stays apart acked stay w set moves = absurd acked
+      → ((s : Sent) → In s ss → In s others → ⊥) → AreWaited ss ps → AreWaited others (not_acked_by a e.tracking.packets) → Tells j.terms now (counted a f) (held e) → IsSet j e → (j.validated ≡ true → e.validation.challenge ≡ None) → Moves flew j.settings.min_mtu before f.flying f.acked e → TellsNamed j now a ss others f (told_named ps rises a e)
+  named_told [] others [] rises a f e is inside stays apart acked stay w set unasked moves = refl
+  named_told (s ∷ ss) others (p ∷ ps) rises a f e is inside stays apart acked stay w set unasked moves = settled_told (s ∷ ss) others (p ∷ ps) rises a f e is inside stays apart acked stay w set unasked moves
+  named_told [] others (p ∷ ps) rises a f e is inside stays apart acked stay w set unasked moves = absurd acked
+  named_told (s ∷ ss) others [] rises a f e is inside stays apart acked stay w set unasked moves = absurd acked

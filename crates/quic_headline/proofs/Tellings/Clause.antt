@@ -1,7 +1,7 @@
 -- At each place of an honest run, what a controller was told so far is what may be told, by what
 -- the observer of its end knows; and the window and the size that a view shows are those that the
 -- controller shows, and was told last.
-use Rattle.std.proofs.Common.{◌≡◌, ℕ, zero, suc, List, [], ◌∷◌, ◌++◌, ◌+◌, ◌≤◌, length, take, Bool, false, Option, Some, None, refl, sym, ap, ◌∙◌, subst, arith}
+use Rattle.std.proofs.Common.{◌≡◌, ℕ, zero, suc, List, [], ◌∷◌, ◌++◌, ◌+◌, ◌≤◌, length, take, Bool, true, false, Option, Some, None, refl, sym, ap, ◌∙◌, subst, arith}
 use Rattle.std.specs.Prelude.{if◌then◌else◌, slice_get}
 use Rattle.std.proofs.lemmas.List.{append_assoc, append-nil}
 use Rattle.std.proofs.lemmas.Option.{slice_get_within}
@@ -21,14 +21,18 @@ use Rattle.quic_machine.specs.declared.run.RunEvent.{RunEvent}
 use Rattle.quic_machine.specs.declared.run.View.{View}
 use Rattle.quic_machine.specs.End.{End}
 use Rattle.quic_machine.specs.Control.{Control}
-use Rattle.quic_machine.specs.Machine.{World, reads_window, after_call, end_at, control_at, policy_at, given_by, tells, fails, view_of}
+use Rattle.quic_machine.specs.Machine.{World, reads_window, after_call, end_at, control_at, policy_at, given_by, tells, fails, view_of, heard_at, says_last}
 use Rattle.quic_machine.specs.RunLaws.{one_run, as_many_views}
 use Rattle.quic_headline.specs.Runs.{Run, Told, same_side, given_of, told_by, until, state_at, folded, LeadsTo, AreServed}
 use Rattle.quic_headline.specs.Observer.{Sent, Watch, Lens, watch_told, lens_of, watch_from, watch, next_number}
 use Rattle.quic_headline.specs.Headline.{IsHonest, IsRun}
 use Rattle.quic_headline.specs.Polls.{window_in, mtu_in, search_at, told_by_step, IsMade}
+use Rattle.quic_headline.specs.Amounts.{making_at}
+use Rattle.quic_config.specs.Transport.{parameters_of}
 use Rattle.quic_headline.specs.AppLimited.{MayCount, CountsAt}
 use Rattle.quic_headline.specs.Telling.{Judging, measured_first, first_behind, TellsCall, TellsCalls, MayTell, ControllersAreTold}
+use Rattle.quic_machine.specs.Heard.{Heard}
+use Rattle.quic_machine.specs.Arrival.{delivered_by}
 use Rattle.quic_headline.proofs.Packets.Intakes.{folded_more}
 use Rattle.quic_headline.proofs.Packets.Stays.{placed_call}
 use Rattle.quic_headline.proofs.Packets.Group.{PacketsHold, meets}
@@ -47,6 +51,7 @@ use Rattle.quic_headline.proofs.Steps.Windows.{ShowsAfter, step_shows, first_lea
 use Rattle.quic_headline.proofs.Steps.Resized.{Tells, still, both, step_tells, size_there}
 use Rattle.quic_headline.proofs.Sizes.Probed.{KnowsSearch}
 use Rattle.quic_headline.proofs.Sizes.Moves.{did_there}
+use Rattle.quic_headline.proofs.Tellings.Asked.{IsUnasked, first_unasked, call_unasked}
 use Rattle.quic_headline.proofs.Tellings.Acks.{IsSet}
 use Rattle.quic_headline.proofs.Tellings.First.{Measured, call_measured, delivered_set, IsFirst, first_measured, is_first}
 use Rattle.quic_headline.proofs.Tellings.Calls.{quiet_call, timeout_told, poll_call, delivery_told}
@@ -64,16 +69,16 @@ first_more l first w [] t = refl
 first_more l first w (u ∷ ts) t = first_more l (first_behind first (watch_told l u w)) (watch_told l u w) ts t
 
 -- what calls tell, and one more, at which the end may count so
-tells_more : (l : Lens) (c : TransportSettings) (may : ℕ → Bool → Type 0) (n : ℕ) (first : Option ℕ) (w : Watch) (ts : List Told) (t : Told) (told now : List congestion.Told) (limited : Bool) → TellsCalls l c may n first w ts told
-    → (t.state ≡ states.Open → (m : ℕ) → m ≡ n + length ts → may m limited) → TellsCall l c (first_after l first w ts) limited (folded (watch_told l) ts w) t now → TellsCalls l c may n first w (ts ++ t ∷ []) (told ++ now)
-tells_more l c may n first w [] t told now limited before so here = (limited, now, [], (λ opened. so opened n (omega arith)), here, refl, ap (λ (us : List congestion.Told). us ++ now) before ∙ sym (append-nil now))
-tells_more l c may n first w (u ∷ ts) t told now limited before so here = (
+tells_more : (l : Lens) (c : TransportSettings) (validated : Bool) (may : ℕ → Bool → Type 0) (n : ℕ) (first : Option ℕ) (w : Watch) (ts : List Told) (t : Told) (told now : List congestion.Told) (limited : Bool) → TellsCalls l c validated may n first w ts told
+    → (t.state ≡ states.Open → (m : ℕ) → m ≡ n + length ts → may m limited) → TellsCall l c validated (first_after l first w ts) limited (folded (watch_told l) ts w) t now → TellsCalls l c validated may n first w (ts ++ t ∷ []) (told ++ now)
+tells_more l c validated may n first w [] t told now limited before so here = (limited, now, [], (λ opened. so opened n (omega arith)), here, refl, ap (λ (us : List congestion.Told). us ++ now) before ∙ sym (append-nil now))
+tells_more l c validated may n first w (u ∷ ts) t told now limited before so here = (
   before.0,
   before.1,
   before.2 ++ now,
   before.3,
   before.4,
-  tells_more l c may (suc n) (first_behind first (watch_told l u w)) (watch_told l u w) ts t before.2 now limited before.5 (λ opened m is. so opened m (omega (arith, is))) here,
+  tells_more l c validated may (suc n) (first_behind first (watch_told l u w)) (watch_told l u w) ts t before.2 now limited before.5 (λ opened m is. so opened m (omega (arith, is))) here,
   ap (λ (us : List congestion.Told). us ++ now) before.6 ∙ append_assoc before.1 before.2 now,
 )
 
@@ -84,9 +89,14 @@ view_before zero (u ∷ views) v there = (u, refl)
 view_before (suc i) (u ∷ views) v there = view_before i views v there
 
 -- a poll that reads the window leaves the state, the settings, and what is measured
-reads_same : (control : Control) (call : Call) (e : End) → ((reads_window control call e).closing.state ≡ e.closing.state) × ((reads_window control call e).transport ≡ e.transport) × Measured e.path (reads_window control call e).path
-reads_same control (calls.Poll now) e = (refl, refl, (refl, refl))
-reads_same control call e = (refl, refl, (refl, refl))
+reads_same : (control : Control) (heard : Heard) (call : Call) (e : End) → ((reads_window control heard call e).closing.state ≡ e.closing.state) × ((reads_window control heard call e).transport ≡ e.transport) × Measured e.path (reads_window control heard call e).path
+reads_same control heard (calls.Poll now) e = (refl, refl, (refl, refl))
+reads_same control heard call e = (refl, refl, (refl, refl))
+
+-- and what is asked
+reads_unasked : (control : Control) (heard : Heard) (call : Call) (e : End) → IsUnasked e → IsUnasked (reads_window control heard call e)
+reads_unasked control heard (calls.Poll now) e i = i
+reads_unasked control heard call e i = i
 
 module _ (G : Way) (g : Group Nothing G) (packets : (x y : Party) → G x y → PacketsHold x y) (sight : (x y : Party) → G x y → Sight x y) (search : (x y : Party) → G x y → KnowsSearch x y) (quiet : (x y : Party) → G x y → Unnamed x y)
     (r : Run) (end : World) (honest : IsHonest r) (run : IsRun r end)
@@ -95,6 +105,10 @@ module _ (G : Way) (g : Group Nothing G) (packets : (x y : Party) → G x y → 
   abbrev settings : Side → TransportSettings
   settings side = (end_at side r.start).transport
 
+  -- whether it began with a validated address
+  abbrev validated : Side → Bool
+  validated side = (end_at side r.start).path.validated
+
   -- the number that went next as a round trip was first measured, by the first so many answers
   abbrev first_at : Side → ℕ → Option ℕ
   first_at side i = first_after (lens_of r side) None (watch_from (end_at side r.start) (given_of r side)) (until r side i)
@@ -102,7 +116,7 @@ module _ (G : Way) (g : Group Nothing G) (packets : (x y : Party) → G x y → 
   -- ---- a call of an end
 
   module _ (i : ℕ) (side : Side) (a : Answer) (w next : World) (same : (end_at side w).transport ≡ settings side)
-      (first : (end_at side w).closing.state ≡ states.Open → IsFirst (first_at side i) (end_at side w).path) where
+      (first : (end_at side w).closing.state ≡ states.Open → IsFirst (first_at side i) (end_at side w).path) (unasked : validated side ≡ true → IsUnasked (end_at side w)) where
     abbrev policy : Policy
     policy = policy_at side r.keys
 
@@ -111,34 +125,34 @@ module _ (G : Way) (g : Group Nothing G) (packets : (x y : Party) → G x y → 
 
     -- the end that is called
     abbrev met : Call → End
-    met call = reads_window (control_at side w) call (end_at side w)
+    met call = reads_window (control_at side w) (heard_at side w) call (end_at side w)
 
     -- what may be told by a call
     abbrev Told_by : Call → Type 0
-    Told_by call = TellsCall (lens_of r side) (settings side) (first_at side i) (end_at side w).path.app_limited (watch r side i) (told_of call a (met call).closing.state) (tells policy (met call) theirs call)
+    Told_by call = TellsCall (lens_of r side) (settings side) (validated side) (first_at side i) (end_at side w).path.app_limited (watch r side i) (told_of call a (met call).closing.state) (tells policy (met call) theirs call)
 
     own_tells : (call : Call) → IsMade r i side call a w next → Told_by call
     own_tells (calls.Deliver delivery) m =
         let h = call_holds G g r end honest run i side (calls.Deliver delivery) a w next (λ id is. cc) tt m in
         let x : Party = calling r i w side (calls.Deliver delivery) h.sents in
         let y : Party = party_at r i w (other_side side) h.theirs in
-        subst (λ (v : Watch). TellsCall (lens_of r side) (settings side) (first_at side i) (end_at side w).path.app_limited v (told_of (calls.Deliver delivery) a (end_at side w).closing.state) (tells policy (end_at side w) theirs (calls.Deliver delivery))) (sym h.seen)
-        (delivery_told x y h.joined (meets y x (packets y x h.takes)) (sight x y h.gives) (search x y h.gives) (quiet x y h.gives) (packets x y h.gives).gives.next (first_at side i) (end_at side w).path.app_limited refl same (λ opened. first_measured (first_at side i) (next_number x.sents) x.end.path (first opened)) delivery a m.step.answer (made_served r i side (calls.Deliver delivery) a w next m))
+        subst (λ (v : Watch). TellsCall (lens_of r side) (settings side) (validated side) (first_at side i) (end_at side w).path.app_limited v (told_of (calls.Deliver delivery) a (end_at side w).closing.state) (tells policy (end_at side w) theirs (calls.Deliver delivery))) (sym h.seen)
+        (delivery_told x y h.joined (meets y x (packets y x h.takes)) (sight x y h.gives) (search x y h.gives) (quiet x y h.gives) (packets x y h.gives).gives.next (validated side) (first_at side i) (end_at side w).path.app_limited refl same (λ opened. first_measured (first_at side i) (next_number x.sents) x.end.path (first opened)) unasked (packets y x h.takes).alone delivery a m.step.answer (made_served r i side (calls.Deliver delivery) a w next m))
     own_tells (calls.Timeout now) m =
         let h = call_holds G g r end honest run i side (calls.Timeout now) a w next (λ id is. cc) tt m in
         let x : Party = calling r i w side (calls.Timeout now) h.sents in
         let y : Party = party_at r i w (other_side side) h.theirs in
-        subst (λ (v : Watch). TellsCall (lens_of r side) (settings side) (first_at side i) (end_at side w).path.app_limited v (told_of (calls.Timeout now) a (end_at side w).closing.state) (tells policy (end_at side w) theirs (calls.Timeout now))) (sym h.seen)
-        (timeout_told x y h.joined (meets y x (packets y x h.takes)) (sight x y h.gives) (search x y h.gives) (quiet x y h.gives) (packets x y h.gives).gives.next (first_at side i) (end_at side w).path.app_limited refl same (λ opened. first_measured (first_at side i) (next_number x.sents) x.end.path (first opened)) now a m.step.answer)
+        subst (λ (v : Watch). TellsCall (lens_of r side) (settings side) (validated side) (first_at side i) (end_at side w).path.app_limited v (told_of (calls.Timeout now) a (end_at side w).closing.state) (tells policy (end_at side w) theirs (calls.Timeout now))) (sym h.seen)
+        (timeout_told x y h.joined (meets y x (packets y x h.takes)) (sight x y h.gives) (search x y h.gives) (quiet x y h.gives) (packets x y h.gives).gives.next (validated side) (first_at side i) (end_at side w).path.app_limited refl same (λ opened. first_measured (first_at side i) (next_number x.sents) x.end.path (first opened)) unasked now a m.step.answer)
     own_tells (calls.Poll now) m =
         let h = call_holds G g r end honest run i side (calls.Poll now) a w next (λ id is. cc) tt m in
         let x : Party = calling r i w side (calls.Poll now) h.sents in
         let y : Party = party_at r i w (other_side side) h.theirs in
-        subst (λ (v : Watch). TellsCall (lens_of r side) (settings side) (first_at side i) (end_at side w).path.app_limited v (told_of (calls.Poll now) a (met (calls.Poll now)).closing.state) (tells policy (met (calls.Poll now)) theirs (calls.Poll now))) (sym h.seen)
-        (poll_call x y h.joined (meets y x (packets y x h.takes)) (sight x y h.gives) (search x y h.gives) (quiet x y h.gives) (packets x y h.gives).gives.next (first_at side i) (end_at side w).path.app_limited refl same (λ opened. first_measured (first_at side i) (next_number x.sents) x.end.path (record { is = (first opened).is; none = (first opened).none })) now a m.step.answer (made_served r i side (calls.Poll now) a w next m) (sight _ y h.behind).own)
+        subst (λ (v : Watch). TellsCall (lens_of r side) (settings side) (validated side) (first_at side i) (end_at side w).path.app_limited v (told_of (calls.Poll now) a (met (calls.Poll now)).closing.state) (tells policy (met (calls.Poll now)) theirs (calls.Poll now))) (sym h.seen)
+        (poll_call x y h.joined (meets y x (packets y x h.takes)) (sight x y h.gives) (search x y h.gives) (quiet x y h.gives) (packets x y h.gives).gives.next (validated side) (first_at side i) (end_at side w).path.app_limited refl same (λ opened. first_measured (first_at side i) (next_number x.sents) x.end.path (record { is = (first opened).is; none = (first opened).none })) unasked (packets x y h.gives).owes now a m.step.answer (made_served r i side (calls.Poll now) a w next m) (sight _ y h.behind).own)
     own_tells call m =
         let t : Told = told_of call a (end_at side w).closing.state in
-        quiet_call (lens_of r side) (settings side) (first_at side i) (end_at side w).path.app_limited (watch r side i) t (none_comes (lens_of r side) t (watch r side i).intake refl) (untimely t.state call refl) (only_polls_give policy (end_at side w) theirs call a refl m.step.answer)
+        quiet_call (lens_of r side) (settings side) (validated side) (first_at side i) (end_at side w).path.app_limited (watch r side i) t (none_comes (lens_of r side) t (watch r side i).intake refl) (untimely t.state call refl) (only_polls_give policy (end_at side w) theirs call a refl m.step.answer)
 
   -- ---- what is measured
 
@@ -199,12 +213,12 @@ module _ (G : Way) (g : Group Nothing G) (packets : (x y : Party) → G x y → 
     -- it was open before
     was : e.closing.state ≡ states.Open
     was =
-        let read : End = reads_window (control_at side w) call e in
-        sym (reads_same (control_at side w) call e).0 ∙ was_open (policy_at side r.keys) read (given_by (other_side side) w) call a (sym (ap (λ (z : End). z.closing.state) (made_end r i side call a w next m)) ∙ opened)
+        let read : End = reads_window (control_at side w) (heard_at side w) call e in
+        sym (reads_same (control_at side w) (heard_at side w) call e).0 ∙ was_open (policy_at side r.keys) read (given_by (other_side side) w) call a (sym (ap (λ (z : End). z.closing.state) (made_end r i side call a w next m)) ∙ opened)
 
     -- by what its losses are judged
     abbrev judged : Judging
-    judged = record { terms = l.terms; settings = settings side; next = next_number (watch r side i).own; first = first_at side i; limited = e.path.app_limited }
+    judged = record { terms = l.terms; settings = settings side; validated = validated side; next = next_number (watch r side i).own; first = first_at side i; limited = e.path.app_limited }
 
     set : IsSet judged e
     set =
@@ -229,14 +243,14 @@ module _ (G : Way) (g : Group Nothing G) (packets : (x y : Party) → G x y → 
         let theirs : List (List ℕ) = given_by (other_side side) w in
         let made : left ≡ after_call p e theirs (calls.Deliver delivery) a = made_end r i side (calls.Deliver delivery) a w next m in
         let own : (watch r side (suc i)).own ≡ (watch r side i).own = ap (λ (v : Watch). v.own) seen ∙ told_own l (told_of (calls.Deliver delivery) a (state_at r side i)) (watch r side i) (only_polls_give p e theirs (calls.Deliver delivery) a refl m.step.answer) in
-        let behind : IsSet judged left = subst (λ (z : End). IsSet judged z) (sym made) (delivered_set judged p e delivery (slice_get theirs delivery.index) set) in
+        let behind : IsSet judged left = subst (λ (z : End). IsSet judged z) (sym made) (delivered_set judged p e (delivered_by (says_last a) delivery) (slice_get theirs delivery.index) set) in
         behind.measured ∙ ap (λ (ss : List Sent). measured_first (first_at side i) (next_number ss) left.path.rtt.smoothed) (sym own)
     measures call m seen =
         let p : Policy = policy_at side r.keys in
-        let read : End = reads_window (control_at side w) call e in
+        let read : End = reads_window (control_at side w) (heard_at side w) call e in
         let made : left ≡ after_call p read (given_by (other_side side) w) call a = made_end r i side call a w next m in
         let kept = call_measured p read (given_by (other_side side) w) call a refl in
-        let reads = (reads_same (control_at side w) call e).2 in
+        let reads = (reads_same (control_at side w) (heard_at side w) call e).2 in
         ap (λ (z : End). z.path.first_after_rtt) made
         ∙ kept.0
         ∙ reads.0
@@ -261,20 +275,29 @@ module _ (G : Way) (g : Group Nothing G) (packets : (x y : Party) → G x y → 
     sized : Tells (search_at side r.start) told (search_at side w)
     same : (end_at side w).transport ≡ settings side
     first : (end_at side w).closing.state ≡ states.Open → IsFirst (first_at side i) (end_at side w).path
+    unasked : validated side ≡ true → IsUnasked (end_at side w)
 
   -- before the first event
   at_first : (side : Side) (w : World) → w ≡ r.start → Was side zero w
   at_first side w is = subst (λ (v : World). Was side zero v) (sym is) (record {
     told = [];
-    may = subst (λ (ts : List Told). TellsCalls (lens_of r side) (settings side) (CountsAt r side) 0 None (watch_from (end_at side r.start) (given_of r side)) ts []) (sym (told_none side r.events r.views (end_at side r.start).closing.state)) refl;
+    may = subst (λ (ts : List Told). TellsCalls (lens_of r side) (settings side) (validated side) (CountsAt r side) 0 None (watch_from (end_at side r.start) (given_of r side)) ts []) (sym (told_none side r.events r.views (end_at side r.start).closing.state)) refl;
     shows = λ more. refl;
     sized = still (search_at side r.start) [] tt;
     same = refl;
     first = λ opened. at_start;
+    unasked = asks_nothing;
   })
     where
       none : first_at side zero ≡ None
       none = ap (λ (ts : List Told). first_after (lens_of r side) None (watch_from (end_at side r.start) (given_of r side)) ts) (told_none side r.events r.views (end_at side r.start).closing.state)
+
+      asks_nothing : validated side ≡ true → IsUnasked (end_at side r.start)
+      asks_nothing =
+          let s = honest.start in
+          let m = making_at side r.start s in
+          let other = making_at (other_side side) r.start s in
+          subst (λ (e : End). e.path.validated ≡ true → IsUnasked e) (sym (start_is r.start s side)) (first_unasked side m.settings m.windows (parameters_of other.settings) m.id other.id m.moment m.validated m.words)
 
       at_start : IsFirst (first_at side zero) (end_at side r.start).path
       at_start =
@@ -290,6 +313,7 @@ module _ (G : Way) (g : Group Nothing G) (packets : (x y : Party) → G x y → 
     sized = both (search_at side r.start) (search_at side w) (search_at side next) b.told now b.sized (step_tells side r.keys w next event a served m.step);
     same = stays side by call m ∙ b.same;
     first = first side by call m b.same b.first;
+    unasked = λ validated. unasked side by call m (b.unasked validated);
   }
     where
       event : RunEvent
@@ -313,11 +337,22 @@ module _ (G : Way) (g : Group Nothing G) (packets : (x y : Party) → G x y → 
 
       stays : (side by : Side) (call : Call) → IsMade r i by call a w next → (end_at side next).transport ≡ (end_at side w).transport
       stays Client Client call m =
-          ap (λ (e : End). e.transport) (made_end r i Client call a w next m) ∙ (placed_call (policy_at Client r.keys) (reads_window (control_at Client w) call (end_at Client w)) (given_by Server w) call a).transport ∙ (reads_same (control_at Client w) call (end_at Client w)).1
+          ap (λ (e : End). e.transport) (made_end r i Client call a w next m) ∙ (placed_call (policy_at Client r.keys) (reads_window (control_at Client w) (heard_at Client w) call (end_at Client w)) (given_by Server w) call a).transport ∙ (reads_same (control_at Client w) (heard_at Client w) call (end_at Client w)).1
       stays Server Server call m =
-          ap (λ (e : End). e.transport) (made_end r i Server call a w next m) ∙ (placed_call (policy_at Server r.keys) (reads_window (control_at Server w) call (end_at Server w)) (given_by Client w) call a).transport ∙ (reads_same (control_at Server w) call (end_at Server w)).1
+          ap (λ (e : End). e.transport) (made_end r i Server call a w next m) ∙ (placed_call (policy_at Server r.keys) (reads_window (control_at Server w) (heard_at Server w) call (end_at Server w)) (given_by Client w) call a).transport ∙ (reads_same (control_at Server w) (heard_at Server w) call (end_at Server w)).1
       stays Client Server call m = ap (λ (v : World). v.client.transport) m.step.others
       stays Server Client call m = ap (λ (v : World). v.server.transport) m.step.others
+
+      own_unasked : (side : Side) (call : Call) → IsMade r i side call a w next → IsUnasked (end_at side w) → IsUnasked (end_at side next)
+      own_unasked side call m asks =
+          subst IsUnasked (sym (made_end r i side call a w next m))
+          (call_unasked (policy_at side r.keys) (reads_window (control_at side w) (heard_at side w) call (end_at side w)) (given_by (other_side side) w) call a (reads_unasked (control_at side w) (heard_at side w) call (end_at side w) asks))
+
+      unasked : (side by : Side) (call : Call) → IsMade r i by call a w next → IsUnasked (end_at side w) → IsUnasked (end_at side next)
+      unasked Client Client call m asks = own_unasked Client call m asks
+      unasked Server Server call m asks = own_unasked Server call m asks
+      unasked Client Server call m asks = subst (λ (v : World). IsUnasked v.client) (sym m.step.others) asks
+      unasked Server Client call m asks = subst (λ (v : World). IsUnasked v.server) (sym m.step.others) asks
 
       first : (side by : Side) (call : Call) → IsMade r i by call a w next → (end_at side w).transport ≡ settings side → ((end_at side w).closing.state ≡ states.Open → IsFirst (first_at side i) (end_at side w).path)
           → (end_at side next).closing.state ≡ states.Open → IsFirst (first_at side (suc i)) (end_at side next).path
@@ -331,33 +366,33 @@ module _ (G : Way) (g : Group Nothing G) (packets : (x y : Party) → G x y → 
           (subst (λ (v : World). IsFirst (first_at Server i) v.server.path) (sym m.step.others) (known (sym (ap (λ (v : World). v.server.closing.state) m.step.others) ∙ opened)))
 
       may : MayTell r side (suc i) (b.told ++ now)
-      may = subst (λ (ts : List Told). TellsCalls (lens_of r side) (settings side) (CountsAt r side) 0 None (watch_from (end_at side r.start) (given_of r side)) ts (b.told ++ now)) (sym more) (go side by call m b.told b.may b.same b.first state)
+      may = subst (λ (ts : List Told). TellsCalls (lens_of r side) (settings side) (validated side) (CountsAt r side) 0 None (watch_from (end_at side r.start) (given_of r side)) ts (b.told ++ now)) (sym more) (go side by call m b.told b.may b.same b.first b.unasked state)
         where
           -- its own call
-          mine : (side : Side) (call : Call) → IsMade r i side call a w next → (told : List congestion.Told) → MayTell r side i told → (end_at side w).transport ≡ settings side → ((end_at side w).closing.state ≡ states.Open → IsFirst (first_at side i) (end_at side w).path) → state_at r side i ≡ (end_at side w).closing.state
-              → TellsCalls (lens_of r side) (settings side) (CountsAt r side) 0 None (watch_from (end_at side r.start) (given_of r side)) (until r side i ++ told_of call a (state_at r side i) ∷ []) (told ++ tells (policy_at side r.keys) (reads_window (control_at side w) call (end_at side w)) (given_by (other_side side) w) call)
-          mine side call m told may same first state =
+          mine : (side : Side) (call : Call) → IsMade r i side call a w next → (told : List congestion.Told) → MayTell r side i told → (end_at side w).transport ≡ settings side → ((end_at side w).closing.state ≡ states.Open → IsFirst (first_at side i) (end_at side w).path) → (validated side ≡ true → IsUnasked (end_at side w)) → state_at r side i ≡ (end_at side w).closing.state
+              → TellsCalls (lens_of r side) (settings side) (validated side) (CountsAt r side) 0 None (watch_from (end_at side r.start) (given_of r side)) (until r side i ++ told_of call a (state_at r side i) ∷ []) (told ++ tells (policy_at side r.keys) (reads_window (control_at side w) (heard_at side w) call (end_at side w)) (given_by (other_side side) w) call)
+          mine side call m told may same first asks state =
               let place = slice_get_within r.answers i a m.at.answer in
               let many = as_many_views r.keys r.start end r.events r.answers r.views run.follows in
               let within : i ≤ length r.views = omega (arith, place, many) in
-              let met : End = reads_window (control_at side w) call (end_at side w) in
+              let met : End = reads_window (control_at side w) (heard_at side w) call (end_at side w) in
               let said : List congestion.Told = tells (policy_at side r.keys) met (given_by (other_side side) w) call in
-              subst (λ (s : State). TellsCalls (lens_of r side) (settings side) (CountsAt r side) 0 None (watch_from (end_at side r.start) (given_of r side)) (until r side i ++ told_of call a s ∷ []) (told ++ said)) ((reads_same (control_at side w) call (end_at side w)).0 ∙ sym state)
-              (tells_more (lens_of r side) (settings side) (CountsAt r side) 0 None (watch_from (end_at side r.start) (given_of r side)) (until r side i) (told_of call a met.closing.state) told said (end_at side w).path.app_limited may
-              (λ opened n is. record { place = i; as_many = omega (arith, is); counts = counts i side w within m.leads (served_before r.answers i m.served) (sym (reads_same (control_at side w) call (end_at side w)).0 ∙ opened) }) (own_tells i side a w next same first call m))
+              subst (λ (s : State). TellsCalls (lens_of r side) (settings side) (validated side) (CountsAt r side) 0 None (watch_from (end_at side r.start) (given_of r side)) (until r side i ++ told_of call a s ∷ []) (told ++ said)) ((reads_same (control_at side w) (heard_at side w) call (end_at side w)).0 ∙ sym state)
+              (tells_more (lens_of r side) (settings side) (validated side) (CountsAt r side) 0 None (watch_from (end_at side r.start) (given_of r side)) (until r side i) (told_of call a met.closing.state) told said (end_at side w).path.app_limited may
+              (λ opened n is. record { place = i; as_many = omega (arith, is); counts = counts i side w within m.leads (served_before r.answers i m.served) (sym (reads_same (control_at side w) (heard_at side w) call (end_at side w)).0 ∙ opened) }) (own_tells i side a w next same first asks call m))
 
           -- a call of the other end
-          theirs : (side : Side) (told : List congestion.Told) → MayTell r side i told → TellsCalls (lens_of r side) (settings side) (CountsAt r side) 0 None (watch_from (end_at side r.start) (given_of r side)) (until r side i ++ []) (told ++ [])
+          theirs : (side : Side) (told : List congestion.Told) → MayTell r side i told → TellsCalls (lens_of r side) (settings side) (validated side) (CountsAt r side) 0 None (watch_from (end_at side r.start) (given_of r side)) (until r side i ++ []) (told ++ [])
           theirs side told may =
-              subst (λ (ts : List Told). TellsCalls (lens_of r side) (settings side) (CountsAt r side) 0 None (watch_from (end_at side r.start) (given_of r side)) ts (told ++ [])) (sym (append-nil (until r side i)))
+              subst (λ (ts : List Told). TellsCalls (lens_of r side) (settings side) (validated side) (CountsAt r side) 0 None (watch_from (end_at side r.start) (given_of r side)) ts (told ++ [])) (sym (append-nil (until r side i)))
               (subst (λ (us : List congestion.Told). MayTell r side i us) (sym (append-nil told)) may)
 
-          go : (side by : Side) (call : Call) → IsMade r i by call a w next → (told : List congestion.Told) → MayTell r side i told → (end_at side w).transport ≡ settings side → ((end_at side w).closing.state ≡ states.Open → IsFirst (first_at side i) (end_at side w).path) → state_at r side i ≡ (end_at side w).closing.state
-              → TellsCalls (lens_of r side) (settings side) (CountsAt r side) 0 None (watch_from (end_at side r.start) (given_of r side)) (until r side i ++ told_by side (state_at r side i) (record { side = by; call = call }) a) (told ++ told_by_step side r.keys w (record { side = by; call = call }))
-          go Client Client call m told may same first state = mine Client call m told may same first state
-          go Server Server call m told may same first state = mine Server call m told may same first state
-          go Client Server call m told may same first state = theirs Client told may
-          go Server Client call m told may same first state = theirs Server told may
+          go : (side by : Side) (call : Call) → IsMade r i by call a w next → (told : List congestion.Told) → MayTell r side i told → (end_at side w).transport ≡ settings side → ((end_at side w).closing.state ≡ states.Open → IsFirst (first_at side i) (end_at side w).path) → (validated side ≡ true → IsUnasked (end_at side w)) → state_at r side i ≡ (end_at side w).closing.state
+              → TellsCalls (lens_of r side) (settings side) (validated side) (CountsAt r side) 0 None (watch_from (end_at side r.start) (given_of r side)) (until r side i ++ told_by side (state_at r side i) (record { side = by; call = call }) a) (told ++ told_by_step side r.keys w (record { side = by; call = call }))
+          go Client Client call m told may same first asks state = mine Client call m told may same first asks state
+          go Server Server call m told may same first asks state = mine Server call m told may same first asks state
+          go Client Server call m told may same first asks state = theirs Client told may
+          go Server Client call m told may same first asks state = theirs Server told may
 
   -- behind a view, where it is so before it
   behind : (i : ℕ) (side : Side) (v : View) (w : World) → AreServed r (suc i) → slice_get r.views i ≡ Some v → LeadsTo r (suc i) w → ((u : World) → LeadsTo r i u → Was side i u) → Was side (suc i) w

@@ -1,8 +1,8 @@
 -- What a controller is told of the frames of a packet is what may be told of them, up to the first
 -- that is at fault.
-use Rattle.std.proofs.Common.{◌≡◌, ℕ, Bool, true, false, not, List, [], ◌∷◌, ◌++◌, filter, Option, Some, None, Result, Ok, Err, refl, sym, ap, ◌∙◌, subst}
+use Rattle.std.proofs.Common.{◌≡◌, ℕ, Bool, true, false, not, List, [], ◌∷◌, ◌++◌, filter, map, ◌⊎◌, inl, inr, Option, Some, None, Result, Ok, Err, refl, sym, ap, ◌∙◌, subst}
 use Rattle.std.specs.Prelude.{if◌then◌else◌}
-use Rattle.quic_wire.specs.Value.{FrameValue, AckValue, ack}
+use Rattle.quic_wire.specs.Value.{FrameValue, AckValue, ack, padding}
 use Rattle.quic_wire.specs.declared.frame.InvalidFrame.{InvalidFrame}
 use Rattle.quic_congestion.specs.Congestion.{Told}
 use Rattle.quic_spaces.specs.Numbers.{greatest_of}
@@ -14,10 +14,14 @@ use Rattle.quic_machine.specs.FrameCases.{named, ack_taken, passed}
 use Rattle.quic_headline.specs.Runs.{names, frames_of}
 use Rattle.quic_headline.specs.Observer.{Sent, Flight, is_greatest, after_frames}
 use Rattle.quic_headline.specs.Telling.{Judging, TellsAck, TellsFrames}
+use Rattle.quic_machine.specs.DraftLaws.{IsClose}
+use Rattle.quic_headline.proofs.Packets.Owing.{AreCloses}
+use Rattle.quic_headline.proofs.Packets.Delivered.{frames_of_oks}
 use Rattle.quic_headline.proofs.Packets.Named.{in_filter}
 use Rattle.quic_headline.proofs.Packets.Waited.{AreWaited, waited_filter}
 use Rattle.quic_headline.proofs.Packets.Flying.{Tells, Waits, held, apart_filter, above_same, counted, frames_fly}
 use Rattle.quic_headline.proofs.Sizes.Moving.{Moves, moving_flies}
+use Rattle.quic_headline.proofs.Tellings.Asked.{IsUnasked, frame_unasked}
 use Rattle.quic_headline.proofs.Tellings.Acks.{IsSet, frame_set, named_told}
 
 -- a frame that was taken leaves what a packet of it alone does
@@ -40,11 +44,44 @@ none_told (ack a) e fault is = go (names_ungiven a e) is
     go false is = cc
 none_told f e fault is = refl
 
+-- closes and PADDING tell nothing
+closes_silent : (fs : List FrameValue) (e : End) → AreCloses fs → told_items (map Ok fs) e ≡ []
+closes_silent [] e closes = refl
+closes_silent (f ∷ fs) e closes = ap (λ (ts : List Told). ts ++ told_unless p.fault (told_items (map Ok fs) p.end)) (here f (closes f (inl refl))) ∙ later p.fault (closes_silent fs p.end (λ g i. closes g (inr i)))
+  where
+    p : Progress
+    p = take_frame f e
+
+    here : (g : FrameValue) → IsClose g ⊎ (g ≡ padding) → told_item (Ok g) e ≡ []
+    here (ack a) (inl is) = absurd is
+    here (ack a) (inr is) = cc
+    here g is = refl
+
+    later : (o : Option Fault) → told_items (map Ok fs) p.end ≡ [] → told_unless o (told_items (map Ok fs) p.end) ≡ []
+    later None rest = rest
+    later (Some fault) rest = refl
+
+-- nor may they
+closes_tell_none : (j : Judging) (now : ℕ) (fs : List FrameValue) (x : Flight) → AreCloses fs → TellsFrames j now fs x []
+closes_tell_none j now [] x closes = refl
+closes_tell_none j now (ack a ∷ fs) x closes = go (closes (ack a) (inl refl))
+  where
+    go : IsClose (ack a) ⊎ (ack a ≡ padding) → TellsFrames j now (ack a ∷ fs) x []
+    go (inl is) = absurd is
+    go (inr is) = cc
+closes_tell_none j now (f ∷ fs) x closes = closes_tell_none j now fs x (λ g i. closes g (inr i))
+
+pub closes_tell : (j : Judging) (now : ℕ) (fs : List FrameValue) (x : Flight) (e : End) → AreCloses fs → TellsFrames j now (frames_of (map Ok fs)) x (told_items (map Ok fs) e)
+closes_tell j now fs x e closes =
+    subst (λ (gs : List FrameValue). TellsFrames j now gs x (told_items (map Ok fs) e)) (sym (frames_of_oks fs))
+    (subst (λ (ts : List Told). TellsFrames j now fs x ts) (sym (closes_silent fs e closes)) (closes_tell_none j now fs x closes))
+
 module _ (j : Judging) (now : ℕ) (flew : List Sent) (before : ℕ) where
   -- what is known of an end before a frame
   pub record Reads (x : Flight) (e : End) : Type 0 where
     pub waits : Waits j.terms now x (held e)
     pub set : IsSet j e
+    pub unasked : j.validated ≡ true → IsUnasked e
     pub moves : Moves flew j.settings.min_mtu before x.flying x.acked e
 
   -- so it is behind it
@@ -55,6 +92,7 @@ module _ (j : Judging) (now : ℕ) (flew : List Sent) (before : ℕ) where
       record {
         waits = subst (λ (g : End). Waits j.terms now (after_frames j.terms now (f ∷ []) x) (held g)) one.0 on.waits;
         set = frame_set j f e r.set;
+        unasked = λ validated. frame_unasked f e (r.unasked validated);
         moves = subst (λ (g : End). let y = after_frames j.terms now (f ∷ []) x in Moves flew j.settings.min_mtu before y.flying y.acked g) one.0 on.holds;
       }
 
@@ -88,7 +126,7 @@ module _ (j : Judging) (now : ℕ) (flew : List Sent) (before : ℕ) where
 
       go : (b : Bool) → (ack_taken b a e).fault ≡ None → TellsAck j now a x (if b then [] else told_acked rises a (named a e))
       go true none = cc
-      go false none = named_told j now flew before acked others (acked_by a e.tracking.packets) rises a x (named a e) is (λ s i. in_filter (λ u. names a u.number) s x.flying i) (λ s i. in_filter (λ u. not (names a u.number)) s x.flying i) (apart_filter (λ u. names a u.number) x.flying) first second counts set r.moves
+      go false none = named_told j now flew before acked others (acked_by a e.tracking.packets) rises a x (named a e) is (λ s i. in_filter (λ u. names a u.number) s x.flying i) (λ s i. in_filter (λ u. not (names a u.number)) s x.flying i) (apart_filter (λ u. names a u.number) x.flying) first second counts set (λ validated. (r.unasked validated).0) r.moves
 
   -- a frame that is taken, and what is told of others behind it
   frame_told : (f : FrameValue) (x : Flight) (e : End) → (take_frame f e).fault ≡ None → Reads x e → (fs : List FrameValue) (later : List Told) → TellsFrames j now fs (after_frames j.terms now (f ∷ []) x) later → TellsFrames j now (f ∷ fs) x (told_item (Ok f) e ++ later)

@@ -1,6 +1,6 @@
 -- A datagram that comes to an open end: what its controller is told, beside what came by it. It
 -- tells nothing where the end isn't open.
-use Rattle.std.proofs.Common.{◌≡◌, ℕ, Bool, true, false, not, ◌||◌, ◌==◌, List, [], ◌∷◌, Option, Some, None, Result, Ok, Err, refl, sym, ap, subst}
+use Rattle.std.proofs.Common.{◌≡◌, ℕ, Bool, true, false, not, ◌||◌, ◌==◌, List, [], ◌∷◌, map, Option, Some, None, Result, Ok, Err, refl, sym, ap, subst}
 use Rattle.std.specs.Prelude.{if◌then◌else◌}
 use Rattle.quic_wire.specs.Value.{FrameValue}
 use Rattle.quic_wire.specs.Items.{items}
@@ -23,13 +23,21 @@ use Rattle.quic_machine.specs.Ids.{known}
 use Rattle.quic_machine.specs.Policy.{Policy}
 use Rattle.quic_machine.specs.Opens.{own_id_length, in_phase, opens_behind}
 use Rattle.quic_machine.specs.End.{End, with_numbers}
-use Rattle.quic_machine.specs.Receive.{Fault, Progress, Outcome, error_of, violation, asks_in, is_empty, take_items, dropped, ends_as, by_state, headed, opened_as, received_in, received, opening, told_items, told_by_state, told_opened_as, told_headed, told_received_in, told_received}
+use Rattle.quic_machine.specs.Receive.{Fault, Progress, Outcome, error_of, violation, asks_in, is_empty, take_items, dropped, ends_as, by_state, headed, opened_as, received_in, received, opening, told_items, told_by_state, told_opened_as, told_headed, told_received_in, told_received, broke, too_many_pieces, closed_by_peer}
 use Rattle.quic_machine.specs.FrameCases.{begun}
+use Rattle.quic_wire.specs.Close.{CloseValue}
 use Rattle.quic_headline.specs.Runs.{Intake, frames_of, is_again, is_refused, packet_of, came_open, and_opened, and_handed}
 use Rattle.quic_headline.proofs.Packets.Invariant.{Knows}
 use Rattle.quic_headline.proofs.Packets.Window.{is_duplicate-is}
 use Rattle.quic_headline.proofs.Packets.Delivered.{with_taken, with_refused}
+use Rattle.quic_headline.proofs.Packets.Owing.{IsAlone}
 use Rattle.quic_headline.proofs.Packets.ByKey.{came_open_is}
+
+-- The items of a payload were sent as frames of which a close goes alone.
+pub record AreSent (is : List (Result FrameValue InvalidFrame)) : Type 0 where
+  pub frames : List FrameValue
+  pub same : is ≡ map Ok frames
+  pub alone : IsAlone frames
 
 -- the cases of a datagram that comes to an open end: P of the answer, of what its controller is
 -- told, and of what came then
@@ -38,13 +46,15 @@ pub record Hearings (e : End) (now : ℕ) (i : Intake) (P : Answer → List Told
   pub nothing : (a : Answer) → P a [] i
   -- a packet is taken, whose payload has these items
   pub takes : (n : ℕ) (is : List (Result FrameValue InvalidFrame)) → (take_items is (begun e now n)).fault ≡ None → P (answers.Deliver Taken) (told_items is (begun e now n)) (with_taken i n (frames_of is))
+  -- one is taken so far as the peer closes by one of its items, which were sent as these frames
+  pub drains : (close : CloseValue) (n : ℕ) (is : List (Result FrameValue InvalidFrame)) → AreSent is → (take_items is (begun e now n)).fault ≡ Some (closed_by_peer close) → P (answers.Deliver Taken) (told_items is (begun e now n)) (with_taken i n (frames_of is))
   -- one is refused, for one of its items
   pub refuses : (fault : Fault) (n : ℕ) (is : List (Result FrameValue InvalidFrame)) → P (answers.Deliver (Closed (error_of fault))) (told_items is (begun e now n)) (with_refused i n (frames_of is))
   -- or as a whole
   pub whole : (fault : Fault) (n : ℕ) (frames : List FrameValue) → P (answers.Deliver (Closed (error_of fault))) [] (with_refused i n frames)
 
-module _ (q : Policy) (e : End) (arrival : Arrival) (i : Intake) (d : List ℕ) (P : Answer → List Told → Intake → Type 0) (k : Knows e.numbers i) (opened : e.closing.state ≡ states.Open) (cases : Hearings e arrival.now i P) where
-  module _ (o : Opening) where
+module _ (q : Policy) (e : End) (arrival : Arrival) (i : Intake) (d : List ℕ) (P : Answer → List Told → Intake → Type 0) (k : Knows e.numbers i) (opened : e.closing.state ≡ states.Open) (sent : (o : Opening) → opening q e d ≡ Some o → AreSent (items o.payload)) (cases : Hearings e arrival.now i P) where
+  module _ (o : Opening) (from : AreSent (items o.payload)) where
     -- the end once its number is noted
     abbrev noted : End
     noted = with_numbers e (number_opened e.numbers o.number)
@@ -74,7 +84,9 @@ module _ (q : Policy) (e : End) (arrival : Arrival) (i : Intake) (d : List ℕ) 
         → P (answers.Deliver (ends_as f (asks_in (items o.payload)) o.number arrival.mark (take_items (items o.payload) (begun e arrival.now o.number)).end).answer) (told_items (items o.payload) (begun e arrival.now o.number))
         (came_new (answers.Deliver (ends_as f (asks_in (items o.payload)) o.number arrival.mark (take_items (items o.payload) (begun e arrival.now o.number)).end).answer))
     faults None none = cases.takes o.number (items o.payload) none
-    faults (Some fault) some = cases.refuses fault o.number (items o.payload)
+    faults (Some (closed_by_peer close)) some = cases.drains close o.number (items o.payload) from some
+    faults (Some (broke error)) some = cases.refuses (broke error) o.number (items o.payload)
+    faults (Some too_many_pieces) some = cases.refuses too_many_pieces o.number (items o.payload)
 
     -- what is taken of a payload that is refused as a whole, or isn't
     abbrev payload_if : Bool → Progress
@@ -93,21 +105,21 @@ module _ (q : Policy) (e : End) (arrival : Arrival) (i : Intake) (d : List ℕ) 
     tested false true = cases.nothing (answers.Deliver (dropped drops.Duplicate e).answer)
     tested false false = payload (not (reserved_bits o.first == 0) || is_empty (items o.payload))
 
-    packet : P (answers.Deliver (opened_as (Some o) arrival e).answer) (told_opened_as (Some o) arrival.now e) (and_opened (if key_phase o.first then None else Some o) (answers.Deliver (opened_as (Some o) arrival e).answer) i)
+    packet : P (answers.Deliver (opened_as (Some o) q arrival e).answer) (told_opened_as (Some o) arrival.now e) (and_opened (if key_phase o.first then None else Some o) (answers.Deliver (opened_as (Some o) q arrival e).answer) i)
     packet =
         let again : Bool = is_duplicate e.numbers.opened o.number in
-        let a : Answer = answers.Deliver (opened_as (Some o) arrival e).answer in
+        let a : Answer = answers.Deliver (opened_as (Some o) q arrival e).answer in
         subst (λ (j : Intake). P a (told_opened_as (Some o) arrival.now e) j) (sym (came_is (key_phase o.first) a))
         (subst (λ (b : Bool). Heard (key_phase o.first) again b e.closing.state) (is_duplicate-is i.opened e.numbers.opened o.number k.seen)
         (subst (λ (s : State). Heard (key_phase o.first) again again s) (sym opened) (tested (key_phase o.first) again)))
 
-  opening_case : (o : Option Opening) → P (answers.Deliver (opened_as o arrival e).answer) (told_opened_as o arrival.now e) (and_opened (in_phase o) (answers.Deliver (opened_as o arrival e).answer) i)
-  opening_case None = cases.nothing (answers.Deliver (dropped drops.NotOpened e).answer)
-  opening_case (Some o) = packet o
+  opening_case : (o : Option Opening) → opening q e d ≡ o → P (answers.Deliver (opened_as o q arrival e).answer) (told_opened_as o arrival.now e) (and_opened (in_phase o) (answers.Deliver (opened_as o q arrival e).answer) i)
+  opening_case None is = cases.nothing (answers.Deliver (opened_as None q arrival e).answer)
+  opening_case (Some o) is = packet o (sent o is)
 
   header_case : (r : Result (List ℕ) HeaderError) → P (answers.Deliver (headed r q e arrival d).answer) (told_headed r q e arrival.now d) (and_opened (opens_behind r q (expected e.numbers) d) (answers.Deliver (headed r q e arrival d).answer) i)
   header_case (Err error) = cases.nothing (answers.Deliver (headed (Err error) q e arrival d).answer)
-  header_case (Ok id) = opening_case (opening q e d)
+  header_case (Ok id) = opening_case (opening q e d) refl
 
   at_open : P (answers.Deliver (received_in states.Open q e arrival d).answer) (told_received_in states.Open q e arrival.now d) (and_opened (came_open q i.took (answers.Deliver (received_in states.Open q e arrival d).answer) d) (answers.Deliver (received_in states.Open q e arrival d).answer) i)
   at_open =

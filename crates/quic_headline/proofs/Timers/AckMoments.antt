@@ -1,14 +1,16 @@
--- The timer of acknowledgements of an open end, where it is set, is due for a packet that asks, which an observer of the run's lists knows:
--- each call keeps that.
-use Rattle.std.proofs.Common.{◌≡◌, ℕ, zero, suc, ◌⊎◌, Bool, true, false, ◌||◌, List, [], ◌∷◌, ◌++◌, map, replicate, Option, Some, None, Ok, refl, sym, ap, ◌∙◌, subst, inl, inr}
-use Rattle.std.specs.Prelude.{if◌then◌else◌, slice_get}
+-- The timer of acknowledgements of an open end: which calls set it, and which stop it; and what an
+-- observer of the run's lists knows of the packets that ask.
+use Rattle.std.proofs.Common.{◌≡◌, ℕ, zero, suc, ◌+◌, ◌⊎◌, Bool, true, false, cond, nat_lt, ◌||◌, List, [], ◌∷◌, ◌++◌, map, replicate, length, Option, Some, None, Ok, refl, sym, ap, ◌∙◌, inl, inr}
+use Rattle.std.specs.Prelude.{if◌then◌else◌, not, ◌==◌, ◌&&◌}
+use Rattle.std.specs.Option.{is_none}
 use Rattle.std.specs.List.{list_any}
+use Rattle.std.proofs.lemmas.Bool.{and_parts, or_parts}
 use Rattle.quic_wire_core.specs.declared.shared.EcnCodepoint.{EcnCodepoint}
 use Rattle.quic_spaces.specs.Marks.{is_congested}
-use Rattle.quic_wire_core.specs.declared.stream_id.Side.{Side}
 use Rattle.quic_wire.specs.Value.{FrameValue, ack, asks, padding}
-use Rattle.quic_recovery_core.specs.PendingAcks.{Pending, after_insert, starts_wait, asking_counted, after_acks_sent}
-use Rattle.quic_machine.specs.declared.answers.State.TheVariants as states
+use Rattle.quic_recovery_core.specs.PendingAcks.{Pending, most_ack_runs, joined, with_one, at_most, is_filled, can_send, after_insert, starts_wait, asking_counted, after_acks_sent}
+use Rattle.quic_sets.specs.Runs.{Run}
+use Rattle.quic_recovery_core.specs.Duplicates.{Seen}
 use Rattle.quic_machine.specs.declared.run.Call.{Call}
 use Rattle.quic_machine.specs.declared.run.Call.TheVariants as calls
 use Rattle.quic_machine.specs.declared.run.Answer.{Answer}
@@ -16,12 +18,13 @@ use Rattle.quic_machine.specs.declared.run.Answer.TheVariants as answers
 use Rattle.quic_spaces.specs.Acknowledging.{ack_due}
 use Rattle.quic_machine.specs.Policy.{Policy}
 use Rattle.quic_machine.specs.Closing.{ticked}
-use Rattle.quic_machine.specs.End.{End, with_closing, with_ack_timer}
+use Rattle.quic_machine.specs.End.{End, with_closing, with_ack_timer, closed_by}
 use Rattle.quic_machine.specs.Receive.{asks_in, after_taken, Outcome}
 use Rattle.quic_spaces.specs.Acknowledging.{with_due}
-use Rattle.quic_machine.specs.Poll.{Polled, Draft, polled, draft_as, Leaving}
+use Rattle.quic_machine.specs.Poll.{zeros_behind, Polled, Draft, polled, draft_as, Leaving}
+use Rattle.quic_machine.specs.Poll as poll
 use Rattle.quic_machine.specs.Timeouts.{Expiry, loss_judged}
-use Rattle.quic_machine.specs.Machine.{World, IsAnswer, after_call, fails, gave}
+use Rattle.quic_machine.specs.Machine.{IsAnswer, after_call, fails, gave}
 use Rattle.quic_machine.specs.CallCases.{Plain, is_delivery, by_plain_call}
 use Rattle.quic_machine.specs.CallCases as cases
 use Rattle.quic_machine.specs.LeaveCases.{at_expiry, Expired, by_timers}
@@ -30,26 +33,28 @@ use Rattle.quic_machine.specs.Steps as steps
 use Rattle.quic_machine.specs.PollCases.{ready_at, ready_leaves, draft_at, frames_at, by_poll_to, may_leave_at}
 use Rattle.quic_machine.specs.DraftLaws.{Writing, by_leave, MayLeave}
 use Rattle.quic_machine.specs.Puts as puts
-use Rattle.quic_headline.specs.Runs.{Run, Told, Packet, Intake, In, folded, AreServed}
-use Rattle.quic_headline.specs.Observer.{Watch, first_watch, news, Lens, watch_told}
-use Rattle.quic_headline.specs.Headline.{IsHonest}
-use Rattle.quic_headline.specs.Moments.{is_ack, acknowledges, went, arrivals_of, Debt, arrivals_behind, debt_told, first_debt, IsDueFor, AckMoments}
+use Rattle.quic_headline.specs.Runs.{Told, Packet, Intake, folded}
+use Rattle.quic_headline.specs.Observer.{Sent, first_watch, news, Lens, watch_told}
+use Rattle.quic_headline.specs.Moments.{is_ack, acknowledges, Debt, debt_told, first_debt}
 use Rattle.quic_headline.specs.Waited.{one_asks}
 use Rattle.quic_headline.proofs.Packets.Entries.{IsControl, control_of}
-use Rattle.quic_headline.proofs.Packets.Intakes.{folded_more}
 use Rattle.quic_headline.proofs.Packets.Delivered.{Arrivals, arrived, with_taken}
 use Rattle.quic_headline.proofs.Packets.Watching.{one_new}
 use Rattle.quic_headline.proofs.Packets.Group.{meets}
-use Rattle.quic_headline.proofs.Places.Told.{in_left, in_right}
 use Rattle.quic_headline.proofs.Places.Steps.{poll_answer}
-use Rattle.quic_headline.proofs.Places.Parties.{sent_by, sent_if, sents_by, told_of, Party, called, came_to, lens, watch_of}
-use Rattle.quic_headline.proofs.Places.Groups.{And, Calls, Group}
+use Rattle.quic_headline.proofs.Places.Parties.{sent_by, sent_if, sents_by, Party, called, came_to, lens}
+use Rattle.quic_headline.proofs.Places.Groups.{Calls}
 use Rattle.quic_headline.proofs.Places.Coming.{by_coming}
-use Rattle.quic_headline.proofs.Places.Placed.{Placed, party_at}
-use Rattle.quic_headline.proofs.Timers.Still.{was_open}
-use Rattle.quic_headline.proofs.Timers.Watched.{Observed, watched_behind, timers_behind, open_behind, went_behind, came_before, came_behind}
+use Rattle.quic_headline.proofs.Timers.Watched.{Observed}
 use Rattle.quic_headline.proofs.Packets.Probes.{by_going}
 use Rattle.quic_machine.specs.LeaveCases as expiring
+use Rattle.quic_headline.proofs.Packets.Closes.{by_closes}
+use Rattle.quic_headline.proofs.Packets.Apart.{by_waits, by_next_id}
+use Rattle.quic_headline.proofs.Packets.Sends.{by_sends}
+use Rattle.quic_headline.proofs.Packets.Bare.{one_bare}
+use Rattle.quic_headline.proofs.Rest.Standing.{frames_acks}
+use Rattle.quic_headline.proofs.Packets.Owing as owing
+use Rattle.quic_machine.specs.DraftLaws.{IsClose}
 
 -- ---- what goes
 
@@ -95,13 +100,22 @@ module _ (Q : Pending → Option ℕ → Type 0) (acked : (p : Pending) → Q (a
       keep (puts.control kind f) d is i = λ some. i (any_more d.frames f (control_not f (control_of f kind is.of_kind)) some)
       keep p d may i = λ some. i (any_more d.frames _ refl some)
 
+  -- no ACK frame goes beside a close
+  bare : (f : FrameValue) → IsClose f → (count : ℕ) → (list_any is_ack (f ∷ replicate count padding) || false) ≡ true → ⊥
+  bare f is count some = let clash : ◌≡◌ {A = Bool} false true = sym (one_bare is_ack refl not_ack f is count) ∙ some in cc
+    where
+      not_ack : (g : FrameValue) → IsClose g → is_ack g ≡ false
+      not_ack (ack a) close = absurd close
+      not_ack g close = refl
+
   -- so it is behind a poll that gives one
-  polled_answered : (p : Policy) (e : End) (now : ℕ) → acknowledges (sent_if (gave (answers.Poll (polled p e now).answer)) (sent_by e now)) ≡ true → Q (polled p e now).end.acknowledging (polled p e now).end.timers.max_ack_delay
-  polled_answered p e now = by_poll_to p e now (λ (q : Polled). acknowledges (sent_if (gave (answers.Poll q.answer)) (sent_by e now)) ≡ true → Q q.end.acknowledging q.end.timers.max_ack_delay) (record {
+  polled_answered : (p : Policy) (e : End) (now : ℕ) → owing.Owes e → acknowledges (sent_if (gave (answers.Poll (polled p e now).answer)) (sent_by p e now)) ≡ true → Q (polled p e now).end.acknowledging (polled p e now).end.timers.max_ack_delay
+  polled_answered p e now owes = by_sends p e now (λ (q : Polled) (ss : List Sent). acknowledges ss ≡ true → Q q.end.acknowledging q.end.timers.max_ack_delay) (record {
     silent = λ some. cc;
     failed = λ some. cc;
     nothing = λ is none some. cc;
-    closes = λ some. cc;
+    repeats = λ is. (let x : End = with_closing e (ticked e.closing now) in ((λ some. cc), λ f goes some. absurd (bare f (owing.close_is p x owes f goes) (zeros_behind (draft_as (poll.closing f) x)) some)));
+    closes = λ reason is bound. (let x : End = closed_by reason (ready_at e now).end in ((λ some. cc), λ f goes some. absurd (bare f (owing.close_is p x (owing.error_owes reason (ready_at e now).end) f goes) (zeros_behind (draft_as (poll.closing f) x)) some)));
     gives = λ is may some acks. by_going (λ (x : End). Q x.acknowledging x.timers.max_ack_delay) p (draft_at e now) (λ pacing. draft_answered (ready_at e now).leaving (ready_at e now).end (may_leave_at e now) (sym (any_padded (draft_at e now).frames _) ∙ first_only (list_any is_ack (frames_at e now)) acks));
   })
     where
@@ -110,9 +124,9 @@ module _ (Q : Pending → Option ℕ → Type 0) (acked : (p : Pending) → Q (a
       first_only false is = is
 
   -- and behind any call that does
-  pub call_answered : (p : Policy) (e : End) (theirs : List (List ℕ)) (call : Call) (a : Answer) → IsAnswer p e theirs call a → fails a ≡ false → acknowledges (sents_by e call a) ≡ true → Q (after_call p e theirs call a).acknowledging (after_call p e theirs call a).timers.max_ack_delay
-  call_answered p e theirs (calls.Poll now) a is served some = polled_answered p e now (ap (λ (b : Answer). acknowledges (sent_if (gave b) (sent_by e now))) (sym (poll_answer p e now a is served)) ∙ some)
-  call_answered p e theirs call a is served some = cc
+  pub call_answered : (p : Policy) (e : End) (theirs : List (List ℕ)) (call : Call) (a : Answer) → owing.Owes e → IsAnswer p e theirs call a → fails a ≡ false → acknowledges (sents_by p e call a) ≡ true → Q (after_call p e theirs call a).acknowledging (after_call p e theirs call a).timers.max_ack_delay
+  call_answered p e theirs (calls.Poll now) a owes is served some = polled_answered p e now owes (ap (λ (b : Answer). acknowledges (sent_if (gave b) (sent_by p e now))) (sym (poll_answer p e now a is served)) ∙ some)
+  call_answered p e theirs call a owes is served some = cc
 
 -- ---- a call that isn't a delivery sets no timer of acknowledgements
 
@@ -134,12 +148,12 @@ judged_none None e = refl
 judged_none (Some moment) e = losses_keep (HasTimer e.timers.max_ack_delay) (timer_settles e.timers.max_ack_delay) e refl
 
 -- nor does a timer that expires but that of acknowledgements
-expired_none : (e : End) (now : ℕ) (expiry : Expiry) → SetsNone e (at_expiry e now expiry)
-expired_none e now expiry = by_timers (SetsNone e) (SetsNone e) (λ o f i moment set. i moment (sym (judged_none o f) ∙ set)) each (λ f i. i) expiry (with_closing e (ticked e.closing now)) (λ moment set. set)
+expired_none : (words : ℕ → ℕ) (e : End) (now : ℕ) (expiry : Expiry) → SetsNone e (at_expiry words e now expiry)
+expired_none words e now expiry = by_timers words (SetsNone e) (SetsNone e) (λ o f i moment set. i moment (sym (judged_none o f) ∙ set)) each (λ f i. i) (λ f i moment set. cc) expiry (with_closing e (ticked e.closing now)) (λ moment set. set)
   where
     each : (s : Expired) (f : End) → SetsNone e f → SetsNone e (expiring.after s f)
-    each expiring.of_acks f i = λ moment set. cc
-    each s f i = i
+    each expiring.of_acks f i moment set = cc
+    each s f i moment set = i moment set
 
 draft_none : (leaving : Leaving) (e : End) → MayLeave leaving e → SetsNone e (draft_as leaving e).end
 draft_none leaving e alone = by_leave (λ (d : Draft). SetsNone e d.end) put_keeps leaving e alone (λ moment set. set)
@@ -157,7 +171,8 @@ polled_none p e now = by_poll_to p e now (λ (q : Polled). SetsNone e q.end) (re
   silent = λ moment set. set;
   failed = λ moment set. set;
   nothing = λ is none. ready_none e now;
-  closes = λ moment set. none_set moment set;
+  repeats = λ is. by_closes p (with_closing e (ticked e.closing now)) (λ (q : Polled). SetsNone e q.end) (λ moment set. set) (λ f goes moment set. set);
+  closes = λ reason bound. by_closes p (closed_by reason (ready_at e now).end) (λ (q : Polled). SetsNone e q.end) (λ moment set. none_set moment set) (λ f goes moment set. none_set moment set);
   gives = λ is may some. by_going (SetsNone e) p (draft_at e now) (λ pacing moment set. ready_none e now moment (draft_none (ready_at e now).leaving (ready_at e now).end (may_leave_at e now) moment set));
 })
   where
@@ -168,23 +183,28 @@ call_none : (p : Policy) (e : End) (theirs : List (List ℕ)) (call : Call) (a :
 call_none p e theirs call a apart = by_plain_call p e theirs (SetsNone e) call a cases_keep
   where
     cases_keep : Plain p e call (SetsNone e)
-    cases_keep (cases.times now expiry) may = expired_none e now expiry
+    cases_keep (cases.times now expiry) may = expired_none p.words e now expiry
     cases_keep (cases.polls now) may = polled_none p e now
     cases_keep (cases.hears arrival d) is = (let clash : true ≡ false = sym is ∙ apart in cc)
+    cases_keep (cases.closes reason f now) may = λ moment set. cc
+    cases_keep (cases.waits now b) may = by_waits (SetsNone e) b (with_closing e (ticked e.closing now)) (λ moment set. cc) (λ moment set. set)
+    cases_keep (cases.changes_id a) may = by_next_id (SetsNone e) e a (λ moment set. set) (λ c. λ moment set. set) (λ c most. λ moment set. set)
     cases_keep c may = λ moment set. set
 
 -- ---- a delivery
 
--- the timer was set, or it is set to 25 ms behind the clock for a packet that came and asks
-abbrev SetBy : End → Intake → End → Intake → Type 0
-SetBy e i f j = (moment : ℕ) → f.timers.max_ack_delay ≡ Some moment → (e.timers.max_ack_delay ≡ Some moment) ⊎ ((moment ≡ ack_due f.closing.clock) × (one_asks (news i j) ≡ true))
+-- the timer was set, or it is set to 25 ms behind the clock for a packet that came and asks, where
+-- none was waited for, and no acknowledgement was due
+abbrev pub SetBy : End → Intake → End → Intake → Type 0
+SetBy e i f j = (moment : ℕ) → f.timers.max_ack_delay ≡ Some moment
+    → (e.timers.max_ack_delay ≡ Some moment) ⊎ ((moment ≡ ack_due f.closing.clock) × (one_asks (news i j) ≡ true) × (is_none e.acknowledging.since ≡ true) × (e.acknowledging.due ≡ false))
 
 -- frames leave the timer
 pub frames_timer : (fs : List FrameValue) (e : End) → HasTimer e.timers.max_ack_delay (passed fs e).end
 frames_timer fs e = frames_keep (HasTimer e.timers.max_ack_delay) (frame_keeps (HasTimer e.timers.max_ack_delay) (record {
   ack = λ rises a x i. acked_keeps (HasTimer e.timers.max_ack_delay) (timer_settles e.timers.max_ack_delay) rises a (named a x) i;
   on_streams = λ f x on i. frame_leaves (HasTimer e.timers.max_ack_delay) f x on (λ t. i);
-  apart = λ f x is i. apart_leaves (HasTimer e.timers.max_ack_delay) f x is (λ c. i);
+  apart = λ f x is i. apart_leaves (HasTimer e.timers.max_ack_delay) f x is (λ c. i) (λ c most. i);
   message = λ m x i. i;
 })) fs e refl
 
@@ -192,15 +212,62 @@ pub asks_same : (fs : List FrameValue) → asks_in (map Ok fs) ≡ list_any asks
 asks_same [] = refl
 asks_same (f ∷ fs) = ap (λ (b : Bool). asks f || b) (asks_same fs)
 
--- a packet sets it only where it asks
-taken_set : (e f : End) (n : ℕ) (asking : Bool) (mark : Option EcnCodepoint) → f.timers.max_ack_delay ≡ e.timers.max_ack_delay → (moment : ℕ) → (after_taken n asking mark f).timers.max_ack_delay ≡ Some moment
-    → (e.timers.max_ack_delay ≡ Some moment) ⊎ ((moment ≡ ack_due f.closing.clock) × (asking ≡ true))
-taken_set e f n false mark same moment set = inl (sym same ∙ set)
-taken_set e f n true mark same moment set = go (starts_wait (asking_counted (with_due (is_congested mark) (after_insert f.acknowledging n f.closing.clock)) n f.numbers.opened)) set
+-- a number that came is to be acknowledged
+one_filled : (runs : List Run) (n : ℕ) → is_filled (with_one runs n) ≡ true
+one_filled [] n = refl
+one_filled (r ∷ rs) n = go (nat_lt n r.start) (nat_lt n r.end) (n == r.end)
   where
-    go : (b : Bool) → (if b then with_ack_timer f.timers (Some (ack_due f.closing.clock)) else f.timers).max_ack_delay ≡ Some moment → (e.timers.max_ack_delay ≡ Some moment) ⊎ ((moment ≡ ack_due f.closing.clock) × (true ≡ true))
-    go true is = (let due : ack_due f.closing.clock ≡ moment = cc in inr (sym due, refl))
-    go false is = inl (sym same ∙ is)
+    begins : (start : ℕ) (others : List Run) → is_filled (joined start (n + 1) others) ≡ true
+    begins start [] = refl
+    begins start (q ∷ qs) = meets_it (n + 1 == q.start)
+      where
+        meets_it : (b : Bool) → is_filled (cond b (record { start = start; end = q.end } ∷ qs) (record { start = start; end = n + 1 } ∷ q ∷ qs)) ≡ true
+        meets_it true = refl
+        meets_it false = refl
+
+    go : (a b c : Bool) → is_filled (cond a (joined n (n + 1) (r ∷ rs)) (cond b (r ∷ rs) (cond c (joined r.start (n + 1) rs) (r ∷ with_one rs n)))) ≡ true
+    go true b c = begins n (r ∷ rs)
+    go false true c = refl
+    go false false true = begins r.start rs
+    go false false false = refl
+
+most_filled : (runs : List Run) → is_filled runs ≡ true → is_filled (at_most runs) ≡ true
+most_filled [] none = cc
+most_filled (r ∷ []) some = refl
+most_filled (r ∷ q ∷ qs) some = go (nat_lt most_ack_runs (length (r ∷ q ∷ qs)))
+  where
+    go : (b : Bool) → is_filled (cond b (q ∷ qs) (r ∷ q ∷ qs)) ≡ true
+    go true = refl
+    go false = refl
+
+-- where no acknowledgement can go and there are numbers, none is due
+none_due : (due filled : Bool) → filled ≡ true → not (due && filled) ≡ true → due ≡ false
+none_due true true some none = cc
+none_due true false some none = cc
+none_due false filled some none = refl
+
+-- the timer starts where none was waited for, and no acknowledgement was due
+starts_anew : (mark : Bool) (p : Pending) (now n : ℕ) (s : Seen) → starts_wait (asking_counted (with_due mark (after_insert p n now)) n s) ≡ true → (is_none p.since ≡ true) × (p.due ≡ false)
+starts_anew mark p now n s starts =
+    let noted : Pending = with_due mark (after_insert p n now) in
+    let counted : Pending = asking_counted noted n s in
+    let parts = and_parts (is_none p.since) (not (can_send counted)) starts in
+    let quiet = none_due counted.due (is_filled counted.runs) (most_filled (with_one p.runs n) (one_filled p.runs n)) parts.1 in
+    (parts.0, (or_parts p.due mark (or_parts noted.due _ quiet).0).0)
+
+-- a packet sets it only where it asks, and starts it so
+taken_set : (e f : End) (n : ℕ) (asking : Bool) (mark : Option EcnCodepoint) → f.timers.max_ack_delay ≡ e.timers.max_ack_delay → f.acknowledging ≡ record e.acknowledging { runs = f.acknowledging.runs } → (moment : ℕ) → (after_taken n asking mark f).timers.max_ack_delay ≡ Some moment
+    → (e.timers.max_ack_delay ≡ Some moment) ⊎ ((moment ≡ ack_due f.closing.clock) × (asking ≡ true) × (is_none e.acknowledging.since ≡ true) × (e.acknowledging.due ≡ false))
+taken_set e f n false mark same acks moment set = inl (sym same ∙ set)
+taken_set e f n true mark same acks moment set = go (starts_wait (asking_counted (with_due (is_congested mark) (after_insert f.acknowledging n f.closing.clock)) n f.numbers.opened)) refl set
+  where
+    go : (b : Bool) → starts_wait (asking_counted (with_due (is_congested mark) (after_insert f.acknowledging n f.closing.clock)) n f.numbers.opened) ≡ b → (if b then with_ack_timer f.timers (Some (ack_due f.closing.clock)) else f.timers).max_ack_delay ≡ Some moment
+        → (e.timers.max_ack_delay ≡ Some moment) ⊎ ((moment ≡ ack_due f.closing.clock) × (true ≡ true) × (is_none e.acknowledging.since ≡ true) × (e.acknowledging.due ≡ false))
+    go true starts is =
+        let due : ack_due f.closing.clock ≡ moment = cc in
+        let anew = starts_anew (is_congested mark) f.acknowledging f.closing.clock n f.numbers.opened starts in
+        inr (sym due, refl, ap (λ (p : Pending). is_none p.since) (sym acks) ∙ anew.0, ap (λ (p : Pending). p.due) (sym acks) ∙ anew.1)
+    go false starts is = inl (sym same ∙ is)
 
 or_false : (b : Bool) → (b || false) ≡ b
 or_false true = refl
@@ -211,17 +278,19 @@ arrivals_set : (e : End) (now n : ℕ) (frames : List FrameValue) (i : Intake) �
 arrivals_set e now n frames i = record {
   ignored = λ reason moment set. inl set;
   noted = λ state reason moment set. inl set;
-  takes = λ state new none mark moment set. taken moment (taken_set e (arrived e now n frames).end n (asks_in (map Ok frames)) mark (frames_timer frames (begun e now n)) moment set);
-  refuses = λ state new f is moment set. cc;
+  takes = λ words state new none mark moment set. taken moment (taken_set e (arrived e now n frames).end n (asks_in (map Ok frames)) mark (frames_timer frames (begun e now n)) (frames_acks frames (begun e now n)) moment set);
+  drains = λ words state new close is moment set. cc;
+  refuses = λ words state new f is moment set. cc;
+  exhausts = λ state moment set. cc;
 }
   where
-    taken : (moment : ℕ) → (e.timers.max_ack_delay ≡ Some moment) ⊎ ((moment ≡ ack_due (arrived e now n frames).end.closing.clock) × (asks_in (map Ok frames) ≡ true))
-        → (e.timers.max_ack_delay ≡ Some moment) ⊎ ((moment ≡ ack_due (arrived e now n frames).end.closing.clock) × (one_asks (news i (with_taken i n frames)) ≡ true))
+    taken : (moment : ℕ) → (e.timers.max_ack_delay ≡ Some moment) ⊎ ((moment ≡ ack_due (arrived e now n frames).end.closing.clock) × (asks_in (map Ok frames) ≡ true) × (is_none e.acknowledging.since ≡ true) × (e.acknowledging.due ≡ false))
+        → (e.timers.max_ack_delay ≡ Some moment) ⊎ ((moment ≡ ack_due (arrived e now n frames).end.closing.clock) × (one_asks (news i (with_taken i n frames)) ≡ true) × (is_none e.acknowledging.since ≡ true) × (e.acknowledging.due ≡ false))
     taken moment (inl was) = inl was
-    taken moment (inr due) = inr (due.0, ap (λ (ps : List Packet). one_asks ps) (one_new i n frames) ∙ or_false (list_any asks frames) ∙ sym (asks_same frames) ∙ due.1)
+    taken moment (inr due) = inr (due.0, ap (λ (ps : List Packet). one_asks ps) (one_new i n frames) ∙ or_false (list_any asks frames) ∙ sym (asks_same frames) ∙ due.1, due.2, due.3)
 
 -- so it is behind any call
-call_set : (x y : Party) (call : Call) (a : Answer) → Calls Observed x y call a → SetBy x.end (came_to x y) (called x y.given call a).end (came_to (called x y.given call a) y)
+pub call_set : (x y : Party) (call : Call) (a : Answer) → Calls Observed x y call a → SetBy x.end (came_to x y) (called x y.given call a).end (came_to (called x y.given call a) y)
 call_set x y call a c = by_coming x y a c.joined c.served (meets y x c.takes.0) (SetBy x.end (came_to x y)) call c.answer (record {
   apart = λ apart moment set. inl (call_none x.policy x.end y.given call a apart moment set);
   none = λ delivery is moment set. inl set;
@@ -230,35 +299,8 @@ call_set x y call a c = by_coming x y a c.joined c.served (meets y x c.takes.0) 
 
 -- ---- the observer's arrivals
 
--- one of the packets asks: it came at the moment
-came_then : (ps : List Packet) (moment : ℕ) → one_asks ps ≡ true → In moment (arrivals_of ps moment)
-came_then [] moment is = cc
-came_then (p ∷ ps) moment is = go (list_any asks p.frames) is (came_then ps moment)
-  where
-    go : (b : Bool) → (b || one_asks ps) ≡ true → (one_asks ps ≡ true → In moment (arrivals_of ps moment)) → In moment (if b then moment ∷ arrivals_of ps moment else arrivals_of ps moment)
-    go true some rest = inl refl
-    go false some rest = rest some
-
--- what an end owes by its timer, it owes for a packet that the observer knows
-abbrev Owes : Debt → End → Type 0
-Owes d e = (moment : ℕ) → e.timers.max_ack_delay ≡ Some moment → IsDueFor d.arrivals moment
-
--- where no ACK went, what was due stays so
-stays_due : (d : Debt) (after : Watch) (moment : ℕ) → acknowledges (went d.watch after) ≡ false → IsDueFor d.arrivals moment → IsDueFor (arrivals_behind d after) moment
-stays_due d after moment none i =
-    subst (λ (b : Bool). IsDueFor (if b then [] else arrivals_of (news d.watch.intake after.intake) after.clock ++ d.arrivals) moment) (sym none)
-    (record { arrival = i.arrival; among = in_right i.arrival (arrivals_of (news d.watch.intake after.intake) after.clock) d.arrivals i.among; due = i.due })
-
--- and what came anew is due
-comes_due : (d : Debt) (after : Watch) (moment : ℕ) → acknowledges (went d.watch after) ≡ false → moment ≡ ack_due after.clock → one_asks (news d.watch.intake after.intake) ≡ true → IsDueFor (arrivals_behind d after) moment
-comes_due d after moment none due some =
-    subst (λ (b : Bool). IsDueFor (if b then [] else arrivals_of (news d.watch.intake after.intake) after.clock ++ d.arrivals) moment) (sym none)
-    (record { arrival = after.clock; among = in_left after.clock (arrivals_of (news d.watch.intake after.intake) after.clock) d.arrivals (came_then (news d.watch.intake after.intake) after.clock some); due = due })
-
--- ---- the group
-
 -- nothing came to an end that gives these datagrams in all, and was made at a moment
-abbrev debt_first : List (List ℕ) → ℕ → ℕ → Debt
+abbrev pub debt_first : List (List ℕ) → ℕ → ℕ → Debt
 debt_first final start initial_rtt = first_debt (first_watch final start initial_rtt)
 
 -- what the observer of x knows
@@ -269,78 +311,3 @@ debt_of x y = folded (debt_told (lens x y)) x.told (debt_first x.final x.began x
 pub owed_watch : (l : Lens) (told : List Told) (d : Debt) → (folded (debt_told l) told d).watch ≡ folded (watch_told l) told d.watch
 owed_watch l [] d = refl
 owed_watch l (t ∷ told) d = owed_watch l told (debt_told l t d)
-
--- While x is open, it owes what its observer knows.
-pub record InDebt (x y : Party) : Type 0 where
-  pub owes : x.end.closing.state ≡ states.Open → Owes (debt_of x y) x.end
-
--- so it does behind any call
-debt_step : (x y : Party) (call : Call) (a : Answer) → Calls Observed x y call a → InDebt x y → InDebt (called x y.given call a) y
-debt_step x y call a c i = record { owes = owes }
-  where
-    d : Debt
-    d = debt_of x y
-
-    t : Told
-    t = told_of call a x.end.closing.state
-
-    same : d.watch ≡ watch_of x y
-    same = owed_watch (lens x y) x.told (debt_first x.final x.began x.initial_rtt)
-
-    after : Watch
-    after = watch_told (lens x y) t d.watch
-
-    -- what came before, and behind it
-    before_is : d.watch.intake ≡ came_to x y
-    before_is = came_before x y call a c d.watch same
-
-    after_is : after.intake ≡ came_to (called x y.given call a) y
-    after_is = came_behind x y call a c d.watch same
-
-    went_here : went d.watch after ≡ sents_by x.end call a
-    went_here = went_behind x y call a c d.watch same
-
-    by_acks : (b : Bool) → acknowledges (sents_by x.end call a) ≡ b → (called x y.given call a).end.closing.state ≡ states.Open → Owes (debt_told (lens x y) t d) (called x y.given call a).end
-    by_acks true some still moment set =
-        let stopped = call_answered (λ (q : Pending) (o : Option ℕ). o ≡ None) (λ q. refl) x.policy x.end y.given call a c.answer c.served some in
-        let clash : ◌≡◌ {A = Option ℕ} None (Some moment) = sym stopped ∙ set in
-        cc
-    by_acks false none still moment set = go (call_set x y call a c moment set)
-      where
-        silent : acknowledges (went d.watch after) ≡ false
-        silent = ap acknowledges went_here ∙ none
-
-        clock : after.clock ≡ (called x y.given call a).end.closing.clock
-        clock = ((watched_behind x y call a c d.watch same).flight still).tells.clock
-
-        go : (x.end.timers.max_ack_delay ≡ Some moment) ⊎ ((moment ≡ ack_due (called x y.given call a).end.closing.clock) × (one_asks (news (came_to x y) (came_to (called x y.given call a) y)) ≡ true)) → IsDueFor (arrivals_behind d after) moment
-        go (inl was) = stays_due d after moment silent (i.owes (was_open x.policy x.end y.given call a still) moment was)
-        go (inr due) =
-            comes_due d after moment silent (due.0 ∙ ap ack_due (sym clock))
-            (ap (λ (j : Intake). one_asks (news j after.intake)) before_is ∙ ap (λ (j : Intake). one_asks (news (came_to x y) j)) after_is ∙ due.1)
-
-    owes : (called x y.given call a).end.closing.state ≡ states.Open → Owes (debt_of (called x y.given call a) y) (called x y.given call a).end
-    owes still =
-        subst (λ (b : Debt). Owes b (called x y.given call a).end) (sym (folded_more (debt_told (lens x y)) x.told t (debt_first x.final x.began x.initial_rtt)))
-        (by_acks (acknowledges (sents_by x.end call a)) refl still)
-
--- over the packets and what observers know of them
-pub debt_group : Group Observed InDebt
-debt_group = record {
-  first = λ x y m there here. record { owes = λ opened moment set. cc };
-  writer = λ x y call a c i back. debt_step x y call a c i;
-  reader = λ x y call a c i back. record { owes = back.owes };
-  shows = λ x y here there b back i j. record { owes = i.owes };
-}
-
--- ---- a run
-
--- the clause, where the group holds at each place
-pub ack_moments : (r : Run) (end : World) → IsHonest r → ((side : Side) (i : ℕ) → AreServed r i → Placed (And Observed InDebt) r end side i) → AckMoments r
-ack_moments r end honest all side i moment v served there opened timer =
-    let at = all side (suc i) served in
-    let x : Party = party_at r (suc i) at.world side at.sents in
-    let now_open : x.end.closing.state ≡ states.Open = open_behind r at.world i v side at.leads there opened in
-    let set : Some x.end.timers.max_ack_delay ≡ Some (Some moment) = sym (ap (λ (ts : List (Option ℕ)). slice_get ts 8) (timers_behind r at.world i v side at.leads there)) ∙ timer in
-    let is : x.end.timers.max_ack_delay ≡ Some moment = cc in
-    at.gives.1.owes now_open moment is

@@ -1,5 +1,7 @@
--- At an open end the timer of acknowledgements is set only where a packet that asks came since the last acknowledgement went: each call keeps that.
+-- At an open end the timer of acknowledgements is set only where a packet that asks came since the
+-- last acknowledgement went: each call keeps that.
 use Rattle.std.proofs.Common.{◌≡◌, ℕ, ◌+◌, ◌-◌, ◌^◌, ◌<◌, Bool, true, false, cond, min, List, Option, Some, None, refl, sym, ap, ◌∙◌, subst, arith}
+use Rattle.quic_wire.specs.Value.{FrameValue}
 use Rattle.std.specs.Option.{is_some}
 use Rattle.quic_spaces.specs.Marks.{is_congested}
 use Rattle.quic_recovery_core.specs.Duplicates.{Seen}
@@ -15,7 +17,7 @@ use Rattle.quic_machine.specs.declared.run.View.{View}
 use Rattle.quic_machine.specs.Policy.{Policy}
 use Rattle.quic_machine.specs.Closing.{ticked}
 use Rattle.quic_machine.specs.End.{End, with_closing, closed_by}
-use Rattle.quic_machine.specs.Receive.{timers_after}
+use Rattle.quic_machine.specs.Receive.{timers_after, take_frame}
 use Rattle.quic_spaces.specs.Acknowledging.{with_due}
 use Rattle.quic_machine.specs.Poll.{Polled, Draft, with_ack, polled, lazied_as, draft_as, Leaving, whole, nothing}
 use Rattle.quic_machine.specs.Timeouts.{Expiry, loss_judged, acks_expired}
@@ -26,12 +28,15 @@ use Rattle.quic_machine.specs.Puts as puts
 use Rattle.quic_machine.specs.LeaveCases.{at_expiry, Expired, by_timers}
 use Rattle.quic_machine.specs.CallCases.{Plain, by_plain_call}
 use Rattle.quic_machine.specs.CallCases as cases
-use Rattle.quic_machine.specs.FrameCases.{Settling, Receives, named, acked_keeps, losses_keep, frame_keeps, frame_leaves, by_received, apart_same}
+use Rattle.quic_machine.specs.FrameCases.{Settling, Receives, named, acked_keeps, losses_keep, frame_keeps, frame_leaves, by_received, IsApart, apart_leaves}
+use Rattle.quic_headline.proofs.Packets.Apart.{apart_acks, by_waits, by_next_id, next_acks}
 use Rattle.quic_machine.specs.Steps as steps
 use Rattle.quic_machine.specs.PollCases.{ready_at, ready_leaves, by_poll_to, draft_at, may_leave_at}
 use Rattle.quic_headline.proofs.Timers.BothEnds.{run_keeps}
 use Rattle.quic_headline.proofs.Packets.Probes.{by_going}
 use Rattle.quic_machine.specs.LeaveCases as expiring
+use Rattle.quic_headline.proofs.Packets.Closes.{by_closes}
+use Rattle.quic_headline.proofs.Packets.Heard.{by_taken}
 
 -- no timer is set
 unset_follows : (e : End) → e.timers.max_ack_delay ≡ None → AckTimerFollows e
@@ -61,13 +66,24 @@ packet_counts true t p now n s i set =
     omega (arith, is)
 packet_counts false t p now n s i set = i set
 
+-- a frame apart from streams leaves what is to be acknowledged, and its timer
+apart_follows : (f : FrameValue) (e : End) → IsApart f → AckTimerFollows e → AckTimerFollows (take_frame f e).end
+apart_follows f e is i = apart_leaves (λ (x : End). x.acknowledging ≡ e.acknowledging → AckTimerFollows x) f e is (λ c same. still same) (λ c most same. still same) (apart_acks f e is)
+  where
+    still : {p : Pending} → p ≡ e.acknowledging → e.closing.state ≡ states.Open → is_some e.timers.max_ack_delay ≡ true → 0 < p.asking
+    still same opened set = subst (λ (a : Pending). 0 < a.asking) (sym same) (i opened set)
+
 receives : Receives AckTimerFollows
 receives = record {
   notes = λ n e i. i;
   begins = λ now n e i. i;
-  frame = frame_keeps AckTimerFollows (record { ack = λ rises a e i. acked_keeps AckTimerFollows settling rises a (named a e) i; on_streams = λ f e on i. frame_leaves AckTimerFollows f e on (λ t. i); apart = λ f e is i. subst AckTimerFollows (sym (apart_same f e is)) i; message = λ m e i. i });
-  takes = λ n asks mark e i opened. packet_counts asks e.timers (with_due (is_congested mark) (after_insert e.acknowledging n e.closing.clock)) e.closing.clock n e.numbers.opened (i opened);
+  frame = frame_keeps AckTimerFollows (record { ack = λ rises a e i. acked_keeps AckTimerFollows settling rises a (named a e) i; on_streams = λ f e on i. frame_leaves AckTimerFollows f e on (λ t. i); apart = apart_follows; message = λ m e i. i });
+  takes = λ n asks mark e i. by_taken AckTimerFollows n asks mark e (λ idle alive opened. packet_counts asks e.timers (with_due (is_congested mark) (after_insert e.acknowledging n e.closing.clock)) e.closing.clock n e.numbers.opened (i opened));
   closes = λ reason e i. closed_follows reason e;
+  drains = λ close e i opened. cc;
+  asks_close = λ e i. i;
+  exhausts = λ now e i. closed_follows reasons.KeyLimit (with_closing e (ticked e.closing now));
+  draws = λ words e i. i;
 }
 
 -- ---- a poll
@@ -94,7 +110,8 @@ polled_follows p e now i = by_poll_to p e now (λ (q : Polled). AckTimerFollows 
   silent = i;
   failed = i;
   nothing = λ is none. ready_follows e now i;
-  closes = closed_follows reasons.NumberLimit (ready_at e now).end;
+  repeats = λ is. by_closes p (with_closing e (ticked e.closing now)) (λ (q : Polled). AckTimerFollows q.end) (λ opened. let clash : states.Closing ≡ states.Open = sym is ∙ opened in cc) (λ f goes opened. let clash : states.Closing ≡ states.Open = sym is ∙ opened in cc);
+  closes = λ reason bound. by_closes p (closed_by reason (ready_at e now).end) (λ (q : Polled). AckTimerFollows q.end) (closed_follows reason (ready_at e now).end) (λ f goes opened. cc);
   gives = λ is may some. by_going AckTimerFollows p (draft_at e now) (λ pacing. draft_follows (ready_at e now).leaving (ready_at e now).end (may_leave_at e now) (ready_follows e now i));
 })
 
@@ -109,23 +126,29 @@ expires_follows : (s : Expired) (e : End) → AckTimerFollows e → AckTimerFoll
 expires_follows expiring.of_acks e i = unset_follows (acks_expired true e) refl
 expires_follows s e i = i
 
-expired_follows : (e : End) (now : ℕ) (expiry : Expiry) → AckTimerFollows e → AckTimerFollows (at_expiry e now expiry)
-expired_follows e now expiry i = by_timers AckTimerFollows AckTimerFollows judged_follows expires_follows (λ f j. j) expiry (with_closing e (ticked e.closing now)) i
+expired_follows : (words : ℕ → ℕ) (e : End) (now : ℕ) (expiry : Expiry) → AckTimerFollows e → AckTimerFollows (at_expiry words e now expiry)
+expired_follows words e now expiry i = by_timers words AckTimerFollows AckTimerFollows judged_follows expires_follows (λ f j. j) (λ f j opened. cc) expiry (with_closing e (ticked e.closing now)) i
 
 -- what any call leaves
 call_follows : (p : Policy) (e : End) (theirs : List (List ℕ)) (call : Call) (a : Answer) → AckTimerFollows e → AckTimerFollows (after_call p e theirs call a)
 call_follows p e theirs call a i = by_plain_call p e theirs AckTimerFollows call a cases_keep
   where
+    still : {p : Pending} → p ≡ e.acknowledging → e.closing.state ≡ states.Open → is_some e.timers.max_ack_delay ≡ true → 0 < p.asking
+    still same opened set = subst (λ (a : Pending). 0 < a.asking) (sym same) (i opened set)
+
     cases_keep : Plain p e call AckTimerFollows
-    cases_keep (cases.times now expiry) may = expired_follows e now expiry i
+    cases_keep (cases.times now expiry) may = expired_follows p.words e now expiry i
     cases_keep (cases.polls now) may = polled_follows p e now i
     cases_keep (cases.hears arrival d) may = by_received AckTimerFollows receives p e arrival d i
+    cases_keep (cases.closes reason f now) may = λ opened. cc
+    cases_keep (cases.waits now b) may = by_waits AckTimerFollows b (with_closing e (ticked e.closing now)) (λ opened. cc) i
+    cases_keep (cases.changes_id b) may = by_next_id (λ (x : End). x.acknowledging ≡ e.acknowledging → AckTimerFollows x) e b (λ same. i) (λ c same. still same) (λ c most same. still same) (next_acks e b)
     cases_keep c may = i
 
 -- a run
 pub ack_timers_follow : (k : Policies) (w end : World) (events : List RunEvent) (told : List Answer) (views : List View) → Follows k w events told views end → AckTimersFollow w → AckTimersFollow end
 ack_timers_follow k w end events told views f i = run_keeps AckTimerFollows (record {
   call = call_follows;
-  shows = λ window e i. i;
+  shows = λ window blocked e i. i;
   stops = λ e next is opened. let clash : states.Failed ≡ states.Open = sym is.0 ∙ opened in cc;
 }) k w end events told views f i

@@ -1,4 +1,5 @@
--- At an open end the loss timer is set to the moment of what is tracked, and is set exactly while a packet that asks is: each call keeps that.
+-- At an open end the loss timer is set to the moment of what is tracked, and is set exactly while a
+-- packet that asks is: each call keeps that.
 use Rattle.std.proofs.Common.{◌≡◌, ℕ, ◌+◌, ◌≤◌, ◌⊎◌, Bool, true, false, not, ◌||◌, ◌==◌, List, [], ◌∷◌, ◌++◌, Option, Some, None, Result, refl, sym, ap, ◌∙◌, subst, inl, inr, arith, length}
 use Rattle.std.specs.Prelude.{if◌then◌else◌, nat_lt}
 use Rattle.std.specs.Option.{is_some}
@@ -29,12 +30,12 @@ use Rattle.quic_streams_parts.specs.Table.{Table, added, put}
 use Rattle.quic_machine.specs.Policy.{Policy}
 use Rattle.quic_machine.specs.Ids.{known}
 use Rattle.quic_machine.specs.Opens.{own_id_length}
-use Rattle.quic_machine.specs.Closing.{Closing, ticked}
+use Rattle.quic_machine.specs.Closing.{Closing, ticked, close_asked}
 use Rattle.quic_spaces.specs.Numbers.{Numbers, number_opened}
 use Rattle.quic_machine.specs.Tracking.{after_answered, Tracking, TrackedPacket, asks_any, without_record, is_behind, tail_of, forgets, forgotten, oldest, without_packet, asking_sent, after_sent, Verdict, is_lost, kept_by, loss_moment, moment_or, probe_moment, after_detection, acked_by, not_acked_by, names}
 use Rattle.quic_machine.specs.End.{End, with_closing, closed_by, with_numbers, number_of, with_ping, probe_timeout, with_window}
 use Rattle.quic_machine.specs.Acked.{verdict, losses_detected, measured, sampled, without_acked, after_named, after_acked, losses_taken}
-use Rattle.quic_machine.specs.Receive.{Fault, violation, reason_of, take_frame, take_items, take_payload, is_empty, asks_in, after_taken, dropped, ends_as, by_state, opened_to, opened_as, opening, headed, received_in, received}
+use Rattle.quic_machine.specs.Receive.{Fault, broke, too_many_pieces, closed_by_peer, drained_at, exhausted, unopened_in, is_read, drawn_if, violation, reason_of, take_frame, take_items, take_payload, is_empty, asks_in, after_taken, dropped, ends_as, by_state, opened_to, opened_as, opening, headed, received_in, received}
 use Rattle.quic_machine.specs.Poll.{Polled, Draft, packet_of, after_given, record_moved, draft_as, polled, Leaving, Ready}
 use Rattle.quic_machine.specs.Timeouts.{Expiry, loss_judged}
 use Rattle.quic_machine.specs.Machine.{World, Policies, after_call, Follows}
@@ -55,16 +56,27 @@ use Rattle.quic_headline.proofs.Packets.Numbered.{Lies, lies_below, lies_filter,
 use Rattle.quic_headline.proofs.Timers.BothEnds.{AtBoth, run_keeps}
 use Rattle.quic_machine.specs.DraftLaws.{MayLeave}
 use Rattle.quic_machine.specs.LeaveCases as expiring
+use Rattle.quic_machine.specs.Validation.{with_blocked}
+use Rattle.quic_machine.specs.IdFrames.{drawn}
+use Rattle.quic_wire.specs.Close.{CloseValue}
+use Rattle.quic_headline.proofs.Packets.Closes.{by_closes}
+use Rattle.quic_headline.proofs.Packets.Apart.{by_waits, by_next_id}
+use Rattle.quic_headline.proofs.Packets.Heard.{by_taken}
 
 -- ---- a datagram, where frames keep less
 
--- what a datagram may make of an end: P holds of it before and behind, and Q while its frames are taken
+-- what a datagram may make of an end: P holds of it before and behind, and Q while its frames are
+-- taken
 pub record Hears (P Q : End → Type 0) : Type 0 where
   pub notes : (n : ℕ) (e : End) → P e → P (with_numbers e (number_opened e.numbers n))
   pub begins : (now n : ℕ) (e : End) → P e → Q (begun e now n)
   pub frame : (f : FrameValue) (e : End) → Q e → Q (take_frame f e).end
   pub takes : (n : ℕ) (asks : Bool) (mark : Option EcnCodepoint) (e : End) → Q e → P (after_taken n asks mark e)
   pub closes : (reason : LostReason) (e : End) → Q e → P (closed_by reason e)
+  pub drains : (close : ℕ × CloseValue) (e : End) → Q e → P (drained_at close.0 close.1 e)
+  pub asks_close : (e : End) → P e → P (with_closing e (close_asked e.closing))
+  pub exhausts : (now : ℕ) (e : End) → P e → P (exhausted now e)
+  pub draws : (words : ℕ → ℕ) (e : End) → P e → P (drawn words e)
 
 module _ (P Q : End → Type 0) (c : Hears P Q) where
   -- a payload
@@ -78,14 +90,16 @@ module _ (P Q : End → Type 0) (c : Hears P Q) where
   -- all frames were taken, or one was at fault
   ends_hear : (fault : Option Fault) (asks : Bool) (n : ℕ) (mark : Option EcnCodepoint) (e : End) → Q e → P (ends_as fault asks n mark e).end
   ends_hear None asks n mark e i = c.takes n asks mark e i
-  ends_hear (Some fault) asks n mark e i = c.closes (reason_of fault) e i
+  ends_hear (Some (closed_by_peer close)) asks n mark e i = c.drains (n, close) e i
+  ends_hear (Some (broke error)) asks n mark e i = c.closes (reason_of (broke error)) e i
+  ends_hear (Some too_many_pieces) asks n mark e i = c.closes (reason_of too_many_pieces) e i
 
   -- a packet whose number is new
   state_hears : (state : State) (o : Opening) (arrival : Arrival) (e : End) → P e → P (by_state state o arrival (with_numbers e (number_opened e.numbers o.number))).end
   state_hears states.Open o arrival e i =
       let taken = take_payload o.first (items o.payload) (begun e arrival.now o.number) in
       ends_hear taken.fault (asks_in (items o.payload)) o.number arrival.mark taken.end (payload_hears o.first (items o.payload) (begun e arrival.now o.number) (c.begins arrival.now o.number e i))
-  state_hears states.Closing o arrival e i = c.notes o.number e i
+  state_hears states.Closing o arrival e i = c.asks_close (with_numbers e (number_opened e.numbers o.number)) (c.notes o.number e i)
   state_hears states.Drained o arrival e i = c.notes o.number e i
   state_hears states.Failed o arrival e i = c.notes o.number e i
 
@@ -98,13 +112,25 @@ module _ (P Q : End → Type 0) (c : Hears P Q) where
       go false true = i
       go false false = state_hears e.closing.state o arrival e i
 
-  packet_hears : (o : Option Opening) (arrival : Arrival) (e : End) → P e → P (opened_as o arrival e).end
-  packet_hears None arrival e i = i
-  packet_hears (Some o) arrival e i = opened_hears o arrival e i
+  -- ids are drawn behind a packet whose frames were taken
+  drawn_hears : (b : Bool) (p : Policy) (e : End) → P e → P (drawn_if b p e)
+  drawn_hears true p e i = c.draws p.words e i
+  drawn_hears false p e i = i
+
+  packet_hears : (o : Option Opening) (p : Policy) (arrival : Arrival) (e : End) → P e → P (opened_as o p arrival e).end
+  packet_hears None p arrival e i = go e.closing.state arrival.last
+    where
+      go : (state : State) (b : Bool) → P (unopened_in state b arrival e).end
+      go states.Open true = c.exhausts arrival.now e i
+      go states.Open false = i
+      go states.Closing b = i
+      go states.Drained b = i
+      go states.Failed b = i
+  packet_hears (Some o) p arrival e i = drawn_hears (is_read (opened_to o arrival e).answer) p (opened_to o arrival e).end (opened_hears o arrival e i)
 
   headed_hears : (r : Result (List ℕ) HeaderError) (p : Policy) (e : End) (arrival : Arrival) (d : List ℕ) → P e → P (headed r p e arrival d).end
   headed_hears (Result.Err error) p e arrival d i = i
-  headed_hears (Result.Ok id) p e arrival d i = packet_hears (opening p e d) arrival e i
+  headed_hears (Result.Ok id) p e arrival d i = packet_hears (opening p e d) p arrival e i
 
   received_hears : (state : State) (p : Policy) (e : End) (arrival : Arrival) (d : List ℕ) → P e → P (received_in state p e arrival d).end
   received_hears states.Failed p e arrival d i = i
@@ -122,7 +148,8 @@ module _ (P Q : End → Type 0) (c : Hears P Q) where
 abbrev pub AreAsked : Option ℕ → Table TrackedPacket → Type 0
 AreAsked greatest packets = (p : ℕ × TrackedPacket) → In p packets → p.1.asks ≡ true → is_behind greatest p.0 ≡ false
 
--- The numbers of what is tracked rise, below the next one; what was sent since the last that asks doesn't ask; and one may be lost by time only where one asks.
+-- The numbers of what is tracked rise, below the next one; what was sent since the last that asks
+-- doesn't ask; and one may be lost by time only where one asks.
 pub record Stands (next : ℕ) (t : Tracking) : Type 0 where
   pub lies : Lies 0 next t.packets
   pub asked : AreAsked t.greatest_asking t.packets
@@ -273,9 +300,13 @@ hears : Hears LossStands FrameStands
 hears = record {
   notes = λ n e i opened. (let s = i opened in record { stands = record { lies = s.stands.lies; asked = s.stands.asked; late = s.stands.late }; set = s.set });
   begins = λ now n e i opened. (i opened).stands;
-  frame = frame_keeps FrameStands (record { ack = ack_stands; on_streams = λ f e on i. frame_leaves FrameStands f e on (λ t. i); apart = λ f e is i. apart_leaves FrameStands f e is (λ c. i); message = λ m e i. i });
-  takes = λ n asks mark e i opened. record { stands = i opened; set = refl };
+  frame = frame_keeps FrameStands (record { ack = ack_stands; on_streams = λ f e on i. frame_leaves FrameStands f e on (λ t. i); apart = λ f e is i. apart_leaves FrameStands f e is (λ c. i) (λ c most. i); message = λ m e i. i });
+  takes = λ n asks mark e i. by_taken LossStands n asks mark e (λ idle alive opened. record { stands = i opened; set = refl });
   closes = λ reason e i. closed_stands reason e;
+  drains = λ close e i opened. cc;
+  asks_close = λ e i opened. (let s = i opened in record { stands = record { lies = s.stands.lies; asked = s.stands.asked; late = s.stands.late }; set = s.set });
+  exhausts = λ now e i. closed_stands reasons.KeyLimit (with_closing e (ticked e.closing now));
+  draws = λ words e i opened. (let s = i opened in record { stands = record { lies = s.stands.lies; asked = s.stands.asked; late = s.stands.late }; set = s.set });
 }
 
 -- ---- a poll
@@ -339,7 +370,8 @@ polled_stands p e now i = by_poll_to p e now (λ (q : Polled). LossStands q.end)
   silent = i;
   failed = i;
   nothing = λ is none opened. (let s = ready_stands e now i opened in record { stands = s.stands; set = s.set });
-  closes = closed_stands reasons.NumberLimit (ready_at e now).end;
+  repeats = λ is. by_closes p (with_closing e (ticked e.closing now)) (λ (q : Polled). LossStands q.end) (λ opened. let clash : states.Closing ≡ states.Open = sym is ∙ opened in cc) (λ f goes opened. let clash : states.Closing ≡ states.Open = sym is ∙ opened in cc);
+  closes = λ reason bound. by_closes p (closed_by reason (ready_at e now).end) (λ (q : Polled). LossStands q.end) (closed_stands reason (ready_at e now).end) (λ f goes opened. cc);
   gives = λ is may some.
       let g : Ready = ready_at e now in
       given_stands p g.leaving g.end (may_leave_at e now) (λ opened. (let s = ready_stands e now i opened in record { stands = s.stands; set = s.set }));
@@ -355,8 +387,8 @@ judged_stands e (Some moment) i opened =
     let s = i (ap (λ (c : Closing). c.state) (sym quiet.closing) ∙ opened) in
     subst (λ (n : Numbers). Stands n.next (losses_detected e).tracking) (sym quiet.numbers) (by_losses (λ (x : End). Stands e.numbers.next x.tracking) e (λ discovery queues. stands_detected e.numbers.next (verdict e) e.tracking s.lies s.asked))
 
-expired_stands : (e : End) (now : ℕ) (expiry : Expiry) → LossStands e → LossStands (at_expiry e now expiry)
-expired_stands e now expiry i = by_timers FrameStands LossStands (λ o f. judged_stands f o) each (λ f j opened. record { stands = j opened; set = refl }) expiry (with_closing e (ticked e.closing now)) (λ opened. (i opened).stands)
+expired_stands : (words : ℕ → ℕ) (e : End) (now : ℕ) (expiry : Expiry) → LossStands e → LossStands (at_expiry words e now expiry)
+expired_stands words e now expiry i = by_timers words FrameStands LossStands (λ o f. judged_stands f o) each (λ f j opened. record { stands = j opened; set = refl }) (λ f j opened. cc) expiry (with_closing e (ticked e.closing now)) (λ opened. (i opened).stands)
   where
     each : (s : Expired) (f : End) → FrameStands f → FrameStands (expiring.after s f)
     each expiring.of_acks f j = j
@@ -368,14 +400,17 @@ call_stands p e theirs call a i = by_plain_call p e theirs LossStands call a cas
   where
     cases_keep : Plain p e call LossStands
     cases_keep cases.same may = i
-    cases_keep (cases.times now expiry) may = expired_stands e now expiry i
+    cases_keep (cases.times now expiry) may = expired_stands p.words e now expiry i
     cases_keep (cases.polls now) may = polled_stands p e now i
     cases_keep (cases.hears arrival d) may = by_hearing LossStands FrameStands hears p e arrival d i
+    cases_keep (cases.closes reason f now) may = λ opened. cc
+    cases_keep (cases.waits now b) may = by_waits LossStands b (with_closing e (ticked e.closing now)) (λ opened. cc) (λ opened. (let s = i opened in record { stands = s.stands; set = s.set }))
+    cases_keep (cases.changes_id a) may = by_next_id LossStands e a (λ opened. (let s = i opened in record { stands = s.stands; set = s.set })) (λ c. λ opened. (let s = i opened in record { stands = s.stands; set = s.set })) (λ c most. λ opened. (let s = i opened in record { stands = s.stands; set = s.set }))
     cases_keep c may = λ opened. (let s = i opened in record { stands = s.stands; set = s.set })
 
 -- whichever window is shown
-pub stands_shown : (window : ℕ) (e : End) → LossStands e → LossStands (with_window e window)
-stands_shown window e i opened = let s = i opened in record { stands = s.stands; set = s.set }
+pub stands_shown : (window : ℕ) (blocked : Bool) (e : End) → LossStands e → LossStands (with_blocked (with_window e window) blocked)
+stands_shown window blocked e i opened = let s = i opened in record { stands = s.stands; set = s.set }
 
 -- ---- a run
 

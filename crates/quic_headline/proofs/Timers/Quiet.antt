@@ -1,4 +1,5 @@
--- What is in flight is named by no ACK frame that came: so where all that asks is named, none in flight asks, and the loss timer isn't set.
+-- What is in flight is named by no ACK frame that came: so where all that asks is named, none in
+-- flight asks, and the loss timer isn't set.
 use Rattle.std.proofs.Common.{◌≡◌, ℕ, suc, ◌+◌, ◌-◌, ◌≤◌, ◌⊎◌, Bool, true, false, not, ◌||◌, ◌&&◌, List, [], ◌∷◌, ◌++◌, filter, length, take, Option, Some, None, refl, sym, ap, ◌∙◌, subst, inl, inr, arith}
 use Rattle.std.specs.Prelude.{if◌then◌else◌, ◌==◌, nat_lt, slice_get}
 use Rattle.std.specs.Option.{is_some}
@@ -18,7 +19,7 @@ use Rattle.quic_machine.specs.Opens.{own_id_length}
 use Rattle.quic_machine.specs.End.{End}
 use Rattle.quic_machine.specs.Machine.{World, gave}
 use Rattle.quic_headline.specs.Runs.{Run, Told, Packet, Intake, In, IsTaken, IsNamed, names, acknowledged, handed, is_again, is_refused, packet_of, came_open, and_opened, and_handed, AreServed}
-use Rattle.quic_headline.specs.Observer.{Sent, asks_of, Terms, Flight, is_lost, late_by, after_losses, settled_by, after_ack, after_frames, after_packets, without_number, without_oldest, unasked, kept_flying, and_sent, loss_due, is_past, expired_for, Watch, first_watch, news, sent_as, and_all_sent, watch_sent, Lens, watch_given, is_timely, watch_moment, watch_told, watch, and_flying, closes_of}
+use Rattle.quic_headline.specs.Observer.{Sent, next_number, asks_of, Terms, Flight, is_lost, late_by, after_losses, settled_by, after_ack, after_frames, after_packets, without_number, without_oldest, unasked, kept_flying, and_sent, loss_due, is_past, expired_for, Watch, first_watch, news, sent_as, and_all_sent, watch_sent, Lens, watch_given, is_timely, watch_moment, watch_told, watch, and_flying, closes_of}
 use Rattle.quic_headline.specs.Headline.{IsHonest}
 use Rattle.quic_headline.specs.Moments.{LossTimerQuiet}
 use Rattle.quic_headline.proofs.Packets.Named.{in_filter, filter_chose}
@@ -148,7 +149,8 @@ sent_leaves (u ∷ ss) f s i = elim (sent_leaves ss (and_sent u f) s i) [
 
 -- ---- one call more
 
--- what a call leaves of a watch: what went more, and of what is in flight then, that it was so before, and no packet that came names it, or that it went
+-- what a call leaves of a watch: what went more, and of what is in flight then, that it was so
+-- before, and no packet that came names it, or that it went
 record Leaves (before after : Watch) : Type 0 where
   more : List Sent
   own : after.own ≡ before.own ++ more
@@ -158,7 +160,7 @@ record Leaves (before after : Watch) : Type 0 where
 goes_leave : (taker : Policy) (ds : List (List ℕ)) (w v : Watch) → w.own ≡ v.own → ((s : Sent) → In s v.flight.flying → In s w.flight.flying × ((p : Packet) → In p (news w.intake v.intake) → NamedIn p.frames s.number → ⊥)) → Leaves w (watch_sent taker ds v)
 goes_leave taker [] w v own flying = record { more = []; own = sym own ∙ sym (append-nil w.own); flying = λ s i. inl (flying s i) }
 goes_leave taker (d ∷ ds) w v own flying =
-    let sent : List Sent = sent_as (opened_packet taker.header taker.packet (own_id_length + 1) (acknowledged v.intake.took) d) (acknowledged v.intake.took) v.clock d in
+    let sent : List Sent = sent_as (opened_packet taker.header taker.packet (own_id_length + 1) (next_number v.own) d) (acknowledged v.intake.took) v.clock d in
     record {
       more = sent;
       own = ap (λ (ss : List Sent). ss ++ sent) (sym own);
@@ -232,20 +234,20 @@ pub record Unnamed (x y : Party) : Type 0 where
   pub quiet : IsQuiet (watch_of x y)
 
 -- what goes lies above all that went
-sends_above : (e : End) (call : Call) (a : Answer) (s : Sent) → In s (sents_by e call a) → e.numbers.next ≤ s.number
-sends_above e (calls.Poll now) a s i = go (gave a) i
+sends_above : (p : Policy) (e : End) (call : Call) (a : Answer) (s : Sent) → In s (sents_by p e call a) → e.numbers.next ≤ s.number
+sends_above p e (calls.Poll now) a s i = go (gave a) i
   where
-    go : (b : Bool) → In s (sent_if b (sent_by e now)) → e.numbers.next ≤ s.number
+    go : (b : Bool) → In s (sent_if b (sent_by p e now)) → e.numbers.next ≤ s.number
     go true (inl same) =
-        let number : s.number ≡ (sent_by e now).number = ap (λ (t : Sent). t.number) same in
+        let number : s.number ≡ (sent_by p e now).number = ap (λ (t : Sent). t.number) same in
         let near = (allocated_near e.filter e.numbers.next).0 in
         omega arith
     go true (inr j) = absurd j
     go false j = absurd j
-sends_above e call a s i = absurd i
+sends_above p e call a s i = absurd i
 
 -- so no ACK frame names it that came by then: the other took only what had gone
-sends_unnamed : (x y : Party) (call : Call) (a : Answer) → Calls Observed x y call a → (s : Sent) → In s (sents_by x.end call a) → IsNamed (came_to (called x y.given call a) y).took s.number → ⊥
+sends_unnamed : (x y : Party) (call : Call) (a : Answer) → Calls Observed x y call a → (s : Sent) → In s (sents_by x.policy x.end call a) → IsNamed (came_to (called x y.given call a) y).took s.number → ⊥
 sends_unnamed x y call a c s i named =
     let was : IsTaken (came_to y x).took s.number =
     named_taken y.sents (came_to (called x y.given call a) y).took (came_to y x).took c.takes_behind.0.taken c.takes_behind.0.named s.number named in
@@ -253,7 +255,7 @@ sends_unnamed x y call a c s i named =
     let below = c.gives.0.gives.below found.sent found.is.0 in
     let number = found.is.1 in
     let same = was.is in
-    let above = sends_above x.end call a s i in
+    let above = sends_above x.policy x.end call a s i in
     omega arith
 
 -- any call keeps it
@@ -273,8 +275,8 @@ quiet_step x y call a c before = record { quiet = subst (λ (v : Watch). IsQuiet
     leaves = told_leaves (lens x y) t w
 
     -- what went is what the end sends
-    sends : leaves.more ≡ sents_by x.end call a
-    sends = sym (went_is w after leaves.more leaves.own) ∙ went_is w after (sents_by x.end call a) (own_behind x y call a c w refl)
+    sends : leaves.more ≡ sents_by x.policy x.end call a
+    sends = sym (went_is w after leaves.more leaves.own) ∙ went_is w after (sents_by x.policy x.end call a) (own_behind x y call a c w refl)
 
     own : (s : Sent) → In s after.flight.flying → In s after.own
     own s i = subst (λ (ss : List Sent). In s ss) (sym leaves.own) (elim (leaves.flying s i) [

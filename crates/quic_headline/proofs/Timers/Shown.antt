@@ -1,4 +1,4 @@
--- Calls that ask for timers are answered what views show of them.
+-- Calls that ask for timers, or for the state, are answered what views show of them.
 use Rattle.std.proofs.Common.{◌≡◌, ℕ, ◌≤◌, zero, suc, ◌⊎◌, inl, inr, min, List, [], ◌∷◌, fold, slice_get, Option, Some, None, refl, sym, ap, ◌∙◌, subst, arith}
 use Rattle.std.proofs.lemmas.Bool.{cases_lt}
 use Rattle.quic_wire_core.specs.declared.stream_id.Side.{Side}
@@ -11,12 +11,13 @@ use Rattle.quic_machine.specs.declared.run.Call.{Call}
 use Rattle.quic_machine.specs.declared.run.Call.TheVariants as calls
 use Rattle.quic_machine.specs.declared.run.Answer.{Answer}
 use Rattle.quic_machine.specs.declared.run.Answer.TheVariants as answers
+use Rattle.quic_machine.specs.declared.run.EndView.{EndView}
 use Rattle.quic_machine.specs.declared.run.View.{View}
 use Rattle.quic_machine.specs.End.{End}
-use Rattle.quic_machine.specs.Machine.{World, Policies, end_at, IsStep, view_of, Follows}
+use Rattle.quic_machine.specs.Machine.{World, Policies, end_at, control_at, IsStep, end_view, view_of, Follows}
 use Rattle.quic_headline.specs.Runs.{Run, In}
 use Rattle.quic_headline.specs.Headline.{IsHonest, IsRun}
-use Rattle.quic_headline.specs.Moments.{timers_in}
+use Rattle.quic_headline.specs.Polls.{end_in}
 use Rattle.quic_headline.specs.Views.{place, IsEarliest, IsShown, ViewsTell}
 
 -- ---- the earliest
@@ -101,31 +102,40 @@ at_place Pacing t = refl
 at_place PushNewCid t = refl
 at_place MaxAckDelay t = refl
 
-shown_of : (side : Side) (w : World) → timers_in (view_of w) side ≡ each_timer (end_at side w).timers
+-- what is seen of an end in the view of a world
+shown_of : (side : Side) (w : World) → end_in (view_of w) side ≡ end_view (control_at side w) (end_at side w)
 shown_of Client w = refl
 shown_of Server w = refl
 
 -- the view behind a call that asks shows what it is answered
-step_tells : (k : Policies) (w next : World) (side : Side) (call : Call) (a : Answer) → IsStep k w (record { side = side; call = call }) a next → IsShown call a (timers_in (view_of next) side)
+step_tells : (k : Policies) (w next : World) (side : Side) (call : Call) (a : Answer) → IsStep k w (record { side = side; call = call }) a next → IsShown call a (end_in (view_of next) side)
 step_tells k w next side (calls.Timer timer) (answers.Timer moment) step =
     let is : answers.Timer moment ≡ answers.Timer (timer_at timer (end_at side w).timers) = step.answer in
     let same : moment ≡ timer_at timer (end_at side w).timers = cc in
     let stays : end_at side next ≡ end_at side w = step.end in
     let left : (end_at side next).timers ≡ (end_at side w).timers = ap (λ (e : End). e.timers) stays in
-    ap (λ (ts : List (Option ℕ)). slice_get ts (place timer)) (shown_of side next)
+    ap (λ (v : EndView). slice_get v.timers (place timer)) (shown_of side next)
     ∙ (at_place timer (end_at side next).timers ∙ ap Some (ap (λ (t : Timers). timer_at timer t) left ∙ sym same))
 step_tells k w next side calls.NextTimeout (answers.NextTimeout moment) step =
     let is : answers.NextTimeout moment ≡ answers.NextTimeout (next_timer (end_at side w).timers) = step.answer in
     let same : moment ≡ next_timer (end_at side w).timers = cc in
     let stays : end_at side next ≡ end_at side w = step.end in
     let left : (end_at side next).timers ≡ (end_at side w).timers = ap (λ (e : End). e.timers) stays in
-    subst (λ (ts : List (Option ℕ)). IsEarliest ts moment) (sym (shown_of side next)) (subst (λ (t : Timers). IsEarliest (each_timer t) moment) (sym left) (subst (IsEarliest (each_timer (end_at side w).timers)) (sym same) (next_earliest (end_at side w).timers)))
+    subst (λ (v : EndView). IsEarliest v.timers moment) (sym (shown_of side next)) (subst (λ (t : Timers). IsEarliest (each_timer t) moment) (sym left) (subst (IsEarliest (each_timer (end_at side w).timers)) (sym same) (next_earliest (end_at side w).timers)))
+step_tells k w next side calls.State (answers.State state validated) step =
+    let is : answers.State state validated ≡ answers.State (end_at side w).closing.state (end_at side w).path.validated = step.answer in
+    let state_is : state ≡ (end_at side w).closing.state = cc in
+    let validated_is : validated ≡ (end_at side w).path.validated = cc in
+    let stays : end_at side next ≡ end_at side w = step.end in (
+      state_is ∙ ap (λ (e : End). e.closing.state) (sym stays) ∙ ap (λ (v : EndView). v.state) (sym (shown_of side next)),
+      validated_is ∙ ap (λ (e : End). e.path.validated) (sym stays) ∙ ap (λ (v : EndView). v.validated) (sym (shown_of side next)),
+    )
 step_tells k w next side call a step = tt
 
 -- ---- a run
 
 pub run_tells : (k : Policies) (w end : World) (events : List RunEvent) (told : List Answer) (views : List View) → Follows k w events told views end
-    → (side : Side) (i : ℕ) (call : Call) (a : Answer) (view : View) → slice_get events i ≡ Some (record { side = side; call = call }) → slice_get told i ≡ Some a → slice_get views i ≡ Some view → IsShown call a (timers_in view side)
+    → (side : Side) (i : ℕ) (call : Call) (a : Answer) (view : View) → slice_get events i ≡ Some (record { side = side; call = call }) → slice_get told i ≡ Some a → slice_get views i ≡ Some view → IsShown call a (end_in view side)
 run_tells k w end [] told views f side i call a view event answer shown = cc
 run_tells k w end (e ∷ events) [] views f side i call a view event answer shown = cc
 run_tells k w end (e ∷ events) (b ∷ told) [] f side i call a view event answer shown = cc
@@ -134,7 +144,7 @@ run_tells k w end (e ∷ events) (b ∷ told) (v ∷ views) f side zero call a v
     let same_answer : b ≡ a = cc in
     let same_view : v ≡ view = cc in
     let step : IsStep k w (record { side = side; call = call }) a f.0 = subst (λ (x : RunEvent). IsStep k w x a f.0) same_event (subst (λ (x : Answer). IsStep k w e x f.0) same_answer f.1) in
-    subst (λ (x : View). IsShown call a (timers_in x side)) (sym f.2 ∙ same_view) (step_tells k w f.0 side call a step)
+    subst (λ (x : View). IsShown call a (end_in x side)) (sym f.2 ∙ same_view) (step_tells k w f.0 side call a step)
 run_tells k w end (e ∷ events) (b ∷ told) (v ∷ views) f side (suc i) call a view event answer shown = run_tells k f.0 end events told views f.3 side i call a view event answer shown
 
 -- the clause

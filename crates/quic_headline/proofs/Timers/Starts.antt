@@ -1,4 +1,5 @@
--- New ends have no timer set, and track nothing; and so the loss timer follows what is tracked wherever a run from them leads.
+-- New ends have no timer set, and track nothing; and so the loss timer follows what is tracked
+-- wherever a run from them leads.
 use Rattle.std.proofs.Common.{List, refl, sym, subst, arith}
 use Rattle.quic_wire_core.specs.declared.stream_id.Side.TheVariants.{Client, Server}
 use Rattle.quic_machine.specs.declared.run.RunEvent.{RunEvent}

@@ -46,15 +46,15 @@ module _ (x y : Party) (call : Call) (a : Answer) (c : Calls Observed x y call a
       ∙ ap (λ (v : Watch). watch_told (lens x y) (told_of call a x.end.closing.state) v) (sym is)
 
   -- what was given more, it knows
-  pub own_behind : watch_behind.own ≡ w.own ++ sents_by x.end call a
+  pub own_behind : watch_behind.own ≡ w.own ++ sents_by x.policy x.end call a
   own_behind =
       ap (λ (v : Watch). v.own) (sym behind_is)
       ∙ c.gives_behind.1.own
-      ∙ ap (λ (ss : List Sent). ss ++ sents_by x.end call a) (sym c.gives.1.own ∙ ap (λ (v : Watch). v.own) (sym is))
+      ∙ ap (λ (ss : List Sent). ss ++ sents_by x.policy x.end call a) (sym c.gives.1.own ∙ ap (λ (v : Watch). v.own) (sym is))
 
   -- it goes at the call
-  pub went_behind : went w watch_behind ≡ sents_by x.end call a
-  went_behind = went_is w watch_behind (sents_by x.end call a) own_behind
+  pub went_behind : went w watch_behind ≡ sents_by x.policy x.end call a
+  went_behind = went_is w watch_behind (sents_by x.policy x.end call a) own_behind
 
   -- it knows what came before the call, and what came by then
   pub came_before : w.intake ≡ came_to x y
@@ -72,7 +72,7 @@ module _ (x y : Party) (call : Call) (a : Answer) (c : Calls Observed x y call a
 -- ---- a view
 
 -- what a view shows of the timers of an end
-timers_shown : (side : Side) (w : World) → timers_in (view_of w) side ≡ each_timer (end_at side w).timers
+pub timers_shown : (side : Side) (w : World) → timers_in (view_of w) side ≡ each_timer (end_at side w).timers
 timers_shown Client w = refl
 timers_shown Server w = refl
 

@@ -1,4 +1,5 @@
--- Why a write is blocked where both ends have nothing left to send: not by the send window, and by a limit only where the reader left bytes unread.
+-- Why a write is blocked where both ends have nothing left to send: not by the send window, and by
+-- a limit only where the reader left bytes unread.
 use Rattle.std.proofs.Common.{◌≡◌, ℕ, zero, suc, ◌+◌, ◌-◌, ◌^◌, ◌<◌, ◌≤◌, min, max, eqb, Bool, true, false, not, ◌&&◌, ◌||◌, List, [], ◌∷◌, length, take, Option, Some, None, Ok, Err, refl, sym, ap, ◌∙◌, subst, ◌⊎◌, inl, inr, arith, length-append}
 use Rattle.std.specs.Prelude.{◌==◌, if◌then◌else◌}
 use Rattle.std.specs.List.{IsDistinct}

@@ -1,4 +1,5 @@
--- So it is at each place of an honest run where both ends rest: a write is blocked only for bytes that the reader left unread.
+-- So it is at each place of an honest run where both ends rest: a write is blocked only for bytes
+-- that the reader left unread.
 use Rattle.std.proofs.Common.{◌≡◌, ℕ, Bool, true, false, List, length, Result, Ok, Err, refl, sym, ap, ◌∙◌, subst, ◌⊎◌, inl, inr, arith}
 use Rattle.std.specs.Prelude.{if◌then◌else◌}
 use Rattle.quic_wire_core.specs.declared.stream_id.Side.{Side}
@@ -23,7 +24,7 @@ use Rattle.quic_machine.specs.declared.run.Answer.TheVariants as answers
 use Rattle.quic_machine.specs.Calls.{is_open}
 use Rattle.quic_machine.specs.End.{End}
 use Rattle.quic_machine.specs.Start.{AreStarted}
-use Rattle.quic_machine.specs.Machine.{World, IsAnswer, reads_window, end_at, control_at}
+use Rattle.quic_machine.specs.Machine.{World, IsAnswer, reads_window, end_at, control_at, heard_at}
 use Rattle.quic_headline.specs.Runs.{Run, Packet, Intake, until}
 use Rattle.quic_headline.specs.Observer.{took, watch}
 use Rattle.quic_headline.specs.Headline.{IsHonest, IsRun, IsAt}
@@ -203,7 +204,7 @@ module _ (r : Run) (end : World) (honest : IsHonest r) (run : IsRun r end) where
       chunks_blocked (Ok n) cs told = cc
       chunks_blocked (Err e) cs told = cc
 
-      by_call : (call : Call) (a : Answer) → IsAt r i side call a → WritesOn call id count → told_so a (Err write_errors.Blocked) → IsAnswer x.policy (reads_window (control_at side p.world) call x.end) y.given call a → Left r s other i id
+      by_call : (call : Call) (a : Answer) → IsAt r i side call a → WritesOn call id count → told_so a (Err write_errors.Blocked) → IsAnswer x.policy (reads_window (control_at side p.world) (heard_at side p.world) call x.end) y.given call a → Left r s other i id
       by_call (calls.Write q bytes) a event on told (inl is) = blocked (length bytes) (ap (λ (j : ℕ). write_answer (is_open x.end.closing.state) x.end.streams j (length bytes)) (sym on.0) ∙ subst (λ (b : Answer). told_so b (Err write_errors.Blocked)) is told)
       by_call (calls.Write q bytes) a event on told (inr is) = (let clash : ◌≡◌ {A = Result ℕ WriteError} (Err write_errors.Memory) (Err write_errors.Blocked) = subst (λ (b : Answer). told_so b (Err write_errors.Blocked)) is told in cc)
       by_call (calls.WriteChunks q chunks) a event on told (inl is) = blocked (bytes_of chunks.items) (ap (λ (j : ℕ). write_answer (is_open x.end.closing.state) x.end.streams j (bytes_of chunks.items)) (sym on.0)

@@ -1,5 +1,6 @@
--- What an end consumed of all streams is the sum of what it consumed of each; and what is known of each half that receives, also of those that are done: these saw all
--- that was written (RFC 9000, section 4.1).
+-- What an end consumed of all streams is the sum of what it consumed of each; and what is known of
+-- each half that receives, also of those that are done: these saw all that was written (RFC 9000,
+-- section 4.1).
 use Rattle.std.proofs.Common.{◌≡◌, ℕ, ◌+◌, ◌<◌, Bool, true, false, ◌==◌, Option, Some, None, refl, sym, ap, ◌∙◌, subst, arith, ◌⊎◌, inl, inr}
 use Rattle.std.specs.Prelude.{◌&&◌, ◌||◌, not}
 use Rattle.std.specs.List.{sum_by}

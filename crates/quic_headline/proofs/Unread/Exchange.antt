@@ -1,4 +1,5 @@
--- What is used up of a window where its limit didn't grow: as much as that leaves, less an eighth, was brought and isn't used up.
+-- What is used up of a window where its limit didn't grow: as much as that leaves, less an eighth,
+-- was brought and isn't used up.
 use Rattle.std.proofs.Common.{ℕ, zero, suc, ◌+◌, ◌-◌, ◌<◌, ◌≤◌, inl, inr, arith}
 use Rattle.std.specs.Prelude.{◌/◌, ◌^◌, min, max}
 use Rattle.std.proofs.lemmas.Bool.{cases_lt}

@@ -1,6 +1,7 @@
--- What an end consumed of what the other wrote, and what is known of each of its halves that receive, at each place of a run: a group over what is written.
+-- What an end consumed of what the other wrote, and what is known of each of its halves that
+-- receive, at each place of a run: a group over what is written.
 use Rattle.std.proofs.Common.{◌≡◌, ℕ, Bool, true, false, List, [], None, refl, sym, subst, ◌⊎◌, inl, inr}
-use Rattle.quic_wire.specs.Value.{FrameValue}
+use Rattle.quic_wire.specs.Value.{FrameValue, padding}
 use Rattle.quic_streams_parts.specs.RecvHalf.{RecvHalf, credit}
 use Rattle.quic_streams_halves.specs.Halves.{has_place, no_places}
 use Rattle.quic_streams_state.specs.declared.state.StreamsState.{StreamsState}
@@ -16,12 +17,13 @@ use Rattle.quic_machine.specs.Policy.{Policy}
 use Rattle.quic_machine.specs.End.{End}
 use Rattle.quic_machine.specs.Receive.{Outcome}
 use Rattle.quic_machine.specs.Poll.{Draft, composed, polled}
-use Rattle.quic_machine.specs.DraftLaws.{Writing, by_writing}
+use Rattle.quic_machine.specs.DraftLaws.{Writing, by_writing, IsClose}
 use Rattle.quic_machine.specs.Puts as puts
-use Rattle.quic_machine.specs.FrameCases.{begun}
+use Rattle.quic_machine.specs.FrameCases.{begun, passed}
 use Rattle.quic_headline.specs.Runs.{Packet, Intake, In}
 use Rattle.quic_headline.proofs.Packets.Delivered.{Arrivals, with_taken}
 use Rattle.quic_headline.proofs.Packets.Group.{meets}
+use Rattle.quic_headline.proofs.Packets.Owing.{IsAlone, closed_alone, closes_fine}
 use Rattle.quic_headline.proofs.Packets.Probes.{poll_state}
 use Rattle.quic_headline.proofs.Places.Parties.{Party, called, came_to, Beginning, begun_as}
 use Rattle.quic_headline.proofs.Places.Groups.{Way, Calls, Group}
@@ -34,8 +36,8 @@ use Rattle.quic_headline.proofs.Channel.Sums.{sum_none}
 use Rattle.quic_headline.proofs.Channel.Told.{stays_frame}
 use Rattle.quic_headline.proofs.Channel.Within.{Within}
 use Rattle.quic_headline.proofs.Unread.Walk.{Of, call_left, frames_left}
-use Rattle.quic_headline.proofs.Unread.Half.{IsTold, IsUntold, IsWhole}
-use Rattle.quic_headline.proofs.Unread.Consumed.{Consumes, consumed_steps, limit_consumes, consumes_grow, known_calls, known_opened}
+use Rattle.quic_headline.proofs.Unread.Half.{Brings, IsTold, IsUntold, IsWhole}
+use Rattle.quic_headline.proofs.Unread.Consumed.{Consumes, consumed_steps, limit_consumes, consumes_grow, consumes_fewer, known_calls, known_opened}
 use Rattle.quic_headline.proofs.Unread.Taken.{frames_take}
 
 -- x writes, and y reads
@@ -64,6 +66,10 @@ module _ (done : ℕ → Wrote) (before : StreamsState) (taken : FrameValue → 
 
 -- ---- a call
 
+-- a close brings nothing, nor does what goes beside it
+close_brings_not : (f : FrameValue) → IsClose f ⊎ (f ≡ padding) → (id end : ℕ) → Brings f id end → ⊥
+close_brings_not = closes_fine (λ f. (id end : ℕ) → Brings f id end → ⊥) (λ c id end none. none) (λ c id end none. none) (λ id end none. none)
+
 module _ (B : Way) (w : IsWriting B) (within : (x y : Party) → B x y → Within x y) (x y : Party) (call : Call) (a : Answer) (c : Calls B x y call a) (i : Consumed y x) where
   abbrev done : ℕ → Wrote
   done = wrote y.told
@@ -78,14 +84,22 @@ module _ (B : Way) (w : IsWriting B) (within : (x y : Party) → B x y → Withi
   After e j = Of (Consumes done (WasIn j.took)) e.streams
 
   -- the cases of a delivery
-  arrivals : (now n : ℕ) (frames : List FrameValue) → ((f : FrameValue) → In f frames → SaysOf done f) → Arrivals x.end now n frames (came_to x y) (λ (o : Outcome) (j : Intake). After o.end j)
-  arrivals now n frames says = record {
+  arrivals : (now n : ℕ) (frames : List FrameValue) → ((f : FrameValue) → In f frames → SaysOf done f) → IsAlone frames → Arrivals x.end now n frames (came_to x y) (λ (o : Outcome) (j : Intake). After o.end j)
+  arrivals now n frames says alone = record {
     ignored = λ reason. i.known;
     noted = λ state reason. i.known;
-    takes = λ state new none mark. frames_take done before (WasIn (came_to x y).took) (WasIn (with_taken (came_to x y) n frames).took) frames (begun x.end now n) among says none here i.known;
-    refuses = λ state new f is. frames_left (SaysOf done) (Stays before) (known_calls before) (Consumes done (WasIn (came_to x y).took)) (consumed_steps done before (WasIn (came_to x y).took)) (known_opened before) (stays_frame before) frames (begun x.end now n) says here i.known;
+    takes = λ words state new none mark. frames_take done before (WasIn (came_to x y).took) (WasIn (with_taken (came_to x y) n frames).took) frames (begun x.end now n) among says none here i.known;
+    drains = λ words state new close is. (
+        let s : StreamsState = (passed frames (begun x.end now n)).end.streams in
+        consumes_fewer done (WasIn (came_to x y).took) (WasIn (with_taken (came_to x y) n frames).took) s.side s.receiving s.opening.announced s.opening.configured
+        (λ g id end brings v. elim (among g v) [ inl was ↦ was | inr there ↦ absurd (close_brings_not g (closed_alone frames (begun x.end now n) close alone is g there) id end brings) ]) left);
+    refuses = λ words state new f is. left;
+    exhausts = λ state. i.known;
   }
     where
+      left : Of (Consumes done (WasIn (came_to x y).took)) (passed frames (begun x.end now n)).end.streams
+      left = frames_left (SaysOf done) (Stays before) (known_calls before) (Consumes done (WasIn (came_to x y).took)) (consumed_steps done before (WasIn (came_to x y).took)) (known_opened before) (stays_frame before) frames (begun x.end now n) says here i.known
+
       among : (g : FrameValue) → WasIn (with_taken (came_to x y) n frames).took g → WasIn (came_to x y).took g ⊎ In g frames
       among g v = go v.was_taken
         where
@@ -99,7 +113,7 @@ module _ (B : Way) (w : IsWriting B) (within : (x y : Party) → B x y → Withi
       apart = λ apart. call_left (SaysOf done) (Stays before) (known_calls before) (Consumes done (WasIn (came_to x y).took)) (consumed_steps done before (WasIn (came_to x y).took)) x.policy x.end y.given here i.known call a apart c.answer
           (λ now polls. (polled_consumes done before (WasIn (came_to x y).took) x.policy x.end now (here, i.known)).1);
       none = λ delivery is. i.known;
-      comes = λ delivery is s among. arrivals delivery.now s.number s.frames (w.says y x c.takes s among);
+      comes = λ delivery is s among. arrivals delivery.now s.number s.frames (w.says y x c.takes s among) ((w.packets y x c.takes).alone s among);
     });
   }
 

@@ -1,5 +1,6 @@
--- What is known of a half that receives, by the frames that were taken of its stream and by what was written on it: how far they reach, whether it was reset, and its
--- final size (RFC 9000, sections 3.2, 4.5, 19.4 and 19.8).
+-- What is known of a half that receives, by the frames that were taken of its stream and by what
+-- was written on it: how far they reach, whether it was reset, and its final size (RFC 9000,
+-- sections 3.2, 4.5, 19.4 and 19.8).
 use Rattle.std.proofs.Common.{◌≡◌, ℕ, ◌≤◌, Bool, true, false, ◌==◌, Option, Some, None, refl, sym, ap, ◌∙◌, subst, arith, ◌⊎◌, inl, inr, length}
 use Rattle.std.specs.Prelude.{nat_lt, ◌&&◌, not, if◌then◌else◌}
 use Rattle.std.specs.Option.{is_some, IsSome}
@@ -19,7 +20,8 @@ Brings (stream f) id end = (f.id ≡ id) × (end_of f ≡ end)
 Brings (reset_stream f) id end = (f.id ≡ id) × (f.final_size ≡ end)
 Brings f id end = ⊥
 
--- of a half in use: it saw as far as any frame reaches, it is stopped or was reset where RESET_STREAM was taken, and its final size is that of what was written
+-- of a half in use: it saw as far as any frame reaches, it is stopped or was reset where
+-- RESET_STREAM was taken, and its final size is that of what was written
 pub record IsTold (w : Wrote) (taken : FrameValue → Type 0) (id : ℕ) (h : RecvHalf) : Type 0 where
   pub reached : (f : FrameValue) (end : ℕ) → taken f → Brings f id end → end ≤ h.seen
   pub reset : (f : ResetStreamValue) → taken (reset_stream f) → f.id ≡ id → (h.stopped ≡ true) ⊎ (is_some h.reset ≡ true)

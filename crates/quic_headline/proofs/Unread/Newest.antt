@@ -1,5 +1,5 @@
--- How far an end told its peer that it may come, on all streams and on each, and how many it may open, is as far as at first, or stands in a frame that it gave: a
--- group over what is written.
+-- How far an end told its peer that it may come, on all streams and on each, and how many it may
+-- open, is as far as at first, or stands in a frame that it gave: a group over what is written.
 use Rattle.std.proofs.Common.{◌≡◌, ℕ, ◌+◌, Bool, true, false, List, [], ◌∷◌, ◌++◌, Option, Some, None, refl, sym, ap, ◌∙◌, subst, ◌⊎◌, inl, inr}
 use Rattle.std.specs.Prelude.{not, ◌&&◌, ◌||◌}
 use Rattle.std.specs.Ordering.{nat_cmp}
@@ -32,10 +32,12 @@ use Rattle.quic_machine.specs.declared.run.Call.TheVariants as calls
 use Rattle.quic_machine.specs.declared.run.Answer.{Answer}
 use Rattle.quic_machine.specs.declared.run.Answer.TheVariants as answers
 use Rattle.quic_machine.specs.Policy.{Policy}
-use Rattle.quic_machine.specs.End.{End}
+use Rattle.quic_machine.specs.Closing.{ticked}
+use Rattle.quic_machine.specs.End.{End, with_closing, closed_by}
 use Rattle.quic_machine.specs.Receive.{take_frame}
-use Rattle.quic_machine.specs.Poll.{Polled, Draft, goes, polled, draft_as, Leaving}
-use Rattle.quic_machine.specs.PollCases.{ready_at, draft_at, frames_padded, by_poll_to, may_leave_at}
+use Rattle.quic_machine.specs.Poll.{Draft, polled, draft_as, Leaving}
+use Rattle.quic_machine.specs.Poll as poll
+use Rattle.quic_machine.specs.PollCases.{ready_at, draft_at, frames_padded, may_leave_at}
 use Rattle.quic_machine.specs.DraftLaws.{Writing, by_leave, MayLeave}
 use Rattle.quic_machine.specs.Puts as puts
 use Rattle.quic_machine.specs.FrameCases.{begun, passed}
@@ -46,9 +48,10 @@ use Rattle.quic_headline.specs.Observer.{Sent}
 use Rattle.quic_headline.specs.Duties.{Limited, AllData, StreamData, StreamCount, limit_frame, WasGiven}
 use Rattle.quic_headline.proofs.Packets.Group.{meets}
 use Rattle.quic_headline.proofs.Packets.Probes.{by_going, ready_state}
+use Rattle.quic_headline.proofs.Packets.Sends.{by_sends}
 use Rattle.quic_headline.proofs.Places.Told.{in_left, in_right}
 use Rattle.quic_headline.proofs.Places.Steps.{poll_answer}
-use Rattle.quic_headline.proofs.Places.Parties.{Party, called, sent_by, sent_if, sents_by, Beginning, begun_as}
+use Rattle.quic_headline.proofs.Places.Parties.{Party, called, sent_as, sent_by, sent_if, sents_by, Beginning, begun_as}
 use Rattle.quic_headline.proofs.Places.Groups.{Way, Calls, Group}
 use Rattle.quic_headline.proofs.Places.Coming.{by_coming}
 use Rattle.quic_headline.proofs.Halves.Ghosts.{IsWriting}
@@ -274,14 +277,18 @@ module _ (window stream_window : ℕ) (counts : Counts) where
         given f (inr among) = record { sent = t; among = in_right t own (t ∷ []) (inl refl); carried = subst (In f) (sym frames) (in_left f d.frames _ among) }
 
     -- a poll
-    polled_says : (p : Policy) (e : End) (now : ℕ) → Of (Says (WasGiven own) window stream_window counts) e.streams → Of (Says (WasGiven (own ++ sent_if (gave (answers.Poll (polled p e now).answer)) (sent_by e now))) window stream_window counts) (polled p e now).end.streams
-    polled_says p e now i = by_poll_to p e now (λ (q : Polled). Of (Says (WasGiven (own ++ sent_if (gave (answers.Poll q.answer)) (sent_by e now))) window stream_window counts) q.end.streams) (record {
+    polled_says : (p : Policy) (e : End) (now : ℕ) → Of (Says (WasGiven own) window stream_window counts) e.streams → Of (Says (WasGiven (own ++ sent_if (gave (answers.Poll (polled p e now).answer)) (sent_by p e now))) window stream_window counts) (polled p e now).end.streams
+    polled_says p e now i = by_sends p e now (λ q sents. Of (Says (WasGiven (own ++ sents)) window stream_window counts) q.end.streams) (record {
       silent = still_says [] e.streams i;
       failed = still_says [] e.streams i;
       nothing = λ is none. still_says [] (ready_at e now).end.streams ready;
-      closes = still_says [] (ready_at e now).end.streams ready;
-      gives = λ is_open numbered some. by_going (λ (x : End). Of (Says (WasGiven (own ++ sent_by e now ∷ [])) window stream_window counts) x.streams) p (draft_at e now)
-          (λ pacing. given_says (draft_at e now) (sent_by e now) refl (draft_says (ready_at e now).leaving (ready_at e now).end (may_leave_at e now) ready));
+      repeats = λ is. (still_says [] e.streams i, λ f goes. still_says (sent_as e now (draft_as (poll.closing f) (with_closing e (ticked e.closing now))) ∷ []) e.streams i);
+      closes = λ reason is bound. (
+        still_says [] (ready_at e now).end.streams ready,
+        λ f goes. still_says (sent_as e now (draft_as (poll.closing f) (closed_by reason (ready_at e now).end)) ∷ []) (ready_at e now).end.streams ready,
+      );
+      gives = λ is_open numbered some. by_going (λ (x : End). Of (Says (WasGiven (own ++ sent_as e now (draft_at e now) ∷ [])) window stream_window counts) x.streams) p (draft_at e now)
+          (λ going. given_says (draft_at e now) (sent_as e now (draft_at e now)) refl (draft_says (ready_at e now).leaving (ready_at e now).end (may_leave_at e now) ready));
     })
       where
         ready : Of (Says (WasGiven own) window stream_window counts) (ready_at e now).end.streams
@@ -325,8 +332,8 @@ module _ (B : Way) (w : IsWriting B) (x y : Party) (call : Call) (a : Answer) (c
   none_sent own s j = still_says window stream_window counts own [] s j
 
   -- any call but a delivery
-  apart_says : (k : Call) → is_delivery k ≡ false → IsAnswer x.policy x.end y.given k a → Now (x.sents ++ sents_by x.end k a) (after_call x.policy x.end y.given k a).streams
-  apart_says (calls.Poll now) apart is = subst (λ (o : Answer). Now (x.sents ++ sent_if (gave o) (sent_by x.end now)) (polled x.policy x.end now).end.streams) (sym (poll_answer x.policy x.end now a is c.served)) (polled_says window stream_window counts x.sents x.policy x.end now i.says)
+  apart_says : (k : Call) → is_delivery k ≡ false → IsAnswer x.policy x.end y.given k a → Now (x.sents ++ sents_by x.policy x.end k a) (after_call x.policy x.end y.given k a).streams
+  apart_says (calls.Poll now) apart is = subst (λ (o : Answer). Now (x.sents ++ sent_if (gave o) (sent_by x.policy x.end now)) (polled x.policy x.end now).end.streams) (sym (poll_answer x.policy x.end now a is c.served)) (polled_says window stream_window counts x.sents x.policy x.end now i.says)
   apart_says k apart is = none_sent x.sents (after_call x.policy x.end y.given k a).streams
       (call_left Any IsShaped shape_known (Says (WasGiven x.sents) window stream_window counts) (steps window stream_window counts (WasGiven x.sents)) x.policy x.end y.given shape i.says k a apart is (λ now polls. cc))
 
@@ -336,17 +343,19 @@ module _ (B : Way) (w : IsWriting B) (x y : Party) (call : Call) (a : Answer) (c
 
   says_call : NewestSaid (called x y.given call a) y
   says_call = record {
-    says = by_coming x y a c.joined c.served (meets y x (w.packets y x c.takes)) (λ (e : End) (j : Intake). Now (x.sents ++ sents_by x.end call a) e.streams) call c.answer (record {
+    says = by_coming x y a c.joined c.served (meets y x (w.packets y x c.takes)) (λ (e : End) (j : Intake). Now (x.sents ++ sents_by x.policy x.end call a) e.streams) call c.answer (record {
       apart = λ apart. apart_says call apart c.answer;
-      none = λ delivery is. still_says window stream_window counts x.sents (sents_by x.end call a) x.end.streams i.says;
+      none = λ delivery is. still_says window stream_window counts x.sents (sents_by x.policy x.end call a) x.end.streams i.says;
       comes = λ delivery is s among. (
-          let more : (t : StreamsState) → Now x.sents t → Now (x.sents ++ sents_by x.end call a) t = λ t j. still_says window stream_window counts x.sents (sents_by x.end call a) t j in
+          let more : (t : StreamsState) → Now x.sents t → Now (x.sents ++ sents_by x.policy x.end call a) t = λ t j. still_says window stream_window counts x.sents (sents_by x.policy x.end call a) t j in
           let after : Now x.sents (passed s.frames (begun x.end delivery.now s.number)).end.streams = frames_say s.frames (begun x.end delivery.now s.number) shape i.says in
           record {
             ignored = λ reason. more x.end.streams i.says;
             noted = λ state reason. more x.end.streams i.says;
-            takes = λ state new none mark. more (passed s.frames (begun x.end delivery.now s.number)).end.streams after;
-            refuses = λ state new f fault. more (passed s.frames (begun x.end delivery.now s.number)).end.streams after;
+            takes = λ words state new none mark. more (passed s.frames (begun x.end delivery.now s.number)).end.streams after;
+            drains = λ words state new close fault. more (passed s.frames (begun x.end delivery.now s.number)).end.streams after;
+            refuses = λ words state new f fault. more (passed s.frames (begun x.end delivery.now s.number)).end.streams after;
+            exhausts = λ state. more x.end.streams i.says;
           });
     });
   }

@@ -1,15 +1,17 @@
 -- The streams that an end opened are those that it was told: as many of each direction as it
 -- counts, and each below that count.
 use Rattle.std.proofs.Common.{◌≡◌, ℕ, ◌+◌, ◌<◌, Bool, true, false, List, [], ◌∷◌, ◌++◌, length, Option, Some, None, refl, sym, ap, ◌∙◌, subst, inl, inr, arith, length-append, append-nil}
-use Rattle.std.specs.Prelude.{nat_lt, if◌then◌else◌}
-use Rattle.std.proofs.lemmas.Bool.{cases_lt}
+use Rattle.std.specs.Prelude.{nat_lt, nat_le, ◌&&◌, if◌then◌else◌}
+use Rattle.std.proofs.lemmas.Bool.{cases_lt, cond_both}
 use Rattle.quic_wire_core.specs.declared.stream_id.Side.{Side}
 use Rattle.quic_wire_core.specs.declared.stream_id.Dir.{Dir}
 use Rattle.quic_wire_core.specs.declared.stream_id.Dir.TheVariants.{Bi, Uni}
 use Rattle.quic_wire_core.specs.StreamId.{stream_id}
+use Rattle.quic_wire.specs.Value.{FrameValue}
 use Rattle.quic_streams_parts.specs.Dirs.{Counts, of, more}
 use Rattle.quic_streams_state.specs.declared.state.StreamsState.{StreamsState}
 use Rattle.quic_streams_state.specs.State.{Opening}
+use Rattle.quic_streams_state.specs.Limits.{most_streams}
 use Rattle.quic_streams_state.specs.Opening.{open_answer, after_open}
 use Rattle.quic_machine.specs.declared.answers.State.{State}
 use Rattle.quic_machine.specs.declared.run.Call.{Call}
@@ -17,6 +19,8 @@ use Rattle.quic_machine.specs.declared.run.Call.TheVariants as calls
 use Rattle.quic_machine.specs.declared.run.Answer.{Answer}
 use Rattle.quic_machine.specs.declared.run.Answer.TheVariants as answers
 use Rattle.quic_machine.specs.End.{End}
+use Rattle.quic_machine.specs.Tracking.{dir_named}
+use Rattle.quic_machine.specs.Receive.{take_frame}
 use Rattle.quic_machine.specs.Calls.{is_open}
 use Rattle.quic_machine.specs.FrameCases.{begun, passed, frames_keep}
 use Rattle.quic_machine.specs.CallCases.{is_delivery}
@@ -117,6 +121,14 @@ module _ (side : Side) (told : List Told) (state : State) (s : StreamsState) (of
           (λ dir. ap (λ (x : Side). if same_dir d dir then Some (stream_id x d (of d s.opening.own)) else None) of_side)
       go false = same_opens side s.opening.own told (told_of (calls.Open d) (answers.Open None) state) i (λ dir. nothing (same_dir d dir))
 
+-- as many are opened
+abbrev OfSame : Counts → Counts → Counts → Type 0
+OfSame own n limit = n ≡ own
+
+-- so it is behind a frame
+same_frame : (own : Counts) (f : FrameValue) (e : End) → Own (OfSame own) e.streams → Own (OfSame own) (take_frame f e).end.streams
+same_frame own f e i = frame_own (OfSame own) f e (λ g is. cond_both (nat_le g.count most_streams && nat_lt (of (dir_named g.one_way) e.streams.opening.own_limit) g.count) _ _ (Own (OfSame own)) (λ more. i) (λ none. i)) i
+
 -- ---- the group
 
 -- x's streams are those that it was told
@@ -137,7 +149,7 @@ module _ (B : Way) (w : IsWriting B) (x y : Party) (call : Call) (a : Answer) (c
 
   apart_opens : (k : Call) → is_delivery k ≡ false → IsAnswer x.policy x.end y.given k a → Now k a (after_call x.policy x.end y.given k a).streams
   apart_opens (calls.Open d) apart is = subst (λ (b : Answer). Now (calls.Open d) b (after_call x.policy x.end y.given (calls.Open d) b).streams) (sym is) (open_opens x.side x.told state x.end.streams i.side i.are (is_open state) d)
-  apart_opens k apart is = quiet k (after_call x.policy x.end y.given k a).streams refl (call_own x.end.streams.opening.own x.policy x.end y.given k a apart refl is refl)
+  apart_opens k apart is = quiet k (after_call x.policy x.end y.given k a).streams refl (call_own (OfSame x.end.streams.opening.own) x.policy x.end y.given k a apart refl is refl)
 
   opens_call : OpensAre (called x y.given call a) y
   opens_call = record {
@@ -147,12 +159,14 @@ module _ (B : Way) (w : IsWriting B) (x y : Party) (call : Call) (a : Answer) (c
       none = λ delivery is. quiet call x.end.streams (ap opens_one is) refl;
       comes = λ delivery is s among. (
           let before : End = begun x.end delivery.now s.number in
-          let after : Own x.end.streams.opening.own (passed s.frames before).end.streams = frames_keep (λ (e : End). Own x.end.streams.opening.own e.streams) (frame_own x.end.streams.opening.own) s.frames before refl in
+          let after : Own (OfSame x.end.streams.opening.own) (passed s.frames before).end.streams = frames_keep (λ (e : End). Own (OfSame x.end.streams.opening.own) e.streams) (same_frame x.end.streams.opening.own) s.frames before refl in
           record {
             ignored = λ reason. quiet call x.end.streams (ap opens_one is) refl;
             noted = λ closing reason. quiet call x.end.streams (ap opens_one is) refl;
-            takes = λ open_there new fine mark. quiet call (passed s.frames before).end.streams (ap opens_one is) after;
-            refuses = λ open_there new f fault. quiet call (passed s.frames before).end.streams (ap opens_one is) after;
+            takes = λ words open_there new fine mark. quiet call (passed s.frames before).end.streams (ap opens_one is) after;
+            drains = λ words open_there new close fault. quiet call (passed s.frames before).end.streams (ap opens_one is) after;
+            refuses = λ words open_there new f fault. quiet call (passed s.frames before).end.streams (ap opens_one is) after;
+            exhausts = λ open_there. quiet call x.end.streams (ap opens_one is) refl;
           });
     });
   }

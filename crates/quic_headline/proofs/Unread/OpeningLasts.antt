@@ -2,7 +2,7 @@
 -- run, and one of each frame that was taken.
 use Rattle.std.proofs.Common.{◌≡◌, ℕ, List, [], ◌∷◌, None, sym, subst, ◌⊎◌, inl, inr}
 use Rattle.quic_wire_core.specs.declared.stream_id.Dir.{Dir}
-use Rattle.quic_wire.specs.Value.{FrameValue}
+use Rattle.quic_wire.specs.Value.{FrameValue, padding}
 use Rattle.quic_streams_state.specs.declared.state.StreamsState.{StreamsState}
 use Rattle.quic_streams_state.specs.Opening.{after_accept}
 use Rattle.quic_streams_laws.specs.Keeping.{KeepsAll, MayAccept}
@@ -15,7 +15,9 @@ use Rattle.quic_machine.specs.Receive.{Outcome, take_frame}
 use Rattle.quic_machine.specs.FrameCases.{begun, passed, frames_keep, frames_taken}
 use Rattle.quic_headline.specs.Runs.{Packet, Intake, In}
 use Rattle.quic_headline.proofs.Packets.Delivered.{Arrivals, with_taken}
+use Rattle.quic_machine.specs.DraftLaws.{IsClose}
 use Rattle.quic_headline.proofs.Packets.Group.{meets}
+use Rattle.quic_headline.proofs.Packets.Owing.{IsAlone, AreCloses, closed_alone}
 use Rattle.quic_headline.proofs.Places.Parties.{Party, called, came_to, Beginning, begun_as}
 use Rattle.quic_headline.proofs.Places.Groups.{Way, Calls, Group}
 use Rattle.quic_headline.proofs.Places.Coming.{by_coming}
@@ -48,7 +50,7 @@ module _ (B : Way) (w : IsWriting B) (x y : Party) (call : Call) (a : Answer) (c
     none = λ delivery is. here;
     comes = λ delivery is s among. (
         let all : P (passed s.frames (begun x.end delivery.now s.number)).end.streams = frames_keep (λ (e : End). P e.streams) l.frame s.frames (begun x.end delivery.now s.number) here in
-        record { ignored = λ reason. here; noted = λ state reason. here; takes = λ state new none mark. all; refuses = λ state new f fault. all });
+        record { ignored = λ reason. here; noted = λ state reason. here; takes = λ words state new none mark. all; drains = λ words state new close fault. all; refuses = λ words state new f fault. all; exhausts = λ state. here });
   })
 
 -- ---- it holds always
@@ -74,6 +76,8 @@ module _ (I : StreamsState → Type 0) (E : FrameValue → StreamsState → Type
     pub known : Lasts I
     pub stays : (f : FrameValue) → Lasts (E f)
     pub takes : (f : FrameValue) (e : End) → I e.streams → (take_frame f e).fault ≡ None → E f (take_frame f e).end.streams
+    -- a close has none, nor has what goes beside it
+    pub closes : (f : FrameValue) (s : StreamsState) → IsClose f ⊎ (f ≡ padding) → E f s
 
   -- the facts of the frames that x took
   pub record AreLeft (x y : Party) : Type 0 where
@@ -107,12 +111,14 @@ module _ (I : StreamsState → Type 0) (E : FrameValue → StreamsState → Type
       After e j = (f : FrameValue) → WasIn j.took f → E f e.streams
 
       -- each case of a delivery
-      arrivals : (now n : ℕ) (frames : List FrameValue) → Arrivals x.end now n frames (came_to x y) (λ (o : Outcome) (j : Intake). After o.end j)
-      arrivals now n frames = record {
+      arrivals : (now n : ℕ) (frames : List FrameValue) → IsAlone frames → Arrivals x.end now n frames (came_to x y) (λ (o : Outcome) (j : Intake). After o.end j)
+      arrivals now n frames alone = record {
         ignored = λ reason. i.each;
         noted = λ state reason. i.each;
-        takes = λ state new none mark f was. go none f was.packet was.was_taken was.carried;
-        refuses = λ state new g fault f was. still f (i.each f was);
+        takes = λ words state new none mark f was. go none f was.packet was.was_taken was.carried;
+        drains = λ words state new close fault f was. shut (closed_alone frames (begun x.end now n) close alone fault) f was.packet was.was_taken was.carried;
+        refuses = λ words state new g fault f was. still f (i.each f was);
+        exhausts = λ state. i.each;
       }
         where
           still : (f : FrameValue) → E f x.end.streams → E f (passed frames (begun x.end now n)).end.streams
@@ -122,13 +128,17 @@ module _ (I : StreamsState → Type 0) (E : FrameValue → StreamsState → Type
           go none f p (inl is) carried = all_left frames (begun x.end now n) none i.known f (subst (λ (q : Packet). In f q.frames) is carried)
           go none f p (inr there) carried = still f (i.each f (record { packet = p; was_taken = there; carried = carried }))
 
+          shut : AreCloses frames → (f : FrameValue) → (p : Packet) → In p (with_taken (came_to x y) n frames).took → In f p.frames → E f (passed frames (begun x.end now n)).end.streams
+          shut all f p (inl is) carried = l.closes f (passed frames (begun x.end now n)).end.streams (all f (subst (λ (q : Packet). In f q.frames) is carried))
+          shut all f p (inr there) carried = still f (i.each f (record { packet = p; was_taken = there; carried = carried }))
+
       left_call : AreLeft (called x y.given call a) y
       left_call = record {
         known = lasts_call B w x y call a c I l.known i.known;
         each = by_coming x y a c.joined c.served (meets y x (w.packets y x c.takes)) After call c.answer (record {
           apart = λ apart f was. call_kept (E f) (l.stays f).calls x.policy x.end y.given (sent_within (wrote x.told) x.end.streams (w.written x y c.gives)) (i.each f was) call a c.answer apart (λ dir same. (l.stays f).accepts dir x.end.streams (i.each f was));
           none = λ delivery is. i.each;
-          comes = λ delivery is s among. arrivals delivery.now s.number s.frames;
+          comes = λ delivery is s among. arrivals delivery.now s.number s.frames ((w.packets y x c.takes).alone s among);
         });
       }
 

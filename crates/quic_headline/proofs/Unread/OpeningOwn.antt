@@ -1,12 +1,13 @@
--- How many streams an end opened changes only by a call that opens one: all else leaves it.
-use Rattle.std.proofs.Common.{◌≡◌, ℕ, zero, suc, ◌+◌, Bool, true, false, not, ◌==◌, List, [], ◌∷◌, length, take, Option, Some, None, Result, Ok, Err, sym, subst, inl, inr}
-use Rattle.std.specs.Prelude.{nat_lt, nat_le, if◌then◌else◌, ◌&&◌, ◌||◌}
+-- How many streams an end opened changes only by a call that opens one, and how many it may open
+-- only where the peer tells it of more: all else leaves both.
+use Rattle.std.proofs.Common.{◌≡◌, ℕ, zero, suc, ◌+◌, refl, Bool, true, false, not, ◌==◌, List, [], ◌∷◌, length, take, Option, Some, None, Result, Ok, Err, sym, subst, inl, inr}
+use Rattle.std.specs.Prelude.{nat_lt, if◌then◌else◌, ◌&&◌, ◌||◌}
 use Rattle.std.specs.Option.{is_some}
 use Rattle.std.proofs.lemmas.Bool.{cond_both}
 use Rattle.quic_wire_core.specs.declared.stream_id.Dir.{Dir}
 use Rattle.quic_wire_core.specs.declared.stream_id.Dir.TheVariants.{Bi, Uni}
 use Rattle.quic_wire_core.specs.StreamId.{dir_of, index_of}
-use Rattle.quic_wire.specs.Value.{FrameValue, StopSendingValue, AckValue, ack, stream, reset_stream, stop_sending, max_data, max_stream_data, max_streams, datagram}
+use Rattle.quic_wire.specs.Value.{FrameValue, StopSendingValue, StreamCountValue, AckValue, ack, stream, reset_stream, stop_sending, max_data, max_stream_data, max_streams, datagram, new_connection_id, retire_connection_id, path_response}
 use Rattle.quic_assembler.specs.declared.assembler.Chunk.{Chunk}
 use Rattle.quic_send_buffer.specs.declared.stream_meta.StreamMeta.{StreamMeta}
 use Rattle.quic_streams_parts.specs.declared.answers.Breach.{Breach}
@@ -25,8 +26,8 @@ use Rattle.quic_streams_halves.specs.Halves.{is_done}
 use Rattle.quic_retransmits.specs.Retransmits.{Retransmits}
 use Rattle.quic_streams_state.specs.declared.state.StreamsState.{StreamsState}
 use Rattle.quic_streams_state.specs.State.{Streams, Opening, streams_of, room, sending_half, receiving_half, sending_status, receiving_status, with_send, with_recv, done_if, without_send, send_done, recv_done}
-use Rattle.quic_streams_state.specs.Limits.{settled, most_streams}
-use Rattle.quic_streams_state.specs.Opening.{opens, with_remote, opened_if, opened_by, after_accept, with_own_limit, after_max_streams, sending_refusal}
+use Rattle.quic_streams_state.specs.Limits.{settled}
+use Rattle.quic_streams_state.specs.Opening.{opens, with_remote, opened_if, opened_by, after_accept, after_max_streams, sending_refusal}
 use Rattle.quic_streams_state.specs.Writing.{write_answer, grown_by, accepted_at, blocked_by_all, blocked_by_own, blocked_at, written_by, after_write, write_chunks_answer, chunks_accepted_at, after_write_chunks, finish_answer, ended_at, finished_by, reset_at, reset_answer, after_reset, priority_at, set_priority_answer, after_set_priority, replaced}
 use Rattle.quic_streams_state.specs.Reading.{Told, told_bytes, told_end, told_reset, told_by, read_answer, begun_at, begun_unless, after_read_begun, read_by, after_next, stop_answer, stopped_if, stopped_at, after_stop, received_reset_answer, reset_told, with_stop}
 use Rattle.quic_streams_state.specs.Taking.{joined, writable_again, is_used_up, limited_half, limit_raised, limit_at, limit_unless, stop_at, stop_unless, sending_for, readable_if, ended_if, renewed}
@@ -47,12 +48,13 @@ use Rattle.quic_machine.specs.Receive.{is_above, names_ungiven, take_frame}
 use Rattle.quic_machine.specs.Poll as poll
 use Rattle.quic_machine.specs.LeaveCases.{by_expired, by_event}
 use Rattle.quic_machine.specs.CallCases.{is_delivery, by_call}
-use Rattle.quic_machine.specs.FrameCases.{Settling, named, ack_taken, acked_keeps, losses_keep, message_leaves}
+use Rattle.quic_machine.specs.FrameCases.{Settling, named, ack_taken, acked_keeps, losses_keep, message_leaves, apart_leaves}
 use Rattle.quic_machine.specs.Steps as steps
 use Rattle.quic_machine.specs.Machine.{IsAnswer, after_call}
 use Rattle.quic_headline.specs.Runs.{Next}
 use Rattle.quic_machine.specs.DraftLaws.{Writing, by_writing}
 use Rattle.quic_machine.specs.Puts as puts
+use Rattle.quic_headline.proofs.Packets.Apart.{by_waits, by_next_id}
 use Rattle.quic_streams_laws.specs.QuietLaws.{by_tells}
 use Rattle.quic_headline.proofs.Packets.Probes.{poll_state}
 
@@ -61,10 +63,10 @@ abbrev pub opens_one : Call → Bool
 opens_one (calls.Open dir) = true
 opens_one call = false
 
-module _ (own : Counts) where
-  -- an end opened so many
+-- a fact of how many an end opened, and how many it may open
+module _ (P : Counts → Counts → Type 0) where
   abbrev pub Own : StreamsState → Type 0
-  Own s = s.opening.own ≡ own
+  Own s = P s.opening.own s.opening.own_limit
 
   -- ---- small steps
 
@@ -92,7 +94,7 @@ module _ (own : Counts) where
   pub opened_own : (s : StreamsState) (id : ℕ) → Own s → Own (opened_by s id)
   opened_own s id i = go (opens s id)
     where
-      by_dir : (dir : Dir) (n : ℕ) (o : Opening) → o.own ≡ own → (with_remote dir n o).own ≡ own
+      by_dir : (dir : Dir) (n : ℕ) (o : Opening) → P o.own o.own_limit → P (with_remote dir n o).own (with_remote dir n o).own_limit
       by_dir Bi n o j = j
       by_dir Uni n o j = j
 
@@ -267,7 +269,10 @@ module _ (own : Counts) where
     on_streams = λ on answer. on_streams_own (is_open e.closing.state) (streams_at e) call a quiet (answer is) i;
     on_messages = λ on answer. i;
     pings = i;
-    times = λ now expiry set. by_expired e now (λ (f : End). Own f.streams) (λ pending tracking timers runs packets. i) (λ pending timers runs. losses_keep (λ (x : End). Own x.streams) settling (with_closing e (ticked e.closing now)) i) expiry;
+    closes = λ reason f now own. i;
+    waits = λ now b set. by_waits (λ (f : End). Own f.streams) b (with_closing e (ticked e.closing now)) i i;
+    changes_id = λ uses answer. by_next_id (λ (f : End). Own f.streams) e a i (λ c. i) (λ c most. i);
+    times = λ now expiry set. by_expired p.words e now (λ (f : End). Own f.streams) (λ pending tracking timers waits asked runs packets. i) (λ pending timers waits asked runs. losses_keep (λ (x : End). Own x.streams) settling (with_closing e (ticked e.closing now)) i) (λ x j. j) expiry;
     polls = λ now set. poll_state Own p e now composed_own i;
     hears = λ arrival d set. cc;
     tells = λ asks. by_event e (λ (f : End). Own f.streams) i (λ told. polled_own e.streams i);
@@ -296,9 +301,6 @@ module _ (own : Counts) where
   stop_unless_own (Some b) s f i = i
   stop_unless_own None s f i = stop_at_own (sending_for s f.id) (opened_by s f.id) f.id f.code (opened_own s f.id i)
 
-  count_own : (dir : Dir) (count : ℕ) (s : StreamsState) → Own s → Own (after_max_streams dir count s)
-  count_own dir count s i = either (nat_le count most_streams && nat_lt (of dir s.opening.own_limit) count) (with_own_limit dir count s) s i i
-
   -- a half that receives has another value
   value_own : (s : StreamsState) (id : ℕ) (old new : RecvHalf) (tells : Bool) → Own s → Own (renewed s id old new tells)
   value_own s id old new tells i = told (tells && not (old.stopped || opens s id)) (ended_if (new.stopped && is_some new.final) id (with_recv (opened_by s id) id new)) (last (new.stopped && is_some new.final) (opened_own s id i))
@@ -311,21 +313,24 @@ module _ (own : Counts) where
       told true t j = j
       told false t j = j
 
-  -- a frame opens none of this end's
-  pub frame_own : (f : FrameValue) (e : End) → Own e.streams → Own (take_frame f e).end.streams
-  frame_own f e i = go f
+  -- a frame opens none of this end's, and tells of more only where it says so
+  pub frame_own : (f : FrameValue) (e : End) → ((g : StreamCountValue) → f ≡ max_streams g → Own (after_max_streams (dir_named g.one_way) g.count e.streams)) → Own e.streams → Own (take_frame f e).end.streams
+  frame_own f e counts i = go f refl
     where
       acked : (a : AckValue) (b : Bool) → Own (ack_taken b a e).end.streams
       acked a true = i
       acked a false = acked_keeps (λ (x : End). Own x.streams) settling (is_above e.numbers.largest_acked a.largest) a (named a e) i
 
-      go : (f : FrameValue) → Own (take_frame f e).end.streams
-      go (stream g) = stream_cases e.streams e.waiting.frames g Own (λ b is. i) (λ within none. i) (λ h within part u. value_own e.streams g.id h (after_frame h g) true i)
-      go (reset_stream g) = reset_cases e.streams e.waiting.frames g Own (λ b is. i) (λ within none. i) (λ h within part u. value_own e.streams g.id h (after_reset_stream h g.code g.final_size) (not (is_some h.reset)) i)
-      go (stop_sending g) = stop_unless_own (sending_refusal e.streams g.id) e.streams g i
-      go (max_data limit) = i
-      go (max_stream_data g) = limit_unless_own (sending_refusal e.streams g.id) e.streams g.id g.limit i
-      go (max_streams g) = count_own (dir_named g.one_way) g.count e.streams i
-      go (ack a) = acked a (names_ungiven a e)
-      go (datagram m) = message_leaves (λ (x : End). Own x.streams) m e i (λ left. i)
-      go other = i
+      go : (h : FrameValue) → f ≡ h → Own (take_frame h e).end.streams
+      go (stream g) is = stream_cases e.streams e.waiting.frames g Own (λ b is. i) (λ within none. i) (λ h within part u. value_own e.streams g.id h (after_frame h g) true i)
+      go (reset_stream g) is = reset_cases e.streams e.waiting.frames g Own (λ b is. i) (λ within none. i) (λ h within part u. value_own e.streams g.id h (after_reset_stream h g.code g.final_size) (not (is_some h.reset)) i)
+      go (stop_sending g) is = stop_unless_own (sending_refusal e.streams g.id) e.streams g i
+      go (max_data limit) is = i
+      go (max_stream_data g) is = limit_unless_own (sending_refusal e.streams g.id) e.streams g.id g.limit i
+      go (max_streams g) is = counts g is
+      go (ack a) is = acked a (names_ungiven a e)
+      go (datagram m) is = message_leaves (λ (x : End). Own x.streams) m e i (λ left. i)
+      go (new_connection_id g) is = apart_leaves (λ (x : End). Own x.streams) (new_connection_id g) e tt (λ c. i) (λ c most. i)
+      go (retire_connection_id n) is = apart_leaves (λ (x : End). Own x.streams) (retire_connection_id n) e tt (λ c. i) (λ c most. i)
+      go (path_response token) is = apart_leaves (λ (x : End). Own x.streams) (path_response token) e tt (λ c. i) (λ c most. i)
+      go other is = i

@@ -33,7 +33,7 @@ use Rattle.quic_machine.specs.StreamCalls.{is_on_streams}
 use Rattle.quic_machine.specs.Acked.{without_known, reset_acked, resets_acked, stream_acked, streams_acked, packet_acked, packets_acked, stream_lost, streams_lost, carried_lost, packets_lost, verdict, losses_detected, measured, sampled, without_acked, after_named, losses_taken}
 use Rattle.quic_machine.specs.Sizes.{search_acked}
 use Rattle.quic_machine.specs.Receive.{is_above, names_ungiven, take_frame}
-use Rattle.quic_machine.specs.FrameCases.{OnStreams, Settling, named, ack_taken, begun, passed, frames_keep, by_marks, resets_acked_keep, streams_acked_keep, packets_lost_keep, losses_keep, apart_same}
+use Rattle.quic_machine.specs.FrameCases.{OnStreams, Settling, named, ack_taken, begun, passed, frames_keep, by_marks, resets_acked_keep, streams_acked_keep, packets_lost_keep, losses_keep, apart_leaves}
 use Rattle.quic_machine.specs.Steps as steps
 use Rattle.quic_machine.specs.PollCases.{ready_at}
 use Rattle.quic_machine.specs.CallCases.{is_delivery}
@@ -364,7 +364,7 @@ module _ (id : ℕ) where
 
   -- any
   frame_goes : (f : FrameValue) (e : End) → Goes e → Goes (take_frame f e).end
-  frame_goes f e g = by_frame f e (λ h p. Goes p.end) (λ a is. acks a (names_ungiven a e)) (λ other on. streams_goes f e on g) (λ other m same. subst Goes (sym same) (goes_same e _ refl refl refl g)) (λ other apart. subst Goes (sym (apart_same f e apart)) g)
+  frame_goes f e g = by_frame f e (λ h p. Goes p.end) (λ a is. acks a (names_ungiven a e)) (λ other on. streams_goes f e on g) (λ other m same. subst Goes (sym same) (goes_same e _ refl refl refl g)) (λ other apart. apart_leaves Goes f e apart (λ c. goes_same e _ refl refl refl g) (λ c most. goes_same e _ refl refl refl g))
     where
       acks : (a : AckValue) (b : Bool) → Goes (ack_taken b a e).end
       acks a true = g
@@ -443,7 +443,7 @@ module _ (B : Way) (b : IsResetting B) (x y : Party) (call : Call) (a : Answer) 
         let before : End = begun x.end delivery.now s.number in
         let first : Goes id before = goes_same id x.end before refl refl refl (goes_first id now) in
         let after : Now id (passed s.frames before).end = goes_last id (passed s.frames before).end (frames_keep (Goes id) (frame_goes id) s.frames before first) in
-        record { ignored = λ reason. now; noted = λ state reason. now; takes = λ state fresh none mark. after; refuses = λ state fresh f fault. after });
+        record { ignored = λ reason. now; noted = λ state reason. now; takes = λ words state fresh none mark. after; drains = λ words state fresh close fault. after; refuses = λ words state fresh f fault. after; exhausts = λ state. now });
   })
     where
       other : is_delivery call ≡ false → Now id x.end → Now id (after_call x.policy x.end y.given call a)

@@ -34,6 +34,7 @@ use Rattle.quic_machine.specs.End.{End}
 use Rattle.quic_machine.specs.Receive.{take_frame}
 use Rattle.quic_headline.proofs.Halves.QuietSteps.{frame_quiet}
 use Rattle.quic_headline.proofs.Unread.Taken.{gone_there, no_fault, kept_before, unbroken_none}
+use Rattle.quic_headline.proofs.Packets.Owing.{closes_fine}
 use Rattle.quic_headline.proofs.Unread.OpeningLasts.{Lasts, lasts_any, Leaves}
 
 -- ---- facts of halves that receive
@@ -372,4 +373,4 @@ frame_leaves (max_streams f) e i none = count_leaves (dir_named f.one_way) f.cou
 frame_leaves f e i none = tt
 
 pub leaves : Leaves ResetsAreKnown Leaving
-leaves = record { known = resets_last; stays = leaving_lasts; takes = frame_leaves }
+leaves = record { known = resets_last; stays = leaving_lasts; takes = frame_leaves; closes = λ f s is. closes_fine (λ g. Leaving g s) (λ c. tt) (λ c. tt) tt f is }

@@ -1,4 +1,5 @@
--- Places that are left: of the offsets below a bound those that aren't among some, as many as there are less those; and those of all streams, as one list.
+-- Places that are left: of the offsets below a bound those that aren't among some, as many as there
+-- are less those; and those of all streams, as one list.
 use Rattle.std.proofs.Common.{◌≡◌, ℕ, zero, suc, ◌+◌, ◌<◌, ◌≤◌, eqb, Bool, true, false, List, [], ◌∷◌, ◌++◌, length, refl, sym, ap, ◌∙◌, subst, ◌⊎◌, inl, inr, arith, length-append}
 use Rattle.std.specs.Prelude.{◌==◌, ◌&&◌}
 use Rattle.std.specs.List.{IsDistinct, AllByRecursion}

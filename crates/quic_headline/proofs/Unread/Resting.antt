@@ -194,8 +194,8 @@ module _ (x y : Party) (flying : List Sent) (rest : AtRest x.end flying) (packet
   pub reset_came : (id : ℕ) → IsSome (reset id x.told) → ResetHasArrived came id
   reset_came id some = reset_has_come came id (listed_came (ResetOf id) (f.resets id some))
 
-  -- STOP_SENDING of each stream that was stopped, and whose final size isn't known (RFC 9000, section
-  -- 3.5)
+  -- STOP_SENDING of each stream that was stopped, and whose final size isn't known (RFC 9000,
+  -- section 3.5)
   pub stop_came : (id : ℕ) (h : RecvHalf) → at x.end.streams.receiving.halves.live id ≡ Some h → h.stopped ≡ true → h.final ≡ None → was_stopped id came ≡ true
   stop_came id h found halted open_end = stop_has_come came id (listed_came (StopOf id) (asked.1 halted open_end))
     where

@@ -1,4 +1,5 @@
--- What a packet that is taken leaves of what is known of each half that receives: its frames are among those that were taken.
+-- What a packet that is taken leaves of what is known of each half that receives: its frames are
+-- among those that were taken.
 use Rattle.std.proofs.Common.{◌≡◌, ℕ, ◌≤◌, Bool, true, false, List, [], ◌∷◌, ◌++◌, Option, Some, None, refl, sym, ◌∙◌, subst, ◌⊎◌, inl, inr, append_assoc, append-nil}
 use Rattle.std.specs.Prelude.{◌&&◌, ◌||◌, not, if◌then◌else◌}
 use Rattle.std.specs.Option.{is_some}

@@ -1,5 +1,5 @@
--- What an end received, and which limits its peer was told, changes only where a half that receives changes or is done, and where a frame that tells a limit goes:
--- all else leaves both.
+-- What an end received, and which limits its peer was told, changes only where a half that receives
+-- changes or is done, and where a frame that tells a limit goes: all else leaves both.
 use Rattle.std.proofs.Common.{◌≡◌, ℕ, zero, suc, ◌+◌, Bool, true, false, not, ◌==◌, List, [], ◌∷◌, length, take, Option, Some, None, Result, Ok, Err, refl, sym, ap, subst, inl, inr, ◌⊎◌}
 use Rattle.std.specs.Prelude.{nat_lt, nat_le, if◌then◌else◌, ◌&&◌, ◌||◌}
 use Rattle.std.specs.Option.{is_some}
@@ -8,7 +8,7 @@ use Rattle.quic_wire_core.specs.declared.stream_id.Side.{Side}
 use Rattle.quic_wire_core.specs.declared.stream_id.Dir.{Dir}
 use Rattle.quic_wire_core.specs.declared.stream_id.Dir.TheVariants.{Bi, Uni}
 use Rattle.quic_wire_core.specs.StreamId.{dir_of, index_of}
-use Rattle.quic_wire.specs.Value.{FrameValue, StreamValue, ResetStreamValue, StopSendingValue, AckValue, ack, stream, reset_stream, stop_sending, max_data, max_stream_data, max_streams, datagram}
+use Rattle.quic_wire.specs.Value.{FrameValue, StreamValue, ResetStreamValue, StopSendingValue, AckValue, ack, stream, reset_stream, stop_sending, max_data, max_stream_data, max_streams, datagram, new_connection_id, retire_connection_id, path_response}
 use Rattle.quic_assembler.specs.declared.assembler.Chunk.{Chunk}
 use Rattle.quic_assembler.specs.Arrived.{bytes_read_of, given_by}
 use Rattle.quic_send_buffer.specs.declared.stream_meta.StreamMeta.{StreamMeta}
@@ -53,15 +53,17 @@ use Rattle.quic_machine.specs.Receive.{is_above, names_ungiven, take_frame}
 use Rattle.quic_machine.specs.Poll as poll
 use Rattle.quic_machine.specs.LeaveCases.{by_expired, by_event}
 use Rattle.quic_machine.specs.CallCases.{is_delivery, is_poll, by_call}
-use Rattle.quic_machine.specs.FrameCases.{Settling, named, ack_taken, acked_keeps, losses_keep, message_leaves, frames_leave}
+use Rattle.quic_machine.specs.FrameCases.{Settling, named, ack_taken, acked_keeps, losses_keep, message_leaves, frames_leave, apart_leaves}
 use Rattle.quic_machine.specs.FrameCases as frame_cases
 use Rattle.quic_machine.specs.Steps as steps
 use Rattle.quic_machine.specs.Machine.{IsAnswer, after_call}
 use Rattle.quic_headline.specs.Runs.{Next, In}
+use Rattle.quic_headline.proofs.Packets.Apart.{by_waits, by_next_id}
 use Rattle.quic_headline.proofs.Halves.QuietSteps.{is_reading}
 use Rattle.quic_headline.proofs.Halves.ReadCalls.{IsKept}
 
--- a fact of an end's side, of what it received, and of the counts that its peer was told and that it lets the peer have
+-- a fact of an end's side, of what it received, and of the counts that its peer was told and that
+-- it lets the peer have
 module _ (K : Side → Receiving → Counts → Counts → Type 0) where
   abbrev pub Of : StreamsState → Type 0
   Of s = K s.side s.receiving s.opening.announced s.opening.configured
@@ -216,7 +218,10 @@ module _ (K : Side → Receiving → Counts → Counts → Type 0) where
     on_streams = λ on answer. on_streams_left (is_open e.closing.state) (streams_at e) call a quiet (answer is) i;
     on_messages = λ on answer. i;
     pings = i;
-    times = λ now expiry set. by_expired e now (λ (f : End). Of f.streams) (λ pending tracking timers runs packets. i) (λ pending timers runs. losses_keep (λ (x : End). Of x.streams) settling (with_closing e (ticked e.closing now)) i) expiry;
+    closes = λ reason f now own. i;
+    waits = λ now b set. by_waits (λ (f : End). Of f.streams) b (with_closing e (ticked e.closing now)) i i;
+    changes_id = λ uses answer. by_next_id (λ (f : End). Of f.streams) e a i (λ c. i) (λ c most. i);
+    times = λ now expiry set. by_expired p.words e now (λ (f : End). Of f.streams) (λ pending tracking timers waits asked runs packets. i) (λ pending timers waits asked runs. losses_keep (λ (x : End). Of x.streams) settling (with_closing e (ticked e.closing now)) i) (λ x j. j) expiry;
     polls = polls;
     hears = λ arrival d set. cc;
     tells = λ asks. by_event e (λ (f : End). Of f.streams) i (λ told. polled_left e.streams i);
@@ -265,11 +270,15 @@ module _ (K : Side → Receiving → Counts → Counts → Type 0) where
       go (max_streams g) brings resets = count_left (dir_named g.one_way) g.count e.streams i
       go (ack a) brings resets = acked a (names_ungiven a e)
       go (datagram m) brings resets = message_leaves (λ (x : End). Of x.streams) m e i (λ left. i)
+      go (new_connection_id g) brings resets = apart_leaves (λ (x : End). Of x.streams) (new_connection_id g) e tt (λ c. i) (λ c most. i)
+      go (retire_connection_id n) brings resets = apart_leaves (λ (x : End). Of x.streams) (retire_connection_id n) e tt (λ c. i) (λ c most. i)
+      go (path_response token) brings resets = apart_leaves (λ (x : End). Of x.streams) (path_response token) e tt (λ c. i) (λ c most. i)
       go other brings resets = i
 
 -- ---- halves that receive
 
--- what becomes of a half: it is read in no order, bytes of it are read, this end stops it, or a frame comes of which G is known, and which breaks no rule
+-- what becomes of a half: it is read in no order, bytes of it are read, this end stops it, or a
+-- frame comes of which G is known, and which breaks no rule
 pub data Change (G : FrameValue → Type 0) (r : Receiving) (id : ℕ) (old new : RecvHalf) : Type 0 where
   begins : new ≡ begun old false → Change G r id old new
   reads : (most : ℕ) (c : Chunk) → next_of old most ≡ Ok (Some c) → new ≡ read_on old most → Change G r id old new

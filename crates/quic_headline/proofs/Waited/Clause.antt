@@ -5,30 +5,30 @@ use Rattle.std.specs.List.{list_any}
 use Rattle.std.proofs.lemmas.Bool.{or_left, or_right, both_ways, lt-ltb}
 use Rattle.quic_wire_core.specs.declared.stream_id.Side.{Side}
 use Rattle.quic_wire_core.specs.StreamId.{other_side}
-use Rattle.quic_wire.specs.Value.{FrameValue, padding, ping, stream, max_data, max_streams, data_blocked}
+use Rattle.quic_wire.specs.Value.{FrameValue, padding, ping, stream, max_data, max_streams, data_blocked, path_challenge, path_response}
 use Rattle.quic_streams_state.specs.declared.state.StreamsState.{StreamsState}
 use Rattle.quic_machine.specs.declared.run.Call.TheVariants as calls
 use Rattle.quic_machine.specs.declared.run.Answer.{Answer}
 use Rattle.quic_machine.specs.declared.run.Answer.TheVariants as answers
 use Rattle.quic_machine.specs.Ids.{Ids}
 use Rattle.quic_machine.specs.Parts.{Waiting, current_mtu}
-use Rattle.quic_machine.specs.End.{End, streams_at, with_window}
+use Rattle.quic_machine.specs.End.{End, streams_at}
 use Rattle.quic_machine.specs.Poll.{asking, zeros_behind, whole, alone, probe, nothing, Leaving, goes_as, goes, draft_as, polled, closing}
 use Rattle.quic_machine.specs.DraftLaws.{HasRoom}
 use Rattle.quic_machine.specs.PollCases.{ready_at, ready_leaves, draft_at, frames_at, may_leave_at, ready_closes_not}
-use Rattle.quic_machine.specs.Machine.{World, policy_at, end_at, control_at}
+use Rattle.quic_machine.specs.Machine.{World, policy_at, end_at}
 use Rattle.quic_headline.specs.Runs.{Run, In}
 use Rattle.quic_headline.specs.Observer.{Sent, HoldsOffset, HoldsEnd, asks_of, Watch}
 use Rattle.quic_headline.specs.Headline.{IsHonest, IsRun}
 use Rattle.quic_headline.specs.Moments.{is_ack, acknowledges}
 use Rattle.quic_headline.specs.Polls.{GaveOne}
-use Rattle.quic_headline.specs.Waited.{one_asks, count_silent, may_come, stands, Wants, wants, calls_for_ack, FrameWaited, HasWaited, as_size_probe, as_loss_probe, as_ack, as_frames, EachWaited}
+use Rattle.quic_headline.specs.Waited.{one_asks, count_silent, may_come, stands, Wants, wants, calls_for_ack, FrameWaited, HasWaited, as_size_probe, as_loss_probe, as_ack, as_frames, as_close, EachWaited}
 use Rattle.quic_headline.specs.InFlight.{is_max_streams}
 use Rattle.quic_headline.proofs.Packets.Flying.{asking_padded}
 use Rattle.quic_headline.proofs.Packets.Searches.{ready_size}
 use Rattle.quic_headline.proofs.Packets.Probes.{ready_acks, ready_state}
 use Rattle.quic_headline.proofs.Places.Told.{in_append}
-use Rattle.quic_headline.proofs.Places.Parties.{sent_by, Party}
+use Rattle.quic_headline.proofs.Places.Parties.{sent_as, Party, with_shown, shown_at}
 use Rattle.quic_headline.proofs.Places.Groups.{Way, Nothing, And, Group, both, over}
 use Rattle.quic_headline.proofs.Places.Placed.{party_at}
 use Rattle.quic_headline.proofs.Places.Together.{Spells}
@@ -40,13 +40,13 @@ use Rattle.quic_headline.proofs.Halves.Joined.{streams_spell}
 use Rattle.quic_headline.proofs.Timers.Watched.{Observed}
 use Rattle.quic_headline.proofs.Timers.AckMoments.{any_padded}
 use Rattle.quic_headline.proofs.Steps.Made.{MadeAt, made_at, polling, PollHolds, poll_holds}
-use Rattle.quic_headline.proofs.Steps.Probing.{IsGiving, probe_goes}
+use Rattle.quic_headline.proofs.Steps.Probing.{IsGiving, closing_alone, probe_goes}
 use Rattle.quic_headline.proofs.Steps.Probing as probing
 use Rattle.quic_headline.proofs.Settled.Words.{Settling}
 use Rattle.quic_headline.proofs.Settled.Carried.{known_of}
 use Rattle.quic_headline.proofs.Settled.Group.{Open, acks, told_so}
 use Rattle.quic_headline.proofs.Settled.Clause.{Held, held}
-use Rattle.quic_headline.proofs.Waited.Flags.{Flag, all, counts, blocked, says, flag, draft_said}
+use Rattle.quic_headline.proofs.Waited.Flags.{Flag, all, counts, blocked, challenge, response, says, flag, draft_said}
 use Rattle.quic_headline.proofs.Waited.Pings.{ready_still}
 use Rattle.quic_headline.proofs.Waited.Drafts.{IsUrged, silent_acks, Brings, whole_brings}
 use Rattle.quic_headline.proofs.Waited.Group.{IsWanted, wants_of, wants_watch, Wanting, wanting_group}
@@ -67,15 +67,15 @@ says_in k f (g ∷ fs) (inr more) is = or_right (says k g) (list_any (says k) fs
 
 module _ (w : Wants) (e : End) (i : IsWanted w e) where
   -- what waits wasn't said since
-  unsaid : (k : Flag) → flag k e.waiting.frames ≡ true → stands (says k) w.since ≡ false
+  unsaid : (k : Flag) → flag k e.waiting ≡ true → stands (says k) w.since ≡ false
   unsaid k waits = go (stands (says k) w.since) refl
     where
       go : (b : Bool) → stands (says k) w.since ≡ b → b ≡ false
-      go true is = absurd (both_ways (flag k e.waiting.frames) (i.gone k is) waits)
+      go true is = absurd (both_ways (flag k e.waiting) (i.gone k is) waits)
       go false is = refl
 
   -- so a frame waited that brings something, and says what waits
-  frame_waited : (f : FrameValue) → Brings w.watch.flight.acked e f → ((k : Flag) → says k f ≡ true → flag k e.waiting.frames ≡ true) → FrameWaited w f
+  frame_waited : (f : FrameValue) → Brings w.watch.flight.acked e f → ((k : Flag) → says k f ≡ true → flag k e.waiting ≡ true) → FrameWaited w f
   frame_waited ping brings waits = i.pinged brings
   frame_waited (stream f) brings waits = brings
   frame_waited (max_data limit) brings waits = unsaid all (waits all refl)
@@ -85,6 +85,8 @@ module _ (w : Wants) (e : End) (i : IsWanted w e) where
       same true = refl
       same false = refl
   frame_waited (data_blocked limit) brings waits = unsaid blocked (waits blocked refl)
+  frame_waited (path_challenge token) brings waits = unsaid challenge (waits challenge refl)
+  frame_waited (path_response token) brings waits = unsaid response (waits response refl)
   frame_waited f brings waits = tt
 
   -- and an ACK frame is wanted where one is due, or many came that don't ask
@@ -130,93 +132,98 @@ module _ (r : Run) (end : World) (honest : IsHonest r) (run : IsRun r end) (side
   y = party_at r i w (other_side side) h.theirs
 
   abbrev e : End
-  e = with_window (end_at side w) (control_at side w [])
+  e = with_shown (end_at side w) (shown_at side w)
 
-  gives : IsGiving (policy_at side r.keys) e now gave.transmit (polled (policy_at side r.keys) e now).end
-  gives = probing.gives Streams (everything.all Ready ready) r end honest run side i now gave w at.behind at.made
+  -- an open end composed it, or it is a close
+  module _ (gives : IsGiving (policy_at side r.keys) e now gave.transmit (polled (policy_at side r.keys) e now).end gave.sent) where
+    same : sent_as e now (draft_at e now) ≡ gave.sent
+    same = sym gives.sent
 
-  same : sent_by e now ≡ gave.sent
-  same = probing.same Streams (everything.all Ready ready) r end honest run side i now gave w at.behind at.made
+    -- what is wanted of the run is what is wanted of its end
+    wants_is : wants r side i ≡ wants_of x y
+    wants_is = refl
 
-  -- what is wanted of the run is what is wanted of its end
-  wants_is : wants r side i ≡ wants_of x y
-  wants_is = refl
+    wanted : IsWanted (wants r side i) e
+    wanted = subst (λ (v : Wants). IsWanted v e) (sym wants_is) (h.gives.1.wanted gives.opened)
 
-  wanted : IsWanted (wants r side i) e
-  wanted = subst (λ (v : Wants). IsWanted v e) (sym wants_is) (h.gives.1.wanted gives.opened)
+    -- the end that is ready
+    abbrev z : End
+    z = (ready_at e now).end
 
-  -- the end that is ready
-  abbrev z : End
-  z = (ready_at e now).end
+    short : HasRoom z
+    short =
+        let room = probing.room Streams (everything.all Ready ready) r end honest run side i now gave w at.behind at.made in
+        let ids : z.ids ≡ e.ids = ap (λ (v : End). v.ids) (ready_leaves e now) in
+        let size : current_mtu z.path ≡ current_mtu e.path = ready_size e now in
+        (subst (λ (v : Ids). length v.peer.id ≤ 20) (sym ids) room.0, subst (λ (n : ℕ). 1200 ≤ n) (sym size) room.1, subst (λ (n : ℕ). n < 2 ^ 16) (sym size) room.2)
 
-  short : HasRoom z
-  short =
-      let room = probing.room Streams (everything.all Ready ready) r end honest run side i now gave w at.behind at.made in
-      let ids : z.ids ≡ e.ids = ap (λ (v : End). v.ids) (ready_leaves e now) in
-      let size : current_mtu z.path ≡ current_mtu e.path = ready_size e now in
-      (subst (λ (v : Ids). length v.active.id ≤ 20) (sym ids) room.0, subst (λ (n : ℕ). 1200 ≤ n) (sym size) room.1, subst (λ (n : ℕ). n < 2 ^ 16) (sym size) room.2)
+    streams_known : spells.known (streams_at z)
+    streams_known = spells.holds x y h.gives.0.0.0.0 h.gives.0.0.0.1 now
 
-  streams_known : spells.known (streams_at z)
-  streams_known = spells.holds x y h.gives.0.0.0.0 h.gives.0.0.0.1 now
+    -- ---- one that doesn't ask
 
-  -- ---- one that doesn't ask
+    ask_alike : asks_of gave.sent ≡ asking (draft_at e now).frames
+    ask_alike = ap (λ (s : Sent). asks_of s) (sym same) ∙ asking_padded (draft_at e now).frames _
 
-  ask_alike : asks_of gave.sent ≡ asking (draft_at e now).frames
-  ask_alike = ap (λ (s : Sent). asks_of s) (sym same) ∙ asking_padded (draft_at e now).frames _
+    quiet : asks_of gave.sent ≡ false → HasWaited r side i gave.sent
+    quiet none =
+        let found = silent_acks spells.known spells.spelling spells.bringing e now gives.some short streams_known (sym ask_alike ∙ none) in
+        as_ack none
+        (ap (λ (s : Sent). acknowledges (s ∷ [])) (sym same) ∙ or_left (list_any is_ack (frames_at e now)) false (any_padded (draft_at e now).frames _ ∙ found.0))
+        (ack_wanted (wants r side i) e wanted (subst IsUrged (ready_acks e now) found.1))
 
-  quiet : asks_of gave.sent ≡ false → HasWaited r side i gave.sent
-  quiet none =
-      let found = silent_acks spells.known spells.spelling spells.bringing e now gives.some short streams_known (sym ask_alike ∙ none) in
-      as_ack none
-      (ap (λ (s : Sent). acknowledges (s ∷ [])) (sym same) ∙ or_left (list_any is_ack (frames_at e now)) false (any_padded (draft_at e now).frames _ ∙ found.0))
-      (ack_wanted (wants r side i) e wanted (subst IsUrged (ready_acks e now) found.1))
+    -- ---- one that asks
 
-  -- ---- one that asks
+    -- what was acknowledged of it, its observer knows
+    acks_are : (wants r side i).watch.flight.acked ≡ acks x y
+    acks_are = ap (λ (v : Wants). v.watch.flight.acked) wants_is ∙ ap (λ (v : Watch). v.flight.acked) (wants_watch x y)
 
-  -- what was acknowledged of it, its observer knows
-  acks_are : (wants r side i).watch.flight.acked ≡ acks x y
-  acks_are = ap (λ (v : Wants). v.watch.flight.acked) wants_is ∙ ap (λ (v : Watch). v.flight.acked) (wants_watch x y)
+    -- where no probe of losses waits, each of its frames waited
+    frames_waited : e.tracking.probes ≡ 0 → (ready_at e now).leaving ≡ whole → (f : FrameValue) → In f gave.sent.frames → FrameWaited (wants r side i) f
+    frames_waited none is f among = elim (in_append f (draft_at e now).frames (replicate (zeros_behind (draft_at e now)) padding) (subst (λ (s : Sent). In f s.frames) (sym same) among)) [
+      | inl here ↦ frame_waited (wants r side i) e wanted f (brings (ap (λ (v : Waiting). v.signals.ping) still) here) (λ k said. (
+          let waited : flag k z.waiting ≡ true = (draft_said z.waiting k (ready_at e now).leaving z (may_leave_at e now) refl).waited (says_in k f (draft_at e now).frames here said) in
+          ap (flag k) (sym still) ∙ waited))
+      | inr behind ↦ subst (FrameWaited (wants r side i)) (sym (in_padding f (zeros_behind (draft_at e now)) behind)) tt
+    ]
+      where
+        still : z.waiting ≡ e.waiting
+        still = ready_still e now none
 
-  -- where no probe of losses waits, each of its frames waited
-  frames_waited : e.tracking.probes ≡ 0 → (ready_at e now).leaving ≡ whole → (f : FrameValue) → In f gave.sent.frames → FrameWaited (wants r side i) f
-  frames_waited none is f among = elim (in_append f (draft_at e now).frames (replicate (zeros_behind (draft_at e now)) padding) (subst (λ (s : Sent). In f s.frames) (sym same) among)) [
-    | inl here ↦ frame_waited (wants r side i) e wanted f (brings (ap (λ (v : Waiting). v.signals.ping) still) here) (λ k said. (
-        let waited : flag k z.waiting.frames ≡ true = (draft_said z.waiting.frames k (ready_at e now).leaving z (may_leave_at e now) refl).waited (says_in k f (draft_at e now).frames here said) in
-        ap (λ (v : Waiting). flag k v.frames) (sym still) ∙ waited))
-    | inr behind ↦ subst (FrameWaited (wants r side i)) (sym (in_padding f (zeros_behind (draft_at e now)) behind)) tt
+        settled : Open x.sents (wrote x.told) (told_so x) (acks x y) z
+        settled = subst (λ (s : StreamsState). Settling (λ id o. HoldsOffset (acks x y) id o) (λ id. HoldsEnd (acks x y) id) (known_of x.sents (acks x y)) (told_so x) (wrote x.told) s) (sym (ready_state e now)) (h.gives.0.1.still gives.opened)
+
+        brings : z.waiting.signals.ping ≡ e.waiting.signals.ping → In f (draft_at e now).frames → Brings (wants r side i).watch.flight.acked e f
+        brings ping_same here = pass f (subst (λ (ss : List Sent). Brings ss z f) (sym acks_are) (whole_brings spells.known spells.spelling x.sents (acks x y) (told_so x) (wrote x.told) z streams_known settled f (subst (λ (l : Leaving). In f (draft_as l z).frames) is here)))
+          where
+            pass : (g : FrameValue) → Brings (wants r side i).watch.flight.acked z g → Brings (wants r side i).watch.flight.acked e g
+            pass ping b = sym ping_same ∙ b
+            pass (stream g) b = b
+            pass g b = tt
+
+    loud : asks_of gave.sent ≡ true → HasWaited r side i gave.sent
+    loud asks = by_probes e.tracking.probes refl
+      where
+        by_leaving : e.tracking.probes ≡ 0 → (l : Leaving) → (ready_at e now).leaving ≡ l → HasWaited r side i gave.sent
+        by_leaving none whole is = as_frames asks (frames_waited none is)
+        by_leaving none alone is = (let quiet_alone : asking (draft_at e now).frames ≡ false = ap (λ (l : Leaving). asking (draft_as l z).frames) is in absurd (both_ways (asks_of gave.sent) (ask_alike ∙ quiet_alone) asks))
+        by_leaving none (probe size) is = as_size_probe (probing.is_probe Streams (everything.all Ready ready) r end honest run side i now gave w at.behind at.made gives (probe_goes e now size is) at.leads)
+        by_leaving none (closing f) is = absurd (ready_closes_not e now f is)
+        by_leaving none (nothing held) is = absurd (both_ways (goes (ready_at e now)) (ap goes_as is) gives.some)
+
+        by_probes : (n : ℕ) → e.tracking.probes ≡ n → HasWaited r side i gave.sent
+        by_probes zero none = by_leaving none (ready_at e now).leaving refl
+        by_probes (suc n) some = as_loss_probe (let seen = probing.probes Streams (everything.all Ready ready) r end honest run side i now gave w at.behind at.made gives in omega arith)
+
+    carries : (b : Bool) → asks_of gave.sent ≡ b → HasWaited r side i gave.sent
+    carries true asks = loud asks
+    carries false none = quiet none
+
+  pub has_waited : HasWaited r side i gave.sent
+  has_waited = elim (probing.either Streams (everything.all Ready ready) r end honest run side i now gave w at.behind at.made) [
+    | inl gives ↦ carries gives (asks_of gave.sent) refl
+    | inr close ↦ as_close (closing_alone (policy_at side r.keys) e now gave.transmit gave.sent close)
   ]
-    where
-      still : z.waiting ≡ e.waiting
-      still = ready_still e now none
-
-      settled : Open x.sents (wrote x.told) (told_so x) (acks x y) z
-      settled = subst (λ (s : StreamsState). Settling (λ id o. HoldsOffset (acks x y) id o) (λ id. HoldsEnd (acks x y) id) (known_of x.sents (acks x y)) (told_so x) (wrote x.told) s) (sym (ready_state e now)) (h.gives.0.1.still gives.opened)
-
-      brings : z.waiting.signals.ping ≡ e.waiting.signals.ping → In f (draft_at e now).frames → Brings (wants r side i).watch.flight.acked e f
-      brings ping_same here = pass f (subst (λ (ss : List Sent). Brings ss z f) (sym acks_are) (whole_brings spells.known spells.spelling x.sents (acks x y) (told_so x) (wrote x.told) z streams_known settled f (subst (λ (l : Leaving). In f (draft_as l z).frames) is here)))
-        where
-          pass : (g : FrameValue) → Brings (wants r side i).watch.flight.acked z g → Brings (wants r side i).watch.flight.acked e g
-          pass ping b = sym ping_same ∙ b
-          pass (stream g) b = b
-          pass g b = tt
-
-  loud : asks_of gave.sent ≡ true → HasWaited r side i gave.sent
-  loud asks = by_probes e.tracking.probes refl
-    where
-      by_leaving : e.tracking.probes ≡ 0 → (l : Leaving) → (ready_at e now).leaving ≡ l → HasWaited r side i gave.sent
-      by_leaving none whole is = as_frames asks (frames_waited none is)
-      by_leaving none alone is = (let quiet_alone : asking (draft_at e now).frames ≡ false = ap (λ (l : Leaving). asking (draft_as l z).frames) is in absurd (both_ways (asks_of gave.sent) (ask_alike ∙ quiet_alone) asks))
-      by_leaving none (probe size) is = as_size_probe (probing.is_probe Streams (everything.all Ready ready) r end honest run side i now gave w at.behind at.made (probe_goes e now size is) at.leads)
-      by_leaving none (closing f) is = absurd (ready_closes_not e now f is)
-      by_leaving none (nothing held) is = absurd (both_ways (goes (ready_at e now)) (ap goes_as is) gives.some)
-
-      by_probes : (n : ℕ) → e.tracking.probes ≡ n → HasWaited r side i gave.sent
-      by_probes zero none = by_leaving none (ready_at e now).leaving refl
-      by_probes (suc n) some = as_loss_probe (let seen = probing.probes Streams (everything.all Ready ready) r end honest run side i now gave w at.behind at.made in omega arith)
-
-  carries : (b : Bool) → asks_of gave.sent ≡ b → HasWaited r side i gave.sent
-  carries true asks = loud asks
-  carries false none = quiet none
 
 pub each_waited : (r : Run) (end : World) → IsHonest r → IsRun r end → EachWaited r
-each_waited r end honest run side i now gave = carries r end honest run side i now gave (asks_of gave.sent) refl
+each_waited r end honest run side i now gave = has_waited r end honest run side i now gave

@@ -1,5 +1,6 @@
--- What stands in a datagram that doesn't ask for an acknowledgement, an ACK frame that is due or many packets came that don't ask; and what stands in one that asks, where no probe
--- of losses waits: PING where it waits, and STREAM frames that bring something.
+-- What stands in a datagram that doesn't ask for an acknowledgement, an ACK frame that is due or
+-- many packets came that don't ask; and what stands in one that asks, where no probe of losses
+-- waits: PING where it waits, and STREAM frames that bring something.
 use Rattle.std.proofs.Common.{◌≡◌, ℕ, ◌-◌, ◌<◌, ◌≤◌, Bool, true, false, ◌||◌, List, [], ◌∷◌, ◌++◌, length, Option, Some, None, refl, sym, ap, ◌∙◌, subst, ◌⊎◌, inl, inr, arith}
 use Rattle.std.specs.Prelude.{nat_lt, option_map}
 use Rattle.std.specs.Option.{is_some}
@@ -21,6 +22,7 @@ use Rattle.quic_machine.specs.End.{End, streams_at}
 use Rattle.quic_machine.specs.Poll.{Draft, no_frames, with_signal_frames, ping_if, with_control_frames, with_message_frames, with_asking, ack_of, with_ack, ack_fits, ack_if, composed_if, composed, lazied, asking, asks_to_go, waits, draft_as, goes_as, goes, whole, alone, probe, nothing, Leaving, closing}
 use Rattle.quic_machine.specs.DraftLaws.{Writing, HasRoom, SendsEntry, SendsHalf, room_most, lazy_due, by_entries, by_messages, by_streams, MayLeave, signal_asks, by_signals}
 use Rattle.quic_machine.specs.Puts as puts
+use Rattle.quic_machine.specs.Validation.{challenge_frame, response_frame}
 use Rattle.quic_machine.specs.PollCases.{ready_at, draft_at, may_leave_at, whole_waits, ready_closes_not}
 use Rattle.quic_headline.specs.Runs.{In}
 use Rattle.quic_headline.specs.Observer.{Sent, HoldsOffset, HoldsEnd}
@@ -37,6 +39,7 @@ use Rattle.quic_headline.proofs.Settled.Words.{Settling, is_reset}
 use Rattle.quic_headline.proofs.Settled.Carried.{known_of}
 use Rattle.quic_headline.proofs.Settled.Sends.{GoesKnown, holds_less, drafts_write}
 use Rattle.quic_headline.proofs.AcksDue.Clause.{draft_acks}
+use Rattle.quic_headline.proofs.Waited.Pings.{by_ping}
 
 -- ---- what asks
 
@@ -103,7 +106,8 @@ module _ (K : Streams → Type 0) (k : Spelling K) (c : Bringing K) where
 
 -- ---- a datagram that asks
 
--- PING goes where it waits, and a STREAM frame brings a byte or the end, and no byte that was acknowledged
+-- PING goes where it waits, and a STREAM frame brings a byte or the end, and no byte that was
+-- acknowledged
 abbrev pub Brings : List Sent → End → FrameValue → Type 0
 Brings acks e ping = e.waiting.signals.ping ≡ true
 Brings acks e (stream f) = ((0 < length f.bytes) ⊎ (f.fin ≡ true)) × HoldsNone acks f
@@ -206,11 +210,18 @@ module _ (K : Streams → Type 0) (k : Spelling K) (acks : List Sent) (n : ℕ �
 
   asking_brings : (d : Draft) → d.end.waiting.signals.ping ≡ e.waiting.signals.ping → IsBringing d → IsBringing (with_asking d)
   asking_brings d same i = by_streams IsBringing halves_bring (with_message_frames (with_control_frames (with_signal_frames d)))
-      (by_messages IsBringing (λ x m ms is fit j. (j.0, j.1, brings_more acks e x.frames (datagram m) tt j.2)) (with_control_frames (with_signal_frames d)) (by_entries IsBringing (λ x kind j. (k.drops (streams_at x.end) kind j.0, j.1, j.2)) controls_bring (with_signal_frames d) (first d.end.waiting.signals.ping refl)))
+      (by_messages IsBringing (λ x m ms is fit j. (j.0, j.1, brings_more acks e x.frames (datagram m) tt j.2)) (with_control_frames (with_signal_frames d)) (by_entries IsBringing (λ x kind j. (k.drops (streams_at x.end) kind j.0, j.1, j.2)) controls_bring (with_signal_frames d) signals))
     where
-      first : (b : Bool) → d.end.waiting.signals.ping ≡ b → IsBringing (ping_if b d)
-      first true is = (i.0, i.1, brings_more acks e d.frames ping (sym same ∙ is) i.2)
-      first false is = i
+      Brought : Draft → Type 0
+      Brought x = (x.end.waiting.signals.ping ≡ e.waiting.signals.ping) × IsBringing x
+
+      pings : (x : Draft) (b : Bool) → x.end.waiting.signals.ping ≡ b → Brought x → IsBringing (ping_if b x)
+      pings x true is j = (j.1.0, j.1.1, brings_more acks e x.frames ping (sym j.0 ∙ is) j.1.2)
+      pings x false is j = j.1
+
+      signals : IsBringing (with_signal_frames d)
+      signals = by_ping Brought IsBringing (λ x word j. (j.0, (j.1.0, j.1.1, brings_more acks e x.frames (challenge_frame word) tt j.1.2))) (λ x r j. (j.0, (j.1.0, j.1.1, brings_more acks e x.frames (response_frame r) tt j.1.2)))
+          (λ x j. pings x x.end.waiting.signals.ping refl j) d (same, i)
 
   -- so do those of what is composed
   composed_brings : K (streams_at e) → Knows e.streams → IsBringing (composed e)

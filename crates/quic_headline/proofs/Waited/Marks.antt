@@ -1,4 +1,5 @@
--- What makes an acknowledgement due where a datagram comes: it was due, the packet bears the mark of congestion, or packets that ask are counted.
+-- What makes an acknowledgement due where a datagram comes: it was due, the packet bears the mark
+-- of congestion, or packets that ask are counted.
 use Rattle.std.proofs.Common.{◌≡◌, ℕ, ◌<◌, ◌⊎◌, Bool, true, false, ◌||◌, List, Option, Some, None, refl, sym, ap, ◌∙◌, inl, inr}
 use Rattle.std.specs.Prelude.{slice_get, not, ◌==◌, if◌then◌else◌, Result, Ok, Err}
 use Rattle.std.proofs.lemmas.Bool.{or_cases}
@@ -31,10 +32,10 @@ use Rattle.quic_machine.specs.Ids.{known}
 use Rattle.quic_machine.specs.Closing.{ticked}
 use Rattle.quic_machine.specs.End.{End, with_closing, with_numbers}
 use Rattle.quic_machine.specs.Opens.{own_id_length}
-use Rattle.quic_machine.specs.Receive.{Fault, Progress, Outcome, is_empty, violation, take_items, take_payload, asks_in, ends_as, by_state, dropped, opened_to, opened_as, opening, headed, received_in, received}
+use Rattle.quic_machine.specs.Receive.{Fault, Progress, Outcome, is_empty, violation, take_items, take_payload, asks_in, ends_as, by_state, dropped, opened_to, opened_as, opening, headed, received_in, received, broke, too_many_pieces, closed_by_peer, unopened_in, is_read, drawn_if, with_ids_drawn}
 use Rattle.quic_machine.specs.FrameCases.{items_keep}
 use Rattle.quic_machine.specs.CallCases.{is_delivery}
-use Rattle.quic_machine.specs.Machine.{IsAnswer, IsDelivered, after_delivered, after_call, fails}
+use Rattle.quic_machine.specs.Machine.{IsAnswer, IsDelivered, after_delivered, after_call, fails, says_last}
 use Rattle.quic_headline.specs.AcksDue.{is_marked, takes_marked}
 use Rattle.quic_headline.proofs.Rest.Standing.{OnlyRuns, frame_acks}
 use Rattle.quic_headline.proofs.Rest.Unanswered.{taken_counts}
@@ -48,7 +49,8 @@ payload_acks first is e = go (not (reserved_bits first == 0) || is_empty is)
     go false = items_keep (OnlyRuns e) (frame_acks e) is e refl
 
 module _ (p : Policy) (arrival : Arrival) where
-  -- where an acknowledgement is due at an open end behind a datagram, it was due, a packet with the mark was taken, or one that asks is counted
+  -- where an acknowledgement is due at an open end behind a datagram, it was due, a packet with the
+  -- mark was taken, or one that asks is counted
   abbrev DueBy : End → Outcome → Type 0
   DueBy e o = o.end.closing.state ≡ states.Open → o.end.acknowledging.due ≡ true → (e.acknowledging.due ≡ true) ⊎ (((o.answer ≡ receives.Taken) × (is_congested arrival.mark ≡ true)) ⊎ (0 < o.end.acknowledging.asking))
 
@@ -56,7 +58,9 @@ module _ (p : Policy) (arrival : Arrival) where
   ends_due : (fault : Option Fault) (asking : Bool) (n : ℕ) (e f : End) → f.acknowledging.due ≡ e.acknowledging.due → DueBy e (ends_as fault asking n arrival.mark f)
   ends_due None true n e f same opened due = inr (inr ((taken_counts true (with_due (is_congested arrival.mark) (after_insert f.acknowledging n f.closing.clock)) f.closing.clock n f.numbers.opened).0 refl))
   ends_due None false n e f same opened due = elim (or_cases f.acknowledging.due (is_congested arrival.mark) due) [ inl was ↦ inl (sym same ∙ was) | inr marked ↦ inr (inl (refl, marked)) ]
-  ends_due (Some fault) asking n e f same opened due = cc
+  ends_due (Some (closed_by_peer close)) asking n e f same opened due = cc
+  ends_due (Some (broke error)) asking n e f same opened due = cc
+  ends_due (Some too_many_pieces) asking n e f same opened due = cc
 
   state_due : (s : State) (o : Opening) (e : End) → DueBy e (by_state s o arrival e)
   state_due states.Open o e opened due = (
@@ -75,9 +79,25 @@ module _ (p : Policy) (arrival : Arrival) where
       go false true opened due = inl due
       go false false opened due = state_due e.closing.state o (with_numbers e (number_opened e.numbers o.number)) opened due
 
-  maybe_due : (o : Option Opening) (e : End) → DueBy e (opened_as o arrival e)
-  maybe_due None e opened due = inl due
-  maybe_due (Some o) e opened due = opened_due o e opened due
+  -- it doesn't open
+  unopened_due : (s : State) (b : Bool) (e : End) → DueBy e (unopened_in s b arrival e)
+  unopened_due states.Open true e opened due = cc
+  unopened_due states.Open false e opened due = inl due
+  unopened_due states.Closing b e opened due = inl due
+  unopened_due states.Drained b e opened due = inl due
+  unopened_due states.Failed b e opened due = inl due
+
+  -- ids are drawn, or aren't
+  drawn_due : (o : Outcome) (e : End) → DueBy e o → DueBy e (with_ids_drawn p o)
+  drawn_due o e d = go (is_read o.answer)
+    where
+      go : (b : Bool) → DueBy e (record { answer = o.answer; end = drawn_if b p o.end })
+      go true = d
+      go false = d
+
+  maybe_due : (o : Option Opening) (e : End) → DueBy e (opened_as o p arrival e)
+  maybe_due None e opened due = unopened_due e.closing.state arrival.last e opened due
+  maybe_due (Some o) e opened due = drawn_due (opened_to o arrival e) e (opened_due o e) opened due
 
   headed_due : (r : Result (List ℕ) HeaderError) (e : End) (d : List ℕ) → DueBy e (headed r p e arrival d)
   headed_due (Err error) e d opened due = inl due
@@ -99,12 +119,13 @@ marked_back (Some Ect0) is = cc
 marked_back (Some Ect1) is = cc
 marked_back (Some Ce) is = refl
 
--- where one is due at an open end behind a delivery, it was due, the delivery brought a packet with the mark, or one that asks is counted
-delivered_due : (p : Policy) (e : End) (delivery : Delivery) (o : Option (List ℕ)) (a : Answer) → IsDelivered p e delivery o a → fails a ≡ false → (after_delivered p e delivery o).closing.state ≡ states.Open → (after_delivered p e delivery o).acknowledging.due ≡ true
-    → (e.acknowledging.due ≡ true) ⊎ ((takes_marked (calls.Deliver delivery) a ≡ true) ⊎ (0 < (after_delivered p e delivery o).acknowledging.asking))
+-- where one is due at an open end behind a delivery, it was due, the delivery brought a packet with
+-- the mark, or one that asks is counted
+delivered_due : (p : Policy) (e : End) (delivery : Delivery) (o : Option (List ℕ)) (a : Answer) → IsDelivered p e delivery o a → fails a ≡ false → (after_delivered p e (delivered_by (says_last a) delivery) o).closing.state ≡ states.Open → (after_delivered p e (delivered_by (says_last a) delivery) o).acknowledging.due ≡ true
+    → (e.acknowledging.due ≡ true) ⊎ ((takes_marked (calls.Deliver delivery) a ≡ true) ⊎ (0 < (after_delivered p e (delivered_by (says_last a) delivery) o).acknowledging.asking))
 delivered_due p e delivery None a is served opened due = inl due
 delivered_due p e delivery (Some d) a (inr is) served opened due = cc
-delivered_due p e delivery (Some d) a (inl is) served opened due = elim (received_due p (delivered_by delivery) e d opened due) [
+delivered_due p e delivery (Some d) a (inl is) served opened due = elim (received_due p (delivered_by (says_last a) delivery) e d opened due) [
   | inl was ↦ inl was
   | inr other ↦ elim other [
     | inl marked ↦ inr (inl (ap (λ (b : Answer). takes_marked (calls.Deliver delivery) b) (is ∙ ap answers.Deliver marked.0) ∙ marked_back delivery.ecn marked.1))

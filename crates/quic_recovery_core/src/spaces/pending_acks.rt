@@ -132,8 +132,8 @@ impl PendingAcks {
         }
     }
 
-    /// Takes over after how many packets, and how far out of order, the peer wants an
-    /// acknowledgement at once.
+    /// Takes over after how many ack-eliciting packets, and how far out of order, in packets, the
+    /// peer wants an acknowledgement at once. Both are 1 until then.
     pub fn set_ack_frequency_params(&mut self, frame: &AckFrequency)
         ensures { self.new ≡ record self.old { threshold = frame.now.ack_eliciting_threshold; reordering = frame.now.reordering_threshold } }
     {
@@ -281,7 +281,8 @@ impl PendingAcks {
     ///
     /// # Errors
     ///
-    /// [`AllocError`] where the number is a run of its own and memory lacks; nothing changes.
+    /// - [`AllocError`]: an allocation fails, where the number lies in no run of the set and
+    ///   touches none. Nothing changes.
     pub fn insert_one(&mut self, number: u64, now: Instant) -> Result<(), AllocError>
         requires { number < u64.MAX }
         ensures ok { OnOk result (self.new ≡ after_insert self.old number now) }

@@ -171,7 +171,7 @@ impl Pieces {
     ///
     /// # Errors
     ///
-    /// [`AllocError`] where memory lacks; nothing has changed.
+    /// - [`AllocError`]: an allocation fails. Nothing changes.
     pub(crate) fn push(&mut self, bytes: &[u8]) -> Result<(), AllocError>
         requires { self.old.base + length self.old.bytes + length bytes.now < 2 ^ 62 }
         ensures ok { OnOk result (self.new ≡ with_piece bytes.now self.old) }
@@ -193,7 +193,7 @@ impl Pieces {
     ///
     /// # Errors
     ///
-    /// [`AllocError`] where memory lacks; nothing has changed.
+    /// - [`AllocError`]: an allocation fails. Nothing changes.
     pub(crate) fn push_all(&mut self, chunks: &[Bytes], len: usize) -> Result<(), AllocError>
         requires { self.old.base + length self.old.bytes + len < 2 ^ 62 }
         ensures ok { OnOk result (self.new ≡ with_each (cut_to len chunks.now) self.old) }

@@ -77,7 +77,7 @@ impl<T: Drop> Row<T> {
     ///
     /// # Errors
     ///
-    /// [`AllocError`] where memory lacks; nothing has changed.
+    /// - [`AllocError`]: an allocation fails. Nothing changes.
     pub(crate) fn push_back(&mut self, value: T) -> Result<(), AllocError>
         ensures ok { OnOk result (self.new ≡ self.old ++ value ∷ []) }
         ensures err { OnErr result (self.new ≡ self.old) }

@@ -60,8 +60,10 @@ impl RangeSet {
     /// the result is dropped, however early. Runs that only touch the range are joined to it and
     /// give no piece. An empty or reversed range gives nothing and adds nothing.
     ///
-    /// `AllocError`: memory lacked for one more run. The set has not changed. An empty or reversed
-    /// range needs no memory.
+    /// # Errors
+    ///
+    /// - [`AllocError`]: an allocation fails, of room for one more run, where the range isn't empty
+    ///   or reversed. Nothing changes.
     pub fn replace(&mut self, range: Range<u64>) -> Result<Replace<'_>, AllocError>
         ensures* unchanged_at_error { sem 𝓛 (follows_if set_row set_row self.entry.ghost_name (name_if_ok lender result) (λ set. set) self.old) }
         ensures same_reference { IfOk result (λ replace. lender replace ≡ self.entry.ghost_name) }

@@ -50,8 +50,12 @@ impl EcnCounts {
     };
 
     /// Writes the three counts as they stand in a frame, each in its shortest form (quinn-proto's
-    /// `EcnCounts::encode`). An error comes for want of memory or of room, never where the room is
-    /// spare; a part of the counts may then be written behind what was there.
+    /// `EcnCounts::encode`).
+    ///
+    /// # Errors
+    ///
+    /// - [`AllocError`]: an allocation fails, or the buffer can't grow, where it has no spare room
+    ///   for the counts. A part of them may be written behind what was there.
     pub fn encode<B: BufMut>(&self, buf: &mut B) -> Result<(), AllocError>
         ensures ok { OnOk result (B.written buf.new ≡ B.written buf.old ++ written (ecn_numbers (Some (counts_view self.now)))) }
         ensures err { OnErr result (BeginWith (B.written buf.old) (B.written buf.new)) }
@@ -124,8 +128,12 @@ impl<'a> Ack<'a> {
 
     /// Writes the ACK frame of a set of packet numbers, each number in its shortest form: the delay
     /// is in microseconds, shifted right by the exponent that this end told (quinn-proto's
-    /// `Ack::encode`). The set isn't empty. An error comes for want of memory or of room, never
-    /// where the room is spare; a part of the frame may then be written behind what was there.
+    /// `Ack::encode`). The set isn't empty.
+    ///
+    /// # Errors
+    ///
+    /// - [`AllocError`]: an allocation fails, or the buffer can't grow, where it has no spare room
+    ///   for the frame. A part of it may be written behind what was there.
     pub fn encode<B: BufMut>(
         delay: u64,
         ranges: &ArrayRangeSet,

@@ -42,7 +42,10 @@ pub struct ApplicationClose {
 
 impl Close {
     /// The close that tells the peer of an error: its code, its frame and the text of its reason.
-    /// An error comes only for want of memory for that text.
+    ///
+    /// # Errors
+    ///
+    /// - [`AllocError`]: an allocation fails, of room for the text of the reason.
     pub fn of_error(alloc: Global, error: &TransportError) -> Result<Self, AllocError>
         ensures { (reason : Reason) × ClosesFor error.now result reason }
     {
@@ -57,8 +60,11 @@ impl ConnectionClose {
     /// length.
     pub const SIZE_BOUND: usize = 1 + 8 + 8 + 8;
 
-    /// A close with this code, this frame at fault and a copy of this reason. An error comes only
-    /// for want of memory for the reason.
+    /// A close with this code, this frame at fault and a copy of this reason.
+    ///
+    /// # Errors
+    ///
+    /// - [`AllocError`]: an allocation fails, of room for the reason, where that isn't empty.
     pub fn new(
         alloc: Global,
         error_code: Code,
@@ -81,8 +87,11 @@ impl ApplicationClose {
     /// The most bytes that stand before the reason in a frame: type, code and length.
     pub const SIZE_BOUND: usize = 1 + 8 + 8;
 
-    /// A close with this code and a copy of this reason. An error comes only for want of memory for
-    /// the reason.
+    /// A close with this code and a copy of this reason.
+    ///
+    /// # Errors
+    ///
+    /// - [`AllocError`]: an allocation fails, of room for the reason, where that isn't empty.
     pub fn new(alloc: Global, error_code: VarInt, reason: &[u8]) -> Result<Self, AllocError>
         ensures ok { IfOk result (λ close. owned_application_close_view close ≡ application_close_with error_code reason.now) }
         ensures lacking { OnErr result (0 < length reason.now) }

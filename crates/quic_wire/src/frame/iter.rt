@@ -46,6 +46,13 @@ impl<'a> Iterator for Iter<'a> {
 
     ghost remaining = { item_count (λ i. items i) };
 
+    /// The next frame, or `None` behind the last (RFC 9000, section 19). Nothing follows an error.
+    ///
+    /// # Errors
+    ///
+    /// - [`InvalidFrame`] with `UnexpectedEnd`: the type or a field passes the end of the payload.
+    /// - [`InvalidFrame`] with `InvalidId`: the type names no frame.
+    /// - [`InvalidFrame`] with `Malformed`: a field has a value that its frame doesn't allow.
     fn next(&mut self) -> Option<Result<Frame<'a>, InvalidFrame>> {
         if self.bytes.is_empty() {
             return None;

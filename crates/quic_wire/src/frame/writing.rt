@@ -226,8 +226,11 @@ fn write_ack_frequency<B: BufMut>(buf: &mut B, frame: &AckFrequency) -> Result<(
 }
 
 /// Writes a frame, each number in its shortest form, STREAM and DATAGRAM frames with their length.
-/// An error comes for want of memory or of room, never where the room is spare; a part of the frame
-/// may then be written behind what was there.
+///
+/// # Errors
+///
+/// - [`AllocError`]: an allocation fails, or the buffer can't grow, where it has no spare room for
+///   the frame. A part of it may be written behind what was there.
 #[tactic(auto, using(crate::proofs::FrameWritten::stands_0))]
 pub fn write_frame<B: BufMut>(frame: &Frame<'_>, buf: &mut B) -> Result<(), AllocError>
     requires { Fits (frame_view frame.now) }

@@ -66,6 +66,8 @@ impl PacketKey for Clear {
     }
 
     ghost adds_tag = { λ _ _ _ payload. length-append payload (replicate 16 0) };
+
+    ghost opens_no_more = { λ _ _ _ _ _ opened. cc };
 }
 
 #[test]

@@ -1,481 +1,294 @@
 -- The headline, of the answers, views and datagrams of a run.
 use Rattle.std.proofs.Common.{refl, take}
-use Rattle.quic_machine.specs.Machine.{Policies}
+use Rattle.quic_machine.specs.Machine.{World, Policies}
 use Rattle.quic_headline.specs.Runs.{Run}
-use Rattle.quic_connection_core.specs.Telling.{windows_of}
+use Rattle.quic_headline.specs.Headline.{IsRun}
+use Rattle.quic_connection_parts.specs.Telling.{windows_of}
 use Rattle.quic_connection.specs.Ends.{world_of, first_world, policies_of, run_of}
 use Rattle.quic_connection.proofs.running.run.Goals as goal
 
-pub returns-clause-ordered_prefix : goal.returns-clause-ordered_prefix
-returns-clause-ordered_prefix g c =
+pub returns-clause-delivers : goal.returns-clause-delivers
+returns-clause-delivers g c =
     let o = c.run_events.result in
-    let keys : Policies = policies_of g.H.HeaderKey.protection g.K.PacketKey.aead g.R.Rng.stream c.args.ends in
+    let keys : Policies = policies_of g.H.HeaderKey.protection g.K.PacketKey.aead g.K.PacketKey.seal_limit g.K.PacketKey.refusal_limit g.R.Rng.stream c.args.ends in
     let r : Run = run_of keys (windows_of g.C.Controller.steps g.C.Controller.window_of) c.args.ends c.args.events.now o.answers.items o.views.items o.given in
-    λ honest. c.ordered_prefix.ensures r (world_of (windows_of g.C.Controller.steps g.C.Controller.window_of) o.ends o.given) honest (record { codes = c.show_codes.ensures; follows = c.run_events.ensures.follows; from_client = refl; from_server = refl })
+    let end : World = world_of (windows_of g.C.Controller.steps g.C.Controller.window_of) o.ends o.given in
+    let is : IsRun r end = record { codes = c.show_codes.ensures; follows = c.run_events.ensures.follows; from_client = refl; from_server = refl } in
+    λ honest. record {
+      ordered_prefix = c.ordered_prefix.ensures r end honest is;
+      slices = c.slices.ensures r end honest is;
+      once = c.once.ensures r end honest is;
+      end_after_all = c.end_after_all.ensures r end honest is;
+      blocked_only_without_bytes = c.blocked_only_without_bytes.ensures r end honest is;
+      resets_are_told = c.resets_are_told.ensures r end honest is;
+      finished_means_arrived = c.finished_means_arrived.ensures r end honest is;
+      finished_is_told = c.finished_is_told.ensures r end honest is;
+    }
 
-pub returns-clause-slices : goal.returns-clause-slices
-returns-clause-slices g c =
+pub returns-clause-streams : goal.returns-clause-streams
+returns-clause-streams g c =
     let o = c.run_events.result in
-    let keys : Policies = policies_of g.H.HeaderKey.protection g.K.PacketKey.aead g.R.Rng.stream c.args.ends in
+    let keys : Policies = policies_of g.H.HeaderKey.protection g.K.PacketKey.aead g.K.PacketKey.seal_limit g.K.PacketKey.refusal_limit g.R.Rng.stream c.args.ends in
     let r : Run = run_of keys (windows_of g.C.Controller.steps g.C.Controller.window_of) c.args.ends c.args.events.now o.answers.items o.views.items o.given in
-    λ honest. c.slices.ensures r (world_of (windows_of g.C.Controller.steps g.C.Controller.window_of) o.ends o.given) honest (record { codes = c.show_codes.ensures; follows = c.run_events.ensures.follows; from_client = refl; from_server = refl })
+    let end : World = world_of (windows_of g.C.Controller.steps g.C.Controller.window_of) o.ends o.given in
+    let is : IsRun r end = record { codes = c.show_codes.ensures; follows = c.run_events.ensures.follows; from_client = refl; from_server = refl } in
+    λ honest. record {
+      accepts_all = c.accepts_all.ensures r end honest is;
+      ids_are_new = c.ids_are_new.ensures r end honest is;
+      accepted_were_opened = c.accepted_were_opened.ensures r end honest is;
+      reads_are_allowed = c.reads_are_allowed.ensures r end honest is;
+      reads_are_over = c.reads_are_over.ensures r end honest is;
+      writes_are_allowed = c.writes_are_allowed.ensures r end honest is;
+      resets_are_allowed = c.resets_are_allowed.ensures r end honest is;
+    }
 
-pub returns-clause-once : goal.returns-clause-once
-returns-clause-once g c =
+pub returns-clause-limits : goal.returns-clause-limits
+returns-clause-limits g c =
     let o = c.run_events.result in
-    let keys : Policies = policies_of g.H.HeaderKey.protection g.K.PacketKey.aead g.R.Rng.stream c.args.ends in
+    let keys : Policies = policies_of g.H.HeaderKey.protection g.K.PacketKey.aead g.K.PacketKey.seal_limit g.K.PacketKey.refusal_limit g.R.Rng.stream c.args.ends in
     let r : Run = run_of keys (windows_of g.C.Controller.steps g.C.Controller.window_of) c.args.ends c.args.events.now o.answers.items o.views.items o.given in
-    λ honest. c.once.ensures r (world_of (windows_of g.C.Controller.steps g.C.Controller.window_of) o.ends o.given) honest (record { codes = c.show_codes.ensures; follows = c.run_events.ensures.follows; from_client = refl; from_server = refl })
+    let end : World = world_of (windows_of g.C.Controller.steps g.C.Controller.window_of) o.ends o.given in
+    let is : IsRun r end = record { codes = c.show_codes.ensures; follows = c.run_events.ensures.follows; from_client = refl; from_server = refl } in
+    λ honest. record {
+      limits_are_the_peers = c.limits_are_the_peers.ensures r end honest is;
+      writes_take_what_limits_allow = c.writes_take_what_limits_allow.ensures r end honest is;
+      grown_limits_wait = c.grown_limits_wait.ensures r end honest is;
+      credit_is_bounded = c.credit_is_bounded.ensures r end honest is;
+      counts_are_bounded = c.counts_are_bounded.ensures r end honest is;
+    }
 
-pub returns-clause-end_after_all : goal.returns-clause-end_after_all
-returns-clause-end_after_all g c =
+pub returns-clause-waits : goal.returns-clause-waits
+returns-clause-waits g c =
     let o = c.run_events.result in
-    let keys : Policies = policies_of g.H.HeaderKey.protection g.K.PacketKey.aead g.R.Rng.stream c.args.ends in
+    let keys : Policies = policies_of g.H.HeaderKey.protection g.K.PacketKey.aead g.K.PacketKey.seal_limit g.K.PacketKey.refusal_limit g.R.Rng.stream c.args.ends in
     let r : Run = run_of keys (windows_of g.C.Controller.steps g.C.Controller.window_of) c.args.ends c.args.events.now o.answers.items o.views.items o.given in
-    λ honest. c.end_after_all.ensures r (world_of (windows_of g.C.Controller.steps g.C.Controller.window_of) o.ends o.given) honest (record { codes = c.show_codes.ensures; follows = c.run_events.ensures.follows; from_client = refl; from_server = refl })
+    let end : World = world_of (windows_of g.C.Controller.steps g.C.Controller.window_of) o.ends o.given in
+    let is : IsRun r end = record { codes = c.show_codes.ensures; follows = c.run_events.ensures.follows; from_client = refl; from_server = refl } in
+    λ honest. record {
+      duties_stand = c.duties_stand.ensures r end honest is;
+      polls_send_what_waits = c.polls_send_what_waits.ensures r end honest is;
+      each_waited = c.each_waited.ensures r end honest is;
+      pings_go = c.pings_go.ensures r end honest is;
+      waiting_begins = c.waiting_begins.ensures r end honest is;
+    }
 
-pub returns-clause-blocked_only_without_bytes : goal.returns-clause-blocked_only_without_bytes
-returns-clause-blocked_only_without_bytes g c =
+pub returns-clause-messages : goal.returns-clause-messages
+returns-clause-messages g c =
     let o = c.run_events.result in
-    let keys : Policies = policies_of g.H.HeaderKey.protection g.K.PacketKey.aead g.R.Rng.stream c.args.ends in
+    let keys : Policies = policies_of g.H.HeaderKey.protection g.K.PacketKey.aead g.K.PacketKey.seal_limit g.K.PacketKey.refusal_limit g.R.Rng.stream c.args.ends in
     let r : Run = run_of keys (windows_of g.C.Controller.steps g.C.Controller.window_of) c.args.ends c.args.events.now o.answers.items o.views.items o.given in
-    λ honest. c.blocked_only_without_bytes.ensures r (world_of (windows_of g.C.Controller.steps g.C.Controller.window_of) o.ends o.given) honest (record { codes = c.show_codes.ensures; follows = c.run_events.ensures.follows; from_client = refl; from_server = refl })
+    let end : World = world_of (windows_of g.C.Controller.steps g.C.Controller.window_of) o.ends o.given in
+    let is : IsRun r end = record { codes = c.show_codes.ensures; follows = c.run_events.ensures.follows; from_client = refl; from_server = refl } in
+    λ honest. record {
+      messages_at_most_once = c.messages_at_most_once.ensures r end honest is;
+      polls_send_messages = c.polls_send_messages.ensures r end honest is;
+      messages_go = c.messages_go.ensures r end honest is;
+      messages_go_in_order = c.messages_go_in_order.ensures r end honest is;
+    }
 
-pub returns-clause-accepts_all : goal.returns-clause-accepts_all
-returns-clause-accepts_all g c =
+pub returns-clause-tells : goal.returns-clause-tells
+returns-clause-tells g c =
     let o = c.run_events.result in
-    let keys : Policies = policies_of g.H.HeaderKey.protection g.K.PacketKey.aead g.R.Rng.stream c.args.ends in
+    let keys : Policies = policies_of g.H.HeaderKey.protection g.K.PacketKey.aead g.K.PacketKey.seal_limit g.K.PacketKey.refusal_limit g.R.Rng.stream c.args.ends in
     let r : Run = run_of keys (windows_of g.C.Controller.steps g.C.Controller.window_of) c.args.ends c.args.events.now o.answers.items o.views.items o.given in
-    λ honest. c.accepts_all.ensures r (world_of (windows_of g.C.Controller.steps g.C.Controller.window_of) o.ends o.given) honest (record { codes = c.show_codes.ensures; follows = c.run_events.ensures.follows; from_client = refl; from_server = refl })
+    let end : World = world_of (windows_of g.C.Controller.steps g.C.Controller.window_of) o.ends o.given in
+    let is : IsRun r end = record { codes = c.show_codes.ensures; follows = c.run_events.ensures.follows; from_client = refl; from_server = refl } in
+    λ honest. record {
+      messages_are_told = c.messages_are_told.ensures r end honest is;
+      openings_are_told = c.openings_are_told.ensures r end honest is;
+      readables_are_told = c.readables_are_told.ensures r end honest is;
+      writables_are_told = c.writables_are_told.ensures r end honest is;
+      views_tell = c.views_tell.ensures r end honest is;
+    }
 
-pub returns-clause-ids_are_new : goal.returns-clause-ids_are_new
-returns-clause-ids_are_new g c =
+pub returns-clause-acknowledges : goal.returns-clause-acknowledges
+returns-clause-acknowledges g c =
     let o = c.run_events.result in
-    let keys : Policies = policies_of g.H.HeaderKey.protection g.K.PacketKey.aead g.R.Rng.stream c.args.ends in
+    let keys : Policies = policies_of g.H.HeaderKey.protection g.K.PacketKey.aead g.K.PacketKey.seal_limit g.K.PacketKey.refusal_limit g.R.Rng.stream c.args.ends in
     let r : Run = run_of keys (windows_of g.C.Controller.steps g.C.Controller.window_of) c.args.ends c.args.events.now o.answers.items o.views.items o.given in
-    λ honest. c.ids_are_new.ensures r (world_of (windows_of g.C.Controller.steps g.C.Controller.window_of) o.ends o.given) honest (record { codes = c.show_codes.ensures; follows = c.run_events.ensures.follows; from_client = refl; from_server = refl })
+    let end : World = world_of (windows_of g.C.Controller.steps g.C.Controller.window_of) o.ends o.given in
+    let is : IsRun r end = record { codes = c.show_codes.ensures; follows = c.run_events.ensures.follows; from_client = refl; from_server = refl } in
+    λ honest. record {
+      acknowledged_were_taken = c.acknowledged_were_taken.ensures r end honest is;
+      names_were_taken = c.names_were_taken.ensures r end honest is;
+      acks_name_all = c.acks_name_all.ensures r end honest is;
+      acks_count_marks = c.acks_count_marks.ensures r end honest is;
+      acks_are_due = c.acks_are_due.ensures r end honest is;
+      ack_moments = c.ack_moments.ensures r end honest is;
+    }
 
-pub returns-clause-accepted_were_opened : goal.returns-clause-accepted_were_opened
-returns-clause-accepted_were_opened g c =
+pub returns-clause-loses : goal.returns-clause-loses
+returns-clause-loses g c =
     let o = c.run_events.result in
-    let keys : Policies = policies_of g.H.HeaderKey.protection g.K.PacketKey.aead g.R.Rng.stream c.args.ends in
+    let keys : Policies = policies_of g.H.HeaderKey.protection g.K.PacketKey.aead g.K.PacketKey.seal_limit g.K.PacketKey.refusal_limit g.R.Rng.stream c.args.ends in
     let r : Run = run_of keys (windows_of g.C.Controller.steps g.C.Controller.window_of) c.args.ends c.args.events.now o.answers.items o.views.items o.given in
-    λ honest. c.accepted_were_opened.ensures r (world_of (windows_of g.C.Controller.steps g.C.Controller.window_of) o.ends o.given) honest (record { codes = c.show_codes.ensures; follows = c.run_events.ensures.follows; from_client = refl; from_server = refl })
+    let end : World = world_of (windows_of g.C.Controller.steps g.C.Controller.window_of) o.ends o.given in
+    let is : IsRun r end = record { codes = c.show_codes.ensures; follows = c.run_events.ensures.follows; from_client = refl; from_server = refl } in
+    λ honest. record {
+      tracks_in_flight = c.tracks_in_flight.ensures r end honest is;
+      loss_moments = c.loss_moments.ensures r end honest is;
+      loss_timer_quiet = c.loss_timer_quiet.ensures r end honest is;
+      probes_pass = c.probes_pass.ensures r end honest is;
+      controllers_are_told = c.controllers_are_told.ensures r end honest is;
+      window_is_of_history = c.window_is_of_history.ensures r end honest is;
+    }
 
-pub returns-clause-resets_are_told : goal.returns-clause-resets_are_told
-returns-clause-resets_are_told g c =
+pub returns-clause-paces : goal.returns-clause-paces
+returns-clause-paces g c =
     let o = c.run_events.result in
-    let keys : Policies = policies_of g.H.HeaderKey.protection g.K.PacketKey.aead g.R.Rng.stream c.args.ends in
+    let keys : Policies = policies_of g.H.HeaderKey.protection g.K.PacketKey.aead g.K.PacketKey.seal_limit g.K.PacketKey.refusal_limit g.R.Rng.stream c.args.ends in
     let r : Run = run_of keys (windows_of g.C.Controller.steps g.C.Controller.window_of) c.args.ends c.args.events.now o.answers.items o.views.items o.given in
-    λ honest. c.resets_are_told.ensures r (world_of (windows_of g.C.Controller.steps g.C.Controller.window_of) o.ends o.given) honest (record { codes = c.show_codes.ensures; follows = c.run_events.ensures.follows; from_client = refl; from_server = refl })
+    let end : World = world_of (windows_of g.C.Controller.steps g.C.Controller.window_of) o.ends o.given in
+    let is : IsRun r end = record { codes = c.show_codes.ensures; follows = c.run_events.ensures.follows; from_client = refl; from_server = refl } in
+    λ honest. record {
+      pacer_sets_its_timer = c.pacer_sets_its_timer.ensures r end honest is;
+      asking_goes_where_let = c.asking_goes_where_let.ensures r end honest is;
+      pacer_is_of_history = c.pacer_is_of_history.ensures r end honest is;
+    }
 
-pub returns-clause-finished_means_arrived : goal.returns-clause-finished_means_arrived
-returns-clause-finished_means_arrived g c =
+pub returns-clause-sizes : goal.returns-clause-sizes
+returns-clause-sizes g c =
     let o = c.run_events.result in
-    let keys : Policies = policies_of g.H.HeaderKey.protection g.K.PacketKey.aead g.R.Rng.stream c.args.ends in
+    let keys : Policies = policies_of g.H.HeaderKey.protection g.K.PacketKey.aead g.K.PacketKey.seal_limit g.K.PacketKey.refusal_limit g.R.Rng.stream c.args.ends in
     let r : Run = run_of keys (windows_of g.C.Controller.steps g.C.Controller.window_of) c.args.ends c.args.events.now o.answers.items o.views.items o.given in
-    λ honest. c.finished_means_arrived.ensures r (world_of (windows_of g.C.Controller.steps g.C.Controller.window_of) o.ends o.given) honest (record { codes = c.show_codes.ensures; follows = c.run_events.ensures.follows; from_client = refl; from_server = refl })
+    let end : World = world_of (windows_of g.C.Controller.steps g.C.Controller.window_of) o.ends o.given in
+    let is : IsRun r end = record { codes = c.show_codes.ensures; follows = c.run_events.ensures.follows; from_client = refl; from_server = refl } in
+    λ honest. record {
+      datagrams_are_sized = c.datagrams_are_sized.ensures r end honest is;
+      size_is_of_history = c.size_is_of_history.ensures r end honest is;
+      sizes_move = c.sizes_move.ensures r end honest is;
+    }
 
-pub returns-clause-finished_is_told : goal.returns-clause-finished_is_told
-returns-clause-finished_is_told g c =
+pub returns-clause-numbers : goal.returns-clause-numbers
+returns-clause-numbers g c =
     let o = c.run_events.result in
-    let keys : Policies = policies_of g.H.HeaderKey.protection g.K.PacketKey.aead g.R.Rng.stream c.args.ends in
+    let keys : Policies = policies_of g.H.HeaderKey.protection g.K.PacketKey.aead g.K.PacketKey.seal_limit g.K.PacketKey.refusal_limit g.R.Rng.stream c.args.ends in
     let r : Run = run_of keys (windows_of g.C.Controller.steps g.C.Controller.window_of) c.args.ends c.args.events.now o.answers.items o.views.items o.given in
-    λ honest. c.finished_is_told.ensures r (world_of (windows_of g.C.Controller.steps g.C.Controller.window_of) o.ends o.given) honest (record { codes = c.show_codes.ensures; follows = c.run_events.ensures.follows; from_client = refl; from_server = refl })
+    let end : World = world_of (windows_of g.C.Controller.steps g.C.Controller.window_of) o.ends o.given in
+    let is : IsRun r end = record { codes = c.show_codes.ensures; follows = c.run_events.ensures.follows; from_client = refl; from_server = refl } in
+    λ honest. record {
+      numbers_rise = c.numbers_rise.ensures r end honest is;
+      opens_exactly = c.opens_exactly.ensures r end honest is;
+      newest_opens = c.newest_opens.ensures r end honest is;
+      newest_opens_at_end = c.newest_opens_at_end.ensures r end honest is;
+    }
 
-pub returns-clause-duties_stand : goal.returns-clause-duties_stand
-returns-clause-duties_stand g c =
+pub returns-clause-identifies : goal.returns-clause-identifies
+returns-clause-identifies g c =
     let o = c.run_events.result in
-    let keys : Policies = policies_of g.H.HeaderKey.protection g.K.PacketKey.aead g.R.Rng.stream c.args.ends in
+    let keys : Policies = policies_of g.H.HeaderKey.protection g.K.PacketKey.aead g.K.PacketKey.seal_limit g.K.PacketKey.refusal_limit g.R.Rng.stream c.args.ends in
     let r : Run = run_of keys (windows_of g.C.Controller.steps g.C.Controller.window_of) c.args.ends c.args.events.now o.answers.items o.views.items o.given in
-    λ honest. c.duties_stand.ensures r (world_of (windows_of g.C.Controller.steps g.C.Controller.window_of) o.ends o.given) honest (record { codes = c.show_codes.ensures; follows = c.run_events.ensures.follows; from_client = refl; from_server = refl })
+    let end : World = world_of (windows_of g.C.Controller.steps g.C.Controller.window_of) o.ends o.given in
+    let is : IsRun r end = record { codes = c.show_codes.ensures; follows = c.run_events.ensures.follows; from_client = refl; from_server = refl } in
+    λ honest. record {
+      ids_are_issued = c.ids_are_issued.ensures r end honest is;
+      ids_are_in_use = c.ids_are_in_use.ensures r end honest is;
+      unknown_only_where_retired = c.unknown_only_where_retired.ensures r end honest is;
+      told_ids_are_known = c.told_ids_are_known.ensures r end honest is;
+      no_id_is_exact = c.no_id_is_exact.ensures r end honest is;
+      too_many_is_exact = c.too_many_is_exact.ensures r end honest is;
+    }
 
-pub returns-clause-grown_limits_wait : goal.returns-clause-grown_limits_wait
-returns-clause-grown_limits_wait g c =
+pub returns-clause-validates : goal.returns-clause-validates
+returns-clause-validates g c =
     let o = c.run_events.result in
-    let keys : Policies = policies_of g.H.HeaderKey.protection g.K.PacketKey.aead g.R.Rng.stream c.args.ends in
+    let keys : Policies = policies_of g.H.HeaderKey.protection g.K.PacketKey.aead g.K.PacketKey.seal_limit g.K.PacketKey.refusal_limit g.R.Rng.stream c.args.ends in
     let r : Run = run_of keys (windows_of g.C.Controller.steps g.C.Controller.window_of) c.args.ends c.args.events.now o.answers.items o.views.items o.given in
-    λ honest. c.grown_limits_wait.ensures r (world_of (windows_of g.C.Controller.steps g.C.Controller.window_of) o.ends o.given) honest (record { codes = c.show_codes.ensures; follows = c.run_events.ensures.follows; from_client = refl; from_server = refl })
+    let end : World = world_of (windows_of g.C.Controller.steps g.C.Controller.window_of) o.ends o.given in
+    let is : IsRun r end = record { codes = c.show_codes.ensures; follows = c.run_events.ensures.follows; from_client = refl; from_server = refl } in
+    λ honest. record {
+      threefold = c.threefold.ensures r end honest is;
+      validated_by_answer = c.validated_by_answer.ensures r end honest is;
+      answers_validate = c.answers_validate.ensures r end honest is;
+    }
 
-pub returns-clause-messages_at_most_once : goal.returns-clause-messages_at_most_once
-returns-clause-messages_at_most_once g c =
+pub returns-clause-causes : goal.returns-clause-causes
+returns-clause-causes g c =
     let o = c.run_events.result in
-    let keys : Policies = policies_of g.H.HeaderKey.protection g.K.PacketKey.aead g.R.Rng.stream c.args.ends in
+    let keys : Policies = policies_of g.H.HeaderKey.protection g.K.PacketKey.aead g.K.PacketKey.seal_limit g.K.PacketKey.refusal_limit g.R.Rng.stream c.args.ends in
     let r : Run = run_of keys (windows_of g.C.Controller.steps g.C.Controller.window_of) c.args.ends c.args.events.now o.answers.items o.views.items o.given in
-    λ honest. c.messages_at_most_once.ensures r (world_of (windows_of g.C.Controller.steps g.C.Controller.window_of) o.ends o.given) honest (record { codes = c.show_codes.ensures; follows = c.run_events.ensures.follows; from_client = refl; from_server = refl })
+    let end : World = world_of (windows_of g.C.Controller.steps g.C.Controller.window_of) o.ends o.given in
+    let is : IsRun r end = record { codes = c.show_codes.ensures; follows = c.run_events.ensures.follows; from_client = refl; from_server = refl } in
+    λ honest. record {
+      no_blame = c.no_blame.ensures r end honest is;
+      taken_or_too_many = c.taken_or_too_many.ensures r end honest is;
+      too_many_pieces = c.too_many_pieces.ensures r end honest is;
+      closed_has_a_reason = c.closed_has_a_reason.ensures r end honest is;
+      application_closed = c.application_closed.ensures r end honest is;
+      peer_closed = c.peer_closed.ensures r end honest is;
+      idle_expired = c.idle_expired.ensures r end honest is;
+      number_limit = c.number_limit.ensures r end honest is;
+      key_limited = c.key_limited.ensures r end honest is;
+      keys_last = c.keys_last.ensures r end honest is;
+    }
 
-pub returns-clause-writes_take_what_limits_allow : goal.returns-clause-writes_take_what_limits_allow
-returns-clause-writes_take_what_limits_allow g c =
+pub returns-clause-closes : goal.returns-clause-closes
+returns-clause-closes g c =
     let o = c.run_events.result in
-    let keys : Policies = policies_of g.H.HeaderKey.protection g.K.PacketKey.aead g.R.Rng.stream c.args.ends in
+    let keys : Policies = policies_of g.H.HeaderKey.protection g.K.PacketKey.aead g.K.PacketKey.seal_limit g.K.PacketKey.refusal_limit g.R.Rng.stream c.args.ends in
     let r : Run = run_of keys (windows_of g.C.Controller.steps g.C.Controller.window_of) c.args.ends c.args.events.now o.answers.items o.views.items o.given in
-    λ honest. c.writes_take_what_limits_allow.ensures r (world_of (windows_of g.C.Controller.steps g.C.Controller.window_of) o.ends o.given) honest (record { codes = c.show_codes.ensures; follows = c.run_events.ensures.follows; from_client = refl; from_server = refl })
+    let end : World = world_of (windows_of g.C.Controller.steps g.C.Controller.window_of) o.ends o.given in
+    let is : IsRun r end = record { codes = c.show_codes.ensures; follows = c.run_events.ensures.follows; from_client = refl; from_server = refl } in
+    λ honest. record {
+      closes_say_why = c.closes_say_why.ensures r end honest is;
+      peer_closes_come = c.peer_closes_come.ensures r end honest is;
+      closes_are_owed = c.closes_are_owed.ensures r end honest is;
+      owed_closes_go = c.owed_closes_go.ensures r end honest is;
+      drained_are_silent = c.drained_are_silent.ensures r end honest is;
+    }
 
-pub returns-clause-polls_send_what_waits : goal.returns-clause-polls_send_what_waits
-returns-clause-polls_send_what_waits g c =
+pub returns-clause-times : goal.returns-clause-times
+returns-clause-times g c =
     let o = c.run_events.result in
-    let keys : Policies = policies_of g.H.HeaderKey.protection g.K.PacketKey.aead g.R.Rng.stream c.args.ends in
+    let keys : Policies = policies_of g.H.HeaderKey.protection g.K.PacketKey.aead g.K.PacketKey.seal_limit g.K.PacketKey.refusal_limit g.R.Rng.stream c.args.ends in
     let r : Run = run_of keys (windows_of g.C.Controller.steps g.C.Controller.window_of) c.args.ends c.args.events.now o.answers.items o.views.items o.given in
-    λ honest. c.polls_send_what_waits.ensures r (world_of (windows_of g.C.Controller.steps g.C.Controller.window_of) o.ends o.given) honest (record { codes = c.show_codes.ensures; follows = c.run_events.ensures.follows; from_client = refl; from_server = refl })
+    let end : World = world_of (windows_of g.C.Controller.steps g.C.Controller.window_of) o.ends o.given in
+    let is : IsRun r end = record { codes = c.show_codes.ensures; follows = c.run_events.ensures.follows; from_client = refl; from_server = refl } in
+    λ honest. record {
+      idle_moments = c.idle_moments.ensures r end honest is;
+      alive_moments = c.alive_moments.ensures r end honest is;
+      path_moments = c.path_moments.ensures r end honest is;
+      closed_timers = c.closed_timers.ensures r end honest is;
+      close_moments = c.close_moments.ensures r end honest is;
+      close_moments_stay = c.close_moments_stay.ensures r end honest is;
+      drains_in_time = c.drains_in_time.ensures r end honest is;
+    }
 
-pub returns-clause-polls_send_messages : goal.returns-clause-polls_send_messages
-returns-clause-polls_send_messages g c =
+pub returns-clause-rests : goal.returns-clause-rests
+returns-clause-rests g c =
     let o = c.run_events.result in
-    let keys : Policies = policies_of g.H.HeaderKey.protection g.K.PacketKey.aead g.R.Rng.stream c.args.ends in
+    let keys : Policies = policies_of g.H.HeaderKey.protection g.K.PacketKey.aead g.K.PacketKey.seal_limit g.K.PacketKey.refusal_limit g.R.Rng.stream c.args.ends in
     let r : Run = run_of keys (windows_of g.C.Controller.steps g.C.Controller.window_of) c.args.ends c.args.events.now o.answers.items o.views.items o.given in
-    λ honest. c.polls_send_messages.ensures r (world_of (windows_of g.C.Controller.steps g.C.Controller.window_of) o.ends o.given) honest (record { codes = c.show_codes.ensures; follows = c.run_events.ensures.follows; from_client = refl; from_server = refl })
-
-pub returns-clause-pacer_sets_its_timer : goal.returns-clause-pacer_sets_its_timer
-returns-clause-pacer_sets_its_timer g c =
-    let o = c.run_events.result in
-    let keys : Policies = policies_of g.H.HeaderKey.protection g.K.PacketKey.aead g.R.Rng.stream c.args.ends in
-    let r : Run = run_of keys (windows_of g.C.Controller.steps g.C.Controller.window_of) c.args.ends c.args.events.now o.answers.items o.views.items o.given in
-    λ honest. c.pacer_sets_its_timer.ensures r (world_of (windows_of g.C.Controller.steps g.C.Controller.window_of) o.ends o.given) honest (record { codes = c.show_codes.ensures; follows = c.run_events.ensures.follows; from_client = refl; from_server = refl })
-
-pub returns-clause-asking_goes_where_let : goal.returns-clause-asking_goes_where_let
-returns-clause-asking_goes_where_let g c =
-    let o = c.run_events.result in
-    let keys : Policies = policies_of g.H.HeaderKey.protection g.K.PacketKey.aead g.R.Rng.stream c.args.ends in
-    let r : Run = run_of keys (windows_of g.C.Controller.steps g.C.Controller.window_of) c.args.ends c.args.events.now o.answers.items o.views.items o.given in
-    λ honest. c.asking_goes_where_let.ensures r (world_of (windows_of g.C.Controller.steps g.C.Controller.window_of) o.ends o.given) honest (record { codes = c.show_codes.ensures; follows = c.run_events.ensures.follows; from_client = refl; from_server = refl })
-
-pub returns-clause-datagrams_are_sized : goal.returns-clause-datagrams_are_sized
-returns-clause-datagrams_are_sized g c =
-    let o = c.run_events.result in
-    let keys : Policies = policies_of g.H.HeaderKey.protection g.K.PacketKey.aead g.R.Rng.stream c.args.ends in
-    let r : Run = run_of keys (windows_of g.C.Controller.steps g.C.Controller.window_of) c.args.ends c.args.events.now o.answers.items o.views.items o.given in
-    λ honest. c.datagrams_are_sized.ensures r (world_of (windows_of g.C.Controller.steps g.C.Controller.window_of) o.ends o.given) honest (record { codes = c.show_codes.ensures; follows = c.run_events.ensures.follows; from_client = refl; from_server = refl })
-
-pub returns-clause-probes_pass : goal.returns-clause-probes_pass
-returns-clause-probes_pass g c =
-    let o = c.run_events.result in
-    let keys : Policies = policies_of g.H.HeaderKey.protection g.K.PacketKey.aead g.R.Rng.stream c.args.ends in
-    let r : Run = run_of keys (windows_of g.C.Controller.steps g.C.Controller.window_of) c.args.ends c.args.events.now o.answers.items o.views.items o.given in
-    λ honest. c.probes_pass.ensures r (world_of (windows_of g.C.Controller.steps g.C.Controller.window_of) o.ends o.given) honest (record { codes = c.show_codes.ensures; follows = c.run_events.ensures.follows; from_client = refl; from_server = refl })
-
-pub returns-clause-window_is_of_history : goal.returns-clause-window_is_of_history
-returns-clause-window_is_of_history g c =
-    let o = c.run_events.result in
-    let keys : Policies = policies_of g.H.HeaderKey.protection g.K.PacketKey.aead g.R.Rng.stream c.args.ends in
-    let r : Run = run_of keys (windows_of g.C.Controller.steps g.C.Controller.window_of) c.args.ends c.args.events.now o.answers.items o.views.items o.given in
-    λ honest. c.window_is_of_history.ensures r (world_of (windows_of g.C.Controller.steps g.C.Controller.window_of) o.ends o.given) honest (record { codes = c.show_codes.ensures; follows = c.run_events.ensures.follows; from_client = refl; from_server = refl })
-
-pub returns-clause-size_is_of_history : goal.returns-clause-size_is_of_history
-returns-clause-size_is_of_history g c =
-    let o = c.run_events.result in
-    let keys : Policies = policies_of g.H.HeaderKey.protection g.K.PacketKey.aead g.R.Rng.stream c.args.ends in
-    let r : Run = run_of keys (windows_of g.C.Controller.steps g.C.Controller.window_of) c.args.ends c.args.events.now o.answers.items o.views.items o.given in
-    λ honest. c.size_is_of_history.ensures r (world_of (windows_of g.C.Controller.steps g.C.Controller.window_of) o.ends o.given) honest (record { codes = c.show_codes.ensures; follows = c.run_events.ensures.follows; from_client = refl; from_server = refl })
-
-pub returns-clause-sizes_move : goal.returns-clause-sizes_move
-returns-clause-sizes_move g c =
-    let o = c.run_events.result in
-    let keys : Policies = policies_of g.H.HeaderKey.protection g.K.PacketKey.aead g.R.Rng.stream c.args.ends in
-    let r : Run = run_of keys (windows_of g.C.Controller.steps g.C.Controller.window_of) c.args.ends c.args.events.now o.answers.items o.views.items o.given in
-    λ honest. c.sizes_move.ensures r (world_of (windows_of g.C.Controller.steps g.C.Controller.window_of) o.ends o.given) honest (record { codes = c.show_codes.ensures; follows = c.run_events.ensures.follows; from_client = refl; from_server = refl })
-
-pub returns-clause-tracks_in_flight : goal.returns-clause-tracks_in_flight
-returns-clause-tracks_in_flight g c =
-    let o = c.run_events.result in
-    let keys : Policies = policies_of g.H.HeaderKey.protection g.K.PacketKey.aead g.R.Rng.stream c.args.ends in
-    let r : Run = run_of keys (windows_of g.C.Controller.steps g.C.Controller.window_of) c.args.ends c.args.events.now o.answers.items o.views.items o.given in
-    λ honest. c.tracks_in_flight.ensures r (world_of (windows_of g.C.Controller.steps g.C.Controller.window_of) o.ends o.given) honest (record { codes = c.show_codes.ensures; follows = c.run_events.ensures.follows; from_client = refl; from_server = refl })
-
-pub returns-clause-loss_moments : goal.returns-clause-loss_moments
-returns-clause-loss_moments g c =
-    let o = c.run_events.result in
-    let keys : Policies = policies_of g.H.HeaderKey.protection g.K.PacketKey.aead g.R.Rng.stream c.args.ends in
-    let r : Run = run_of keys (windows_of g.C.Controller.steps g.C.Controller.window_of) c.args.ends c.args.events.now o.answers.items o.views.items o.given in
-    λ honest. c.loss_moments.ensures r (world_of (windows_of g.C.Controller.steps g.C.Controller.window_of) o.ends o.given) honest (record { codes = c.show_codes.ensures; follows = c.run_events.ensures.follows; from_client = refl; from_server = refl })
-
-pub returns-clause-ack_moments : goal.returns-clause-ack_moments
-returns-clause-ack_moments g c =
-    let o = c.run_events.result in
-    let keys : Policies = policies_of g.H.HeaderKey.protection g.K.PacketKey.aead g.R.Rng.stream c.args.ends in
-    let r : Run = run_of keys (windows_of g.C.Controller.steps g.C.Controller.window_of) c.args.ends c.args.events.now o.answers.items o.views.items o.given in
-    λ honest. c.ack_moments.ensures r (world_of (windows_of g.C.Controller.steps g.C.Controller.window_of) o.ends o.given) honest (record { codes = c.show_codes.ensures; follows = c.run_events.ensures.follows; from_client = refl; from_server = refl })
-
-pub returns-clause-acks_are_due : goal.returns-clause-acks_are_due
-returns-clause-acks_are_due g c =
-    let o = c.run_events.result in
-    let keys : Policies = policies_of g.H.HeaderKey.protection g.K.PacketKey.aead g.R.Rng.stream c.args.ends in
-    let r : Run = run_of keys (windows_of g.C.Controller.steps g.C.Controller.window_of) c.args.ends c.args.events.now o.answers.items o.views.items o.given in
-    λ honest. c.acks_are_due.ensures r (world_of (windows_of g.C.Controller.steps g.C.Controller.window_of) o.ends o.given) honest (record { codes = c.show_codes.ensures; follows = c.run_events.ensures.follows; from_client = refl; from_server = refl })
-
-pub returns-clause-acknowledged_were_taken : goal.returns-clause-acknowledged_were_taken
-returns-clause-acknowledged_were_taken g c =
-    let o = c.run_events.result in
-    let keys : Policies = policies_of g.H.HeaderKey.protection g.K.PacketKey.aead g.R.Rng.stream c.args.ends in
-    let r : Run = run_of keys (windows_of g.C.Controller.steps g.C.Controller.window_of) c.args.ends c.args.events.now o.answers.items o.views.items o.given in
-    λ honest. c.acknowledged_were_taken.ensures r (world_of (windows_of g.C.Controller.steps g.C.Controller.window_of) o.ends o.given) honest (record { codes = c.show_codes.ensures; follows = c.run_events.ensures.follows; from_client = refl; from_server = refl })
-
-pub returns-clause-names_were_taken : goal.returns-clause-names_were_taken
-returns-clause-names_were_taken g c =
-    let o = c.run_events.result in
-    let keys : Policies = policies_of g.H.HeaderKey.protection g.K.PacketKey.aead g.R.Rng.stream c.args.ends in
-    let r : Run = run_of keys (windows_of g.C.Controller.steps g.C.Controller.window_of) c.args.ends c.args.events.now o.answers.items o.views.items o.given in
-    λ honest. c.names_were_taken.ensures r (world_of (windows_of g.C.Controller.steps g.C.Controller.window_of) o.ends o.given) honest (record { codes = c.show_codes.ensures; follows = c.run_events.ensures.follows; from_client = refl; from_server = refl })
-
-pub returns-clause-opens_exactly : goal.returns-clause-opens_exactly
-returns-clause-opens_exactly g c =
-    let o = c.run_events.result in
-    let keys : Policies = policies_of g.H.HeaderKey.protection g.K.PacketKey.aead g.R.Rng.stream c.args.ends in
-    let r : Run = run_of keys (windows_of g.C.Controller.steps g.C.Controller.window_of) c.args.ends c.args.events.now o.answers.items o.views.items o.given in
-    λ honest. c.opens_exactly.ensures r (world_of (windows_of g.C.Controller.steps g.C.Controller.window_of) o.ends o.given) honest (record { codes = c.show_codes.ensures; follows = c.run_events.ensures.follows; from_client = refl; from_server = refl })
-
-pub returns-clause-newest_opens : goal.returns-clause-newest_opens
-returns-clause-newest_opens g c =
-    let o = c.run_events.result in
-    let keys : Policies = policies_of g.H.HeaderKey.protection g.K.PacketKey.aead g.R.Rng.stream c.args.ends in
-    let r : Run = run_of keys (windows_of g.C.Controller.steps g.C.Controller.window_of) c.args.ends c.args.events.now o.answers.items o.views.items o.given in
-    λ honest. c.newest_opens.ensures r (world_of (windows_of g.C.Controller.steps g.C.Controller.window_of) o.ends o.given) honest (record { codes = c.show_codes.ensures; follows = c.run_events.ensures.follows; from_client = refl; from_server = refl })
-
-pub returns-clause-loss_timer_quiet : goal.returns-clause-loss_timer_quiet
-returns-clause-loss_timer_quiet g c =
-    let o = c.run_events.result in
-    let keys : Policies = policies_of g.H.HeaderKey.protection g.K.PacketKey.aead g.R.Rng.stream c.args.ends in
-    let r : Run = run_of keys (windows_of g.C.Controller.steps g.C.Controller.window_of) c.args.ends c.args.events.now o.answers.items o.views.items o.given in
-    λ honest. c.loss_timer_quiet.ensures r (world_of (windows_of g.C.Controller.steps g.C.Controller.window_of) o.ends o.given) honest (record { codes = c.show_codes.ensures; follows = c.run_events.ensures.follows; from_client = refl; from_server = refl })
-
-pub returns-clause-views_tell : goal.returns-clause-views_tell
-returns-clause-views_tell g c =
-    let o = c.run_events.result in
-    let keys : Policies = policies_of g.H.HeaderKey.protection g.K.PacketKey.aead g.R.Rng.stream c.args.ends in
-    let r : Run = run_of keys (windows_of g.C.Controller.steps g.C.Controller.window_of) c.args.ends c.args.events.now o.answers.items o.views.items o.given in
-    λ honest. c.views_tell.ensures r (world_of (windows_of g.C.Controller.steps g.C.Controller.window_of) o.ends o.given) honest (record { codes = c.show_codes.ensures; follows = c.run_events.ensures.follows; from_client = refl; from_server = refl })
+    let end : World = world_of (windows_of g.C.Controller.steps g.C.Controller.window_of) o.ends o.given in
+    let is : IsRun r end = record { codes = c.show_codes.ensures; follows = c.run_events.ensures.follows; from_client = refl; from_server = refl } in
+    λ honest. record {
+      delivered_at_rest = c.delivered_at_rest.ensures r end honest is;
+      nothing_owed_at_rest = c.nothing_owed_at_rest.ensures r end honest is;
+      blocked_only_for_unread = c.blocked_only_for_unread.ensures r end honest is;
+      none_opened_only_for_undone = c.none_opened_only_for_undone.ensures r end honest is;
+    }
 
 pub returns-clause-loss_timers_follow : goal.returns-clause-loss_timers_follow
 returns-clause-loss_timers_follow g c =
     let o = c.run_events.result in
-    let keys : Policies = policies_of g.H.HeaderKey.protection g.K.PacketKey.aead g.R.Rng.stream c.args.ends in
+    let keys : Policies = policies_of g.H.HeaderKey.protection g.K.PacketKey.aead g.K.PacketKey.seal_limit g.K.PacketKey.refusal_limit g.R.Rng.stream c.args.ends in
     λ started i w leads. c.loss_timers_follow.ensures keys (first_world (windows_of g.C.Controller.steps g.C.Controller.window_of) c.args.ends) w (take i c.args.events.now) (take i o.answers.items) (take i o.views.items) started leads
 
 pub returns-clause-ack_timers_follow : goal.returns-clause-ack_timers_follow
 returns-clause-ack_timers_follow g c =
     let o = c.run_events.result in
-    let keys : Policies = policies_of g.H.HeaderKey.protection g.K.PacketKey.aead g.R.Rng.stream c.args.ends in
+    let keys : Policies = policies_of g.H.HeaderKey.protection g.K.PacketKey.aead g.K.PacketKey.seal_limit g.K.PacketKey.refusal_limit g.R.Rng.stream c.args.ends in
     λ first i w leads. c.ack_timers_follow.ensures.runs keys (first_world (windows_of g.C.Controller.steps g.C.Controller.window_of) c.args.ends) w (take i c.args.events.now) (take i o.answers.items) (take i o.views.items) leads first
 
-pub returns-clause-isolated : goal.returns-clause-isolated
-returns-clause-isolated g c =
+pub returns-clause-isolates : goal.returns-clause-isolates
+returns-clause-isolates g c =
     let o = c.run_events.result in
-    let keys : Policies = policies_of g.H.HeaderKey.protection g.K.PacketKey.aead g.R.Rng.stream c.args.ends in
+    let keys : Policies = policies_of g.H.HeaderKey.protection g.K.PacketKey.aead g.K.PacketKey.seal_limit g.K.PacketKey.refusal_limit g.R.Rng.stream c.args.ends in
     let r : Run = run_of keys (windows_of g.C.Controller.steps g.C.Controller.window_of) c.args.ends c.args.events.now o.answers.items o.views.items o.given in
-    c.isolated.ensures r (world_of (windows_of g.C.Controller.steps g.C.Controller.window_of) o.ends o.given) (record { codes = c.show_codes.ensures; follows = c.run_events.ensures.follows; from_client = refl; from_server = refl })
-
-pub returns-clause-isolated_by_answers : goal.returns-clause-isolated_by_answers
-returns-clause-isolated_by_answers g c =
-    let o = c.run_events.result in
-    let keys : Policies = policies_of g.H.HeaderKey.protection g.K.PacketKey.aead g.R.Rng.stream c.args.ends in
-    let r : Run = run_of keys (windows_of g.C.Controller.steps g.C.Controller.window_of) c.args.ends c.args.events.now o.answers.items o.views.items o.given in
-    c.isolated_by_answers.ensures r (world_of (windows_of g.C.Controller.steps g.C.Controller.window_of) o.ends o.given) (record { codes = c.show_codes.ensures; follows = c.run_events.ensures.follows; from_client = refl; from_server = refl })
-
-pub returns-clause-isolated_by_lists : goal.returns-clause-isolated_by_lists
-returns-clause-isolated_by_lists g c =
-    let o = c.run_events.result in
-    let keys : Policies = policies_of g.H.HeaderKey.protection g.K.PacketKey.aead g.R.Rng.stream c.args.ends in
-    let r : Run = run_of keys (windows_of g.C.Controller.steps g.C.Controller.window_of) c.args.ends c.args.events.now o.answers.items o.views.items o.given in
-    λ started. c.isolated_by_lists.ensures r (world_of (windows_of g.C.Controller.steps g.C.Controller.window_of) o.ends o.given) started (record { codes = c.show_codes.ensures; follows = c.run_events.ensures.follows; from_client = refl; from_server = refl })
-
-pub returns-clause-numbers_rise : goal.returns-clause-numbers_rise
-returns-clause-numbers_rise g c =
-    let o = c.run_events.result in
-    let keys : Policies = policies_of g.H.HeaderKey.protection g.K.PacketKey.aead g.R.Rng.stream c.args.ends in
-    let r : Run = run_of keys (windows_of g.C.Controller.steps g.C.Controller.window_of) c.args.ends c.args.events.now o.answers.items o.views.items o.given in
-    λ honest. c.numbers_rise.ensures r (world_of (windows_of g.C.Controller.steps g.C.Controller.window_of) o.ends o.given) honest (record { codes = c.show_codes.ensures; follows = c.run_events.ensures.follows; from_client = refl; from_server = refl })
-
-pub returns-clause-sent_to_first_id : goal.returns-clause-sent_to_first_id
-returns-clause-sent_to_first_id g c =
-    let o = c.run_events.result in
-    let keys : Policies = policies_of g.H.HeaderKey.protection g.K.PacketKey.aead g.R.Rng.stream c.args.ends in
-    let r : Run = run_of keys (windows_of g.C.Controller.steps g.C.Controller.window_of) c.args.ends c.args.events.now o.answers.items o.views.items o.given in
-    λ honest. c.sent_to_first_id.ensures r (world_of (windows_of g.C.Controller.steps g.C.Controller.window_of) o.ends o.given) honest (record { codes = c.show_codes.ensures; follows = c.run_events.ensures.follows; from_client = refl; from_server = refl })
-
-pub returns-clause-no_unknown_id : goal.returns-clause-no_unknown_id
-returns-clause-no_unknown_id g c =
-    let o = c.run_events.result in
-    let keys : Policies = policies_of g.H.HeaderKey.protection g.K.PacketKey.aead g.R.Rng.stream c.args.ends in
-    let r : Run = run_of keys (windows_of g.C.Controller.steps g.C.Controller.window_of) c.args.ends c.args.events.now o.answers.items o.views.items o.given in
-    λ honest. c.no_unknown_id.ensures r (world_of (windows_of g.C.Controller.steps g.C.Controller.window_of) o.ends o.given) honest (record { codes = c.show_codes.ensures; follows = c.run_events.ensures.follows; from_client = refl; from_server = refl })
-
-pub returns-clause-first_id_stays : goal.returns-clause-first_id_stays
-returns-clause-first_id_stays g c =
-    let o = c.run_events.result in
-    let keys : Policies = policies_of g.H.HeaderKey.protection g.K.PacketKey.aead g.R.Rng.stream c.args.ends in
-    let r : Run = run_of keys (windows_of g.C.Controller.steps g.C.Controller.window_of) c.args.ends c.args.events.now o.answers.items o.views.items o.given in
-    λ honest. c.first_id_stays.ensures r (world_of (windows_of g.C.Controller.steps g.C.Controller.window_of) o.ends o.given) honest (record { codes = c.show_codes.ensures; follows = c.run_events.ensures.follows; from_client = refl; from_server = refl })
-
-pub returns-clause-no_blame : goal.returns-clause-no_blame
-returns-clause-no_blame g c =
-    let o = c.run_events.result in
-    let keys : Policies = policies_of g.H.HeaderKey.protection g.K.PacketKey.aead g.R.Rng.stream c.args.ends in
-    let r : Run = run_of keys (windows_of g.C.Controller.steps g.C.Controller.window_of) c.args.ends c.args.events.now o.answers.items o.views.items o.given in
-    λ honest. c.no_blame.ensures r (world_of (windows_of g.C.Controller.steps g.C.Controller.window_of) o.ends o.given) honest (record { codes = c.show_codes.ensures; follows = c.run_events.ensures.follows; from_client = refl; from_server = refl })
-
-pub returns-clause-closed_has_a_reason : goal.returns-clause-closed_has_a_reason
-returns-clause-closed_has_a_reason g c =
-    let o = c.run_events.result in
-    let keys : Policies = policies_of g.H.HeaderKey.protection g.K.PacketKey.aead g.R.Rng.stream c.args.ends in
-    let r : Run = run_of keys (windows_of g.C.Controller.steps g.C.Controller.window_of) c.args.ends c.args.events.now o.answers.items o.views.items o.given in
-    λ honest. c.closed_has_a_reason.ensures r (world_of (windows_of g.C.Controller.steps g.C.Controller.window_of) o.ends o.given) honest (record { codes = c.show_codes.ensures; follows = c.run_events.ensures.follows; from_client = refl; from_server = refl })
-
-pub returns-clause-too_many_pieces : goal.returns-clause-too_many_pieces
-returns-clause-too_many_pieces g c =
-    let o = c.run_events.result in
-    let keys : Policies = policies_of g.H.HeaderKey.protection g.K.PacketKey.aead g.R.Rng.stream c.args.ends in
-    let r : Run = run_of keys (windows_of g.C.Controller.steps g.C.Controller.window_of) c.args.ends c.args.events.now o.answers.items o.views.items o.given in
-    λ honest. c.too_many_pieces.ensures r (world_of (windows_of g.C.Controller.steps g.C.Controller.window_of) o.ends o.given) honest (record { codes = c.show_codes.ensures; follows = c.run_events.ensures.follows; from_client = refl; from_server = refl })
-
-pub returns-clause-number_limit : goal.returns-clause-number_limit
-returns-clause-number_limit g c =
-    let o = c.run_events.result in
-    let keys : Policies = policies_of g.H.HeaderKey.protection g.K.PacketKey.aead g.R.Rng.stream c.args.ends in
-    let r : Run = run_of keys (windows_of g.C.Controller.steps g.C.Controller.window_of) c.args.ends c.args.events.now o.answers.items o.views.items o.given in
-    λ honest. c.number_limit.ensures r (world_of (windows_of g.C.Controller.steps g.C.Controller.window_of) o.ends o.given) honest (record { codes = c.show_codes.ensures; follows = c.run_events.ensures.follows; from_client = refl; from_server = refl })
-
-pub returns-clause-taken_or_too_many : goal.returns-clause-taken_or_too_many
-returns-clause-taken_or_too_many g c =
-    let o = c.run_events.result in
-    let keys : Policies = policies_of g.H.HeaderKey.protection g.K.PacketKey.aead g.R.Rng.stream c.args.ends in
-    let r : Run = run_of keys (windows_of g.C.Controller.steps g.C.Controller.window_of) c.args.ends c.args.events.now o.answers.items o.views.items o.given in
-    λ honest. c.taken_or_too_many.ensures r (world_of (windows_of g.C.Controller.steps g.C.Controller.window_of) o.ends o.given) honest (record { codes = c.show_codes.ensures; follows = c.run_events.ensures.follows; from_client = refl; from_server = refl })
-
-pub returns-clause-delivered_at_rest : goal.returns-clause-delivered_at_rest
-returns-clause-delivered_at_rest g c =
-    let o = c.run_events.result in
-    let keys : Policies = policies_of g.H.HeaderKey.protection g.K.PacketKey.aead g.R.Rng.stream c.args.ends in
-    let r : Run = run_of keys (windows_of g.C.Controller.steps g.C.Controller.window_of) c.args.ends c.args.events.now o.answers.items o.views.items o.given in
-    λ honest. c.delivered_at_rest.ensures r (world_of (windows_of g.C.Controller.steps g.C.Controller.window_of) o.ends o.given) honest (record { codes = c.show_codes.ensures; follows = c.run_events.ensures.follows; from_client = refl; from_server = refl })
-
-pub returns-clause-nothing_owed_at_rest : goal.returns-clause-nothing_owed_at_rest
-returns-clause-nothing_owed_at_rest g c =
-    let o = c.run_events.result in
-    let keys : Policies = policies_of g.H.HeaderKey.protection g.K.PacketKey.aead g.R.Rng.stream c.args.ends in
-    let r : Run = run_of keys (windows_of g.C.Controller.steps g.C.Controller.window_of) c.args.ends c.args.events.now o.answers.items o.views.items o.given in
-    λ honest. c.nothing_owed_at_rest.ensures r (world_of (windows_of g.C.Controller.steps g.C.Controller.window_of) o.ends o.given) honest (record { codes = c.show_codes.ensures; follows = c.run_events.ensures.follows; from_client = refl; from_server = refl })
-
-pub returns-clause-blocked_only_for_unread : goal.returns-clause-blocked_only_for_unread
-returns-clause-blocked_only_for_unread g c =
-    let o = c.run_events.result in
-    let keys : Policies = policies_of g.H.HeaderKey.protection g.K.PacketKey.aead g.R.Rng.stream c.args.ends in
-    let r : Run = run_of keys (windows_of g.C.Controller.steps g.C.Controller.window_of) c.args.ends c.args.events.now o.answers.items o.views.items o.given in
-    λ honest. c.blocked_only_for_unread.ensures r (world_of (windows_of g.C.Controller.steps g.C.Controller.window_of) o.ends o.given) honest (record { codes = c.show_codes.ensures; follows = c.run_events.ensures.follows; from_client = refl; from_server = refl })
-
-pub returns-clause-none_opened_only_for_undone : goal.returns-clause-none_opened_only_for_undone
-returns-clause-none_opened_only_for_undone g c =
-    let o = c.run_events.result in
-    let keys : Policies = policies_of g.H.HeaderKey.protection g.K.PacketKey.aead g.R.Rng.stream c.args.ends in
-    let r : Run = run_of keys (windows_of g.C.Controller.steps g.C.Controller.window_of) c.args.ends c.args.events.now o.answers.items o.views.items o.given in
-    λ honest. c.none_opened_only_for_undone.ensures r (world_of (windows_of g.C.Controller.steps g.C.Controller.window_of) o.ends o.given) honest (record { codes = c.show_codes.ensures; follows = c.run_events.ensures.follows; from_client = refl; from_server = refl })
-
-pub returns-clause-credit_is_bounded : goal.returns-clause-credit_is_bounded
-returns-clause-credit_is_bounded g c =
-    let o = c.run_events.result in
-    let keys : Policies = policies_of g.H.HeaderKey.protection g.K.PacketKey.aead g.R.Rng.stream c.args.ends in
-    let r : Run = run_of keys (windows_of g.C.Controller.steps g.C.Controller.window_of) c.args.ends c.args.events.now o.answers.items o.views.items o.given in
-    λ honest. c.credit_is_bounded.ensures r (world_of (windows_of g.C.Controller.steps g.C.Controller.window_of) o.ends o.given) honest (record { codes = c.show_codes.ensures; follows = c.run_events.ensures.follows; from_client = refl; from_server = refl })
-
-pub returns-clause-counts_are_bounded : goal.returns-clause-counts_are_bounded
-returns-clause-counts_are_bounded g c =
-    let o = c.run_events.result in
-    let keys : Policies = policies_of g.H.HeaderKey.protection g.K.PacketKey.aead g.R.Rng.stream c.args.ends in
-    let r : Run = run_of keys (windows_of g.C.Controller.steps g.C.Controller.window_of) c.args.ends c.args.events.now o.answers.items o.views.items o.given in
-    λ honest. c.counts_are_bounded.ensures r (world_of (windows_of g.C.Controller.steps g.C.Controller.window_of) o.ends o.given) honest (record { codes = c.show_codes.ensures; follows = c.run_events.ensures.follows; from_client = refl; from_server = refl })
-
-pub returns-clause-reads_are_allowed : goal.returns-clause-reads_are_allowed
-returns-clause-reads_are_allowed g c =
-    let o = c.run_events.result in
-    let keys : Policies = policies_of g.H.HeaderKey.protection g.K.PacketKey.aead g.R.Rng.stream c.args.ends in
-    let r : Run = run_of keys (windows_of g.C.Controller.steps g.C.Controller.window_of) c.args.ends c.args.events.now o.answers.items o.views.items o.given in
-    λ honest. c.reads_are_allowed.ensures r (world_of (windows_of g.C.Controller.steps g.C.Controller.window_of) o.ends o.given) honest (record { codes = c.show_codes.ensures; follows = c.run_events.ensures.follows; from_client = refl; from_server = refl })
-
-pub returns-clause-reads_are_over : goal.returns-clause-reads_are_over
-returns-clause-reads_are_over g c =
-    let o = c.run_events.result in
-    let keys : Policies = policies_of g.H.HeaderKey.protection g.K.PacketKey.aead g.R.Rng.stream c.args.ends in
-    let r : Run = run_of keys (windows_of g.C.Controller.steps g.C.Controller.window_of) c.args.ends c.args.events.now o.answers.items o.views.items o.given in
-    λ honest. c.reads_are_over.ensures r (world_of (windows_of g.C.Controller.steps g.C.Controller.window_of) o.ends o.given) honest (record { codes = c.show_codes.ensures; follows = c.run_events.ensures.follows; from_client = refl; from_server = refl })
-
-pub returns-clause-writes_are_allowed : goal.returns-clause-writes_are_allowed
-returns-clause-writes_are_allowed g c =
-    let o = c.run_events.result in
-    let keys : Policies = policies_of g.H.HeaderKey.protection g.K.PacketKey.aead g.R.Rng.stream c.args.ends in
-    let r : Run = run_of keys (windows_of g.C.Controller.steps g.C.Controller.window_of) c.args.ends c.args.events.now o.answers.items o.views.items o.given in
-    λ honest. c.writes_are_allowed.ensures r (world_of (windows_of g.C.Controller.steps g.C.Controller.window_of) o.ends o.given) honest (record { codes = c.show_codes.ensures; follows = c.run_events.ensures.follows; from_client = refl; from_server = refl })
-
-pub returns-clause-resets_are_allowed : goal.returns-clause-resets_are_allowed
-returns-clause-resets_are_allowed g c =
-    let o = c.run_events.result in
-    let keys : Policies = policies_of g.H.HeaderKey.protection g.K.PacketKey.aead g.R.Rng.stream c.args.ends in
-    let r : Run = run_of keys (windows_of g.C.Controller.steps g.C.Controller.window_of) c.args.ends c.args.events.now o.answers.items o.views.items o.given in
-    λ honest. c.resets_are_allowed.ensures r (world_of (windows_of g.C.Controller.steps g.C.Controller.window_of) o.ends o.given) honest (record { codes = c.show_codes.ensures; follows = c.run_events.ensures.follows; from_client = refl; from_server = refl })
-
-pub returns-clause-controllers_are_told : goal.returns-clause-controllers_are_told
-returns-clause-controllers_are_told g c =
-    let o = c.run_events.result in
-    let keys : Policies = policies_of g.H.HeaderKey.protection g.K.PacketKey.aead g.R.Rng.stream c.args.ends in
-    let r : Run = run_of keys (windows_of g.C.Controller.steps g.C.Controller.window_of) c.args.ends c.args.events.now o.answers.items o.views.items o.given in
-    λ honest. c.controllers_are_told.ensures r (world_of (windows_of g.C.Controller.steps g.C.Controller.window_of) o.ends o.given) honest (record { codes = c.show_codes.ensures; follows = c.run_events.ensures.follows; from_client = refl; from_server = refl })
-
-pub returns-clause-messages_go : goal.returns-clause-messages_go
-returns-clause-messages_go g c =
-    let o = c.run_events.result in
-    let keys : Policies = policies_of g.H.HeaderKey.protection g.K.PacketKey.aead g.R.Rng.stream c.args.ends in
-    let r : Run = run_of keys (windows_of g.C.Controller.steps g.C.Controller.window_of) c.args.ends c.args.events.now o.answers.items o.views.items o.given in
-    λ honest. c.messages_go.ensures r (world_of (windows_of g.C.Controller.steps g.C.Controller.window_of) o.ends o.given) honest (record { codes = c.show_codes.ensures; follows = c.run_events.ensures.follows; from_client = refl; from_server = refl })
-
-pub returns-clause-messages_go_in_order : goal.returns-clause-messages_go_in_order
-returns-clause-messages_go_in_order g c =
-    let o = c.run_events.result in
-    let keys : Policies = policies_of g.H.HeaderKey.protection g.K.PacketKey.aead g.R.Rng.stream c.args.ends in
-    let r : Run = run_of keys (windows_of g.C.Controller.steps g.C.Controller.window_of) c.args.ends c.args.events.now o.answers.items o.views.items o.given in
-    λ honest. c.messages_go_in_order.ensures r (world_of (windows_of g.C.Controller.steps g.C.Controller.window_of) o.ends o.given) honest (record { codes = c.show_codes.ensures; follows = c.run_events.ensures.follows; from_client = refl; from_server = refl })
-
-pub returns-clause-each_waited : goal.returns-clause-each_waited
-returns-clause-each_waited g c =
-    let o = c.run_events.result in
-    let keys : Policies = policies_of g.H.HeaderKey.protection g.K.PacketKey.aead g.R.Rng.stream c.args.ends in
-    let r : Run = run_of keys (windows_of g.C.Controller.steps g.C.Controller.window_of) c.args.ends c.args.events.now o.answers.items o.views.items o.given in
-    λ honest. c.each_waited.ensures r (world_of (windows_of g.C.Controller.steps g.C.Controller.window_of) o.ends o.given) honest (record { codes = c.show_codes.ensures; follows = c.run_events.ensures.follows; from_client = refl; from_server = refl })
-
-pub returns-clause-waiting_begins : goal.returns-clause-waiting_begins
-returns-clause-waiting_begins g c =
-    let o = c.run_events.result in
-    let keys : Policies = policies_of g.H.HeaderKey.protection g.K.PacketKey.aead g.R.Rng.stream c.args.ends in
-    let r : Run = run_of keys (windows_of g.C.Controller.steps g.C.Controller.window_of) c.args.ends c.args.events.now o.answers.items o.views.items o.given in
-    λ honest. c.waiting_begins.ensures r (world_of (windows_of g.C.Controller.steps g.C.Controller.window_of) o.ends o.given) honest (record { codes = c.show_codes.ensures; follows = c.run_events.ensures.follows; from_client = refl; from_server = refl })
-
-pub returns-clause-pacer_is_of_history : goal.returns-clause-pacer_is_of_history
-returns-clause-pacer_is_of_history g c =
-    let o = c.run_events.result in
-    let keys : Policies = policies_of g.H.HeaderKey.protection g.K.PacketKey.aead g.R.Rng.stream c.args.ends in
-    let r : Run = run_of keys (windows_of g.C.Controller.steps g.C.Controller.window_of) c.args.ends c.args.events.now o.answers.items o.views.items o.given in
-    λ honest. c.pacer_is_of_history.ensures r (world_of (windows_of g.C.Controller.steps g.C.Controller.window_of) o.ends o.given) honest (record { codes = c.show_codes.ensures; follows = c.run_events.ensures.follows; from_client = refl; from_server = refl })
-
-pub returns-clause-messages_are_told : goal.returns-clause-messages_are_told
-returns-clause-messages_are_told g c =
-    let o = c.run_events.result in
-    let keys : Policies = policies_of g.H.HeaderKey.protection g.K.PacketKey.aead g.R.Rng.stream c.args.ends in
-    let r : Run = run_of keys (windows_of g.C.Controller.steps g.C.Controller.window_of) c.args.ends c.args.events.now o.answers.items o.views.items o.given in
-    λ honest. c.messages_are_told.ensures r (world_of (windows_of g.C.Controller.steps g.C.Controller.window_of) o.ends o.given) honest (record { codes = c.show_codes.ensures; follows = c.run_events.ensures.follows; from_client = refl; from_server = refl })
-
-pub returns-clause-openings_are_told : goal.returns-clause-openings_are_told
-returns-clause-openings_are_told g c =
-    let o = c.run_events.result in
-    let keys : Policies = policies_of g.H.HeaderKey.protection g.K.PacketKey.aead g.R.Rng.stream c.args.ends in
-    let r : Run = run_of keys (windows_of g.C.Controller.steps g.C.Controller.window_of) c.args.ends c.args.events.now o.answers.items o.views.items o.given in
-    λ honest. c.openings_are_told.ensures r (world_of (windows_of g.C.Controller.steps g.C.Controller.window_of) o.ends o.given) honest (record { codes = c.show_codes.ensures; follows = c.run_events.ensures.follows; from_client = refl; from_server = refl })
-
-pub returns-clause-readables_are_told : goal.returns-clause-readables_are_told
-returns-clause-readables_are_told g c =
-    let o = c.run_events.result in
-    let keys : Policies = policies_of g.H.HeaderKey.protection g.K.PacketKey.aead g.R.Rng.stream c.args.ends in
-    let r : Run = run_of keys (windows_of g.C.Controller.steps g.C.Controller.window_of) c.args.ends c.args.events.now o.answers.items o.views.items o.given in
-    λ honest. c.readables_are_told.ensures r (world_of (windows_of g.C.Controller.steps g.C.Controller.window_of) o.ends o.given) honest (record { codes = c.show_codes.ensures; follows = c.run_events.ensures.follows; from_client = refl; from_server = refl })
-
-pub returns-clause-writables_are_told : goal.returns-clause-writables_are_told
-returns-clause-writables_are_told g c =
-    let o = c.run_events.result in
-    let keys : Policies = policies_of g.H.HeaderKey.protection g.K.PacketKey.aead g.R.Rng.stream c.args.ends in
-    let r : Run = run_of keys (windows_of g.C.Controller.steps g.C.Controller.window_of) c.args.ends c.args.events.now o.answers.items o.views.items o.given in
-    λ honest. c.writables_are_told.ensures r (world_of (windows_of g.C.Controller.steps g.C.Controller.window_of) o.ends o.given) honest (record { codes = c.show_codes.ensures; follows = c.run_events.ensures.follows; from_client = refl; from_server = refl })
+    let end : World = world_of (windows_of g.C.Controller.steps g.C.Controller.window_of) o.ends o.given in
+    let is : IsRun r end = record { codes = c.show_codes.ensures; follows = c.run_events.ensures.follows; from_client = refl; from_server = refl } in
+    record {
+      isolated = c.isolated.ensures r end is;
+      isolated_by_answers = c.isolated_by_answers.ensures r end is;
+      isolated_by_lists = λ started. c.isolated_by_lists.ensures r end started is;
+    }

@@ -1,13 +1,13 @@
 use Rattle.std.proofs.Common.{rules, ◌≡◌, length, Some, arith, refl, sym, ◌∙◌}
-use Rattle.std.specs.Prelude.{slice_get, vec_len, vec_capacity}
+use Rattle.std.specs.Prelude.{slice_get}
 use Rattle.std.proofs.lemmas.Option.{slice_get_read}
 use Rattle.std.proofs.lemmas.Grind.{common_steps}
-use Rattle.quic_connection_core.specs.Telling.{windows_of}
+use Rattle.quic_connection_parts.specs.Telling.{windows_of}
 use Rattle.quic_connection.specs.Ends.{world_of, policies_of}
-use Rattle.quic_connection.proofs.Runs.{follows_goes_on, reserved}
+use Rattle.quic_connection.proofs.Runs.{follows_goes_on}
 use Rattle.quic_connection.specs.GoingOn.{go_same, go_then, are_own, are_on}
 use Rattle.quic_connection.proofs.running.run_events.Goals as goal
-use Rattle.quic_connection.proofs.running.run_events.Goals.{else-loop-event-test, then-loop-event-test+then-is_err, then-is_err-via-then-is_err, then-is_err-via-else-is_err+then-is_err-2, then-loop-event-test+else-is_err+else-is_err-2+in_default}
+use Rattle.quic_connection.proofs.running.run_events.Goals.{else-loop-event-test, then-loop-event-test+in_default, then-loop-event-test+in-Ok+in_default-step}
 
 pub loop-event-init : goal.loop-event-init
 loop-event-init g c = record {
@@ -21,16 +21,20 @@ pub loop-event-preserved : goal.loop-event-preserved
 loop-event-preserved g c =
     let inv = c.loop-event.invariant in
     let stream = g.R.Rng.stream in
-    let own = policies_of g.H.HeaderKey.protection g.K.PacketKey.aead stream c.args.ends in
+    let protection = g.H.HeaderKey.protection in
+    let aead = g.K.PacketKey.aead in
+    let seals = g.K.PacketKey.seal_limit in
+    let openings = g.K.PacketKey.refusal_limit in
+    let own = policies_of protection aead seals openings stream c.args.ends in
     let at : slice_get c.args.events.now (length c.loop-event.answers.items) ≡ Some c.event-item.result =
     rw inv.count (slice_get_read c.args.events.now (length c.args.events.now) c.loop-event.event-index c.event-item.result refl c.loop-event-test.true c.event-item.is) in
     record {
       follows =
           follows_goes_on _ _ _ c.loop-event.answers.items c.loop-event.views.items (world_of (windows_of g.C.Controller.steps g.C.Controller.window_of) c.loop-event.ends c.loop-event.given)
-          c.event-item.result c.in-Ok.answer (world_of (windows_of g.C.Controller.steps g.C.Controller.window_of) c.step.new.ends c.step.new.given) _ _
+          c.event-item.result c.in-Ok-step.answer (world_of (windows_of g.C.Controller.steps g.C.Controller.window_of) c.step.new.ends c.step.new.given) _ _
           inv.follows at
-          (c.in-Ok.ensures.step own
-          (are_on g.H.HeaderKey.protection g.K.PacketKey.aead stream own c.args.ends c.loop-event.ends (are_own g.H.HeaderKey.protection g.K.PacketKey.aead stream c.args.ends) inv.goes_on))
+          (c.in-Ok-step.ensures.step own
+          (are_on protection aead seals openings stream own c.args.ends c.loop-event.ends (are_own protection aead seals openings stream c.args.ends) inv.goes_on))
           (search rules)
           (let seen = c.view.ensures c.step.new.given in cc (seen, c.push_reserved-in-loop-event.ensures.items));
       count = grind (arith, common_steps);
@@ -38,23 +42,52 @@ loop-event-preserved g c =
       goes_on = go_then stream c.args.ends c.loop-event.ends c.step.new.ends inv.goes_on c.step.ensures.goes_on;
     }
 
-pub push_reserved-requires : goal.push_reserved-requires
-push_reserved-requires g c =
-    let v = c.reserve.new.self in
-    reserved c.reserve.result (vec_len v) (vec_capacity v) (sym c.is_err.ensures.value ∙ c.if-is_err.false) c.reserve.ensures.ok
+pub view-requires-clause-client_room : goal.view-requires-clause-client_room
+view-requires-clause-client_room g c =
+    let stream = g.R.Rng.stream in
+    let protection = g.H.HeaderKey.protection in
+    let aead = g.K.PacketKey.aead in
+    let seals = g.K.PacketKey.seal_limit in
+    let openings = g.K.PacketKey.refusal_limit in
+    let own = policies_of protection aead seals openings stream c.args.ends in
+    let keys = c.args.ends.client.keys in
+    let rooms = rw c.in-Ok.is at c.make_room-made.ensures.client_room in
+    rooms own (g.met.H.HeaderKey.shows_length keys.header.remote) (g.met.K.PacketKey.opens_no_more keys.packet.remote) c.in-Ok-step.answer
+    (world_of (windows_of g.C.Controller.steps g.C.Controller.window_of) c.step.new.ends c.step.new.given)
+    (c.in-Ok-step.ensures.step own
+    (are_on protection aead seals openings stream own c.args.ends c.loop-event.ends (are_own protection aead seals openings stream c.args.ends) c.loop-event.invariant.goes_on))
 
-pub push_reserved-requires-in-loop-event : goal.push_reserved-requires-in-loop-event
-push_reserved-requires-in-loop-event g c =
-    let v = c.reserve-else-is_err.new.self in
-    reserved c.reserve-else-is_err.result (vec_len v) (vec_capacity v) (sym c.is_err-else-is_err.ensures.value ∙ c.if-is_err-2.false) c.reserve-else-is_err.ensures.ok
+pub view-requires-clause-server_room : goal.view-requires-clause-server_room
+view-requires-clause-server_room g c =
+    let stream = g.R.Rng.stream in
+    let protection = g.H.HeaderKey.protection in
+    let aead = g.K.PacketKey.aead in
+    let seals = g.K.PacketKey.seal_limit in
+    let openings = g.K.PacketKey.refusal_limit in
+    let own = policies_of protection aead seals openings stream c.args.ends in
+    let keys = c.args.ends.server.keys in
+    let rooms = rw c.in-Ok.is at c.make_room-made.ensures.server_room in
+    rooms own (g.met.H.HeaderKey.shows_length keys.header.remote) (g.met.K.PacketKey.opens_no_more keys.packet.remote) c.in-Ok-step.answer
+    (world_of (windows_of g.C.Controller.steps g.C.Controller.window_of) c.step.new.ends c.step.new.given)
+    (c.in-Ok-step.ensures.step own
+    (are_on protection aead seals openings stream own c.args.ends c.loop-event.ends (are_own protection aead seals openings stream c.args.ends) c.loop-event.invariant.goes_on))
+
+pub returns-clause-whole : goal.returns-clause-whole
+returns-clause-whole g c = λ whole.
+    let inv = c.loop-event.invariant in
+    elim c.loop-event-test.branch [
+      | else-loop-event-test w ↦ search rules
+      | then-loop-event-test+in_default w ↦ let is = w.cut_short-is in cc
+      | then-loop-event-test+in-Ok+in_default-step w ↦ let is = w.cut_short-is in cc
+    ]
 
 pub returns-clause-stopped : goal.returns-clause-stopped
 returns-clause-stopped g c = λ short.
     let inv = c.loop-event.invariant in
     elim c.loop-event-test.branch [
       | else-loop-event-test w ↦ let is = w.cut_short-is in let going = inv.is_whole in cc
-      | then-loop-event-test+then-is_err w ↦ rw (w.answers-is, w.reserve.ensures.items, inv.count) w.loop-event-test.true
-      | then-loop-event-test+else-is_err+else-is_err-2+in_default w ↦ rw (w.answers-is, w.reserve.ensures.items, inv.count) w.loop-event-test.true
+      | then-loop-event-test+in_default w ↦ rw (w.answers-is, w.make_room-made.ensures.answers, inv.count) w.loop-event-test.true
+      | then-loop-event-test+in-Ok+in_default-step w ↦ rw (w.answers-is, w.make_room-made.ensures.answers, inv.count) w.loop-event-test.true
     ]
 
 pub returns-clause-goes_on : goal.returns-clause-goes_on
@@ -62,8 +95,8 @@ returns-clause-goes_on g c =
     let inv = c.loop-event.invariant in
     elim c.loop-event-test.branch [
       | else-loop-event-test w ↦ rw w.ends-is inv.goes_on
-      | then-loop-event-test+then-is_err w ↦ rw w.ends-is inv.goes_on
-      | then-loop-event-test+else-is_err+else-is_err-2+in_default w ↦ rw w.ends-is (go_then _ _ _ _ inv.goes_on w.step.ensures.goes_on)
+      | then-loop-event-test+in_default w ↦ rw w.ends-is inv.goes_on
+      | then-loop-event-test+in-Ok+in_default-step w ↦ rw w.ends-is (go_then _ _ _ _ inv.goes_on w.step.ensures.goes_on)
     ]
 
 pub returns-clause-follows : goal.returns-clause-follows
@@ -71,9 +104,6 @@ returns-clause-follows g c =
     let inv = c.loop-event.invariant in
     elim c.loop-event-test.branch [
       | else-loop-event-test w ↦ rw (w.ends-is, w.given-is, w.answers-is, w.views-is) inv.follows
-      | then-loop-event-test+then-is_err w ↦ elim w.then-is_err.branch [
-        | then-is_err-via-then-is_err x ↦ rw (w.ends-is, w.given-is, w.answers-is, w.reserve.ensures.items, w.views-is, x.views-is) inv.follows
-        | then-is_err-via-else-is_err+then-is_err-2 x ↦ rw (w.ends-is, w.given-is, w.answers-is, w.reserve.ensures.items, w.views-is, x.views-is, x.reserve-else-is_err.ensures.items) inv.follows
-      ]
-      | then-loop-event-test+else-is_err+else-is_err-2+in_default w ↦ search rules
+      | then-loop-event-test+in_default w ↦ rw (w.ends-is, w.given-is, w.answers-is, w.make_room-made.ensures.answers, w.views-is, w.make_room-made.ensures.views) inv.follows
+      | then-loop-event-test+in-Ok+in_default-step w ↦ search rules
     ]

@@ -14,7 +14,7 @@ poll_once-requires-clause-opened g c = c.are_open.ensures.opened c.if-are_open.t
 pub returns-in_err-poll_once-clause-cut : goal.returns-in_err-poll_once-clause-cut
 returns-in_err-poll_once-clause-cut g c =
     let inv = c.loop-left.invariant in
-    on_err c.from_residual.result (λ before k are. cut_behind _ _ _ _ _ _ _ _ _ _ (inv.talks before k are) (c.in_err-poll_once.ensures.cut k (are_on _ _ _ k _ _ are inv.goes_on)))
+    on_err c.from_residual.result (λ before k are. cut_behind _ _ _ _ _ _ _ _ _ _ (inv.talks before k are) (c.in_err-poll_once.ensures.cut k (are_on _ _ _ _ _ k _ _ are inv.goes_on)))
 
 pub returns-in_err-poll_once-clause-goes_on : goal.returns-in_err-poll_once-clause-goes_on
 returns-in_err-poll_once-clause-goes_on g c = go_then _ _ _ _ c.loop-left.invariant.goes_on c.poll_once.ensures.goes_on
@@ -24,7 +24,7 @@ returns-then-not-branch-clause-talks g c = λ before k are.
     let inv = c.loop-left.invariant in
     let polled = c.in_ok-poll_once.ensures in
     talks_on _ _ _ _ _ _ _ _ _ _ _ _ _ (inv.talks before k are)
-    (talks_polled _ _ _ _ _ _ c.args.side (before || c.loop-left.gave) false _ c.if-not-branch.true polled.less (polled.polled k (are_on _ _ _ k _ _ are inv.goes_on)))
+    (talks_polled _ _ _ _ _ _ c.args.side (before || c.loop-left.gave) false _ c.if-not-branch.true polled.less (polled.polled k (are_on _ _ _ _ _ k _ _ are inv.goes_on)))
 
 pub returns-then-not-branch-clause-less : goal.returns-then-not-branch-clause-less
 returns-then-not-branch-clause-less g c = let one = c.in_ok-poll_once.ensures.less in let fewer = c.loop-left.invariant.fewer in omega arith
@@ -38,7 +38,7 @@ loop-left-preserved g c =
     let polled = c.in_ok-poll_once.ensures in
     record {
       talks = λ before k are. rw (or_some before) (talks_on _ _ _ _ _ _ _ _ _ _ _ _ _ (inv.talks before k are)
-          (talks_polled _ _ _ _ _ _ c.args.side (before || c.loop-left.gave) true _ c.if-not-branch.false polled.less (polled.polled k (are_on _ _ _ k _ _ are inv.goes_on))));
+          (talks_polled _ _ _ _ _ _ c.args.side (before || c.loop-left.gave) true _ c.if-not-branch.false polled.less (polled.polled k (are_on _ _ _ _ _ k _ _ are inv.goes_on))));
       goes_on = go_then _ _ _ _ inv.goes_on c.poll_once.ensures.goes_on;
       fewer = let one = polled.less in let fewer = inv.fewer in omega arith;
     }

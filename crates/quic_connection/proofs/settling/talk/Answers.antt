@@ -10,7 +10,7 @@ loop-ends-init g c = record { talks = λ k are. talks_none _ _ _ _ _; goes_on = 
 pub returns-in_err-round-clause-cut : goal.returns-in_err-round-clause-cut
 returns-in_err-round-clause-cut g c =
     let inv = c.loop-ends.invariant in
-    on_err c.from_residual.result (λ k are. cut_off_behind _ _ _ _ _ _ _ _ _ _ (inv.talks k are) (c.in_err-round.ensures.cut k (are_on _ _ _ k _ _ are inv.goes_on)))
+    on_err c.from_residual.result (λ k are. cut_off_behind _ _ _ _ _ _ _ _ _ _ (inv.talks k are) (c.in_err-round.ensures.cut k (are_on _ _ _ _ _ k _ _ are inv.goes_on)))
 
 pub returns-in_err-round-clause-goes_on : goal.returns-in_err-round-clause-goes_on
 returns-in_err-round-clause-goes_on g c = go_then _ _ _ _ c.loop-ends.invariant.goes_on c.round.ensures.goes_on
@@ -19,7 +19,7 @@ pub returns-in-None-clause-stops : goal.returns-in-None-clause-stops
 returns-in-None-clause-stops g c = λ gave_up k are.
     let inv = c.loop-ends.invariant in
     let stops = rw c.in-None.is at c.in_ok-round.ensures.stops in
-    leads_on _ _ _ _ _ _ _ _ _ _ _ _ (inv.talks k are) (stops k (are_on _ _ _ k _ _ are inv.goes_on))
+    leads_on _ _ _ _ _ _ _ _ _ _ _ _ (inv.talks k are) (stops k (are_on _ _ _ _ _ k _ _ are inv.goes_on))
 
 pub returns-in-None-clause-goes_on : goal.returns-in-None-clause-goes_on
 returns-in-None-clause-goes_on g c = go_then _ _ _ _ c.loop-ends.invariant.goes_on c.round.ensures.goes_on
@@ -30,7 +30,7 @@ loop-ends-preserved g c =
     let round = rw c.in-Some-true.is at c.in_ok-round.ensures.talks in
     let rounds = rw c.in-Some-true.field-0-test at round in
     record {
-      talks = λ k are. talks_on _ _ _ _ _ _ _ _ _ _ _ _ _ (inv.talks k are) (rounds k (are_on _ _ _ k _ _ are inv.goes_on));
+      talks = λ k are. talks_on _ _ _ _ _ _ _ _ _ _ _ _ _ (inv.talks k are) (rounds k (are_on _ _ _ _ _ k _ _ are inv.goes_on));
       goes_on = go_then _ _ _ _ inv.goes_on c.round.ensures.goes_on;
       fewer = let one = rw c.in-Some-true.is at c.in_ok-round.ensures.less in let fewer = inv.fewer in omega arith;
     }
@@ -40,14 +40,14 @@ returns-in-Some-false-clause-talks g c = λ ok k are.
     let inv = c.loop-ends.invariant in
     let round = rw c.in-Some-false.is at c.in_ok-round.ensures.talks in
     let rounds = rw c.in-Some-false.field-0-test at round in
-    talks_on _ _ _ _ _ _ _ _ _ _ _ _ _ (inv.talks k are) (rounds k (are_on _ _ _ k _ _ are inv.goes_on))
+    talks_on _ _ _ _ _ _ _ _ _ _ _ _ _ (inv.talks k are) (rounds k (are_on _ _ _ _ _ k _ _ are inv.goes_on))
 
 pub returns-in-Some-false-clause-stops : goal.returns-in-Some-false-clause-stops
 returns-in-Some-false-clause-stops g c = λ ok k are.
     let inv = c.loop-ends.invariant in
     let round = rw c.in-Some-false.is at c.in_ok-round.ensures.talks in
     let rounds = rw c.in-Some-false.field-0-test at round in
-    record { end = quiet; talks = talks_on _ _ _ _ _ _ _ _ _ _ _ _ _ (inv.talks k are) (rounds k (are_on _ _ _ k _ _ are inv.goes_on)) }
+    record { end = quiet; talks = talks_on _ _ _ _ _ _ _ _ _ _ _ _ _ (inv.talks k are) (rounds k (are_on _ _ _ _ _ k _ _ are inv.goes_on)) }
 
 pub returns-in-Some-false-clause-less : goal.returns-in-Some-false-clause-less
 returns-in-Some-false-clause-less g c = λ ok. (let one = rw c.in-Some-false.is at c.in_ok-round.ensures.less in let fewer = c.loop-ends.invariant.fewer in omega arith)

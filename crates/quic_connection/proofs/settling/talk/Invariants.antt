@@ -1,14 +1,14 @@
 use Rattle.std.proofs.Common.{◌≤◌, false}
 use Rattle.quic_wire_core.specs.declared.stream_id.Side.TheVariants.{Client}
 use Rattle.quic_machine.specs.Machine.{Policies}
-use Rattle.quic_connection_core.specs.Telling.{windows_of}
+use Rattle.quic_connection_parts.specs.Telling.{windows_of}
 use Rattle.quic_connection.specs.Ends.{world_of, AreOf, GoOn}
 use Rattle.quic_connection.specs.Settled.{Talks, asks}
 use Rattle.quic_connection.proofs.settling.talk.Given as goal
 
 abbrev pub invariant-loop-ends : goal.invariant-loop-ends
 invariant-loop-ends g l = record {
-  talks : (k : Policies) → AreOf k g.H.HeaderKey.protection g.K.PacketKey.aead g.R.Rng.stream l.fn.ends
+  talks : (k : Policies) → AreOf k g.H.HeaderKey.protection g.K.PacketKey.aead g.K.PacketKey.seal_limit g.K.PacketKey.refusal_limit g.R.Rng.stream l.fn.ends
       → Talks k l.now l.now (asks Client false) (asks Client false) l.fn.left l.left (world_of (windows_of g.C.Controller.steps g.C.Controller.window_of) l.fn.ends l.fn.given) (world_of (windows_of g.C.Controller.steps g.C.Controller.window_of) l.ends l.given);
   goes_on : GoOn g.R.Rng.stream l.fn.ends l.ends;
   fewer : l.left ≤ l.fn.left;

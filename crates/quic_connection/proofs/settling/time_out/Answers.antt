@@ -1,4 +1,4 @@
-use Rattle.quic_connection_core.specs.Telling.{windows_of}
+use Rattle.quic_connection_parts.specs.Telling.{windows_of}
 use Rattle.quic_connection.specs.Ends.{world_of}
 use Rattle.quic_connection.specs.GoingOn.{go_then, are_on}
 use Rattle.quic_connection.proofs.settling.time_out.Goals as goal
@@ -9,7 +9,7 @@ returns-clause-handled g c = λ k are. record {
   middle = world_of (windows_of g.C.Controller.steps g.C.Controller.window_of) c.step.new.ends c.step.new.given;
   client = c.in_ok-step.ensures.step k are;
   server_answer = c.in_ok-step-2.field-0;
-  server = c.in_ok-step-2.ensures.step k (are_on _ _ _ k _ _ are c.step.ensures.goes_on);
+  server = c.in_ok-step-2.ensures.step k (are_on _ _ _ _ _ k _ _ are c.step.ensures.goes_on);
 }
 
 pub returns-clause-goes_on : goal.returns-clause-goes_on

@@ -1,6 +1,6 @@
 use Rattle.std.proofs.Common.{ap, ◌∙◌, arith}
 use Rattle.quic_wire_core.specs.declared.stream_id.Side.{Side}
-use Rattle.quic_run_core.specs.KeysOf.{keys_of}
+use Rattle.quic_keys.specs.KeysOf.{keys_of}
 use Rattle.quic_run_core.proofs.Showing.{opening_at-packet, opening_at-short}
 use Rattle.quic_run_core.proofs.show.open_in_place.Goals as goal
 

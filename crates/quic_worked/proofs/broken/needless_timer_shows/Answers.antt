@@ -1,5 +1,5 @@
 use Rattle.quic_worked.proofs.BrokenClauses.{never_stops}
-use Rattle.quic_worked.proofs.BrokenRuns.{never_needless}
+use Rattle.quic_worked.proofs.TimedEnds.{never_needless}
 use Rattle.quic_worked.proofs.broken.needless_timer_shows.Goals as goal
 
 pub returns : goal.returns

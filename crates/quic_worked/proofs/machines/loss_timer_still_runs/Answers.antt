@@ -1,4 +1,5 @@
-use Rattle.quic_worked.proofs.WrongRuns.{late_follows, never_late}
+use Rattle.quic_worked.proofs.TimedEnds.{never_late}
+use Rattle.quic_worked.proofs.WrongRuns.{late_follows}
 use Rattle.quic_worked.proofs.machines.loss_timer_still_runs.Goals as goal
 
 pub returns : goal.returns

@@ -1,4 +1,5 @@
-use Rattle.quic_worked.proofs.MeasuredRun.{cleared_not, never_shows_cleared, cleared_follows, cleared_leads}
+use Rattle.quic_worked.proofs.MeasuredRun.{cleared_not, never_shows_cleared, cleared_follows}
+use Rattle.quic_worked.proofs.TimedEnds.{cleared_leads}
 use Rattle.quic_worked.proofs.measured.cleared_timer_shows.Goals as goal
 
 pub returns : goal.returns

@@ -2,7 +2,7 @@ use Rattle.std.proofs.Common.{ap, ◌∙◌}
 use Rattle.quic_machine.specs.End.{with_end, with_tracking}
 use Rattle.quic_congestion.specs.Search.{open_probe}
 use Rattle.quic_machine.specs.Tracking.{loss_time_of, lost_by}
-use Rattle.quic_connection_core.specs.Losses.{all_lost}
+use Rattle.quic_connection_parts.specs.Losses.{all_lost}
 use Rattle.quic_connection_core.proofs.Losses.{detects}
 use Rattle.quic_connection_core.proofs.connection.Connection.detect_lost_packets.Goals as goal
 

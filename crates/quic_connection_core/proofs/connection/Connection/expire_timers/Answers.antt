@@ -1,28 +1,63 @@
-use Rattle.std.proofs.Common.{◌≡◌, Bool, true, false, refl, ap, ◌∙◌}
+use Rattle.std.proofs.Common.{rules, ◌≡◌, true, false, refl, sym, ap, ◌∙◌}
+use Rattle.std.specs.Prelude.{if◌then◌else◌}
 use Rattle.quic_time.specs.Timers.{has_come}
-use Rattle.quic_machine.specs.End.{End, with_end, with_loss_timer}
-use Rattle.quic_machine.specs.Timeouts.{loss_expired, acks_expired, pacing_expired, told_expired}
-use Rattle.quic_connection_core.specs.Telling.{telling}
-use Rattle.quic_connection_core.proofs.Lost.{loss_expired_keeps}
+use Rattle.quic_machine.specs.declared.answers.LostReason.TheVariants as reasons
+use Rattle.quic_machine.specs.End.{with_end, with_loss_timer, drained_by}
+use Rattle.quic_machine.specs.Timeouts.{told_expired}
+use Rattle.quic_connection_core.proofs.Expiries.{alive_step, pacing_step, acks_step, steps_behind_path, idle_is, idles, idles_draw, busy, draws}
 use Rattle.quic_connection_core.proofs.connection.Connection.expire_timers.Goals as goal
 
--- the timer of acknowledgements changes neither that of the pacer nor the clock
-pacing_behind : (b : Bool) (e : End) → pacing_expired (has_come (acks_expired b e).timers.pacing (acks_expired b e).closing.clock) (acks_expired b e) ≡ pacing_expired (has_come e.timers.pacing e.closing.clock) (acks_expired b e)
-pacing_behind true e = refl
-pacing_behind false e = refl
+-- ---- the idle timeout is over
+
+pub returns-then-expire_idle_timer-clause-ok : goal.returns-then-expire_idle_timer-clause-ok
+returns-then-expire_idle_timer-clause-ok g c =
+    let w = c.args.self.now in
+    let first = c.expire_loss_timer.new.self in
+    let came = has_come w.end.timers.loss_detection w.end.closing.clock in
+    let left = c.in_ok-expire_loss_timer.ensures.ok in
+    let over : has_come first.end.timers.idle first.end.closing.clock ≡ true = sym c.expire_idle_timer.ensures.expired ∙ c.if-expire_idle_timer.true in
+    let drains = c.expire_idle_timer.ensures.end ∙ ap (λ b. with_end first (if b then drained_by reasons.Idle first.end else first.end)) over in
+    idles g.C.Controller.steps g.R.Rng.stream w first (told_expired came w.end) came left refl (sym (idle_is g.C.Controller.steps g.R.Rng.stream w first (told_expired came w.end) came left) ∙ over) c.expire_idle_timer.new.self drains
+
+pub returns-then-expire_idle_timer-clause-random : goal.returns-then-expire_idle_timer-clause-random
+returns-then-expire_idle_timer-clause-random g c =
+    let w = c.args.self.now in
+    let first = c.expire_loss_timer.new.self in
+    let came = has_come w.end.timers.loss_detection w.end.closing.clock in
+    let left = c.in_ok-expire_loss_timer.ensures.ok in
+    let over : has_come first.end.timers.idle first.end.closing.clock ≡ true = sym c.expire_idle_timer.ensures.expired ∙ c.if-expire_idle_timer.true in
+    let drains = c.expire_idle_timer.ensures.end ∙ ap (λ b. with_end first (if b then drained_by reasons.Idle first.end else first.end)) over in
+    idles_draw g.C.Controller.steps g.R.Rng.stream w first (told_expired came w.end) came left c.expire_idle_timer.new.self drains
+
+-- ---- the others may expire
 
 pub returns-clause-ok : goal.returns-clause-ok
 returns-clause-ok g c =
-    let now = c.args.self.now in
-    let steps = g.C.Controller.steps in
-    let came = has_come now.end.timers.loss_detection now.end.closing.clock in
-    let told = told_expired came now.end in
-    let left = loss_expired came now.end in
-    let keeps = loss_expired_keeps came now.end in
-    c.set_loss_timer.ensures
-    ∙ ap (λ w. with_end w (with_loss_timer w.end)) c.expire_pacing_timer.ensures
-    ∙ ap (λ w. with_end w (with_loss_timer (pacing_expired (has_come w.end.timers.pacing w.end.closing.clock) w.end))) c.expire_ack_timer.ensures
-    ∙ ap (λ w. with_end w (with_loss_timer (pacing_expired (has_come (acks_expired (has_come w.end.timers.max_ack_delay w.end.closing.clock) w.end).timers.pacing (acks_expired (has_come w.end.timers.max_ack_delay w.end.closing.clock) w.end).closing.clock) (acks_expired (has_come w.end.timers.max_ack_delay w.end.closing.clock) w.end)))) c.in_ok-expire_loss_timer.ensures.ok
-    ∙ ap (λ x. telling steps now told (with_loss_timer x)) (pacing_behind (has_come left.timers.max_ack_delay left.closing.clock) left)
-    ∙ ap (λ t. telling steps now told (with_loss_timer (pacing_expired (has_come t.pacing left.closing.clock) (acks_expired (has_come t.max_ack_delay left.closing.clock) left)))) keeps.timers
-    ∙ ap (λ k. telling steps now told (with_loss_timer (pacing_expired (has_come now.end.timers.pacing k.clock) (acks_expired (has_come now.end.timers.max_ack_delay k.clock) left)))) keeps.closing
+    let w = c.args.self.now in
+    let lost = c.expire_loss_timer.new.self in
+    let first = c.expire_idle_timer.new.self in
+    let came = has_come w.end.timers.loss_detection w.end.closing.clock in
+    let left = c.in_ok-expire_loss_timer.ensures.ok in
+    let not_over : has_come lost.end.timers.idle lost.end.closing.clock ≡ false = sym c.expire_idle_timer.ensures.expired ∙ c.if-expire_idle_timer.false in
+    let stays = c.expire_idle_timer.ensures.end ∙ ap (λ b. with_end lost (if b then drained_by reasons.Idle lost.end else lost.end)) not_over in
+    let steps = c.set_loss_timer.ensures
+    ∙ ap (λ x. with_end x (with_loss_timer x.end)) c.expire_ack_timer.ensures
+    ∙ ap (λ x. with_end x (with_loss_timer (acks_step x.end))) c.expire_pacing_timer.ensures
+    ∙ ap (λ x. with_end x (with_loss_timer (acks_step (pacing_step x.end)))) c.expire_keep_alive_timer.ensures in
+    busy g.C.Controller.steps g.R.Rng.stream w first (told_expired came w.end) came (stays ∙ left) c.expire_path_timer.new.self c.set_loss_timer.new.self c.expire_path_timer.ensures.end steps refl
+    (sym (idle_is g.C.Controller.steps g.R.Rng.stream w lost (told_expired came w.end) came left) ∙ not_over)
+
+pub returns-clause-random : goal.returns-clause-random
+returns-clause-random g c =
+    let w = c.args.self.now in
+    let lost = c.expire_loss_timer.new.self in
+    let first = c.expire_idle_timer.new.self in
+    let came = has_come w.end.timers.loss_detection w.end.closing.clock in
+    let left = c.in_ok-expire_loss_timer.ensures.ok in
+    let not_over : has_come lost.end.timers.idle lost.end.closing.clock ≡ false = sym c.expire_idle_timer.ensures.expired ∙ c.if-expire_idle_timer.false in
+    let stays = c.expire_idle_timer.ensures.end ∙ ap (λ b. with_end lost (if b then drained_by reasons.Idle lost.end else lost.end)) not_over in
+    let steps = c.set_loss_timer.ensures
+    ∙ ap (λ x. with_end x (with_loss_timer x.end)) c.expire_ack_timer.ensures
+    ∙ ap (λ x. with_end x (with_loss_timer (acks_step x.end))) c.expire_pacing_timer.ensures
+    ∙ ap (λ x. with_end x (with_loss_timer (acks_step (pacing_step x.end)))) c.expire_keep_alive_timer.ensures in
+    draws g.C.Controller.steps g.R.Rng.stream w first (told_expired came w.end) came (stays ∙ left) c.expire_path_timer.new.self c.set_loss_timer.new.self c.expire_path_timer.ensures.end steps c.expire_path_timer.ensures.random

@@ -21,9 +21,10 @@ invariant_of-self g c =
       either_way c.maybe_queue_probe.result _ _ _ (λ is. ap (λ (q : Probed). q.space.immediate_ack_pending) is ∙ fills.plain) (λ is. ap (λ s. s.immediate_ack_pending) is ∙ plain) queued.ok queued.err,
       i.1,
       i.2,
+      i.3,
       either_way c.maybe_queue_probe.result _ _ _
-          (λ is. (let space = ap (λ (q : Probed). q.space) is in rw space (probe_flies i_path.generation i_path.in_flight c.self.inside.space c.self.inside.streams.pending c.self.inside.streams.state up i.3)))
-          (λ is. (rw is i.3))
+          (λ is. (let space = ap (λ (q : Probed). q.space) is in rw space (probe_flies i_path.generation i_path.in_flight c.self.inside.space c.self.inside.streams.pending c.self.inside.streams.state up i.4)))
+          (λ is. (rw is i.4))
           queued.ok queued.err,
     )
 

@@ -3,8 +3,8 @@ use Rattle.std.specs.Prelude.{◌==◌}
 use Rattle.std.proofs.lemmas.Bool.{eq-eqb}
 use Rattle.quic_congestion.specs.Search.{Discovery}
 use Rattle.quic_machine.specs.Sizes.{told_if_resized, told_size, shortened, with_searched}
-use Rattle.quic_connection_core.specs.Losses.{asked_if}
-use Rattle.quic_connection_core.specs.Telling.{telling}
+use Rattle.quic_connection_parts.specs.Losses.{asked_if}
+use Rattle.quic_connection_parts.specs.Telling.{telling}
 use Rattle.quic_connection_core.proofs.connection.Connection.judge_size.Goals as goal
 
 -- a size that stays isn't another

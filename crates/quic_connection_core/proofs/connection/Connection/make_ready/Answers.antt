@@ -3,8 +3,8 @@ use Rattle.std.specs.Prelude.{Result, Ok, Err, OnErr}
 use Rattle.quic_machine.specs.End.{with_end}
 use Rattle.quic_machine.specs.Control.{with_pacing_timer}
 use Rattle.quic_machine.specs.Lacking.{MovesRecord}
-use Rattle.quic_machine.specs.Poll.{probed, gated, leaves}
-use Rattle.quic_connection_core.specs.Leaving.{Leaves, rested}
+use Rattle.quic_machine.specs.Poll.{probed, leaves_at}
+use Rattle.quic_connection_parts.specs.Leaving.{Leaves, rested}
 use Rattle.quic_connection_core.proofs.connection.Connection.make_ready.Goals as goal
 
 on_err : {T E P : Type 0} (r : Result T E) → P → OnErr r P
@@ -19,10 +19,10 @@ pub returns-clause-leaving : goal.returns-clause-leaving
 returns-clause-leaving g c =
     let probes : c.queue_probe.new.self ≡ with_end c.tick.new.self (probed (with_pacing_timer c.tick.new.self.end None)) = search rules in
     let is = probes ∙ ap (λ x. with_end x (probed (with_pacing_timer x.end None))) c.tick.ensures in
-    subst (λ x. Leaves c.leaving.result (leaves (gated x.end)).leaving) is c.leaving.ensures.leaving
+    subst (λ x. Leaves c.leaving.result (leaves_at x.end).leaving) is c.leaving.ensures.leaving
 
 pub returns-clause-end : goal.returns-clause-end
 returns-clause-end g c =
     let probes : c.queue_probe.new.self ≡ with_end c.tick.new.self (probed (with_pacing_timer c.tick.new.self.end None)) = search rules in
     let is = probes ∙ ap (λ x. with_end x (probed (with_pacing_timer x.end None))) c.tick.ensures in
-    c.leaving.ensures.end ∙ ap (λ x. with_end x (rested (leaves (gated x.end)))) is
+    c.leaving.ensures.end ∙ ap (λ x. with_end x (rested (leaves_at x.end))) is

@@ -1,17 +1,24 @@
-use Rattle.std.proofs.Common.{rules, ◌≡◌, ◌≤◌, ◌*◌, ◌||◌, ℕ, Bool, true, false, nat_lt, Option, length, refl, sym, ap, subst, ◌∙◌, arith}
+use Rattle.std.proofs.Common.{rules, ◌≡◌, ◌≤◌, ◌-◌, ◌*◌, ◌++◌, ◌||◌, ℕ, Bool, true, false, nat_lt, Option, length, refl, sym, ap, subst, ◌∙◌, arith}
 use Rattle.std.specs.Prelude.{Ok, IfSome, ◌==◌, min}
 use Rattle.std.proofs.lemmas.Bool.{le-ltb, ltb-false}
 use Rattle.quic_parameters.specs.ParametersRead.{parameters_at}
+use Rattle.quic_parameters.specs.declared.transport_parameters.id.TransportParameterId.TheVariants.{ActiveConnectionIdLimit}
 use Rattle.quic_config.specs.Configs.{SearchSettings}
 use Rattle.quic_config.specs.Transport.{TransportSettings, transport_of, first_mtu}
 use Rattle.quic_congestion.specs.Congestion.{HasRoom}
 use Rattle.quic_congestion.specs.Search.{Discovery}
 use Rattle.quic_congestion.specs.SearchBounds.{IsSized}
 use Rattle.quic_congestion.proofs.SizedSearch.{sized_first}
-use Rattle.quic_machine.specs.End.{most_payload, are_sizes_wrong, is_window_small}
-use Rattle.quic_connection_core.specs.Telling.{IsTold}
+use Rattle.quic_machine.specs.End.{most_payload, are_sizes_wrong, is_window_small, are_keys_short, limits_of, new_end, words_drawn}
+use Rattle.quic_machine.specs.Ids.{first_ids, most_ids, later_numbers, drawn_ids, words_behind, words_of_id}
+use Rattle.quic_retransmits.specs.Retransmits.{Retransmits, nothing_waits}
+use Rattle.quic_connection_parts.specs.Telling.{IsTold, IsRoomy, windows_at}
+use Rattle.quic_connection_parts.specs.Drawn.{words_of, after_words}
+use Rattle.quic_connection_parts.proofs.Issued.{words_after}
+use Rattle.quic_connection_core.proofs.Made.{of_first_parts, is_new, draws_all}
 use Rattle.quic_machine.specs.PathLaws.{size_by}
-use Rattle.quic_connection_core.proofs.Flights.{none_in_flight}
+use Rattle.quic_connection_parts.proofs.Flights.{none_in_flight}
+use Rattle.quic_connection_core.proofs.connection.Connection.new.Given.{Over}
 use Rattle.quic_connection_core.proofs.connection.Connection.new.Goals as goal
 
 last_none : (a b c : Bool) → a || b || c ≡ false → c ≡ false
@@ -19,8 +26,8 @@ last_none true b c is = absurd cc
 last_none false true c is = absurd cc
 last_none false false c is = is
 
-pub invariant_of-result : goal.invariant_of-result
-invariant_of-result g c =
+pub invariant_of-connection : goal.invariant_of-connection
+invariant_of-connection g c =
     let made = c.path.view_is ∙ c.first_path-path.ensures in
     let flight = ap (λ p. p.in_flight) made in
     let t = c.transport-transport.result in
@@ -46,7 +53,7 @@ invariant_of-result g c =
       size = omega (arith, size, shown);
       room = subst (λ (k : ℕ). HasRoom k (g.C.Controller.window_of c.path.inside.congestion)) (sym shown) shows;
     } in
-    (search rules, search rules, record { sized = sized; told = told; window = window }, rw (flight, c.new-3.ensures) (none_in_flight _ _))
+    (search rules, c.negotiate_max_idle_timeout.ensures, search rules, record { sized = sized; told = told; window = window }, rw (flight, c.new-3.ensures) (none_in_flight _ _))
 
 pub returns-clause-roomy : goal.returns-clause-roomy
 returns-clause-roomy g c =
@@ -57,7 +64,8 @@ returns-clause-roomy g c =
     } in
     let built = g.met.F.ControllerFactory.built_for_size c.factory.result.now c.args.now (first_mtu c.transport-transport.result) in
     let shown : g.C.Controller.size_of c.path.inside.congestion ≡ first_mtu c.transport-transport.result = ap (λ p. g.C.Controller.size_of p.congestion) made ∙ built in
-    record { size = shown; room = subst (λ (k : ℕ). HasRoom (first_mtu c.transport-transport.result) k) c.window-window.ensures room }
+    subst (λ w. IsRoomy g.C.Controller.size_of g.C.Controller.window_of w.control (first_mtu w.end.transport)) (sym c.validating.ensures.end)
+    (record { size = shown; room = subst (λ (k : ℕ). HasRoom (first_mtu c.transport-transport.result) k) c.window-window.ensures room })
 
 pub returns-clause-lawful : goal.returns-clause-lawful
 returns-clause-lawful g c =
@@ -73,10 +81,57 @@ returns-clause-lawful g c =
     let mtu : c.from.result ≡ first_mtu (transport_of settings) = c.from.ensures ∙ c.get_initial_mtu-mtu.ensures.value ∙ ap first_mtu c.transport-transport.ensures in
     let room : 2 * first_mtu (transport_of settings) ≤ c.window-window.result = omega (arith, mtu, c.if-window-from.false) in
     let small : is_window_small settings c.window-window.result ≡ false = le-ltb c.window-window.result (2 * first_mtu (transport_of settings)) room in
-    rw (← shown) (rw (read, own, peer, sizes, small) refl)
+    let keys : are_keys_short (limits_of g.K.PacketKey.seal_limit g.K.PacketKey.refusal_limit c.args.keys) ≡ false = search rules in
+    rw (← shown) (rw (read, own, peer, sizes, small, keys) refl)
+
+pub new-requires : goal.new-requires
+new-requires g c = subst (λ (k : ℕ). 2 ≤ k) (sym (ap (λ p. p.active_connection_id_limit) c.theirs.view_is)) (c.in-Ok.ensures.spelled.1.each ActiveConnectionIdLimit).0
+
+pub returns-in_default-new-clause-refusal : goal.returns-in_default-new-clause-refusal
+returns-in_default-new-clause-refusal g c = λ other. absurd (other refl)
+
+-- the end that is made, and the words of its random source that it has drawn
+begun : (g : Over) (c : goal.After-validating g)
+    → (c.validating.result.end ≡ new_end c.args.side c.args.config.now.settings (windows_at g.C.Controller.initial_of g.C.Controller.window_of c.validating.result.control) c.in-Ok.theirs c.args.own_id c.args.peer_id c.args.now c.args.validated (words_of g.R.Rng.stream c.args.random))
+    × (g.R.Rng.stream c.validating.result.random ≡ after_words (words_drawn c.validating.result.end) (g.R.Rng.stream c.args.random))
+begun g c =
+    let stream = g.R.Rng.stream in
+    let first = c.args.random in
+    let settings = c.args.config.now.settings in
+    let theirs = c.in-Ok.theirs in
+    let n : ℕ = theirs.active_connection_id_limit in
+    let r = c.first_filter-filter.new.random in
+    let controller = g.F.ControllerFactory.built c.factory.result.now c.args.now (first_mtu c.transport-transport.result) in
+    let made = c.path.view_is ∙ c.first_path-path.ensures in
+    let limit : c.theirs.inside.active_connection_id_limit ≡ n = ap (λ p. p.active_connection_id_limit) c.theirs.view_is in
+    let left = subst (λ (k : ℕ). stream c.new.new.random ≡ after_words (words_of_id * (most_ids k - 1)) (stream r)) limit c.in-Ok-new.ensures.random in
+    let words : words_of stream r ≡ words_behind 1 (words_of stream first) = sym (words_after stream first r 1 c.first_filter-filter.ensures.random) in
+    let ids : c.in-Ok-new.ids ≡ first_ids c.args.own_id c.args.peer_id (most_ids n) c.args.now (words_behind 1 (words_of stream first)) =
+    c.in-Ok-new.ensures.ids
+    ∙ ap (λ (k : ℕ). first_ids c.args.own_id c.args.peer_id (most_ids k) c.args.now (words_of stream r)) limit
+    ∙ ap (λ (f : ℕ → ℕ). first_ids c.args.own_id c.args.peer_id (most_ids n) c.args.now f) words in
+    let frames : c.new.new.pending ≡ record nothing_waits { new_cids = drawn_ids (words_behind 1 (words_of stream first)) (later_numbers (most_ids n)) } =
+    c.in-Ok-new.ensures.waits
+    ∙ ap (λ (p : Retransmits). record p { new_cids = p.new_cids ++ drawn_ids (words_of stream r) (later_numbers (most_ids c.theirs.inside.active_connection_id_limit)) }) c.first_streams-streams.ensures.pending
+    ∙ ap (λ (k : ℕ). record nothing_waits { new_cids = drawn_ids (words_of stream r) (later_numbers (most_ids k)) }) limit
+    ∙ ap (λ (f : ℕ → ℕ). record nothing_waits { new_cids = drawn_ids f (later_numbers (most_ids n)) }) words in
+    let streams = c.first_streams-streams.ensures.state settings (sym c.transport-transport.ensures) in
+    let silent = of_first_parts g.C.Controller.initial_of g.C.Controller.window_of controller c.args.side settings theirs c.args.own_id c.args.peer_id c.args.now c.args.validated (words_of stream first)
+    c.new-2.result c.in-Ok-new.ids c.new-3.result c.first_filter-filter.result c.default.result _ c.window-window.result c.transport-transport.result c.first_streams-streams.result.state c.new.new.pending c.new-4.result c.new-5.result
+    c.new-2.ensures ids c.new-3.ensures c.first_filter-filter.ensures.value c.default.ensures c.window-window.ensures made c.transport-transport.ensures streams frames c.new-4.ensures c.new-5.ensures in
+    let windows = windows_at g.C.Controller.initial_of g.C.Controller.window_of controller in
+    let control : c.validating.result.control ≡ controller = ap (λ w. w.control) c.validating.ensures.end ∙ ap (λ p. p.congestion) made in
+    let asks = c.validating.ensures.end in
+    let one = c.first_filter-filter.ensures.random in (
+      is_new stream first c.args.side settings windows theirs c.args.own_id c.args.peer_id c.args.now c.args.validated _ c.validating.result asks silent r one left
+          ∙ sym (ap (λ k. new_end c.args.side settings (windows_at g.C.Controller.initial_of g.C.Controller.window_of k) theirs c.args.own_id c.args.peer_id c.args.now c.args.validated (words_of stream first)) control),
+      draws_all stream first c.args.side settings windows theirs c.args.own_id c.args.peer_id c.args.now c.args.validated _ c.validating.result asks silent r one left c.validating.ensures.random,
+    )
+
+pub returns-clause-random : goal.returns-clause-random
+returns-clause-random g c = (begun g c).1
 
 pub returns-clause-made : goal.returns-clause-made
 returns-clause-made g c =
     let read : parameters_at c.args.peer_parameters.now ≡ Ok c.in-Ok.theirs = search rules in
-    let streams = c.first_streams.ensures.state c.args.config.now.settings (sym c.transport-transport.ensures) in
-    rw read (search (rules, streams))
+    rw read (begun g c).0

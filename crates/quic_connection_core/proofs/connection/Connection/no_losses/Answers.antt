@@ -1,7 +1,7 @@
 use Rattle.std.proofs.Common.{rules, ◌≡◌, ℕ, ◌*◌, ap, ◌∙◌, arith}
 use Rattle.quic_time.specs.Clocks.{saturated}
 use Rattle.quic_machine.specs.Control.{persistent_period}
-use Rattle.quic_connection_core.specs.Losses.{none_lost}
+use Rattle.quic_connection_parts.specs.Losses.{none_lost}
 use Rattle.quic_connection_core.proofs.connection.Connection.no_losses.Goals as goal
 
 turned : (a b : ℕ) → a * b ≡ b * a

@@ -1,8 +1,8 @@
 use Rattle.std.proofs.Common.{ap, ◌∙◌, sym}
 use Rattle.quic_machine.specs.Tracking.{acked_by}
 use Rattle.quic_machine.specs.Acked.{marks_seen, told_seen}
-use Rattle.quic_connection_core.specs.Telling.{telling}
-use Rattle.quic_connection_core.proofs.Told.{marks_behind, marks_nowhere}
+use Rattle.quic_connection_parts.specs.Telling.{telling}
+use Rattle.quic_connection_parts.proofs.Told.{marks_behind, marks_nowhere}
 use Rattle.quic_connection_core.proofs.connection.Connection.on_ack_received.Goals as goal
 
 pub returns-in-Some-clause-ok : goal.returns-in-Some-clause-ok

@@ -2,8 +2,8 @@ use Rattle.std.proofs.Common.{sym, ap, ◌∙◌}
 use Rattle.quic_streams_state.specs.State.{streams_of}
 use Rattle.quic_machine.specs.End.{with_end, with_streams, streams_at}
 use Rattle.quic_machine.specs.Acked.{without_known}
-use Rattle.quic_connection_core.specs.Tracked.{with_carried_acked}
-use Rattle.quic_connection_core.proofs.OnStreams.{acked_on_streams}
+use Rattle.quic_connection_parts.specs.Tracked.{with_carried_acked}
+use Rattle.quic_connection_parts.proofs.OnStreams.{acked_on_streams}
 use Rattle.quic_connection_core.proofs.connection.Connection.on_packet_acked.Goals as goal
 
 pub returns-clause-ok : goal.returns-clause-ok

@@ -4,8 +4,8 @@ use Rattle.quic_machine.specs.Tracking.{TrackedPacket}
 use Rattle.quic_machine.specs.Control.{told_packet}
 use Rattle.quic_machine.specs.Sizes.{told_probe, search_acked}
 use Rattle.quic_machine.specs.Acked.{carried_acked}
-use Rattle.quic_connection_core.specs.Telling.{telling}
-use Rattle.quic_connection_core.proofs.Told.{acks_begin, acks_go_on, acks_end, keys_told, keys_end, keys_step}
+use Rattle.quic_connection_parts.specs.Telling.{telling}
+use Rattle.quic_connection_parts.proofs.Told.{acks_begin, acks_go_on, acks_end, keys_told, keys_end, keys_step}
 use Rattle.quic_connection_core.proofs.connection.Connection.on_packets_acked.Goals as goal
 
 pub loop-number-init : goal.loop-number-init

@@ -1,5 +1,5 @@
 use Rattle.std.proofs.Common.{length}
-use Rattle.quic_connection_core.proofs.Told.{Acks}
+use Rattle.quic_connection_parts.proofs.Told.{Acks}
 use Rattle.quic_connection_core.proofs.connection.Connection.on_packets_acked.Given as goal
 
 abbrev pub invariant-loop-number : goal.invariant-loop-number

@@ -6,11 +6,11 @@ use Rattle.quic_machine.specs.End.{End, with_end, with_tracking, with_discovery}
 use Rattle.quic_machine.specs.Tracking.{Tracking, TrackedPacket, lost_by}
 use Rattle.quic_machine.specs.Sizes.{with_one_lost}
 use Rattle.quic_machine.specs.Acked.{carried_lost}
-use Rattle.quic_connection_core.specs.Losses.{one_lost}
-use Rattle.quic_connection_core.specs.Tracked.{TakesLost}
-use Rattle.quic_connection_core.proofs.Lost.{IsBehind, lost_step, losses_step, lost_smaller, lost_behind, lost_some, none_lost}
-use Rattle.quic_connection_core.proofs.Told.{carried_lost_keep}
-use Rattle.quic_connection_core.proofs.Flights.{lost_flies, lost_leaves}
+use Rattle.quic_connection_parts.specs.Losses.{one_lost}
+use Rattle.quic_connection_parts.specs.Tracked.{TakesLost}
+use Rattle.quic_connection_parts.proofs.Lost.{IsBehind, lost_step, losses_step, lost_smaller, lost_behind, lost_some, none_lost}
+use Rattle.quic_connection_parts.proofs.Told.{carried_lost_keep}
+use Rattle.quic_connection_parts.proofs.Flights.{lost_flies, lost_leaves}
 use Rattle.quic_connection_core.proofs.connection.Connection.on_packets_lost.Goals as goal
 
 -- the end once a packet is out, what it carried waits, and the search has learned of it
@@ -25,7 +25,7 @@ behind_is probe p e y f new b lost is searched =
 pub leave_flight-requires : goal.leave_flight-requires
 leave_flight-requires g c =
     let i = c.self-in-loop-number.inside in
-    lost_flies i.path.generation i.space.numbers.next c.args.verdict.now (c.in-Some.number, c.in-Some.packet) i.space.tracking c.take_lost.new.tracking i.path.in_flight c.self-in-loop-number.invariant.3 c.in-Some.ensures.taken
+    lost_flies i.path.generation i.space.numbers.next c.args.verdict.now (c.in-Some.number, c.in-Some.packet) i.space.tracking c.take_lost.new.tracking i.path.in_flight c.self-in-loop-number.invariant.4 c.in-Some.ensures.taken
 
 pub invariant_of-self : goal.invariant_of-self
 invariant_of-self g c =
@@ -35,7 +35,8 @@ invariant_of-self g c =
       inv.0,
       inv.1,
       inv.2,
-      lost_leaves i.path.generation i.space.numbers.next c.args.verdict.now (c.in-Some.number, c.in-Some.packet) i.space.tracking c.take_lost.new.tracking i.path.in_flight inv.3 c.in-Some.ensures.taken,
+      inv.3,
+      lost_leaves i.path.generation i.space.numbers.next c.args.verdict.now (c.in-Some.number, c.in-Some.packet) i.space.tracking c.take_lost.new.tracking i.path.in_flight inv.4 c.in-Some.ensures.taken,
     )
 
 pub loop-number-init : goal.loop-number-init

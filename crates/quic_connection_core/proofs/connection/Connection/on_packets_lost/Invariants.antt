@@ -3,8 +3,8 @@ use Rattle.quic_congestion.specs.Search.{open_probe}
 use Rattle.quic_sent_packets.specs.Packets.{from}
 use Rattle.quic_machine.specs.End.{with_end}
 use Rattle.quic_machine.specs.Tracking.{lost_by}
-use Rattle.quic_connection_core.specs.Losses.{all_lost}
-use Rattle.quic_connection_core.specs.Tracked.{after_losses}
+use Rattle.quic_connection_parts.specs.Losses.{all_lost}
+use Rattle.quic_connection_parts.specs.Tracked.{after_losses}
 use Rattle.quic_connection_core.proofs.connection.Connection.on_packets_lost.Given as goal
 
 abbrev pub invariant-loop-number : goal.invariant-loop-number

@@ -1,20 +1,21 @@
-use Rattle.std.proofs.Common.{rules, ◌≡◌, ◌++◌, ◌-◌, ◌&&◌, ℕ, Bool, true, false, List, length, Some, inr, refl, sym, subst, ap, ◌∙◌, arith}
-use Rattle.std.specs.Prelude.{Result, Ok, Err, OnErr}
+use Rattle.std.proofs.Common.{◌≡◌, ◌++◌, ◌-◌, ◌&&◌, ℕ, Bool, true, false, List, length, Option, Some, None, inr, refl, sym, subst, ap, ◌∙◌, arith}
+use Rattle.std.specs.Prelude.{Result, Ok, Err, IfOk, OnOk, OnErr}
+use Rattle.std.specs.Option.{is_none}
 use Rattle.std.proofs.lemmas.List.{append-nil, length-append}
 use Rattle.quic_parameters.specs.declared.transport_parameters.id.TransportParameterId.TheVariants.{MaxUdpPayloadSize}
 use Rattle.quic_congestion.specs.Congestion.{Told, after_calls}
 use Rattle.quic_congestion.specs.Search.{Discovery}
 use Rattle.quic_congestion.specs.SearchBounds.{IsSized}
-use Rattle.quic_spaces.specs.Filter.{Filter}
-use Rattle.quic_spaces.specs.Numbers.{can_number}
-use Rattle.quic_machine.specs.declared.answers.LostReason.TheVariants as reasons
-use Rattle.quic_machine.specs.End.{End, policy_of, closed_by}
-use Rattle.quic_machine.specs.Poll.{mark_of, draft_as, datagram_of, told_draft, Polled, goes, IsSilent}
-use Rattle.quic_machine.specs.PollCases.{ready_at}
-use Rattle.quic_connection_core.specs.Drawn.{words_of, after_words}
-use Rattle.quic_connection_core.specs.Given.{given_bytes}
-use Rattle.quic_connection_core.specs.Leaving.{Leaves, leaving_of}
-use Rattle.quic_connection_core.proofs.Polls.{gives_takes, polled_idle, polled_closes, silent_rests, none_left, some_goes, some_left, some_is, some_due, some_looked, some_within, ready_filter_is, ready_filter, none_drawn, ready_gives, ready_tells, none_told}
+use Rattle.quic_machine.specs.declared.answers.LostReason.{LostReason}
+use Rattle.quic_machine.specs.declared.answers.State.TheVariants as states
+use Rattle.quic_machine.specs.Heard.{heard_given}
+use Rattle.quic_machine.specs.End.{End, HasFailed, policy_of, words_drawn}
+use Rattle.quic_machine.specs.Poll.{mark_of, draft_as, datagram_of, told_draft, bounds, Polled, goes, IsSilent}
+use Rattle.quic_machine.specs.PollCases.{ready_at, bounds_none}
+use Rattle.quic_connection_parts.specs.Drawn.{words_of, after_words}
+use Rattle.quic_connection_parts.specs.Given.{given_bytes}
+use Rattle.quic_connection_parts.specs.Leaving.{Leaves, leaving_of}
+use Rattle.quic_connection_core.proofs.Polls.{close_keeps, bound_text, polled_idle, silent_rests, none_left, some_goes, some_left, some_is, some_due, some_looked, some_within, drawn_still, ready_words, ready_bounds, closed_is, closed_words, ready_closes, ready_close_takes, ready_gives, ready_takes, ready_tells, none_told}
 use Rattle.quic_connection_core.proofs.connection.Connection.poll_open.Goals as goal
 
 on_err : {T E P : Type 0} (r : Result T E) → P → OnErr r P
@@ -40,7 +41,7 @@ pub returns-in_default-clause-answer : goal.returns-in_default-clause-answer
 returns-in_default-clause-answer g c =
     let w = c.args.self.now in
     let none : goes (ready_at w.end c.args.now) ≡ false = rw c.in_default.is at c.in_ok-leaving.ensures.leaving in
-    let p = policy_of g.H.HeaderKey.protection g.K.PacketKey.aead (words_of g.R.Rng.stream) w in
+    let p = policy_of g.H.HeaderKey.protection g.K.PacketKey.aead g.K.PacketKey.seal_limit g.K.PacketKey.refusal_limit (words_of g.R.Rng.stream) w in
     sym (ap (λ (x : Polled). x.answer) (polled_idle p w.end c.args.now c.requires none))
 
 pub returns-in_default-clause-end : goal.returns-in_default-clause-end
@@ -48,7 +49,7 @@ returns-in_default-clause-end g c =
     let w = c.args.self.now in
     let none : goes (ready_at w.end c.args.now) ≡ false = rw c.in_default.is at c.in_ok-leaving.ensures.leaving in
     let is = none_left w c.make_ready.new.self c.args.now c.in_ok-leaving.ensures.end none in
-    let p = policy_of g.H.HeaderKey.protection g.K.PacketKey.aead (words_of g.R.Rng.stream) w in
+    let p = policy_of g.H.HeaderKey.protection g.K.PacketKey.aead g.K.PacketKey.seal_limit g.K.PacketKey.refusal_limit (words_of g.R.Rng.stream) w in
     ap (λ x. x.end) is ∙ sym (ap (λ (x : Polled). x.end) (polled_idle p w.end c.args.now c.requires none))
 
 pub returns-in_default-clause-control : goal.returns-in_default-clause-control
@@ -56,7 +57,7 @@ returns-in_default-clause-control g c =
     let w = c.args.self.now in
     let none : goes (ready_at w.end c.args.now) ≡ false = rw c.in_default.is at c.in_ok-leaving.ensures.leaving in
     let is = none_left w c.make_ready.new.self c.args.now c.in_ok-leaving.ensures.end none in
-    let told = none_told w.end c.args.now c.requires (none_first (goes (ready_at w.end c.args.now)) (can_number (ready_at w.end c.args.now).end.numbers) none) in
+    let told = none_told (policy_of g.H.HeaderKey.protection g.K.PacketKey.aead g.K.PacketKey.seal_limit g.K.PacketKey.refusal_limit (words_of g.R.Rng.stream) w) w.end c.args.now c.requires (none_first (goes (ready_at w.end c.args.now)) (is_none (bounds (policy_of g.H.HeaderKey.protection g.K.PacketKey.aead g.K.PacketKey.seal_limit g.K.PacketKey.refusal_limit (words_of g.R.Rng.stream) w) (ready_at w.end c.args.now).end)) none) in
     ap (λ x. x.control) is ∙ ap (λ (ts : List Told). after_calls g.C.Controller.steps w.control ts) (sym told)
 
 pub returns-in_default-clause-random : goal.returns-in_default-clause-random
@@ -66,16 +67,15 @@ returns-in_default-clause-random g c =
     let stream = g.R.Rng.stream in
     let none : goes (ready_at w.end c.args.now) ≡ false = rw c.in_default.is at c.in_ok-leaving.ensures.leaving in
     let is = none_left w z c.args.now c.in_ok-leaving.ensures.end none in
-    let filter : z.end.filter ≡ w.end.filter = ap (λ x. x.end.filter) is ∙ ready_filter_is w.end c.args.now in
-    let same = ap (λ (f : Filter). f.drawn) filter in
-    let drawn : z.end.filter.drawn - w.end.filter.drawn ≡ 0 = omega (arith, same) in
+    let same = ap (λ x. words_drawn x.end) is ∙ ready_words w.end c.args.now in
+    let drawn : words_drawn z.end - words_drawn w.end ≡ 0 = omega (arith, same) in
     ap (λ x. stream x.random) is ∙ ap (λ (k : ℕ). after_words k (stream w.random)) (sym drawn)
 
 pub returns-in_default-clause-datagram : goal.returns-in_default-clause-datagram
 returns-in_default-clause-datagram g c =
     let w = c.args.self.now in
     let none : goes (ready_at w.end c.args.now) ≡ false = rw c.in_default.is at c.in_ok-leaving.ensures.leaving in
-    let p = policy_of g.H.HeaderKey.protection g.K.PacketKey.aead (words_of g.R.Rng.stream) w in
+    let p = policy_of g.H.HeaderKey.protection g.K.PacketKey.aead g.K.PacketKey.seal_limit g.K.PacketKey.refusal_limit (words_of g.R.Rng.stream) w in
     sym (append-nil c.args.out.now.items) ∙ ap (λ (x : Polled). c.args.out.now.items ++ given_bytes x.datagram) (sym (polled_idle p w.end c.args.now c.requires none))
 
 pub returns-in_default-clause-silent : goal.returns-in_default-clause-silent
@@ -85,64 +85,165 @@ returns-in_default-clause-silent g c answers still =
     let is = none_left w c.make_ready.new.self c.args.now c.in_ok-leaving.ensures.end none in
     subst (λ (x : End). IsSilent x) (sym (ap (λ x. x.end) is)) (silent_rests w.end c.args.now none)
 
--- ---- the numbers are used up
+-- ---- numbers or the key are used up
 
-pub returns-then-not-can_number-clause-answer : goal.returns-then-not-can_number-clause-answer
-returns-then-not-can_number-clause-answer g c =
+on_err_map : {T E P Q : Type 0} (r : Result T E) → (P → Q) → OnErr r P → OnErr r Q
+on_err_map (Ok x) f p = tt
+on_err_map (Err e) f p = f p
+
+on_ok : {T E P : Type 0} (r : Result T E) → P → OnOk r P
+on_ok (Ok x) p = p
+on_ok (Err e) p = tt
+
+if_ok : {T E P : Type 0} (r : Result T E) (x : T) → r ≡ Ok x → OnOk r P → P
+if_ok {T} {E} {P} r x is p = subst (λ (q : Result T E). OnOk q P) is p
+
+not_none : (b : Bool) (o : Option LostReason) (reason : LostReason) → o ≡ Some reason → b && is_none o ≡ false
+not_none true o reason is = ap is_none is
+not_none false o reason is = refl
+
+pub close_by-requires-clause-text : goal.close_by-requires-clause-text
+close_by-requires-clause-text g c =
+    let z = c.make_ready.new.self in
+    let bound = rw c.in-Some-bound_reached.is at c.bound_reached.ensures in
+    bound_text (policy_of g.H.HeaderKey.protection g.K.PacketKey.aead g.K.PacketKey.seal_limit g.K.PacketKey.refusal_limit (words_of g.R.Rng.stream) z) z.end c.in-Some-bound_reached.reason bound.0
+
+pub close_by-requires-clause-code : goal.close_by-requires-clause-code
+close_by-requires-clause-code g c = (rw c.in-Some-bound_reached.is at c.bound_reached.ensures).1
+
+pub returns-in-Some-bound_reached-clause-answer : goal.returns-in-Some-bound_reached-clause-answer
+returns-in-Some-bound_reached-clause-answer g c =
     let w = c.args.self.now in
     let z = c.make_ready.new.self in
     let so : Leaves (Some c.in-Some.leaving) (ready_at w.end c.args.now).leaving = rw c.in-Some.is at c.in_ok-leaving.ensures.leaving in
     let is = some_left w z c.args.now c.in_ok-leaving.ensures.end c.in-Some.leaving so in
-    let used_up : can_number z.end.numbers ≡ false = search rules in
-    let p = policy_of g.H.HeaderKey.protection g.K.PacketKey.aead (words_of g.R.Rng.stream) w in
-    sym (ap (λ (x : Polled). x.answer) (polled_closes p w.end c.args.now c.requires (some_goes w z c.args.now c.in_ok-leaving.ensures.end c.in-Some.leaving so) (sym (ap (λ x. can_number x.end.numbers) is) ∙ used_up)))
+    let some = some_goes w z c.args.now c.in_ok-leaving.ensures.end c.in-Some.leaving so in
+    let bound = rw c.in-Some-bound_reached.is at c.bound_reached.ensures in
+    let y = c.close_by.new.self in
+    let reason = c.in-Some-bound_reached.reason in
+    subst (λ (x : Polled). OnOk c.give_close.result (c.give_close.result ≡ x.answer)) (sym (ready_closes g.H.HeaderKey.protection g.K.PacketKey.aead g.K.PacketKey.seal_limit g.K.PacketKey.refusal_limit (words_of g.R.Rng.stream) w z c.args.now is reason y c.close_by.ensures c.requires some bound.0)) c.give_close.ensures.answer
 
-pub returns-then-not-can_number-clause-end : goal.returns-then-not-can_number-clause-end
-returns-then-not-can_number-clause-end g c =
+pub returns-in-Some-bound_reached-clause-end : goal.returns-in-Some-bound_reached-clause-end
+returns-in-Some-bound_reached-clause-end g c =
     let w = c.args.self.now in
     let z = c.make_ready.new.self in
     let so : Leaves (Some c.in-Some.leaving) (ready_at w.end c.args.now).leaving = rw c.in-Some.is at c.in_ok-leaving.ensures.leaving in
     let is = some_left w z c.args.now c.in_ok-leaving.ensures.end c.in-Some.leaving so in
-    let used_up : can_number z.end.numbers ≡ false = search rules in
-    let p = policy_of g.H.HeaderKey.protection g.K.PacketKey.aead (words_of g.R.Rng.stream) w in
-    ap (λ x. x.end) c.close_by.ensures ∙ ap (λ x. closed_by reasons.NumberLimit x.end) is
-    ∙ sym (ap (λ (x : Polled). x.end) (polled_closes p w.end c.args.now c.requires (some_goes w z c.args.now c.in_ok-leaving.ensures.end c.in-Some.leaving so) (sym (ap (λ x. can_number x.end.numbers) is) ∙ used_up)))
+    let some = some_goes w z c.args.now c.in_ok-leaving.ensures.end c.in-Some.leaving so in
+    let bound = rw c.in-Some-bound_reached.is at c.bound_reached.ensures in
+    let y = c.close_by.new.self in
+    let reason = c.in-Some-bound_reached.reason in
+    subst (λ (x : Polled). OnOk c.give_close.result (c.give_close.new.self.end ≡ x.end)) (sym (ready_closes g.H.HeaderKey.protection g.K.PacketKey.aead g.K.PacketKey.seal_limit g.K.PacketKey.refusal_limit (words_of g.R.Rng.stream) w z c.args.now is reason y c.close_by.ensures c.requires some bound.0)) c.give_close.ensures.end
 
-pub returns-then-not-can_number-clause-control : goal.returns-then-not-can_number-clause-control
-returns-then-not-can_number-clause-control g c =
-    let w = c.args.self.now in
-    let z = c.make_ready.new.self in
-    let G = ready_at w.end c.args.now in
-    let so : Leaves (Some c.in-Some.leaving) G.leaving = rw c.in-Some.is at c.in_ok-leaving.ensures.leaving in
-    let is = some_left w z c.args.now c.in_ok-leaving.ensures.end c.in-Some.leaving so in
-    let used_up : can_number z.end.numbers ≡ false = search rules in
-    let numbered : can_number G.end.numbers ≡ false = sym (ap (λ x. can_number x.end.numbers) is) ∙ used_up in
-    let told = none_told w.end c.args.now c.requires (none_both (goes G) (can_number G.end.numbers) numbered) in
-    ap (λ x. x.control) c.close_by.ensures ∙ ap (λ x. x.control) is ∙ ap (λ (ts : List Told). after_calls g.C.Controller.steps w.control ts) (sym told)
-
-pub returns-then-not-can_number-clause-random : goal.returns-then-not-can_number-clause-random
-returns-then-not-can_number-clause-random g c =
-    let w = c.args.self.now in
-    let z = c.make_ready.new.self in
-    let stream = g.R.Rng.stream in
-    let so : Leaves (Some c.in-Some.leaving) (ready_at w.end c.args.now).leaving = rw c.in-Some.is at c.in_ok-leaving.ensures.leaving in
-    let is = some_left w z c.args.now c.in_ok-leaving.ensures.end c.in-Some.leaving so in
-    let none = none_drawn g.H.HeaderKey.protection g.K.PacketKey.aead (words_of stream) w z c.args.now is in
-    ap (λ x. stream x.random) c.close_by.ensures ∙ ap (λ x. stream x.random) is ∙ ap (λ (k : ℕ). after_words k (stream w.random)) (sym none)
-    ∙ ap (λ x. after_words (x.end.filter.drawn - w.end.filter.drawn) (stream w.random)) (sym c.close_by.ensures)
-
-pub returns-then-not-can_number-clause-datagram : goal.returns-then-not-can_number-clause-datagram
-returns-then-not-can_number-clause-datagram g c =
+pub returns-in-Some-bound_reached-clause-datagram : goal.returns-in-Some-bound_reached-clause-datagram
+returns-in-Some-bound_reached-clause-datagram g c =
     let w = c.args.self.now in
     let z = c.make_ready.new.self in
     let so : Leaves (Some c.in-Some.leaving) (ready_at w.end c.args.now).leaving = rw c.in-Some.is at c.in_ok-leaving.ensures.leaving in
     let is = some_left w z c.args.now c.in_ok-leaving.ensures.end c.in-Some.leaving so in
-    let used_up : can_number z.end.numbers ≡ false = search rules in
-    let p = policy_of g.H.HeaderKey.protection g.K.PacketKey.aead (words_of g.R.Rng.stream) w in
-    let closes = polled_closes p w.end c.args.now c.requires (some_goes w z c.args.now c.in_ok-leaving.ensures.end c.in-Some.leaving so) (sym (ap (λ x. can_number x.end.numbers) is) ∙ used_up) in
-    sym (append-nil c.args.out.now.items) ∙ ap (λ (x : Polled). c.args.out.now.items ++ given_bytes x.datagram) (sym closes)
+    let some = some_goes w z c.args.now c.in_ok-leaving.ensures.end c.in-Some.leaving so in
+    let bound = rw c.in-Some-bound_reached.is at c.bound_reached.ensures in
+    let y = c.close_by.new.self in
+    let reason = c.in-Some-bound_reached.reason in
+    subst (λ (x : Polled). OnOk c.give_close.result (c.give_close.new.out.items ≡ c.args.out.now.items ++ given_bytes x.datagram)) (sym (ready_closes g.H.HeaderKey.protection g.K.PacketKey.aead g.K.PacketKey.seal_limit g.K.PacketKey.refusal_limit (words_of g.R.Rng.stream) w z c.args.now is reason y c.close_by.ensures c.requires some bound.0)) c.give_close.ensures.datagram
+
+pub returns-in-Some-bound_reached-clause-control : goal.returns-in-Some-bound_reached-clause-control
+returns-in-Some-bound_reached-clause-control g c =
+    let w = c.args.self.now in
+    let z = c.make_ready.new.self in
+    let so : Leaves (Some c.in-Some.leaving) (ready_at w.end c.args.now).leaving = rw c.in-Some.is at c.in_ok-leaving.ensures.leaving in
+    let is = some_left w z c.args.now c.in_ok-leaving.ensures.end c.in-Some.leaving so in
+    let some = some_goes w z c.args.now c.in_ok-leaving.ensures.end c.in-Some.leaving so in
+    let bound = rw c.in-Some-bound_reached.is at c.bound_reached.ensures in
+    let y = c.close_by.new.self in
+    let reason = c.in-Some-bound_reached.reason in
+    let same = closed_is g.H.HeaderKey.protection g.K.PacketKey.aead g.K.PacketKey.seal_limit g.K.PacketKey.refusal_limit (words_of g.R.Rng.stream) w z c.args.now is reason y c.close_by.ensures in
+    let told = none_told (policy_of g.H.HeaderKey.protection g.K.PacketKey.aead g.K.PacketKey.seal_limit g.K.PacketKey.refusal_limit (words_of g.R.Rng.stream) w) w.end c.args.now c.requires (not_none (goes (ready_at w.end c.args.now)) (bounds (policy_of g.H.HeaderKey.protection g.K.PacketKey.aead g.K.PacketKey.seal_limit g.K.PacketKey.refusal_limit (words_of g.R.Rng.stream) w) (ready_at w.end c.args.now).end) reason (ready_bounds g.H.HeaderKey.protection g.K.PacketKey.aead g.K.PacketKey.seal_limit g.K.PacketKey.refusal_limit (words_of g.R.Rng.stream) w z c.args.now is (Some reason) bound.0)) in
+    on_ok c.give_close.result (c.give_close.ensures.control ∙ ap (λ x. x.control) same ∙ ap (λ (ts : List Told). after_calls g.C.Controller.steps w.control ts) (sym told))
+
+pub returns-in-Some-bound_reached-clause-keys : goal.returns-in-Some-bound_reached-clause-keys
+returns-in-Some-bound_reached-clause-keys g c =
+    let w = c.args.self.now in
+    let z = c.make_ready.new.self in
+    let so : Leaves (Some c.in-Some.leaving) (ready_at w.end c.args.now).leaving = rw c.in-Some.is at c.in_ok-leaving.ensures.leaving in
+    let is = some_left w z c.args.now c.in_ok-leaving.ensures.end c.in-Some.leaving so in
+    let some = some_goes w z c.args.now c.in_ok-leaving.ensures.end c.in-Some.leaving so in
+    let bound = rw c.in-Some-bound_reached.is at c.bound_reached.ensures in
+    let y = c.close_by.new.self in
+    let reason = c.in-Some-bound_reached.reason in
+    c.give_close.ensures.keys ∙ ap (λ x. x.keys) (closed_is g.H.HeaderKey.protection g.K.PacketKey.aead g.K.PacketKey.seal_limit g.K.PacketKey.refusal_limit (words_of g.R.Rng.stream) w z c.args.now is reason y c.close_by.ensures)
+
+pub returns-in-Some-bound_reached-clause-heard : goal.returns-in-Some-bound_reached-clause-heard
+returns-in-Some-bound_reached-clause-heard g c =
+    let w = c.args.self.now in
+    let z = c.make_ready.new.self in
+    let so : Leaves (Some c.in-Some.leaving) (ready_at w.end c.args.now).leaving = rw c.in-Some.is at c.in_ok-leaving.ensures.leaving in
+    let is = some_left w z c.args.now c.in_ok-leaving.ensures.end c.in-Some.leaving so in
+    let some = some_goes w z c.args.now c.in_ok-leaving.ensures.end c.in-Some.leaving so in
+    let bound = rw c.in-Some-bound_reached.is at c.bound_reached.ensures in
+    let y = c.close_by.new.self in
+    let reason = c.in-Some-bound_reached.reason in
+    subst (λ h. IfOk c.give_close.result (λ given. c.give_close.new.self.heard ≡ heard_given given h)) (ap (λ x. x.heard) (closed_is g.H.HeaderKey.protection g.K.PacketKey.aead g.K.PacketKey.seal_limit g.K.PacketKey.refusal_limit (words_of g.R.Rng.stream) w z c.args.now is reason y c.close_by.ensures)) c.give_close.ensures.heard
+
+pub returns-in-Some-bound_reached-clause-random : goal.returns-in-Some-bound_reached-clause-random
+returns-in-Some-bound_reached-clause-random g c =
+    let w = c.args.self.now in
+    let z = c.make_ready.new.self in
+    let so : Leaves (Some c.in-Some.leaving) (ready_at w.end c.args.now).leaving = rw c.in-Some.is at c.in_ok-leaving.ensures.leaving in
+    let is = some_left w z c.args.now c.in_ok-leaving.ensures.end c.in-Some.leaving so in
+    let some = some_goes w z c.args.now c.in_ok-leaving.ensures.end c.in-Some.leaving so in
+    let bound = rw c.in-Some-bound_reached.is at c.bound_reached.ensures in
+    let y = c.close_by.new.self in
+    let reason = c.in-Some-bound_reached.reason in
+    let same = closed_is g.H.HeaderKey.protection g.K.PacketKey.aead g.K.PacketKey.seal_limit g.K.PacketKey.refusal_limit (words_of g.R.Rng.stream) w z c.args.now is reason y c.close_by.ensures in
+    let words = closed_words g.H.HeaderKey.protection g.K.PacketKey.aead g.K.PacketKey.seal_limit g.K.PacketKey.refusal_limit (words_of g.R.Rng.stream) w z c.args.now is reason y c.close_by.ensures in
+    subst (λ (k : ℕ). OnOk c.give_close.result (g.R.Rng.stream c.give_close.new.self.random ≡ after_words (words_drawn c.give_close.new.self.end - k) (g.R.Rng.stream w.random))) words
+    (subst (λ r. OnOk c.give_close.result (g.R.Rng.stream c.give_close.new.self.random ≡ after_words (words_drawn c.give_close.new.self.end - words_drawn y.end) (g.R.Rng.stream r))) (ap (λ x. x.random) same) c.give_close.ensures.random)
+
+pub returns-in-Some-bound_reached-clause-failed : goal.returns-in-Some-bound_reached-clause-failed
+returns-in-Some-bound_reached-clause-failed g c =
+    let w = c.args.self.now in
+    let z = c.make_ready.new.self in
+    let so : Leaves (Some c.in-Some.leaving) (ready_at w.end c.args.now).leaving = rw c.in-Some.is at c.in_ok-leaving.ensures.leaving in
+    let is = some_left w z c.args.now c.in_ok-leaving.ensures.end c.in-Some.leaving so in
+    let some = some_goes w z c.args.now c.in_ok-leaving.ensures.end c.in-Some.leaving so in
+    let bound = rw c.in-Some-bound_reached.is at c.bound_reached.ensures in
+    let y = c.close_by.new.self in
+    let reason = c.in-Some-bound_reached.reason in
+    on_err_map c.give_close.result (λ f. record { state = f.state; reason = f.reason; keys = f.keys }) (subst (λ x. OnErr c.give_close.result (HasFailed x c.give_close.new.self)) (closed_is g.H.HeaderKey.protection g.K.PacketKey.aead g.K.PacketKey.seal_limit g.K.PacketKey.refusal_limit (words_of g.R.Rng.stream) w z c.args.now is reason y c.close_by.ensures) c.give_close.ensures.failed)
+
+pub returns-in-Some-bound_reached-clause-lacking : goal.returns-in-Some-bound_reached-clause-lacking
+returns-in-Some-bound_reached-clause-lacking g c =
+    let w = c.args.self.now in
+    let z = c.make_ready.new.self in
+    let so : Leaves (Some c.in-Some.leaving) (ready_at w.end c.args.now).leaving = rw c.in-Some.is at c.in_ok-leaving.ensures.leaving in
+    let is = some_left w z c.args.now c.in_ok-leaving.ensures.end c.in-Some.leaving so in
+    let some = some_goes w z c.args.now c.in_ok-leaving.ensures.end c.in-Some.leaving so in
+    let bound = rw c.in-Some-bound_reached.is at c.bound_reached.ensures in
+    let y = c.close_by.new.self in
+    let reason = c.in-Some-bound_reached.reason in
+    on_err_map c.give_close.result (λ s. ready_close_takes g.H.HeaderKey.protection g.K.PacketKey.aead g.K.PacketKey.seal_limit g.K.PacketKey.refusal_limit (words_of g.R.Rng.stream) w z c.args.now is reason y c.close_by.ensures c.requires some bound.0 s) c.give_close.ensures.lacking
+
+pub returns-in-Some-bound_reached-clause-silent : goal.returns-in-Some-bound_reached-clause-silent
+returns-in-Some-bound_reached-clause-silent g c answers opens =
+    let w = c.args.self.now in
+    let z = c.make_ready.new.self in
+    let so : Leaves (Some c.in-Some.leaving) (ready_at w.end c.args.now).leaving = rw c.in-Some.is at c.in_ok-leaving.ensures.leaving in
+    let is = some_left w z c.args.now c.in_ok-leaving.ensures.end c.in-Some.leaving so in
+    let some = some_goes w z c.args.now c.in_ok-leaving.ensures.end c.in-Some.leaving so in
+    let bound = rw c.in-Some-bound_reached.is at c.bound_reached.ensures in
+    let y = c.close_by.new.self in
+    let reason = c.in-Some-bound_reached.reason in
+    let left = if_ok c.give_close.result None answers c.give_close.ensures.end in
+    let still : c.give_close.new.self.end.closing.state ≡ states.Closing = ap (λ (e : End). e.closing.state) left ∙ close_keeps (policy_of g.H.HeaderKey.protection g.K.PacketKey.aead g.K.PacketKey.seal_limit g.K.PacketKey.refusal_limit (words_of g.R.Rng.stream) y) y.end ∙ ap (λ x. x.end.closing.state) c.close_by.ensures in
+    absurd (let both : states.Open ≡ states.Closing = sym opens ∙ still in cc)
 
 -- ---- something goes
+
+pub give-requires-clause-number : goal.give-requires-clause-number
+give-requires-clause-number g c =
+    let z = c.make_ready.new.self in
+    (bounds_none (policy_of g.H.HeaderKey.protection g.K.PacketKey.aead g.K.PacketKey.seal_limit g.K.PacketKey.refusal_limit (words_of g.R.Rng.stream) z) z.end (rw c.in_default-bound_reached.is at c.bound_reached.ensures)).0
 
 pub give-requires-clause-due : goal.give-requires-clause-due
 give-requires-clause-due g c =
@@ -154,8 +255,8 @@ give-requires-clause-looked g c =
     let w = c.args.self.now in
     let limit = c.self.inside.peer_params.max_udp_payload_size in
     let so : Leaves (Some c.in-Some.leaving) (ready_at w.end c.args.now).leaving = rw c.in-Some.is at c.in_ok-leaving.ensures.leaving in
-    let most = (c.self.invariant.1.each MaxUdpPayloadSize).1 in
-    let sized : IsSized 1200 limit w.end.path.discovery = subst (λ (d : Discovery). IsSized 1200 limit d) (ap (λ x. x.end.path.discovery) c.self.view_is) c.self.invariant.2.sized in
+    let most = (c.self.invariant.2.each MaxUdpPayloadSize).1 in
+    let sized : IsSized 1200 limit w.end.path.discovery = subst (λ (d : Discovery). IsSized 1200 limit d) (ap (λ x. x.end.path.discovery) c.self.view_is) c.self.invariant.3.sized in
     some_looked w c.make_ready.new.self c.args.now c.in_ok-leaving.ensures.end c.in-Some.leaving so limit most sized
 
 pub returns-in_err-size-clause-lacking : goal.returns-in_err-size-clause-lacking
@@ -164,9 +265,8 @@ returns-in_err-size-clause-lacking g c =
     let z = c.make_ready.new.self in
     let so : Leaves (Some c.in-Some.leaving) (ready_at w.end c.args.now).leaving = rw c.in-Some.is at c.in_ok-leaving.ensures.leaving in
     let is = some_left w z c.args.now c.in_ok-leaving.ensures.end c.in-Some.leaving so in
-    let can : can_number z.end.numbers ≡ true = search rules in
-    let p = policy_of g.H.HeaderKey.protection g.K.PacketKey.aead (words_of g.R.Rng.stream) w in
-    on_err c.from_residual-in_err-size.result (gives_takes p w.end c.args.now c.requires (some_goes w z c.args.now c.in_ok-leaving.ensures.end c.in-Some.leaving so) (sym (ap (λ x. can_number x.end.numbers) is) ∙ can))
+    let can = rw c.in_default-bound_reached.is at c.bound_reached.ensures in
+    on_err c.from_residual-in_err-size.result (ready_takes g.H.HeaderKey.protection g.K.PacketKey.aead g.K.PacketKey.seal_limit g.K.PacketKey.refusal_limit (words_of g.R.Rng.stream) w z c.args.now is c.in-Some.leaving (some_is w z c.args.now c.in_ok-leaving.ensures.end c.in-Some.leaving so) c.requires (some_goes w z c.args.now c.in_ok-leaving.ensures.end c.in-Some.leaving so) can)
 
 pub returns-clause-end : goal.returns-clause-end
 returns-clause-end g c =
@@ -175,8 +275,8 @@ returns-clause-end g c =
     let l = c.in-Some.leaving in
     let left = c.in_ok-leaving.ensures.end in
     let so : Leaves (Some l) (ready_at w.end c.args.now).leaving = rw c.in-Some.is at c.in_ok-leaving.ensures.leaving in
-    let can : can_number z.end.numbers ≡ true = search rules in
-    let gives = ready_gives g.H.HeaderKey.protection g.K.PacketKey.aead (words_of g.R.Rng.stream) w z c.args.now (some_left w z c.args.now left l so) l (some_is w z c.args.now left l so) c.requires (some_goes w z c.args.now left l so) can in
+    let can = rw c.in_default-bound_reached.is at c.bound_reached.ensures in
+    let gives = ready_gives g.H.HeaderKey.protection g.K.PacketKey.aead g.K.PacketKey.seal_limit g.K.PacketKey.refusal_limit (words_of g.R.Rng.stream) w z c.args.now (some_left w z c.args.now left l so) l (some_is w z c.args.now left l so) c.requires (some_goes w z c.args.now left l so) can in
     ap (λ x. x.end) c.count_bytes.ensures ∙ c.in_ok-size.ensures.end ∙ ap (λ (x : Polled). x.end) (sym gives)
 
 pub returns-clause-control : goal.returns-clause-control
@@ -187,8 +287,8 @@ returns-clause-control g c =
     let left = c.in_ok-leaving.ensures.end in
     let so : Leaves (Some l) (ready_at w.end c.args.now).leaving = rw c.in-Some.is at c.in_ok-leaving.ensures.leaving in
     let is = some_left w z c.args.now left l so in
-    let can : can_number z.end.numbers ≡ true = search rules in
-    let tells = ready_tells g.H.HeaderKey.protection g.K.PacketKey.aead (words_of g.R.Rng.stream) w z c.args.now is l (some_is w z c.args.now left l so) c.requires (some_goes w z c.args.now left l so) can in
+    let can = rw c.in_default-bound_reached.is at c.bound_reached.ensures in
+    let tells = ready_tells g.H.HeaderKey.protection g.K.PacketKey.aead g.K.PacketKey.seal_limit g.K.PacketKey.refusal_limit (words_of g.R.Rng.stream) w z c.args.now is l (some_is w z c.args.now left l so) c.requires (some_goes w z c.args.now left l so) can in
     ap (λ x. x.control) c.count_bytes.ensures ∙ c.in_ok-size.ensures.control ∙ ap (λ x. after_calls g.C.Controller.steps x.control (told_draft (draft_as (leaving_of l) z.end))) is ∙ ap (λ (ts : List Told). after_calls g.C.Controller.steps w.control ts) (sym tells)
 
 pub returns-clause-random : goal.returns-clause-random
@@ -198,12 +298,12 @@ returns-clause-random g c =
     let stream = g.R.Rng.stream in
     let so : Leaves (Some c.in-Some.leaving) (ready_at w.end c.args.now).leaving = rw c.in-Some.is at c.in_ok-leaving.ensures.leaving in
     let is = some_left w z c.args.now c.in_ok-leaving.ensures.end c.in-Some.leaving so in
-    let filter = ready_filter g.H.HeaderKey.protection g.K.PacketKey.aead (words_of stream) w z c.args.now is in
+    let drawn = drawn_still g.H.HeaderKey.protection g.K.PacketKey.aead g.K.PacketKey.seal_limit g.K.PacketKey.refusal_limit (words_of g.R.Rng.stream) w z c.args.now is in
     ap (λ x. stream x.random) c.count_bytes.ensures
     ∙ c.in_ok-size.ensures.random
-    ∙ ap (λ x. after_words (c.give.new.self.end.filter.drawn - z.end.filter.drawn) (stream x.random)) is
-    ∙ ap (λ (f : Filter). after_words (c.give.new.self.end.filter.drawn - f.drawn) (stream w.random)) filter
-    ∙ sym (ap (λ x. after_words (x.end.filter.drawn - w.end.filter.drawn) (stream w.random)) c.count_bytes.ensures)
+    ∙ ap (λ x. after_words (words_drawn c.give.new.self.end - words_drawn z.end) (stream x.random)) is
+    ∙ ap (λ (k : ℕ). after_words (words_drawn c.give.new.self.end - k) (stream w.random)) drawn
+    ∙ sym (ap (λ x. after_words (words_drawn x.end - words_drawn w.end) (stream w.random)) c.count_bytes.ensures)
 
 pub returns-clause-datagram : goal.returns-clause-datagram
 returns-clause-datagram g c =
@@ -212,8 +312,8 @@ returns-clause-datagram g c =
     let l = c.in-Some.leaving in
     let left = c.in_ok-leaving.ensures.end in
     let so : Leaves (Some l) (ready_at w.end c.args.now).leaving = rw c.in-Some.is at c.in_ok-leaving.ensures.leaving in
-    let can : can_number z.end.numbers ≡ true = search rules in
-    let gives = ready_gives g.H.HeaderKey.protection g.K.PacketKey.aead (words_of g.R.Rng.stream) w z c.args.now (some_left w z c.args.now left l so) l (some_is w z c.args.now left l so) c.requires (some_goes w z c.args.now left l so) can in
+    let can = rw c.in_default-bound_reached.is at c.bound_reached.ensures in
+    let gives = ready_gives g.H.HeaderKey.protection g.K.PacketKey.aead g.K.PacketKey.seal_limit g.K.PacketKey.refusal_limit (words_of g.R.Rng.stream) w z c.args.now (some_left w z c.args.now left l so) l (some_is w z c.args.now left l so) c.requires (some_goes w z c.args.now left l so) can in
     c.in_ok-size.ensures.items ∙ ap (λ (x : Polled). c.args.out.now.items ++ given_bytes x.datagram) (sym gives)
 
 pub returns-clause-answer : goal.returns-clause-answer
@@ -223,9 +323,9 @@ returns-clause-answer g c =
     let l = c.in-Some.leaving in
     let left = c.in_ok-leaving.ensures.end in
     let so : Leaves (Some l) (ready_at w.end c.args.now).leaving = rw c.in-Some.is at c.in_ok-leaving.ensures.leaving in
-    let can : can_number z.end.numbers ≡ true = search rules in
-    let gives = ready_gives g.H.HeaderKey.protection g.K.PacketKey.aead (words_of g.R.Rng.stream) w z c.args.now (some_left w z c.args.now left l so) l (some_is w z c.args.now left l so) c.requires (some_goes w z c.args.now left l so) can in
-    let datagram = datagram_of (policy_of g.H.HeaderKey.protection g.K.PacketKey.aead (words_of g.R.Rng.stream) z) (draft_as (leaving_of l) z.end) in
+    let can = rw c.in_default-bound_reached.is at c.bound_reached.ensures in
+    let gives = ready_gives g.H.HeaderKey.protection g.K.PacketKey.aead g.K.PacketKey.seal_limit g.K.PacketKey.refusal_limit (words_of g.R.Rng.stream) w z c.args.now (some_left w z c.args.now left l so) l (some_is w z c.args.now left l so) c.requires (some_goes w z c.args.now left l so) can in
+    let datagram = datagram_of (policy_of g.H.HeaderKey.protection g.K.PacketKey.aead g.K.PacketKey.seal_limit g.K.PacketKey.refusal_limit (words_of g.R.Rng.stream) z) (draft_as (leaving_of l) z.end) in
     let long = ap length c.in_ok-size.ensures.items ∙ length-append c.args.out.now.items datagram in
     let more = c.in_ok-size.ensures.size in
     let size : c.in_ok-size.size ≡ length datagram = omega arith in
@@ -240,6 +340,6 @@ returns-clause-size g c =
     let left = c.in_ok-leaving.ensures.end in
     let limit = c.self.inside.peer_params.max_udp_payload_size in
     let so : Leaves (Some l) (ready_at w.end c.args.now).leaving = rw c.in-Some.is at c.in_ok-leaving.ensures.leaving in
-    let most = (c.self.invariant.1.each MaxUdpPayloadSize).1 in
-    let sized : IsSized 1200 limit w.end.path.discovery = subst (λ (d : Discovery). IsSized 1200 limit d) (ap (λ x. x.end.path.discovery) c.self.view_is) c.self.invariant.2.sized in
+    let most = (c.self.invariant.2.each MaxUdpPayloadSize).1 in
+    let sized : IsSized 1200 limit w.end.path.discovery = subst (λ (d : Discovery). IsSized 1200 limit d) (ap (λ x. x.end.path.discovery) c.self.view_is) c.self.invariant.3.sized in
     some_within w z c.args.now left l so limit most sized c.in_ok-size.size c.in_ok-size.ensures.most

@@ -9,7 +9,8 @@ use Rattle.quic_spaces.specs.Acknowledging.{delay_at}
 use Rattle.quic_machine.specs.Tracking.{Carried, carried_in}
 use Rattle.quic_machine.specs.End.{End, with_end}
 use Rattle.quic_machine.specs.Poll.{ack_of, frame_room, asking}
-use Rattle.quic_connection_core.specs.Frames.{asked, fits_behind, ack_bytes_if, end_after_ack_if}
+use Rattle.quic_machine.specs.Validation.{path_waits}
+use Rattle.quic_connection_parts.specs.Frames.{asked, fits_behind, ack_bytes_if, end_after_ack_if}
 use Rattle.quic_spaces.specs.Marks.{told_counts}
 use Rattle.quic_spaces.proofs.AckSize.{few_runs}
 use Rattle.quic_connection_core.proofs.Plain.{front_of}
@@ -178,3 +179,11 @@ returns-in_ok-sent-2-clause-front g c =
     let used : ℕ = vec_len mid - c.len-body.result in
     front_of c.args.out.now.items mid.items c.put_late_ack-largest.new.out.items (asked e (vec_len c.args.out.now - c.len-body.result)).bytes (vec_len c.args.out.now) (vec_len mid) c.args.out.now.ok.0 c.in_ok-sent-2.ensures.grows c.in_ok-sent-2.ensures.items
     (ap (λ z. take (vec_len mid) z) c.put_late_ack-largest.ensures.items ∙ take_at mid.items (ack_bytes_if (fits_behind c.put_asking-else-is_ack_due.new.self.end used) c.put_asking-else-is_ack_due.new.self.end) (vec_len mid) (sym mid.ok.0))
+
+-- what asks for a whole datagram is as it was before the acknowledgement
+pub returns-in_ok-sent-clause-pads : goal.returns-in_ok-sent-clause-pads
+returns-in_ok-sent-clause-pads g c =
+    c.with_ack.ensures.pads ∙ c.in_ok-sent.ensures.pads ∙ ap (λ w. path_waits w.end) c.put_ack-largest.ensures.end
+
+pub returns-in_ok-sent-2-clause-pads : goal.returns-in_ok-sent-2-clause-pads
+returns-in_ok-sent-2-clause-pads g c = c.with_ack-else-is_ack_due.ensures.pads ∙ c.in_ok-sent-2.ensures.pads

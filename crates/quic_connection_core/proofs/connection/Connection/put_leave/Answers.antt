@@ -10,7 +10,7 @@ use Rattle.quic_wire.specs.Value.{ack, ping}
 use Rattle.quic_wire.specs.Writing.{spelling}
 use Rattle.quic_machine.specs.DraftLaws.{MayGo}
 use Rattle.quic_machine.specs.Poll.{ack_of}
-use Rattle.quic_connection_core.specs.Leaving.{leaving_of}
+use Rattle.quic_connection_parts.specs.Leaving.{leaving_of}
 use Rattle.quic_connection_core.proofs.connection.Connection.put_leave.Goals as goal
 
 pub put_ack-largest-requires-clause-some : goal.put_ack-largest-requires-clause-some

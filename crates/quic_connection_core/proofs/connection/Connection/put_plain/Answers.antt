@@ -1,4 +1,4 @@
-use Rattle.std.proofs.Common.{◌≡◌, ◌+◌, ◌-◌, ◌++◌, ℕ, Bool, max, List, length, ap, sym, ◌∙◌, arith}
+use Rattle.std.proofs.Common.{◌≡◌, ◌+◌, ◌-◌, ◌++◌, ◌≤◌, ℕ, Bool, max, List, length, ap, sym, ◌∙◌, arith}
 use Rattle.std.specs.Prelude.{vec_len}
 use Rattle.quic_packet.specs.Number.{truncated}
 use Rattle.quic_packet.specs.Header.{header_bytes}
@@ -7,15 +7,15 @@ use Rattle.quic_machine.specs.End.{number_of}
 use Rattle.std.proofs.lemmas.List.{length-append}
 use Rattle.quic_machine.specs.Parts.{current_mtu}
 use Rattle.quic_machine.specs.Poll.{draft_left, asking}
-use Rattle.quic_connection_core.specs.Leaving.{leaving_of, least_of, zeros_of}
-use Rattle.quic_connection_core.proofs.Plain.{front_of, same_numbers, same_filter, same_ids, same_least_of, least_within, mtu_within, payload_is, payload_long, size_is, plain_of}
+use Rattle.quic_connection_parts.specs.Leaving.{leaving_of, least_of, pads_left, zeros_of}
+use Rattle.quic_connection_core.proofs.Plain.{front_of, same_numbers, same_filter, same_ids, least_at, same_least_of, least_within, mtu_within, payload_is, payload_long, size_is, plain_of}
 use Rattle.quic_connection_core.proofs.connection.Connection.put_plain.Goals as goal
 
 pub put_leave-requires-clause-some : goal.put_leave-requires-clause-some
 put_leave-requires-clause-some g c =
     let width = c.put_header-width.ensures.width in
     let short = c.put_header-width.ensures.short in
-    let sized = c.self.invariant.2.sized.between.size in
+    let sized = c.self.invariant.3.sized.between.size in
     let same = ap (λ w. current_mtu w.end.path) c.self.view_is in
     omega arith
 
@@ -27,7 +27,7 @@ put_leave-requires-clause-room g c =
     let capacity = c.put_header-width.ensures.capacity in
     let room = c.requires.room in
     let mtu = mtu_within (leaving_of c.args.leaving) c.args.self.now.end in
-    let sized = c.self.invariant.2.sized.between.size in
+    let sized = c.self.invariant.3.sized.between.size in
     let same = ap (λ w. current_mtu w.end.path) c.self.view_is in
     omega arith
 
@@ -36,9 +36,13 @@ pad-requires-clause-room g c =
     let e = c.args.self.now.end in
     let l = leaving_of c.args.leaving in
     let d = draft_left l e in
-    let least : c.least_size-least.result ≡ least_of l (asking d.frames) e =
-    c.least_size-least.ensures ∙ ap (λ w. least_of l c.in_ok-sent.sent.asks w.end) c.in_ok-sent.ensures.end ∙ ap (λ (b : Bool). least_of l b d.end) c.in_ok-sent.ensures.asks ∙ same_least_of l e c.requires.due (asking d.frames) in
-    let most = least_within l (asking d.frames) e in
+    let least : c.least_size-least.result ≡ least_at l (asking d.frames) e =
+    c.least_size-least.ensures ∙ ap (λ w. least_of l c.in_ok-sent.sent.requires_padding c.in_ok-sent.sent.asks w.end) c.in_ok-sent.ensures.end ∙ ap (λ (b : Bool). least_of l b c.in_ok-sent.sent.asks d.end) c.in_ok-sent.ensures.pads
+    ∙ ap (λ (b : Bool). least_of l (pads_left l e) b d.end) c.in_ok-sent.ensures.asks ∙ same_least_of l e c.requires.due (pads_left l e) (asking d.frames) in
+    let sized = c.self.invariant.3.sized.between.size in
+    let same = ap (λ w. current_mtu w.end.path) c.self.view_is in
+    let big : 1200 ≤ current_mtu e.path = omega (arith, sized, same) in
+    let most = least_within l (pads_left l e) (asking d.frames) e big in
     let mtu = mtu_within l e in
     let few = c.saturating_sub.ensures in
     let within = c.in_ok-sent.ensures.within in
@@ -51,8 +55,6 @@ pad-requires-clause-room g c =
     let one = c.put_header-width.ensures.capacity in
     let two = c.in_ok-sent.ensures.capacity in
     let room = c.requires.room in
-    let sized = c.self.invariant.2.sized.between.size in
-    let same = ap (λ w. current_mtu w.end.path) c.self.view_is in
     omega arith
 
 pub returns-clause-items : goal.returns-clause-items
@@ -63,8 +65,9 @@ returns-clause-items g c =
     let t = truncated (number_of e) (cut_against e.numbers) in
     let before : List ℕ = c.put_header-width.new.out.items in
     let whole : List ℕ = c.put_leave.new.out.items in
-    let least : c.least_size-least.result ≡ least_of l (asking d.frames) e =
-    c.least_size-least.ensures ∙ ap (λ w. least_of l c.in_ok-sent.sent.asks w.end) c.in_ok-sent.ensures.end ∙ ap (λ (b : Bool). least_of l b d.end) c.in_ok-sent.ensures.asks ∙ same_least_of l e c.requires.due (asking d.frames) in
+    let least : c.least_size-least.result ≡ least_at l (asking d.frames) e =
+    c.least_size-least.ensures ∙ ap (λ w. least_of l c.in_ok-sent.sent.requires_padding c.in_ok-sent.sent.asks w.end) c.in_ok-sent.ensures.end ∙ ap (λ (b : Bool). least_of l b c.in_ok-sent.sent.asks d.end) c.in_ok-sent.ensures.pads
+    ∙ ap (λ (b : Bool). least_of l (pads_left l e) b d.end) c.in_ok-sent.ensures.asks ∙ same_least_of l e c.requires.due (pads_left l e) (asking d.frames) in
     let grown : vec_len c.put_leave.new.out ≡ vec_len c.put_header-width.new.out + length d.bytes =
     c.put_leave.new.out.ok.0 ∙ ap length c.in_ok-sent.ensures.items ∙ length-append before d.bytes ∙ ap (λ (k : ℕ). k + length d.bytes) (sym c.put_header-width.new.out.ok.0) in
     let few = c.saturating_sub.ensures in
@@ -72,19 +75,23 @@ returns-clause-items g c =
     let len = c.put_header-width.ensures.len in
     let start = c.len-start.ensures in
     let body = c.len-body.ensures in
-    let zeros : max (4 - (c.put_header-width.result + (vec_len c.put_leave.new.out - c.len-body.result))) (c.saturating_sub.result - (vec_len c.put_leave.new.out - c.len-body.result)) ≡ zeros_of e (length d.bytes) (least_of l (asking d.frames) e)
+    let zeros : max (4 - (c.put_header-width.result + (vec_len c.put_leave.new.out - c.len-body.result))) (c.saturating_sub.result - (vec_len c.put_leave.new.out - c.len-body.result)) ≡ zeros_of e (length d.bytes) (least_at l (asking d.frames) e)
     = omega (arith, least, grown, few, width, len, start, body) in
-    plain_of c.args.out.now.items before (header_bytes e.ids.active.id t) whole c.pad.new.out.items d.bytes _ _ c.put_header-width.ensures.items c.in_ok-sent.ensures.items c.pad.ensures.items zeros
-    ∙ ap (λ (z : List ℕ). c.args.out.now.items ++ (header_bytes e.ids.active.id t ++ z)) (sym (payload_is l e c.requires.due))
+    plain_of c.args.out.now.items before (header_bytes e.ids.peer.id t) whole c.pad.new.out.items d.bytes _ _ c.put_header-width.ensures.items c.in_ok-sent.ensures.items c.pad.ensures.items zeros
+    ∙ ap (λ (z : List ℕ). c.args.out.now.items ++ (header_bytes e.ids.peer.id t ++ z)) (sym (payload_is l e c.requires.due))
 
 pub returns-clause-within : goal.returns-clause-within
 returns-clause-within g c =
     let e = c.args.self.now.end in
     let l = leaving_of c.args.leaving in
     let d = draft_left l e in
-    let least : c.least_size-least.result ≡ least_of l (asking d.frames) e =
-    c.least_size-least.ensures ∙ ap (λ w. least_of l c.in_ok-sent.sent.asks w.end) c.in_ok-sent.ensures.end ∙ ap (λ (b : Bool). least_of l b d.end) c.in_ok-sent.ensures.asks ∙ same_least_of l e c.requires.due (asking d.frames) in
-    let most = least_within l (asking d.frames) e in
+    let least : c.least_size-least.result ≡ least_at l (asking d.frames) e =
+    c.least_size-least.ensures ∙ ap (λ w. least_of l c.in_ok-sent.sent.requires_padding c.in_ok-sent.sent.asks w.end) c.in_ok-sent.ensures.end ∙ ap (λ (b : Bool). least_of l b c.in_ok-sent.sent.asks d.end) c.in_ok-sent.ensures.pads
+    ∙ ap (λ (b : Bool). least_of l (pads_left l e) b d.end) c.in_ok-sent.ensures.asks ∙ same_least_of l e c.requires.due (pads_left l e) (asking d.frames) in
+    let sized = c.self.invariant.3.sized.between.size in
+    let same = ap (λ w. current_mtu w.end.path) c.self.view_is in
+    let big : 1200 ≤ current_mtu e.path = omega (arith, sized, same) in
+    let most = least_within l (pads_left l e) (asking d.frames) e big in
     let mtu = mtu_within l e in
     let few = c.saturating_sub.ensures in
     let within = c.in_ok-sent.ensures.within in
@@ -95,8 +102,6 @@ returns-clause-within g c =
     let start = c.len-start.ensures in
     let body = c.len-body.ensures in
     let padded = c.pad.ensures.len in
-    let sized = c.self.invariant.2.sized.between.size in
-    let same = ap (λ w. current_mtu w.end.path) c.self.view_is in
     omega arith
 
 pub returns-clause-size : goal.returns-clause-size
@@ -105,8 +110,9 @@ returns-clause-size g c =
     let l = leaving_of c.args.leaving in
     let d = draft_left l e in
     let before : List ℕ = c.put_header-width.new.out.items in
-    let least : c.least_size-least.result ≡ least_of l (asking d.frames) e =
-    c.least_size-least.ensures ∙ ap (λ w. least_of l c.in_ok-sent.sent.asks w.end) c.in_ok-sent.ensures.end ∙ ap (λ (b : Bool). least_of l b d.end) c.in_ok-sent.ensures.asks ∙ same_least_of l e c.requires.due (asking d.frames) in
+    let least : c.least_size-least.result ≡ least_at l (asking d.frames) e =
+    c.least_size-least.ensures ∙ ap (λ w. least_of l c.in_ok-sent.sent.requires_padding c.in_ok-sent.sent.asks w.end) c.in_ok-sent.ensures.end ∙ ap (λ (b : Bool). least_of l b c.in_ok-sent.sent.asks d.end) c.in_ok-sent.ensures.pads
+    ∙ ap (λ (b : Bool). least_of l (pads_left l e) b d.end) c.in_ok-sent.ensures.asks ∙ same_least_of l e c.requires.due (pads_left l e) (asking d.frames) in
     let grown : vec_len c.put_leave.new.out ≡ vec_len c.put_header-width.new.out + length d.bytes =
     c.put_leave.new.out.ok.0 ∙ ap length c.in_ok-sent.ensures.items ∙ length-append before d.bytes ∙ ap (λ (k : ℕ). k + length d.bytes) (sym c.put_header-width.new.out.ok.0) in
     let few = c.saturating_sub.ensures in

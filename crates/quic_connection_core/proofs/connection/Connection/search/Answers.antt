@@ -3,7 +3,7 @@ use Rattle.quic_machine.specs.End.{with_end}
 use Rattle.quic_machine.specs.Control.{with_app_limited}
 use Rattle.quic_machine.specs.Sizes.{may_search, search_names, search_asked}
 use Rattle.quic_machine.specs.Poll.{probe_named, searched_if, goes_as}
-use Rattle.quic_connection_core.specs.Leaving.{Leaves, rested}
+use Rattle.quic_connection_parts.specs.Leaving.{Leaves, rested}
 use Rattle.quic_connection_core.proofs.connection.Connection.search.Goals as goal
 
 pub returns-then-not-may_search-clause-leaving : goal.returns-then-not-may_search-clause-leaving

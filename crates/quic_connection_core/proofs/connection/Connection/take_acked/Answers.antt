@@ -8,10 +8,10 @@ use Rattle.quic_machine.specs.End.{with_end, with_tracking}
 use Rattle.quic_machine.specs.Control.{last_sent, told_acks_ended}
 use Rattle.quic_machine.specs.Sizes.{told_packets}
 use Rattle.quic_machine.specs.Acked.{packets_acked, losses_detected, answered, told_detected}
-use Rattle.quic_connection_core.specs.Telling.{telling}
-use Rattle.quic_connection_core.specs.Tracked.{sampled_at, acked_taken, acked_told}
-use Rattle.quic_connection_core.proofs.Lost.{named_none, named_some, nothing_in}
-use Rattle.quic_connection_core.proofs.Told.{named_told, told_none, told_thrice, counted}
+use Rattle.quic_connection_parts.specs.Telling.{telling}
+use Rattle.quic_connection_parts.specs.Tracked.{sampled_at, acked_taken, acked_told}
+use Rattle.quic_connection_parts.proofs.Lost.{named_none, named_some, nothing_in}
+use Rattle.quic_connection_parts.proofs.Told.{named_told, told_none, told_thrice, counted}
 use Rattle.quic_connection_core.proofs.connection.Connection.take_acked.Goals as goal
 
 pub returns-then-is_empty-clause-ok : goal.returns-then-is_empty-clause-ok

@@ -5,7 +5,7 @@ use Rattle.quic_congestion.specs.Congestion.{after_calls}
 use Rattle.quic_machine.specs.Receive.{told_items}
 use Rattle.quic_connection_core.proofs.Forms.{all_have_form}
 use Rattle.quic_connection_core.proofs.Items.{taken_step, told_step, told_stop, asks_already, asks_now, form_behind}
-use Rattle.quic_connection_core.proofs.Told.{keys_step}
+use Rattle.quic_connection_parts.proofs.Told.{keys_step}
 use Rattle.quic_connection_core.proofs.connection.Connection.take_frames.Goals as goal
 
 pub loop-item-init : goal.loop-item-init

@@ -2,8 +2,8 @@ use Rattle.std.proofs.Common.{◌≡◌, ◌||◌}
 use Rattle.quic_wire.specs.Items.{items}
 use Rattle.quic_congestion.specs.Congestion.{after_calls}
 use Rattle.quic_machine.specs.Receive.{take_items, told_items, asks_in}
-use Rattle.quic_connection_core.specs.Faults.{AllHaveForm}
-use Rattle.quic_connection_core.specs.Telling.{KeepsRest}
+use Rattle.quic_connection_parts.specs.Faults.{AllHaveForm}
+use Rattle.quic_connection_parts.specs.Telling.{KeepsRest}
 use Rattle.quic_connection_core.proofs.connection.Connection.take_frames.Given as goal
 
 abbrev pub invariant-loop-item : goal.invariant-loop-item

@@ -3,7 +3,7 @@ use Rattle.std.specs.String.{string_bytes}
 use Rattle.std.proofs.lemmas.Result.{err_from_is_err_and}
 use Rattle.quic_run_core.specs.Reading.{left_of}
 use Rattle.quic_peer_core.specs.Stages.{stage_of}
-use Rattle.quic_peer_core.proofs.Running.{running-more, running-some, running-bad, stopped_fault, refused}
+use Rattle.quic_peer_core.proofs.Running.{running-more, running-some, running-refused, stopped_fault}
 use Rattle.quic_peer_core.proofs.runner.Peer.run_lines.Goals as goal
 
 pub returns-in_err-next-clause-err : goal.returns-in_err-next-clause-err
@@ -11,15 +11,12 @@ returns-in_err-next-clause-err g c =
     let p = err_from_is_err_and c.from_residual.result c.from_residual.ensures.1 in
     rw (p.1, p.2) (stopped_fault _ _ _ _ c.in_err-next.ensures.fault (running-some _ _ _ _ _ _ c.loop-number.invariant.1))
 
-pub returns-in-Err-BadCommand-clause-err : goal.returns-in-Err-BadCommand-clause-err
-returns-in-Err-BadCommand-clause-err g c =
+pub returns-in-Err-clause-err : goal.returns-in-Err-clause-err
+returns-in-Err-clause-err g c =
     let more : c.in_ok-next.field-0 ≡ true = first_of (cc, search rules) in
     let taken = rw more at c.in_ok-next.ensures.line in
-    let bad = refused _ _ c.in-Err-BadCommand.field-0-is (rw c.deref.ensures.value at c.in-Err-BadCommand.ensures) in
-    running-bad _ _ _ _ _ _ c.next.new.line.items (left_of g.R.Read.remaining c.next.new.self) c.loop-number.invariant.1 taken bad
-
-pub returns-in-Err-OutOfMemory-clause-err : goal.returns-in-Err-OutOfMemory-clause-err
-returns-in-Err-OutOfMemory-clause-err g c = running-some _ _ _ _ _ _ c.loop-number.invariant.1
+    let refused = rw c.deref.ensures.value at c.in-Err.ensures in
+    rw c.at.ensures (running-refused _ _ _ _ _ _ c.next.new.line.items (left_of g.R.Read.remaining c.next.new.self) c.in-Err.error c.loop-number.invariant.1 taken refused)
 
 pub loop-number-preserved : goal.loop-number-preserved
 loop-number-preserved g c =

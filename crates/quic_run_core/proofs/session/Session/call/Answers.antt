@@ -6,8 +6,7 @@ use Rattle.quic_congestion.specs.NewReno.{window_after}
 use Rattle.quic_connection.specs.Ends.{world_of}
 use Rattle.quic_run_core.specs.Printed.{answer_text}
 use Rattle.quic_wire_core.specs.declared.stream_id.Side.TheVariants.{Client, Server}
-use Rattle.quic_run_core.specs.Words.{words_from}
-use Rattle.quic_run_core.specs.Policies.{plain_policies}
+use Rattle.quic_run_core.specs.Scripts.{policies_for}
 use Rattle.quic_run_core.proofs.Making.{given_more, on_ok_then}
 use Rattle.quic_run_core.proofs.Showing.{known_more}
 use Rattle.quic_connection.specs.GoingOn.{are_on}
@@ -15,21 +14,21 @@ use Rattle.quic_run_core.proofs.session.Session.call.Goals as goal
 use Rattle.quic_run_core.proofs.session.Session.call.Goals.{in-Client, in-Server}
 
 pub invariant_of-self-clause-plain : goal.invariant_of-self-clause-plain
-invariant_of-self-clause-plain c = are_on _ _ _ _ _ _ c.args.self.now.plain c.step.ensures.goes_on
+invariant_of-self-clause-plain c = are_on _ _ _ _ _ _ _ _ c.args.self.now.plain c.step.ensures.goes_on
 
 pub invariant_of-self-clause-client_known : goal.invariant_of-self-clause-client_known
 invariant_of-self-clause-client_known c =
-    let more = given_more _ (plain_policies (words_from c.args.self.now.client_source) (words_from c.args.self.now.server_source)) _ _ _ _ Client c.args.self.now.plain c.step.ensures.step c.step.ensures.err_given in
+    let more = given_more _ (policies_for c.args.self.now.client c.args.self.now.server) _ _ _ _ Client c.args.self.now.plain c.step.ensures.step c.step.ensures.err_given in
     rw more.1 (known_more Client _ more.0 _ c.args.self.now.client_known)
 
 pub invariant_of-self-clause-server_known : goal.invariant_of-self-clause-server_known
 invariant_of-self-clause-server_known c =
-    let more = given_more _ (plain_policies (words_from c.args.self.now.client_source) (words_from c.args.self.now.server_source)) _ _ _ _ Server c.args.self.now.plain c.step.ensures.step c.step.ensures.err_given in
+    let more = given_more _ (policies_for c.args.self.now.client c.args.self.now.server) _ _ _ _ Server c.args.self.now.plain c.step.ensures.step c.step.ensures.err_given in
     rw more.1 (known_more Server _ more.0 _ c.args.self.now.server_known)
 
 pub returns-clause-tells : goal.returns-clause-tells
 returns-clause-tells c =
-    let k : Policies = plain_policies (words_from c.args.self.now.client_source) (words_from c.args.self.now.server_source) in
+    let k : Policies = policies_for c.args.self.now.client c.args.self.now.server in
     let next : World = world_of window_after c.step.new.ends c.step.new.given in
     let answer = c.in_ok-answer.answer in
     let count : c.match-event.given ≡ length (given_by c.args.event.now.side next) =

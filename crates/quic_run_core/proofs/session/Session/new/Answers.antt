@@ -1,22 +1,31 @@
-use Rattle.std.proofs.Common.{refl, ap}
+use Rattle.std.proofs.Common.{refl}
 use Rattle.quic_wire_core.specs.declared.stream_id.Side.TheVariants.{Client, Server}
 use Rattle.std.proofs.lemmas.Result.{err_from_is_err_and}
-use Rattle.quic_machine.specs.End.{End}
-use Rattle.quic_run_core.proofs.Making.{first_ends, are_started, plain_at}
+use Rattle.quic_machine.specs.End.{are_keys_short}
+use Rattle.quic_run_core.specs.Scripts.{limits_in}
+use Rattle.quic_run_core.proofs.Making.{first_ends, are_started, plain_at, short_too, or_first}
 use Rattle.quic_run_core.proofs.session.Session.new.Goals as goal
 
 pub returns-clause-started : goal.returns-clause-started
 returns-clause-started c = are_started c.args.client.now c.args.server.now c.in_ok-make_end-2.ensures.making c.in_ok-make_end.ensures.making
 
-pub returns-in_err-make_end-2-clause-memory : goal.returns-in_err-make_end-2-clause-memory
-returns-in_err-make_end-2-clause-memory c =
+pub returns-clause-lasts : goal.returns-clause-lasts
+returns-clause-lasts c = rw (c.in_ok-make_end.ensures.lasts, c.in_ok-make_end-2.ensures.lasts) refl
+
+pub returns-in_err-make_end-clause-refusal : goal.returns-in_err-make_end-clause-refusal
+returns-in_err-make_end-clause-refusal c =
+    let p = err_from_is_err_and c.from_residual.result c.from_residual.ensures.1 in
+    rw (p.1, p.2) (short_too _ _ _ (or_first _ (are_keys_short (limits_in c.args.server.now))) c.in_err-make_end.ensures.refusal)
+
+pub returns-in_err-make_end-2-clause-refusal : goal.returns-in_err-make_end-2-clause-refusal
+returns-in_err-make_end-2-clause-refusal c =
     let p = err_from_is_err_and c.from_residual-in_err-make_end-2.result c.from_residual-in_err-make_end-2.ensures.1 in
-    rw (p.1, p.2) c.in_err-make_end-2.ensures.memory
+    rw (p.1, p.2, c.in_ok-make_end.ensures.lasts) c.in_err-make_end-2.ensures.refusal
 
 pub invariant_of-result-clause-plain : goal.invariant_of-result-clause-plain
 invariant_of-result-clause-plain c = record {
-  client = plain_at Client c.args.client.now.source c.in_ok-make_end.field-0 c.in_ok-make_end.ensures.keys (ap (λ (e : End). e.filter.drawn) c.in_ok-make_end.ensures.end) c.in_ok-make_end.ensures.words;
-  server = plain_at Server c.args.server.now.source c.in_ok-make_end-2.field-0 c.in_ok-make_end-2.ensures.keys (ap (λ (e : End). e.filter.drawn) c.in_ok-make_end-2.ensures.end) c.in_ok-make_end-2.ensures.words;
+  client = plain_at Client c.args.client.now c.in_ok-make_end.field-0 c.in_ok-make_end.ensures.keys c.in_ok-make_end.ensures.words;
+  server = plain_at Server c.args.server.now c.in_ok-make_end-2.field-0 c.in_ok-make_end-2.ensures.keys c.in_ok-make_end-2.ensures.words;
 }
 
 pub invariant_of-result-clause-client_known : goal.invariant_of-result-clause-client_known

@@ -2,7 +2,7 @@ use Rattle.std.proofs.Common.{◌+◌, ◌-◌, ◌≤◌, sym, ap, ◌∙◌, v
 use Rattle.std.specs.Option.{option_map}
 use Rattle.quic_wire.specs.FrameView.{frame_view}
 use Rattle.quic_wire.specs.Writing.{frame_size}
-use Rattle.quic_streams_state.proofs.Going.{left_stale, left_first, left_some, written_none, written_full, begins_on, on_err}
+use Rattle.quic_streams_state.proofs.Going.{fewer_wait, left_stale, left_first, left_some, written_none, written_full, begins_on, on_err}
 use Rattle.quic_streams_state.proofs.state.StreamsState.write_kind.Goals as goal
 
 pub waiting-preserved-in_default : goal.waiting-preserved-in_default
@@ -69,3 +69,6 @@ returns-then-max_size-len-clause-pending c = (written_full _ _ _ c.args.kind c.a
 
 pub returns-then-max_size-len-clause-sent : goal.returns-then-max_size-len-clause-sent
 returns-then-max_size-len-clause-sent c = (written_full _ _ _ c.args.kind c.args.max_size (vec_len c.waiting.out) c.waiting.self c.waiting.pending c.waiting.sent (frame_view c.in-Some.frame) c.waiting.invariant.left (sym c.first_frame.ensures.frame ∙ ap (option_map frame_view) c.in-Some.is) (omega (arith, c.len.ensures, c.size_of_frame.ensures, c.if-max_size-len.true))).carried
+
+pub waiting-smaller : goal.waiting-smaller
+waiting-smaller c = fewer_wait c.args.kind c.waiting.pending c.drop_first-in-waiting.new.pending (sym c.is_waiting.ensures ∙ c.waiting-test.true) c.drop_first-in-waiting.ensures

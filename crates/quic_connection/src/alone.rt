@@ -1,0 +1,123 @@
+//! Calls at one end, one behind another, whatever datagrams its peer hands to it.
+ghost use Rattle.std.specs.Prelude.{◌≡◌, ◌++◌, ◌<◌, take, length, vec_len, vec_capacity, IfOk, OnOk, OnErr, true, false};
+ghost use Rattle.quic_machine.specs.End.{policy_of};
+ghost use Rattle.quic_machine.specs.Machine.{gives, reads_window};
+ghost use Rattle.quic_headline.specs.Alone.{IsLoneStep, IsNew, FollowsAlone, BytesCame, MessagesCame};
+ghost use Rattle.quic_connection_parts.specs.Telling.{windows_of};
+ghost use Rattle.quic_connection_parts.specs.Drawn.{words_of};
+ghost use Rattle.quic_connection.specs.Ends.{GoesOn};
+ghost use Rattle.quic_connection.specs.Lone.{lone_of, AddsAlone};
+
+use crate::running::at_end;
+use quic_congestion::Controller;
+use quic_connection_core::Connection;
+use quic_headline::headline;
+use quic_machine::{Answer, Call, Datagram};
+use quic_packet::crypto::{HeaderKey, PacketKey};
+use rand_core::Rng;
+use std::alloc::{AllocError, Global};
+
+/// What comes of calls at one end.
+#[derive(Drop)]
+pub struct Alone {
+    /// The answer to each call.
+    pub answers: Vec<Answer>,
+    /// Whether memory lacked beside the end's own: the next call then has no answer, and wasn't
+    /// made.
+    pub cut_short: bool,
+}
+
+/// Makes these calls at one end whose peer is elsewhere, one behind another, and appends the
+/// datagrams that it gives. [`Call::Deliver`] hands in one of `theirs`, by its index: any bytes,
+/// of a peer that may have the keys and lie (RFC 9000, section 21).
+///
+/// Whatever that peer sent, each byte that a read gives stood at its offset in a STREAM frame of a
+/// datagram that was handed in before and opened, and each message that is received in a DATAGRAM
+/// frame of one: at an end as [`Connection::new`] makes it, as long as it hasn't failed for want
+/// of memory.
+pub fn run_alone<H: HeaderKey + Drop, K: PacketKey + Drop, R: Rng + Drop, C: Controller>(
+    alloc: Global,
+    end: &mut Connection<H, K, R, C>,
+    given: &mut Vec<Datagram>,
+    theirs: &[Datagram],
+    calls: &[Call],
+) -> Alone
+    ensures follows { FollowsAlone (policy_of H.protection K.aead K.seal_limit K.refusal_limit (words_of R.stream) end.old) theirs.now
+        (lone_of (windows_of C.steps C.window_of) end.old) (take (length result.answers.items) calls.now) result.answers.items
+        (lone_of (windows_of C.steps C.window_of) end.new) }
+    ensures given { AddsAlone (policy_of H.protection K.aead K.seal_limit K.refusal_limit (words_of R.stream) end.old) theirs.now
+        (lone_of (windows_of C.steps C.window_of) end.old) (take (length result.answers.items) calls.now) result.answers.items
+        (lone_of (windows_of C.steps C.window_of) end.new) given.old.items given.new.items }
+    ensures whole { result.cut_short ≡ false → length result.answers.items ≡ length calls.now }
+    ensures stopped { result.cut_short ≡ true → length result.answers.items < length calls.now }
+    ensures goes_on { GoesOn R.stream end.old end.new }
+    ensures bytes_come { IsNew end.old.end
+        → BytesCame (policy_of H.protection K.aead K.seal_limit K.refusal_limit (words_of R.stream) end.old) theirs.now
+        (take (length result.answers.items) calls.now) result.answers.items }
+    ensures messages_come { IsNew end.old.end
+        → MessagesCame (policy_of H.protection K.aead K.seal_limit K.refusal_limit (words_of R.stream) end.old) theirs.now
+        (take (length result.answers.items) calls.now) result.answers.items }
+{
+    // What the machine keeps at one end alone: laws, which do nothing.
+    headline::bytes_come();
+    headline::messages_come();
+    make_calls(alloc, end, given, theirs, calls)
+}
+
+/// Makes each call in turn.
+fn make_calls<H: HeaderKey + Drop, K: PacketKey + Drop, R: Rng + Drop, C: Controller>(
+    alloc: Global,
+    end: &mut Connection<H, K, R, C>,
+    given: &mut Vec<Datagram>,
+    theirs: &[Datagram],
+    calls: &[Call],
+) -> Alone
+    ensures given { AddsAlone (policy_of H.protection K.aead K.seal_limit K.refusal_limit (words_of R.stream) end.old) theirs.now
+        (lone_of (windows_of C.steps C.window_of) end.old) (take (length result.answers.items) calls.now) result.answers.items
+        (lone_of (windows_of C.steps C.window_of) end.new) given.old.items given.new.items }
+    ensures whole { result.cut_short ≡ false → length result.answers.items ≡ length calls.now }
+    ensures stopped { result.cut_short ≡ true → length result.answers.items < length calls.now }
+    ensures goes_on { GoesOn R.stream end.old end.new }
+{
+    let mut answers = Vec::new(alloc);
+    for call in calls {
+        let Ok(answer) = next_answer(alloc, end, given, theirs, call, &mut answers) else {
+            return Alone {
+                answers,
+                cut_short: true,
+            };
+        };
+        answers.push_reserved(answer);
+    }
+    Alone {
+        answers,
+        cut_short: false,
+    }
+}
+
+/// Makes the next call, where there is room for its answer. An error is want of memory, with no
+/// call made and nothing changed.
+fn next_answer<H: HeaderKey + Drop, K: PacketKey + Drop, R: Rng + Drop, C: Controller>(
+    alloc: Global,
+    end: &mut Connection<H, K, R, C>,
+    given: &mut Vec<Datagram>,
+    theirs: &[Datagram],
+    call: &Call,
+    answers: &mut Vec<Answer>,
+) -> Result<Answer, AllocError>
+    ensures answers { answers.new.items ≡ answers.old.items }
+    ensures room { OnOk result (vec_len answers.new < vec_capacity answers.new) }
+    ensures step { IfOk result (λ a.
+        IsLoneStep (policy_of H.protection K.aead K.seal_limit K.refusal_limit (words_of R.stream) end.old) theirs.now
+        (lone_of (windows_of C.steps C.window_of) end.old) call.now a (lone_of (windows_of C.steps C.window_of) end.new)) }
+    ensures given { IfOk result (λ a.
+        given.new.items
+        ≡ given.old.items ++ gives (policy_of H.protection K.aead K.seal_limit K.refusal_limit (words_of R.stream) end.old)
+        (reads_window (windows_of C.steps C.window_of end.old.control) end.old.heard call.now end.old.end) call.now a) }
+    ensures goes_on { GoesOn R.stream end.old end.new }
+    ensures err { OnErr result (end.new ≡ end.old) }
+    ensures err_given { OnErr result (given.new.items ≡ given.old.items) }
+{
+    answers.reserve(1)?;
+    at_end(alloc, end, given, theirs, call)
+}

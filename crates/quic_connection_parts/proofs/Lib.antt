@@ -1,0 +1,15 @@
+pub mod Tracked
+pub mod Headers
+pub mod Shifted
+pub mod Fitting
+pub mod Content
+pub mod Words
+pub mod Delays
+pub mod OnStreams
+pub mod Lost
+pub mod Flights
+pub mod Told
+pub mod Closed
+pub mod Living
+pub mod Issued
+pub mod Drawing

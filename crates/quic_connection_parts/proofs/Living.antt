@@ -1,0 +1,293 @@
+-- Numbers of connection ids that live, and their ids.
+use Rattle.std.proofs.Common.{◌≡◌, ◌≢◌, ℕ, zero, suc, ◌+◌, ◌-◌, ◌*◌, ◌≤◌, ◌<◌, ◌^◌, ◌||◌, ◌==◌, ◌⊎◌, inl, inr, Bool, true, false, not, cond, ltb, leb, List, [], ◌∷◌, ◌++◌, length, take, drop, min, Option, Some, None, refl, sym, ap, subst, ◌∙◌, arith}
+use Rattle.std.specs.Prelude.{map, set, IfSome, IfOk, Ok, Err, if◌then◌else◌, nat_lt, replicate}
+use Rattle.std.specs.List.{filter, slice_get, prefix_len, position, position_or_len, remove, range_with_len, AllByRecursion}
+use Rattle.std.specs.Ordering.{nat_cmp, match_ordering}
+use Rattle.std.specs.BTreeMap.{is_at}
+use Rattle.std.specs.BTreeSet.{insert_key}
+use Rattle.std.specs.Cmp.{unsigned_tied}
+use Rattle.std.specs.declared.ops.Range.{Range}
+use Rattle.std.proofs.lemmas.Bool.{le-ltb, lt-ltb, ltb-false, ne_eqb, eq-eqb}
+use Rattle.std.proofs.lemmas.Bool.Decides.{eqb_tells}
+use Rattle.std.proofs.lemmas.List.{append_assoc, append-nil}
+use Rattle.rand_core.specs.Stream.{Stream, u64_call, after}
+use Rattle.quic_wire_core.specs.declared.shared.IssuedCid.{IssuedCid}
+use Rattle.quic_wire.specs.declared.frame.NewConnectionId.{NewConnectionId}
+use Rattle.quic_ids.specs.CidState.{Rise, below, without}
+use Rattle.quic_ids.specs.CidQueue.{PeerIds, with_cid, from, brought, first_used, known_with, after_insert, left_by, after_accepted, exceeds, retires_active, retired_for, accepted_answer, insert_answer}
+use Rattle.quic_ids.specs.declared.cid_queue.InsertError.TheVariants as inserts
+use Rattle.quic_machine.specs.Ids.{NumberedId, numbered, AreAsMany, with_number, with_id, words_behind, words_of_id, drawn_id, drawn_ids, later_numbers, Drawing, drawn_one, drawn_places, retires_for}
+use Rattle.quic_connection_parts.specs.Drawn.{words_of, after_words}
+use Rattle.quic_connection_parts.specs.Living.{RiseBelow, HaveNumbers}
+
+-- ---- numbers that ascend
+
+pub rises : (ks : List ℕ) (first end : ℕ) → RiseBelow ks first end → Rise ks first
+rises [] first end up = tt
+rises (k ∷ ks) first end up = (up.0, rises ks (k + 1) end up.2)
+
+-- those from a number on lie from a lesser one on, too
+rises_from : (ks : List ℕ) (low first end : ℕ) → low ≤ first → RiseBelow ks first end → RiseBelow ks low end
+rises_from [] low first end le up = tt
+rises_from (k ∷ ks) low first end le up = let a = up.0 in (omega (arith, le, a), up.1, up.2)
+
+rise_from : (ks : List ℕ) (low first : ℕ) → low ≤ first → Rise ks first → Rise ks low
+rise_from [] low first le up = tt
+rise_from (k ∷ ks) low first le up = let a = up.0 in (omega (arith, le, a), up.1)
+
+-- one more above them
+pub rises_more : (ks : List ℕ) (first n : ℕ) → first ≤ n → RiseBelow ks first n → RiseBelow (ks ++ n ∷ []) first (n + 1)
+rises_more [] first n le up = (le, omega arith, tt)
+rises_more (k ∷ ks) first n le up = let a = up.1 in (up.0, omega (arith, a), rises_more ks (k + 1) n (omega (arith, a)) up.2)
+
+-- the first ones
+pub below_rises : (n : ℕ) → RiseBelow (below n) 0 n
+below_rises zero = tt
+below_rises (suc n) = subst (λ (m : ℕ). RiseBelow (below n ++ n ∷ []) 0 m) (let next : n + 1 ≡ suc n = omega arith in next) (rises_more (below n) 0 n (omega arith) (below_rises n))
+
+-- the one above them goes to the end
+pub inserted_last : (ks : List ℕ) (first n : ℕ) → RiseBelow ks first n → insert_key nat_cmp ks n ≡ ks ++ n ∷ []
+inserted_last [] first n up = refl
+inserted_last (k ∷ ks) first n up = let a = up.1 in rw (le-ltb n k (omega (arith, a)), ne_eqb n k (λ e. omega (arith, a))) (ap (λ (l : List ℕ). k ∷ l) (inserted_last ks (k + 1) n up.2))
+
+-- the numbers from 1 on, behind 0, are the first ones
+pub range_more : (a n : ℕ) → range_with_len a (suc n) ≡ range_with_len a n ++ (a + n) ∷ []
+range_more a zero = ap (λ (k : ℕ). k ∷ []) (let same : a ≡ a + 0 = omega arith in same)
+range_more a (suc n) = ap (λ (l : List ℕ). a ∷ l) (range_more (a + 1) n ∙ ap (λ (k : ℕ). range_with_len (a + 1) n ++ k ∷ []) (let same : a + 1 + n ≡ a + suc n = omega arith in same))
+
+range_below : (n : ℕ) → range_with_len 0 n ≡ below n
+range_below zero = refl
+range_below (suc n) = range_more 0 n ∙ ap (λ (k : ℕ). range_with_len 0 n ++ k ∷ []) (let same : 0 + n ≡ n = omega arith in same) ∙ ap (λ (l : List ℕ). l ++ n ∷ []) (range_below n)
+
+pub first_numbers : (limit : ℕ) → 1 ≤ limit → 0 ∷ later_numbers limit ≡ below limit
+first_numbers zero some = absurd (omega (arith, some))
+first_numbers (suc n) some = ap (λ (k : ℕ). 0 ∷ range_with_len 1 k) (let same : suc n - 1 ≡ n = omega arith in same) ∙ range_below (suc n)
+
+-- ---- numbers and their ids
+
+pub numbered_more : (ns : List ℕ) (ids : List (List ℕ)) (n : ℕ) (id : List ℕ) → AreAsMany ns ids → numbered (ns ++ n ∷ []) (ids ++ id ∷ []) ≡ numbered ns ids ++ record { number = n; id = id } ∷ []
+numbered_more [] [] n id many = refl
+numbered_more [] (i ∷ is) n id many = absurd cc
+numbered_more (k ∷ ns) [] n id many = absurd cc
+numbered_more (k ∷ ns) (i ∷ is) n id many = ap (λ (l : List NumberedId). record { number = k; id = i } ∷ l) (numbered_more ns is n id (let same : suc (length ns) ≡ suc (length is) = many in omega (arith, same)))
+
+-- the ids of numbered ones
+pub known_numbered : (ns : List ℕ) (ids : List (List ℕ)) → AreAsMany ns ids → map (λ i. i.id) (numbered ns ids) ≡ ids
+known_numbered [] [] many = refl
+known_numbered [] (i ∷ is) many = absurd cc
+known_numbered (n ∷ ns) [] many = absurd cc
+known_numbered (n ∷ ns) (i ∷ is) many = ap (λ (l : List (List ℕ)). i ∷ l) (known_numbered ns is (let same : suc (length ns) ≡ suc (length is) = many in omega (arith, same)))
+
+pub many_more : (ns : List ℕ) (ids : List (List ℕ)) (n : ℕ) (id : List ℕ) → AreAsMany ns ids → AreAsMany (ns ++ n ∷ []) (ids ++ id ∷ [])
+many_more [] [] n id many = refl
+many_more [] (i ∷ is) n id many = absurd cc
+many_more (k ∷ ns) [] n id many = absurd cc
+many_more (k ∷ ns) (i ∷ is) n id many = let same : suc (length ns) ≡ suc (length is) = many in ap suc (many_more ns is n id (omega (arith, same)))
+
+-- ids that are drawn, with their numbers
+pub numbered_drawn : (w : ℕ → ℕ) (ns : List ℕ) → numbered ns (map (λ c. c.id) (drawn_ids w ns)) ≡ map with_number (drawn_ids w ns)
+numbered_drawn w [] = refl
+numbered_drawn w (n ∷ ns) = ap (λ (l : List NumberedId). with_number (drawn_id w n) ∷ l) (numbered_drawn (words_behind words_of_id w) ns)
+
+pub drawn_many : (w : ℕ → ℕ) (ns : List ℕ) → AreAsMany ns (map (λ c. c.id) (drawn_ids w ns))
+drawn_many w [] = refl
+drawn_many w (n ∷ ns) = ap suc (drawn_many (words_behind words_of_id w) ns)
+
+-- ---- one of them goes
+
+-- a number below all others isn't among them
+none_lower : (ks : List ℕ) (first n : ℕ) → Rise ks first → n < first → (without n ks ≡ ks) × ((ids : List (List ℕ)) → filter (λ i. not (i.number == n)) (numbered ks ids) ≡ numbered ks ids)
+none_lower [] first n up lt = (refl, λ ids. refl)
+none_lower (k ∷ ks) first n up lt =
+    let a = up.0 in
+    let other : n ≢ k = λ e. omega (arith, a, lt, e) in
+    let back : k ≢ n = λ e. omega (arith, a, lt, e) in
+    let rest = none_lower ks (k + 1) n up.1 (omega (arith, a, lt)) in
+    (rw (unsigned_tied n k ∙ ne_eqb n k other) (ap (λ (l : List ℕ). k ∷ l) rest.0), kept back rest.1)
+  where
+    kept : k ≢ n → ((ids : List (List ℕ)) → filter (λ i. not (i.number == n)) (numbered ks ids) ≡ numbered ks ids) → (ids : List (List ℕ)) → filter (λ i. not (i.number == n)) (numbered (k ∷ ks) ids) ≡ numbered (k ∷ ks) ids
+    kept back others [] = refl
+    kept back others (id ∷ ids) = rw (ne_eqb k n back) (ap (λ (l : List NumberedId). record { number = k; id = id } ∷ l) (others ids))
+
+-- what is left without a number: the numbers and the ids, where they are taken out at its place
+abbrev pub Goes : ℕ → List ℕ → List (List ℕ) → Option ℕ → Type 0
+Goes n ns ids None = (without n ns ≡ ns) × (filter (λ i. not (i.number == n)) (numbered ns ids) ≡ numbered ns ids)
+Goes n ns ids (Some place) = (remove ns place ≡ without n ns) × (numbered (remove ns place) (remove ids place) ≡ filter (λ i. not (i.number == n)) (numbered ns ids)) × AreAsMany (remove ns place) (remove ids place) × (place < length ns)
+
+pub goes_at : (n first : ℕ) (ns : List ℕ) (ids : List (List ℕ)) → Rise ns first → AreAsMany ns ids → Goes n ns ids (position (λ m. m == n) ns)
+goes_at n first [] [] up many = (refl, refl)
+goes_at n first [] (id ∷ ids) up many = absurd cc
+goes_at n first (k ∷ ns) [] up many = absurd cc
+goes_at n first (k ∷ ns) (id ∷ ids) up many = by (eqb_tells k n) (goes_at n (k + 1) ns ids up.1 (let same : suc (length ns) ≡ suc (length ids) = many in omega (arith, same)))
+  where
+    here : NumberedId
+    here = record { number = k; id = id }
+
+    p : ℕ
+    p = position_or_len (λ m. m == n) ns
+
+    later : (b : Bool) → k ≢ n → nat_lt p (length ns) ≡ b → Goes n ns ids (cond b (Some p) None) → Goes n (k ∷ ns) (id ∷ ids) (cond (nat_lt (1 + p) (suc (length ns))) (Some (1 + p)) None)
+    later true other is g =
+        let back : n ≢ k = λ e. other (sym e) in
+        let lt : p < length ns = g.3 in
+        let next : 1 + p ≡ suc p = omega arith in
+        let some : nat_lt (1 + p) (suc (length ns)) ≡ true = lt-ltb (1 + p) (suc (length ns)) (omega (arith, lt)) in
+        rw some (rw next (
+          rw (unsigned_tied n k ∙ ne_eqb n k back) (ap (λ (l : List ℕ). k ∷ l) g.0),
+          rw (ne_eqb k n other) (ap (λ (l : List NumberedId). here ∷ l) g.1),
+          ap suc g.2,
+          omega (arith, lt),
+        ))
+    later false other is g =
+        let back : n ≢ k = λ e. other (sym e) in
+        let none : nat_lt (1 + p) (suc (length ns)) ≡ false = le-ltb (1 + p) (suc (length ns)) (let ge : length ns ≤ p = not_less p (length ns) is in omega (arith, ge)) in
+        rw none (rw (unsigned_tied n k ∙ ne_eqb n k back) (ap (λ (l : List ℕ). k ∷ l) g.0), rw (ne_eqb k n other) (ap (λ (l : List NumberedId). here ∷ l) g.1))
+      where
+        not_less : (a b : ℕ) → nat_lt a b ≡ false → b ≤ a
+        not_less a b is = ltb-false a b is
+
+    by : ((k == n) ≡ true) × (k ≡ n) ⊎ ((k == n) ≡ false) × (k ≢ n) → Goes n ns ids (cond (nat_lt p (length ns)) (Some p) None) → Goes n (k ∷ ns) (id ∷ ids) (cond (nat_lt (cond (not (k == n)) (1 + p) 0) (suc (length ns))) (Some (cond (not (k == n)) (1 + p) 0)) None)
+    by (inl same) g =
+        let up_from = rise_from ns (k + 1) (k + 1) (omega arith) up.1 in
+        let gone = none_lower ns (k + 1) n up_from (let e = same.1 in omega (arith, e)) in
+        let some : nat_lt 0 (suc (length ns)) ≡ true = lt-ltb 0 (suc (length ns)) (omega arith) in
+        rw same.0 (rw some (
+          rw (unsigned_tied n k ∙ eq-eqb n k (sym same.1)) refl,
+          rw same.0 (sym (gone.1 ids)),
+          (let m : suc (length ns) ≡ suc (length ids) = many in let l : length ns ≡ length ids = omega (arith, m) in l),
+          omega arith,
+        ))
+    by (inr other) g = rw other.0 (later (nat_lt p (length ns)) other.1 refl g)
+
+-- the others ascend still
+pub without_rises : (n : ℕ) (ks : List ℕ) (first end : ℕ) → RiseBelow ks first end → RiseBelow (without n ks) first end
+without_rises n [] first end up = tt
+without_rises n (k ∷ ks) first end up = go (is_at (nat_cmp n) k) (without_rises n ks (k + 1) end up.2)
+  where
+    go : (b : Bool) → RiseBelow (without n ks) (k + 1) end → RiseBelow (cond b ks (k ∷ without n ks)) first end
+    go true rest = let a = up.0 in rises_from ks first (k + 1) end (omega (arith, a)) up.2
+    go false rest = (up.0, up.1, rest)
+
+-- ---- one of them gets its id
+
+-- a number below all others gets none
+none_set : (ks : List ℕ) (ids : List (List ℕ)) (first : ℕ) (cid : IssuedCid) → Rise ks first → cid.sequence < first → with_id cid (numbered ks ids) ≡ numbered ks ids
+none_set [] ids first cid up lt = refl
+none_set (k ∷ ks) [] first cid up lt = refl
+none_set (k ∷ ks) (id ∷ ids) first cid up lt =
+    let a = up.0 in
+    let other : k ≢ cid.sequence = λ e. omega (arith, a, lt, e) in
+    rw (ne_eqb k cid.sequence other) (ap (λ (l : List NumberedId). record { number = k; id = id } ∷ l) (none_set ks ids (k + 1) cid up.1 (omega (arith, a, lt))))
+
+abbrev pub Gets : IssuedCid → List ℕ → List (List ℕ) → Option ℕ → Type 0
+Gets cid ns ids None = numbered ns ids ≡ with_id cid (numbered ns ids)
+Gets cid ns ids (Some place) = (numbered ns (set ids place cid.id) ≡ with_id cid (numbered ns ids)) × AreAsMany ns (set ids place cid.id) × (place < length ids)
+
+pub gets_at : (cid : IssuedCid) (first : ℕ) (ns : List ℕ) (ids : List (List ℕ)) → Rise ns first → AreAsMany ns ids → Gets cid ns ids (position (λ m. m == cid.sequence) ns)
+gets_at cid first [] [] up many = refl
+gets_at cid first [] (id ∷ ids) up many = absurd cc
+gets_at cid first (k ∷ ns) [] up many = absurd cc
+gets_at cid first (k ∷ ns) (id ∷ ids) up many = by (eqb_tells k cid.sequence) (gets_at cid (k + 1) ns ids up.1 same_many)
+  where
+    same_many : AreAsMany ns ids
+    same_many = let same : suc (length ns) ≡ suc (length ids) = many in omega (arith, same)
+
+    here : NumberedId
+    here = record { number = k; id = id }
+
+    p : ℕ
+    p = position_or_len (λ m. m == cid.sequence) ns
+
+    later : (b : Bool) → k ≢ cid.sequence → nat_lt p (length ns) ≡ b → Gets cid ns ids (cond b (Some p) None) → Gets cid (k ∷ ns) (id ∷ ids) (cond (nat_lt (1 + p) (suc (length ns))) (Some (1 + p)) None)
+    later true other is g =
+        let lt : p < length ids = g.2 in
+        let next : 1 + p ≡ suc p = omega arith in
+        let some : nat_lt (1 + p) (suc (length ns)) ≡ true = lt-ltb (1 + p) (suc (length ns)) (omega (arith, lt, same_many)) in
+        rw some (rw next (
+          rw (ne_eqb k cid.sequence other) (ap (λ (l : List NumberedId). here ∷ l) g.0),
+          ap suc g.1,
+          omega (arith, lt),
+        ))
+    later false other is g =
+        let none : nat_lt (1 + p) (suc (length ns)) ≡ false = le-ltb (1 + p) (suc (length ns)) (let ge : length ns ≤ p = ltb-false p (length ns) is in omega (arith, ge)) in
+        rw none (rw (ne_eqb k cid.sequence other) (ap (λ (l : List NumberedId). here ∷ l) g))
+
+    by : ((k == cid.sequence) ≡ true) × (k ≡ cid.sequence) ⊎ ((k == cid.sequence) ≡ false) × (k ≢ cid.sequence) → Gets cid ns ids (cond (nat_lt p (length ns)) (Some p) None)
+        → Gets cid (k ∷ ns) (id ∷ ids) (cond (nat_lt (cond (not (k == cid.sequence)) (1 + p) 0) (suc (length ns))) (Some (cond (not (k == cid.sequence)) (1 + p) 0)) None)
+    by (inl same) g =
+        let e = same.1 in
+        let others = none_set ns ids (k + 1) cid up.1 (omega (arith, e)) in
+        let some : nat_lt 0 (suc (length ns)) ≡ true = lt-ltb 0 (suc (length ns)) (omega arith) in
+        rw same.0 (rw some (
+          rw same.0 (ap (λ (m : ℕ). record { number = m; id = cid.id } ∷ numbered ns ids) e ∙ ap (λ (l : List NumberedId). with_number cid ∷ l) (sym others)),
+          (let m : suc (length ns) ≡ suc (length ids) = many in m),
+          omega arith,
+        ))
+    by (inr other) g = rw other.0 (later (nat_lt p (length ns)) other.1 refl g)
+
+-- ---- words
+
+-- behind three words of a source
+pub words_three : {R : Type 0} (stream : R → Stream) (r s : R) → stream s ≡ after_words 3 (stream r) → words_behind words_of_id (words_of stream r) ≡ words_of stream s
+words_three {R} stream r s left = λ i n. same n i
+  where
+    same : (n : ℕ) → (stream r).u64_after (replicate (3 + n) u64_call) ≡ (stream s).u64_after (replicate n u64_call)
+    same n =
+        ap (λ (k : ℕ). (stream r).u64_after (replicate k u64_call)) (let three : 3 + n ≡ suc (suc (suc n)) = omega arith in three)
+        ∙ ap (λ (x : Stream). x.u64_after (replicate n u64_call)) (sym left)
+
+-- ---- the peer's numbers
+
+from_fits : (n : ℕ) (cs : List IssuedCid) → AllByRecursion (λ c. c.sequence < 2 ^ 62) cs → AllByRecursion (λ c. c.sequence < 2 ^ 62) (from n cs)
+from_fits n [] all = tt
+from_fits n (c ∷ cs) all = go (leb n c.sequence) (from_fits n cs all.1)
+  where
+    go : (b : Bool) → AllByRecursion (λ c. c.sequence < 2 ^ 62) (from n cs) → AllByRecursion (λ c. c.sequence < 2 ^ 62) (cond b (c ∷ from n cs) (from n cs))
+    go true rest = (all.0, rest)
+    go false rest = rest
+
+with_fits : (cs : List IssuedCid) (c : IssuedCid) → c.sequence < 2 ^ 62 → AllByRecursion (λ c. c.sequence < 2 ^ 62) cs → AllByRecursion (λ c. c.sequence < 2 ^ 62) (with_cid cs c)
+with_fits [] c fits all = (fits, tt)
+with_fits (e ∷ es) c fits all = go (ltb c.sequence e.sequence) (c.sequence == e.sequence) (with_fits es c fits all.1)
+  where
+    go : (a b : Bool) → AllByRecursion (λ c. c.sequence < 2 ^ 62) (with_cid es c) → AllByRecursion (λ c. c.sequence < 2 ^ 62) (cond a (c ∷ e ∷ es) (cond b (c ∷ es) (e ∷ with_cid es c)))
+    go true b rest = (fits, all)
+    go false true rest = (fits, all.1)
+    go false false rest = (all.0, rest)
+
+pub first_fits : (cs : List IssuedCid) (ids : PeerIds) → AllByRecursion (λ c. c.sequence < 2 ^ 62) cs → HaveNumbers ids → HaveNumbers (first_used cs ids)
+first_fits [] ids all h = h
+first_fits (c ∷ cs) ids all h = all
+
+-- an id that is taken up
+pub insert_fits : (ids : PeerIds) (f : NewConnectionId) → f.sequence < 2 ^ 62 → HaveNumbers ids → HaveNumbers (after_insert ids f)
+insert_fits ids f fits h = go (ltb f.sequence ids.active || exceeds ids f)
+  where
+    known : (b : Bool) → HaveNumbers (cond b (record ids { id = f.id }) (record ids { later = with_cid ids.later (brought f) }))
+    known true = h
+    known false = (h.0, with_fits ids.later (brought f) fits h.1)
+
+    accepted : (b : Bool) → HaveNumbers (cond b (first_used (left_by ids f) ids) (known_with ids (brought f)))
+    accepted true = first_fits (left_by ids f) ids (with_fits (from f.retire_prior_to ids.later) (brought f) fits (from_fits f.retire_prior_to ids.later h.1)) h
+    accepted false = known (f.sequence == ids.active)
+
+    go : (b : Bool) → HaveNumbers (cond b ids (after_accepted ids f))
+    go true = h
+    go false = accepted (retires_active ids f)
+
+-- which numbers are retired for it have a form
+pub retires_fit : (ids : PeerIds) (f : NewConnectionId) → f.sequence < 2 ^ 62 → HaveNumbers ids → IfOk (retires_for (insert_answer ids f)) (λ r. IfSome r (λ range. range.end ≤ 2 ^ 62))
+retires_fit ids f fits h = late (ltb f.sequence ids.active) (exceeds ids f)
+  where
+    firsts : (cs : List IssuedCid) → AllByRecursion (λ c. c.sequence < 2 ^ 62) cs → IfOk (retires_for (Ok (retired_for cs ids.active))) (λ r. IfSome r (λ range. range.end ≤ 2 ^ 62))
+    firsts [] all = tt
+    firsts (c ∷ cs) all = let lt = all.0 in omega (arith, lt)
+
+    accepted : (b : Bool) → IfOk (retires_for (Ok (cond b (retired_for (left_by ids f) ids.active) None))) (λ r. IfSome r (λ range. range.end ≤ 2 ^ 62))
+    accepted true = firsts (left_by ids f) (with_fits (from f.retire_prior_to ids.later) (brought f) fits (from_fits f.retire_prior_to ids.later h.1))
+    accepted false = tt
+
+    late : (a b : Bool) → IfOk (retires_for (cond a (Err inserts.Retired) (cond b (Err inserts.ExceedsLimit) (Ok (accepted_answer ids f))))) (λ r. IfSome r (λ range. range.end ≤ 2 ^ 62))
+    late true b = tt
+    late false true = tt
+    late false false = accepted (retires_active ids f)

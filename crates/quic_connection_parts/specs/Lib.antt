@@ -1,0 +1,12 @@
+pub mod Configured
+pub mod Telling
+pub mod Flying
+pub mod Losses
+pub mod Frames
+pub mod Faults
+pub mod Given
+pub mod Tracked
+pub mod Drawn
+pub mod Leaving
+pub mod Closes
+pub mod Living

@@ -1,0 +1,132 @@
+//! Why a datagram isn't taken (RFC 9000, sections 5.2, 11 and 12).
+ghost use Rattle.std.specs.Prelude.{◌≡◌, Some};
+ghost use Rattle.quic_wire.specs.FrameView.{item_view};
+ghost use Rattle.quic_machine.specs.Receive.{is_above, fault_of_breach, plain_error, item_asks, drop_of, violation, is_read};
+ghost use Rattle.quic_connection_parts.specs.Faults.{fault_view};
+ghost use Rattle.quic_spaces.specs.Marks.{is_congested};
+
+use crate::closing::CloseTold;
+use quic_machine::{DropReason, Received};
+use quic_packet::HeaderError;
+use quic_streams_parts::{Breach, ReceivedError};
+use quic_wire::frame::{Frame, InvalidFrame};
+use quic_wire_core::{Code, EcnCodepoint, Reason, TransportError};
+use std::alloc::AllocError;
+
+/// Why the frames of a packet weren't all taken.
+#[derive(Debug, Drop)]
+pub enum Trouble {
+    /// A rule was broken.
+    Broke(TransportError),
+    /// Too many runs of a stream wait.
+    TooManyPieces,
+    /// The peer closed: what it said.
+    Closed(CloseTold),
+    /// Out of memory: an allocation failed.
+    Memory,
+}
+
+impl From<AllocError> for Trouble {
+    ghost use Rattle.std.specs.Prelude.{◌≡◌};
+    ghost use Rattle.quic_connection_parts.specs.declared.receiving.Trouble.TheVariants as troubles;
+
+    ghost from_gives = { λ error trouble. trouble ≡ troubles.Memory };
+
+    fn from(_: AllocError) -> Trouble {
+        Trouble::Memory
+    }
+}
+
+impl From<ReceivedError> for Trouble {
+    ghost use Rattle.quic_connection_parts.specs.Faults.{Becomes};
+
+    ghost from_gives = { Becomes };
+
+    fn from(error: ReceivedError) -> Trouble {
+        match error {
+            ReceivedError::Breach(breach) => trouble_of(breach),
+            ReceivedError::Memory => Trouble::Memory,
+        }
+    }
+}
+
+/// An error that names no frame.
+fn plain_error(code: Code, reason: Reason) -> TransportError
+    ensures { result ≡ plain_error code }
+{
+    TransportError::new(code, None, reason)
+}
+
+/// What a broken rule of streams comes to.
+pub(crate) fn trouble_of(breach: Breach) -> Trouble
+    ensures { fault_view result ≡ Some (fault_of_breach breach) }
+{
+    let error = match breach {
+        Breach::FlowControl => plain_error(Code::FLOW_CONTROL_ERROR, Reason::TooManyBytes),
+        Breach::StreamLimit => plain_error(Code::STREAM_LIMIT_ERROR, Reason::TooManyStreams),
+        Breach::StreamState => plain_error(Code::STREAM_STATE_ERROR, Reason::NotSendable),
+        Breach::FinalSize => plain_error(Code::FINAL_SIZE_ERROR, Reason::FinalSize),
+        Breach::FrameEncoding => plain_error(Code::FRAME_ENCODING_ERROR, Reason::TooManyStreams),
+        Breach::Pieces => return Trouble::TooManyPieces,
+    };
+    Trouble::Broke(error)
+}
+
+/// Why a datagram with this header is dropped.
+pub fn drop_reason(error: HeaderError) -> DropReason
+    ensures { result ≡ drop_of error }
+{
+    match error {
+        HeaderError::TooShort => DropReason::TooShort,
+        HeaderError::NotShort => DropReason::NotShort,
+        HeaderError::FixedBit => DropReason::FixedBit,
+        HeaderError::UnknownId => DropReason::UnknownId,
+    }
+}
+
+/// Whether the frames of a datagram were taken, all of them or those before the first at fault.
+pub fn is_read(received: &Received) -> bool
+    ensures { result ≡ is_read received.now }
+{
+    match received {
+        Received::Taken | Received::Closed(_) => true,
+        Received::Dropped(_) | Received::Failed => false,
+    }
+}
+
+/// Whether a number lies above the greatest that was named before, if one was.
+pub fn is_above(largest_acked: Option<u64>, number: u64) -> bool
+    ensures { result ≡ is_above largest_acked number }
+{
+    match largest_acked {
+        None => true,
+        Some(largest) => largest < number,
+    }
+}
+
+/// Whether a frame asks for an acknowledgement; what can't be read as one doesn't.
+pub fn item_asks(item: &Result<Frame<'_>, InvalidFrame>) -> bool
+    ensures { result ≡ item_asks (item_view item.now) }
+{
+    match item {
+        Ok(frame) => frame.is_ack_eliciting(),
+        Err(_) => false,
+    }
+}
+
+/// PROTOCOL_VIOLATION.
+pub fn violation(reason: Reason) -> Trouble
+    ensures { fault_view result ≡ Some violation }
+{
+    Trouble::Broke(plain_error(Code::PROTOCOL_VIOLATION, reason))
+}
+
+/// Whether a packet came with the mark CE: a router on the path had too much to carry.
+pub fn is_congested(ecn: Option<EcnCodepoint>) -> bool
+    ensures { result ≡ is_congested ecn }
+{
+    match ecn {
+        Some(EcnCodepoint::Ce) => true,
+        Some(EcnCodepoint::Ect0 | EcnCodepoint::Ect1) | None => false,
+    }
+}

@@ -1,0 +1,219 @@
+-- The marks with which packets came: an end that stays open counts one more where it takes a packet
+-- that came with one, and no other call changes its counts (RFC 9000, section 13.4.1).
+use Rattle.std.proofs.Common.{◌≡◌, ℕ, Bool, true, false, List, Option, Some, None, refl, sym, ap, ◌∙◌, inl, inr}
+use Rattle.std.specs.Prelude.{slice_get, not, ◌==◌, ◌||◌, if◌then◌else◌, Result, Ok, Err}
+use Rattle.quic_wire_core.specs.declared.shared.EcnCodepoint.{EcnCodepoint}
+use Rattle.quic_wire.specs.Value.{FrameValue}
+use Rattle.quic_wire.specs.Items.{items}
+use Rattle.quic_wire.specs.declared.frame.InvalidFrame.{InvalidFrame}
+use Rattle.quic_packet.specs.Header.{key_phase, reserved_bits}
+use Rattle.quic_packet.specs.Datagram.{Opening}
+use Rattle.quic_packet.specs.Destination.{decoded, fixed_length_id}
+use Rattle.quic_packet.specs.declared.packet.HeaderError.{HeaderError}
+use Rattle.quic_recovery_core.specs.Duplicates.{is_duplicate}
+use Rattle.quic_spaces.specs.Marks.{Counts, after_mark}
+use Rattle.quic_spaces.specs.Numbers.{number_opened}
+use Rattle.quic_machine.specs.Arrival.{Arrival, delivered_by}
+use Rattle.quic_machine.specs.declared.answers.State.{State}
+use Rattle.quic_machine.specs.declared.answers.State.TheVariants as states
+use Rattle.quic_machine.specs.declared.answers.DropReason.TheVariants as drops
+use Rattle.quic_machine.specs.declared.answers.Received.{Received}
+use Rattle.quic_machine.specs.declared.answers.Received.TheVariants as receives
+use Rattle.quic_machine.specs.declared.run.Call.{Call}
+use Rattle.quic_machine.specs.declared.run.Call.TheVariants as calls
+use Rattle.quic_machine.specs.declared.run.Delivery.{Delivery}
+use Rattle.quic_machine.specs.declared.run.Answer.{Answer}
+use Rattle.quic_machine.specs.declared.run.Answer.TheVariants as answers
+use Rattle.quic_machine.specs.Policy.{Policy}
+use Rattle.quic_machine.specs.Ids.{known}
+use Rattle.quic_machine.specs.Closing.{ticked}
+use Rattle.quic_machine.specs.End.{End, with_closing, with_numbers, closed_by}
+use Rattle.quic_machine.specs.Opens.{own_id_length}
+use Rattle.quic_machine.specs.Receive.{Fault, Progress, Outcome, is_empty, violation, take_items, take_payload, take_frame, asks_in, ends_as, by_state, dropped, opened_to, opened_as, opening, headed, received_in, received, broke, too_many_pieces, closed_by_peer, unopened_in, is_read, drawn_if, with_ids_drawn}
+use Rattle.quic_machine.specs.Poll.{Polled, Draft, Leaving, polled, draft_as}
+use Rattle.quic_machine.specs.Timeouts.{Expiry, loss_judged}
+use Rattle.quic_machine.specs.FrameCases.{Settling, named, acked_keeps, losses_keep, frame_keeps, frame_leaves, apart_leaves, items_keep}
+use Rattle.quic_machine.specs.Steps as steps
+use Rattle.quic_machine.specs.PollCases.{ready_at, ready_leaves, draft_at, by_poll_to, may_leave_at}
+use Rattle.quic_machine.specs.DraftLaws.{Writing, by_leave, MayLeave}
+use Rattle.quic_machine.specs.Puts as puts
+use Rattle.quic_machine.specs.LeaveCases.{at_expiry, Expired, by_timers}
+use Rattle.quic_machine.specs.LeaveCases as expiring
+use Rattle.quic_machine.specs.CallCases.{Plain, is_delivery, by_plain_call}
+use Rattle.quic_machine.specs.CallCases as cases
+use Rattle.quic_machine.specs.Machine.{IsAnswer, IsDelivered, after_delivered, after_call, fails, says_last}
+use Rattle.quic_headline.specs.AckFrames.{mark_taken}
+use Rattle.quic_headline.proofs.Packets.Apart.{by_waits, by_next_id}
+use Rattle.quic_headline.proofs.Packets.Closes.{by_closes}
+use Rattle.quic_headline.proofs.Packets.Probes.{by_going}
+
+-- an end counts so
+abbrev CountsSo : Counts → End → Type 0
+CountsSo counts e = e.marks.came ≡ counts
+
+-- packets that are acknowledged or lost leave the counts
+settling : (counts : Counts) → Settling (CountsSo counts)
+settling counts (steps.known n) e i = i
+settling counts s e i = i
+
+-- ---- a call that isn't a delivery
+
+-- losses leave them
+judged_counts : (counts : Counts) (o : Option ℕ) (e : End) → CountsSo counts e → CountsSo counts (loss_judged o e)
+judged_counts counts None e i = i
+judged_counts counts (Some moment) e i = losses_keep (CountsSo counts) (settling counts) e i
+
+-- and timers that expire
+expired_counts : (words : ℕ → ℕ) (e : End) (now : ℕ) (expiry : Expiry) → CountsSo e.marks.came (at_expiry words e now expiry)
+expired_counts words e now expiry = by_timers words (CountsSo e.marks.came) (CountsSo e.marks.came) (judged_counts e.marks.came) each (λ f i. i) (λ f i. i) expiry (with_closing e (ticked e.closing now)) refl
+  where
+    each : (s : Expired) (f : End) → CountsSo e.marks.came f → CountsSo e.marks.came (expiring.after s f)
+    each expiring.of_acks f i = i
+    each s f i = i
+
+-- and a poll
+draft_counts : (counts : Counts) (leaving : Leaving) (e : End) → MayLeave leaving e → CountsSo counts e → CountsSo counts (draft_as leaving e).end
+draft_counts counts leaving e may same = by_leave (λ (d : Draft). CountsSo counts d.end) keep leaving e may same
+  where
+    keep : Writing (λ (d : Draft). CountsSo counts d.end)
+    keep puts.ping d may i = i
+    keep p d may i = i
+
+polled_counts : (p : Policy) (e : End) (now : ℕ) → CountsSo e.marks.came (polled p e now).end
+polled_counts p e now = by_poll_to p e now (λ (q : Polled). CountsSo e.marks.came q.end) (record {
+  silent = refl;
+  failed = refl;
+  nothing = λ is none. ready;
+  repeats = λ is. by_closes p (with_closing e (ticked e.closing now)) (λ (q : Polled). CountsSo e.marks.came q.end) refl (λ f goes. refl);
+  closes = λ reason bound. by_closes p (closed_by reason (ready_at e now).end) (λ (q : Polled). CountsSo e.marks.came q.end) ready (λ f goes. ready);
+  gives = λ is may some. by_going (CountsSo e.marks.came) p (draft_at e now) (λ pacing. draft_counts e.marks.came (ready_at e now).leaving (ready_at e now).end (may_leave_at e now) ready);
+})
+  where
+    ready : CountsSo e.marks.came (ready_at e now).end
+    ready = ap (λ (x : End). x.marks.came) (ready_leaves e now)
+
+quiet_counts : (p : Policy) (e : End) (theirs : List (List ℕ)) (call : Call) (a : Answer) → is_delivery call ≡ false → CountsSo e.marks.came (after_call p e theirs call a)
+quiet_counts p e theirs call a apart = by_plain_call p e theirs (CountsSo e.marks.came) call a keep
+  where
+    keep : Plain p e call (CountsSo e.marks.came)
+    keep (cases.times now expiry) may = expired_counts p.words e now expiry
+    keep (cases.polls now) may = polled_counts p e now
+    keep (cases.hears arrival d) is = (let clash : true ≡ false = sym is ∙ apart in cc)
+    keep (cases.closes reason f now) may = refl
+    keep (cases.waits now b) may = by_waits (CountsSo e.marks.came) b (with_closing e (ticked e.closing now)) refl refl
+    keep (cases.changes_id b) may = by_next_id (CountsSo e.marks.came) e b refl (λ c. refl) (λ c most. refl)
+    keep c may = refl
+
+-- ---- a delivery
+
+-- frames leave them
+frame_counts : (counts : Counts) (f : FrameValue) (e : End) → CountsSo counts e → CountsSo counts (take_frame f e).end
+frame_counts counts = frame_keeps (CountsSo counts) (record {
+  ack = λ rises a e i. acked_keeps (CountsSo counts) (settling counts) rises a (named a e) i;
+  on_streams = λ f e on i. frame_leaves (CountsSo counts) f e on (λ t. i);
+  apart = λ f e is i. apart_leaves (CountsSo counts) f e is (λ c. i) (λ c most. i);
+  message = λ m e i. i;
+})
+
+payload_counts : (counts : Counts) (first : ℕ) (is : List (Result FrameValue InvalidFrame)) (e : End) → CountsSo counts e → CountsSo counts (take_payload first is e).end
+payload_counts counts first is e i = go (not (reserved_bits first == 0) || is_empty is)
+  where
+    go : (b : Bool) → CountsSo counts (if b then record { end = e; fault = Some violation } else take_items is e).end
+    go true = i
+    go false = items_keep (CountsSo counts) (frame_counts counts) is e i
+
+-- the mark with which a packet came that was taken
+abbrev taken_mark : Received → Option EcnCodepoint → Option EcnCodepoint
+taken_mark receives.Taken mark = mark
+taken_mark r mark = None
+
+module _ (p : Policy) (arrival : Arrival) where
+  -- behind a datagram an end that is open counts one more where it was taken and came with a mark
+  abbrev CountsBy : End → Outcome → Type 0
+  CountsBy e o = o.end.closing.state ≡ states.Open → o.end.marks.came ≡ after_mark (taken_mark o.answer arrival.mark) e.marks.came
+
+  -- all frames were taken, or one was at fault
+  ends_counts : (fault : Option Fault) (asking : Bool) (n : ℕ) (e f : End) → f.marks.came ≡ e.marks.came → CountsBy e (ends_as fault asking n arrival.mark f)
+  ends_counts None asking n e f same opened = ap (after_mark arrival.mark) same
+  ends_counts (Some (closed_by_peer close)) asking n e f same opened = cc
+  ends_counts (Some (broke error)) asking n e f same opened = cc
+  ends_counts (Some too_many_pieces) asking n e f same opened = cc
+
+  state_counts : (s : State) (o : Opening) (e : End) → CountsBy e (by_state s o arrival e)
+  state_counts states.Open o e opened = (
+      let begins : End = with_closing e (ticked e.closing arrival.now) in
+      let left : Progress = take_payload o.first (items o.payload) begins in
+      ends_counts left.fault (asks_in (items o.payload)) o.number e left.end (payload_counts e.marks.came o.first (items o.payload) begins refl) opened)
+  state_counts states.Closing o e opened = refl
+  state_counts states.Drained o e opened = refl
+  state_counts states.Failed o e opened = refl
+
+  opened_counts : (o : Opening) (e : End) → CountsBy e (opened_to o arrival e)
+  opened_counts o e = go (key_phase o.first) (is_duplicate e.numbers.opened o.number)
+    where
+      go : (phase again : Bool) → CountsBy e (if phase then dropped drops.KeyPhase e else (if again then dropped drops.Duplicate e else by_state e.closing.state o arrival (with_numbers e (number_opened e.numbers o.number))))
+      go true again opened = refl
+      go false true opened = refl
+      go false false opened = state_counts e.closing.state o (with_numbers e (number_opened e.numbers o.number)) opened
+
+  -- it doesn't open
+  unopened_counts : (s : State) (b : Bool) (e : End) → CountsBy e (unopened_in s b arrival e)
+  unopened_counts states.Open true e opened = cc
+  unopened_counts states.Open false e opened = refl
+  unopened_counts states.Closing b e opened = refl
+  unopened_counts states.Drained b e opened = refl
+  unopened_counts states.Failed b e opened = refl
+
+  -- ids are drawn, or aren't
+  drawn_counts : (o : Outcome) (e : End) → CountsBy e o → CountsBy e (with_ids_drawn p o)
+  drawn_counts o e i = go (is_read o.answer)
+    where
+      go : (b : Bool) → CountsBy e (record { answer = o.answer; end = drawn_if b p o.end })
+      go true = i
+      go false = i
+
+  maybe_counts : (o : Option Opening) (e : End) → CountsBy e (opened_as o p arrival e)
+  maybe_counts None e opened = unopened_counts e.closing.state arrival.last e opened
+  maybe_counts (Some o) e opened = drawn_counts (opened_to o arrival e) e (opened_counts o e) opened
+
+  headed_counts : (r : Result (List ℕ) HeaderError) (e : End) (d : List ℕ) → CountsBy e (headed r p e arrival d)
+  headed_counts (Err error) e d opened = refl
+  headed_counts (Ok id) e d opened = maybe_counts (opening p e d) e opened
+
+  received_counts : (e : End) (d : List ℕ) → CountsBy e (received p e arrival d)
+  received_counts e d = go e.closing.state
+    where
+      go : (s : State) → CountsBy e (received_in s p e arrival d)
+      go states.Failed opened = refl
+      go states.Drained opened = refl
+      go states.Open opened = headed_counts (decoded (fixed_length_id own_id_length) (known e.ids) d) e d opened
+      go states.Closing opened = headed_counts (decoded (fixed_length_id own_id_length) (known e.ids) d) e d opened
+
+-- an observer reads the same mark of the answer
+mark_read : (delivery : Delivery) (r : Received) → taken_mark r delivery.ecn ≡ mark_taken (calls.Deliver delivery) (answers.Deliver r)
+mark_read delivery receives.Taken = refl
+mark_read delivery (receives.Dropped reason) = refl
+mark_read delivery (receives.Closed error) = refl
+mark_read delivery receives.Failed = refl
+
+delivered_counts : (p : Policy) (e : End) (delivery : Delivery) (o : Option (List ℕ)) (a : Answer) → IsDelivered p e delivery o a → fails a ≡ false → (after_delivered p e (delivered_by (says_last a) delivery) o).closing.state ≡ states.Open
+    → (after_delivered p e (delivered_by (says_last a) delivery) o).marks.came ≡ after_mark (mark_taken (calls.Deliver delivery) a) e.marks.came
+delivered_counts p e delivery None a is served opened = ap (λ (b : Answer). after_mark (mark_taken (calls.Deliver delivery) b) e.marks.came) (sym is)
+delivered_counts p e delivery (Some d) a (inr is) served opened = cc
+delivered_counts p e delivery (Some d) a (inl is) served opened =
+    let o : Outcome = received p e (delivered_by (says_last a) delivery) d in
+    received_counts p (delivered_by (says_last a) delivery) e d opened
+    ∙ ap (λ (mark : Option EcnCodepoint). after_mark mark e.marks.came) (mark_read delivery o.answer)
+    ∙ ap (λ (b : Answer). after_mark (mark_taken (calls.Deliver delivery) b) e.marks.came) (sym is)
+
+-- ---- any call
+
+-- one that is no delivery takes no packet
+none_taken : (call : Call) (a : Answer) → is_delivery call ≡ false → mark_taken call a ≡ None
+none_taken (calls.Deliver delivery) a apart = cc
+none_taken call a apart = refl
+
+-- an end that stays open counts one more where the call took a packet that came with a mark
+pub call_counts : (p : Policy) (e : End) (theirs : List (List ℕ)) (call : Call) (a : Answer) → IsAnswer p e theirs call a → fails a ≡ false → (after_call p e theirs call a).closing.state ≡ states.Open → (after_call p e theirs call a).marks.came ≡ after_mark (mark_taken call a) e.marks.came
+call_counts p e theirs (calls.Deliver delivery) a is served opened = delivered_counts p e delivery (slice_get theirs delivery.index) a is served opened
+call_counts p e theirs call a is served opened = quiet_counts p e theirs call a refl ∙ ap (λ (mark : Option EcnCodepoint). after_mark mark e.marks.came) (sym (none_taken call a refl))

@@ -1,0 +1,7 @@
+-- What one end makes of any calls, whatever datagrams are handed to it.
+pub mod Halves
+pub mod Taking
+pub mod Calls
+pub mod Places
+pub mod Bytes
+pub mod Messages

@@ -1,0 +1,71 @@
+-- What each call at one end keeps holds at each call, where no answer fails before.
+use Rattle.std.proofs.Common.{◌≡◌, ℕ, zero, suc, Bool, false, List, [], ◌∷◌, take, Option, Some, None, refl, sym, subst, inl, inr}
+use Rattle.std.specs.Prelude.{slice_get}
+use Rattle.std.specs.List.{list_any}
+use Rattle.std.proofs.lemmas.Bool.{or_parts}
+use Rattle.quic_machine.specs.declared.run.Call.{Call}
+use Rattle.quic_machine.specs.declared.run.Call.TheVariants as calls
+use Rattle.quic_machine.specs.declared.run.Answer.{Answer}
+use Rattle.quic_machine.specs.Policy.{Policy}
+use Rattle.quic_machine.specs.Control.{Control}
+use Rattle.quic_machine.specs.Heard.{Heard}
+use Rattle.quic_machine.specs.End.{End, with_window}
+use Rattle.quic_machine.specs.Validation.{with_blocked}
+use Rattle.quic_machine.specs.Machine.{IsAnswer, IsLeft, after_call, reads_window, end_left, fails}
+use Rattle.quic_headline.specs.Runs.{In}
+use Rattle.quic_headline.specs.Alone.{Lone, IsLoneStep, FollowsAlone, handed_in}
+
+-- ---- what is handed in
+
+-- the datagram that a call hands in is one of these
+abbrev pub Hands : List (List ℕ) → (List ℕ → Type 0) → Call → Type 0
+Hands theirs H (calls.Deliver delivery) = (d : List ℕ) → slice_get theirs delivery.index ≡ Some d → H d
+Hands theirs H call = Unit {0}
+
+hands_first : (theirs : List (List ℕ)) (H : List ℕ → Type 0) (call : Call) (more : List Call) → ((d : List ℕ) → In d (handed_in theirs (call ∷ more)) → H d) → Hands theirs H call
+hands_first theirs H (calls.Deliver delivery) more all = λ d is. all d (rw is (inl refl))
+hands_first theirs H call more all = tt
+
+hands_rest : (theirs : List (List ℕ)) (H : List ℕ → Type 0) (call : Call) (more : List Call) → ((d : List ℕ) → In d (handed_in theirs (call ∷ more)) → H d) → (d : List ℕ) → In d (handed_in theirs more) → H d
+hands_rest theirs H (calls.Deliver delivery) more all d j = go (slice_get theirs delivery.index) refl
+  where
+    go : (o : Option (List ℕ)) → slice_get theirs delivery.index ≡ o → H d
+    go None is = all d (rw is j)
+    go (Some x) is = all d (rw is (inr j))
+hands_rest theirs H call more all d j = all d j
+
+-- ---- one call behind another
+
+-- an end at a call that may be answered so
+pub record AtCall (p : Policy) (theirs : List (List ℕ)) (P : End → Type 0) (call : Call) (a : Answer) : Type 0 where
+  pub end : End
+  pub holds : P end
+  pub answer : IsAnswer p end theirs call a
+
+module _ (p : Policy) (theirs : List (List ℕ)) (H : List ℕ → Type 0) (P : End → Type 0)
+    (shows : (window : ℕ) (blocked : Bool) (e : End) → P e → P (with_blocked (with_window e window) blocked))
+    (step : (e : End) (call : Call) (a : Answer) → IsAnswer p e theirs call a → Hands theirs H call → P e → P (after_call p e theirs call a)) where
+  -- whatever a call reads
+  reads_holds : (control : Control) (heard : Heard) (call : Call) (e : End) → P e → P (reads_window control heard call e)
+  reads_holds control heard (calls.Poll now) e i = shows _ _ e i
+  reads_holds control heard call e i = i
+
+  -- behind a call that doesn't fail
+  next_holds : (x next : Lone) (call : Call) (a : Answer) → IsLoneStep p theirs x call a next → fails a ≡ false → Hands theirs H call → P x.end → P next.end
+  next_holds x next call a s served hands i =
+      let left : next.end ≡ end_left p x.control x.heard x.end theirs call a = subst (λ (b : Bool). IsLeft b p x.control x.heard x.end theirs call a next.end) served s.end in
+      subst P (sym left) (step (reads_window x.control x.heard call x.end) call a s.answer hands (reads_holds x.control x.heard call x.end i))
+
+  pub at_call : (i : ℕ) (x left : Lone) (cs : List Call) (told : List Answer) (call : Call) (a : Answer) → FollowsAlone p theirs x cs told left → list_any fails (take i told) ≡ false → slice_get cs i ≡ Some call → slice_get told i ≡ Some a
+      → ((d : List ℕ) → In d (handed_in theirs (take i cs)) → H d) → P x.end → AtCall p theirs P call a
+  at_call i x left [] [] call a f served at_place at_answer all h = cc
+  at_call i x left [] (b ∷ told) call a f served at_place at_answer all h = absurd f
+  at_call i x left (c ∷ cs) [] call a f served at_place at_answer all h = absurd f
+  at_call zero x left (c ∷ cs) (b ∷ told) call a f served at_place at_answer all h =
+      let same : c ≡ call = cc in
+      let said : b ≡ a = cc in
+      let here : AtCall p theirs P c b = record { end = reads_window x.control x.heard c x.end; holds = reads_holds x.control x.heard c x.end h; answer = f.1.answer } in
+      subst (λ (y : Answer). AtCall p theirs P call y) said (subst (λ (k : Call). AtCall p theirs P k b) same here)
+  at_call (suc i) x left (c ∷ cs) (b ∷ told) call a f served at_place at_answer all h =
+      let both = or_parts (fails b) (list_any fails (take i told)) served in
+      at_call i f.0 left cs told call a f.2 both.1 at_place at_answer (hands_rest theirs H c (take i cs) all) (next_holds x f.0 c b f.1 both.0 (hands_first theirs H c (take i cs) all) h)

@@ -1,0 +1,215 @@
+-- Which frames of path validation, and about ids, wait behind a frame apart from streams, and
+-- behind the use of the peer's next id, that didn't before; and of the first, behind any call.
+use Rattle.std.proofs.Common.{◌≡◌, ℕ, Bool, true, false, ◌||◌, List, [], ◌∷◌, ◌++◌, length, map, Option, Some, None, Result, Ok, Err, refl, sym, ◌∙◌, subst, ◌⊎◌, inl, inr}
+use Rattle.std.specs.Prelude.{◌==◌, nat_le, if◌then◌else◌}
+use Rattle.std.specs.List.{list_any}
+use Rattle.std.specs.Option.{is_some}
+use Rattle.std.specs.declared.ops.Range.{Range}
+use Rattle.std.proofs.lemmas.Bool.{or_left, or_right}
+use Rattle.quic_wire_core.specs.TransportError.{ErrorValue}
+use Rattle.quic_wire.specs.Value.{FrameValue, AckValue, ack, stream, reset_stream, stop_sending, max_data, max_stream_data, max_streams, datagram, path_challenge, path_response, new_connection_id, retire_connection_id}
+use Rattle.quic_ids.specs.CidState.{retirement_answer}
+use Rattle.quic_ids.specs.CidQueue.{insert_answer}
+use Rattle.quic_ids.specs.declared.cid_queue.InsertError.{InsertError}
+use Rattle.quic_ids.specs.declared.cid_queue.InsertError.TheVariants as inserts
+use Rattle.quic_paths.specs.Paths.{is_asked}
+use Rattle.quic_retransmits.specs.Retransmits.{Retransmits, most_retirements, can_retire, after_retire}
+use Rattle.quic_streams_state.specs.declared.state.StreamsState.{StreamsState}
+use Rattle.quic_machine.specs.declared.answers.State.TheVariants as states
+use Rattle.quic_machine.specs.declared.run.Call.{Call}
+use Rattle.quic_machine.specs.declared.run.Call.TheVariants as calls
+use Rattle.quic_machine.specs.declared.run.Answer.{Answer}
+use Rattle.quic_machine.specs.declared.run.Answer.TheVariants as answers
+use Rattle.quic_machine.specs.Policy.{Policy}
+use Rattle.quic_machine.specs.Parts.{Signals, Waiting}
+use Rattle.quic_machine.specs.Sizes.{shortened}
+use Rattle.quic_machine.specs.Ids.{frame_of, retires_for, retired, may_issue, retires_for_next, next_used}
+use Rattle.quic_machine.specs.IdFrames.{retiring, with_taken_up, issued_if, next_id_taken, end_on_next_id}
+use Rattle.quic_machine.specs.Validation.{path_asked, path_validated, word_of, validated_if}
+use Rattle.quic_machine.specs.End.{End, with_ids, with_frames}
+use Rattle.quic_machine.specs.Acked.{after_acked}
+use Rattle.quic_machine.specs.Receive.{Fault, Progress, is_above, names_ungiven, retired_for, id_judged, retirement_judged, take_frame, take_items, unless_fault}
+use Rattle.quic_machine.specs.FrameCases.{Settling, IsApart, named, ack_taken, acked_keeps, frame_leaves, passed}
+use Rattle.quic_machine.specs.Steps as steps
+use Rattle.quic_machine.specs.Poll.{polled}
+use Rattle.quic_machine.specs.PollCases.{ready_at, by_probed}
+use Rattle.quic_machine.specs.CallCases.{Plain, is_delivery, is_poll, is_timeout, by_plain_call}
+use Rattle.quic_machine.specs.CallCases as cases
+use Rattle.quic_machine.specs.Machine.{after_call}
+use Rattle.quic_headline.specs.Duties.{has_retirement, has_new_id}
+use Rattle.quic_headline.specs.Waited.{is_path_challenge}
+use Rattle.quic_headline.specs.Begins.{NewId, Retirement, Thing, Frame, is_retirement, is_new_id, uses_next}
+use Rattle.quic_headline.proofs.Packets.Named.{by_frame}
+use Rattle.quic_headline.proofs.Destined.Own.{shortened_waiting}
+use Rattle.quic_headline.proofs.Steps.Probes.{begun}
+use Rattle.quic_headline.proofs.Waited.Flags.{challenge, response}
+use Rattle.quic_headline.proofs.Waited.Pings.{ready_waiting}
+use Rattle.quic_headline.proofs.Waited.Group.{polled_flags}
+use Rattle.quic_headline.proofs.Begins.Walk.{PendsAt, Pends, ids_pend}
+
+-- ---- what waits
+
+-- PATH_CHALLENGE waits where it did, and PATH_RESPONSE where it did, or where this is so
+abbrev pub SignalsBy : Bool → Signals → Signals → Type 0
+SignalsBy asked s t = (is_some t.challenge ≡ true → is_some s.challenge ≡ true) × (is_some t.response ≡ true → (is_some s.response ≡ true) ⊎ (asked ≡ true))
+
+-- as they are
+pub signals_same : (asked : Bool) (s : Signals) → SignalsBy asked s s
+signals_same asked s = ((λ is. is), λ is. inl is)
+
+-- Of what waits only that changes, and ids and numbers: an own id waits to be told, and a number to
+-- be retired, where it did, or where this is so.
+pub record LeavesBy (asked issues retires : Bool) (w v : Waiting) : Type 0 where
+  pub signals : SignalsBy asked w.signals v.signals
+  pub frames : v.frames ≡ record w.frames { new_cids = v.frames.new_cids; retire_cids = v.frames.retire_cids }
+  pub new_ids : (n : ℕ) → has_new_id n v.frames.new_cids ≡ true → (has_new_id n w.frames.new_cids ≡ true) ⊎ (issues ≡ true)
+  pub retirements : (n : ℕ) → has_retirement n v.frames.retire_cids ≡ true → (has_retirement n w.frames.retire_cids ≡ true) ⊎ (retires ≡ true)
+
+-- nothing changes
+unmoved : (asked issues retires : Bool) (w : Waiting) → LeavesBy asked issues retires w w
+unmoved asked issues retires w = record { signals = signals_same asked w.signals; frames = refl; new_ids = λ n is. inl is; retirements = λ n is. inl is }
+
+-- other signals wait
+signals_move : (asked : Bool) (w : Waiting) (s : Signals) → SignalsBy asked w.signals s → LeavesBy asked false false w (record w { signals = s })
+signals_move asked w s by = record { signals = by; frames = refl; new_ids = λ n is. inl is; retirements = λ n is. inl is }
+
+-- other numbers wait to be retired
+numbers_move : (asked issues : Bool) (w : Waiting) (ns : List ℕ) → LeavesBy asked issues true w (record w { frames = record w.frames { retire_cids = ns } })
+numbers_move asked issues w ns = record { signals = signals_same asked w.signals; frames = refl; new_ids = λ n is. inl is; retirements = λ n is. inr refl }
+
+-- ---- frames
+
+-- a frame apart from streams
+pub apart_waits : (f : FrameValue) (e : End) → IsApart f → LeavesBy (is_path_challenge f) (is_retirement f) (is_new_id f) e.waiting (take_frame f e).end.waiting
+apart_waits (ack a) e apart = absurd apart
+apart_waits (stream f) e apart = absurd apart
+apart_waits (reset_stream f) e apart = absurd apart
+apart_waits (stop_sending f) e apart = absurd apart
+apart_waits (max_data limit) e apart = absurd apart
+apart_waits (max_stream_data f) e apart = absurd apart
+apart_waits (max_streams f) e apart = absurd apart
+apart_waits (datagram m) e apart = absurd apart
+apart_waits (new_connection_id f) e apart = judged (retires_for (insert_answer e.ids.peer (frame_of f)))
+  where
+    Left : End → Type 0
+    Left x = LeavesBy false false true e.waiting x.waiting
+
+    fits : (b : Bool) (x : End) → Left x → Left (shortened b x)
+    fits b x i = subst (λ (v : Waiting). LeavesBy false false true e.waiting v) (sym (shortened_waiting b x)) i
+
+    retires : (b : Bool) (r : Range ℕ) → Left (retired_for b r f e).end
+    retires true r = fits _ (retiring r (with_taken_up f e)) (numbers_move false false e.waiting (after_retire e.waiting.frames r.start r.end).retire_cids)
+    retires false r = unmoved false false true e.waiting
+
+    late : (b : Bool) → Left (with_frames e (if b then e.waiting.frames else record e.waiting.frames { retire_cids = e.waiting.frames.retire_cids ++ f.sequence ∷ [] }))
+    late true = unmoved false false true e.waiting
+    late false = numbers_move false false e.waiting (e.waiting.frames.retire_cids ++ f.sequence ∷ [])
+
+    judged : (r : Result (Option (Range ℕ)) InsertError) → Left (id_judged r f e).end
+    judged (Ok None) = fits _ (with_taken_up f e) (unmoved false false true e.waiting)
+    judged (Ok (Some r)) = retires (can_retire e.waiting.frames r.start r.end) r
+    judged (Err inserts.Retired) = late (nat_le most_retirements (length e.waiting.frames.retire_cids) || list_any (λ m. m == f.sequence) e.waiting.frames.retire_cids)
+    judged (Err inserts.ExceedsLimit) = unmoved false false true e.waiting
+apart_waits (retire_connection_id n) e apart = judged (retirement_answer e.ids.own n e.ids.limit)
+  where
+    issues : (b : Bool) → LeavesBy false true false e.waiting (issued_if b (with_ids e (retired n e.ids))).waiting
+    issues true = record { signals = signals_same false e.waiting.signals; frames = refl; new_ids = λ m is. inr refl; retirements = λ m is. inl is }
+    issues false = unmoved false true false e.waiting
+
+    judged : (r : Result Bool ErrorValue) → LeavesBy false true false e.waiting (retirement_judged r n e).end.waiting
+    judged (Ok more) = issues (may_issue e.ids n)
+    judged (Err error) = unmoved false true false e.waiting
+apart_waits (path_challenge token) e apart = signals_move true e.waiting (path_asked token e).waiting.signals ((λ is. is), λ is. inr refl)
+apart_waits (path_response token) e apart = go (is_asked e.validation.challenge (word_of token))
+  where
+    go : (b : Bool) → LeavesBy false false false e.waiting (validated_if b e).waiting
+    go true = signals_move false e.waiting (path_validated e).waiting.signals ((λ is. cc), λ is. inl is)
+    go false = unmoved false false false e.waiting
+apart_waits f e apart = unmoved false false false e.waiting
+
+-- what an ACK frame leaves
+acked_signals : (rises : Bool) (a : AckValue) (e : End) → (after_acked rises a (named a e)).waiting.signals ≡ e.waiting.signals
+acked_signals rises a e = acked_keeps (λ (x : End). x.waiting.signals ≡ e.waiting.signals) settles rises a (named a e) refl
+  where
+    settles : Settling (λ (x : End). x.waiting.signals ≡ e.waiting.signals)
+    settles (steps.known n) x i = i
+    settles s x i = i
+
+-- any frame
+frame_signals : (f : FrameValue) (e : End) → SignalsBy (is_path_challenge f) e.waiting.signals (take_frame f e).end.waiting.signals
+frame_signals f e = by_frame f e (λ (g : FrameValue) (p : Progress). SignalsBy (is_path_challenge g) e.waiting.signals p.end.waiting.signals)
+    (λ a is. acks (names_ungiven a e) a)
+    (λ other on. frame_leaves (λ (x : End). SignalsBy (is_path_challenge f) e.waiting.signals x.waiting.signals) f e on (λ t. same))
+    (λ other m is. subst (λ (x : End). SignalsBy (is_path_challenge f) e.waiting.signals x.waiting.signals) (sym is) same)
+    (λ other apart. (apart_waits f e apart).signals)
+  where
+    same : SignalsBy (is_path_challenge f) e.waiting.signals e.waiting.signals
+    same = signals_same (is_path_challenge f) e.waiting.signals
+
+    acks : (b : Bool) (a : AckValue) → SignalsBy false e.waiting.signals (ack_taken b a e).end.waiting.signals
+    acks true a = signals_same false e.waiting.signals
+    acks false a = subst (SignalsBy false e.waiting.signals) (sym (acked_signals (is_above e.numbers.largest_acked a.largest) a e)) (signals_same false e.waiting.signals)
+
+-- so it is of all frames of a packet
+pub frames_signals : (fs : List FrameValue) (e : End) → SignalsBy (list_any is_path_challenge fs) e.waiting.signals (passed fs e).end.waiting.signals
+frames_signals [] e = signals_same false e.waiting.signals
+frames_signals (f ∷ fs) e = go (take_frame f e).fault (frame_signals f e) (frames_signals fs (take_frame f e).end)
+  where
+    go : (o : Option Fault) → SignalsBy (is_path_challenge f) e.waiting.signals (take_frame f e).end.waiting.signals → SignalsBy (list_any is_path_challenge fs) (take_frame f e).end.waiting.signals (passed fs (take_frame f e).end).end.waiting.signals
+        → SignalsBy (is_path_challenge f || list_any is_path_challenge fs) e.waiting.signals (unless_fault o (take_frame f e) (take_items (map Ok fs))).end.waiting.signals
+    go None one rest = (
+      (λ is. one.0 (rest.0 is)),
+      λ is. elim (rest.1 is) [
+        | inl there ↦ elim (one.1 there) [ inl was ↦ inl was | inr here ↦ inr (or_left (is_path_challenge f) (list_any is_path_challenge fs) here) ]
+        | inr more ↦ inr (or_right (is_path_challenge f) (list_any is_path_challenge fs) more)
+      ],
+    )
+    go (Some x) one rest = (one.0, λ is. elim (one.1 is) [ inl was ↦ inl was | inr here ↦ inr (or_left (is_path_challenge f) (list_any is_path_challenge fs) here) ])
+
+-- ---- calls
+
+-- the next id of the peer is used
+pub next_waits : (e : End) (a : Answer) → LeavesBy false false (uses_next calls.UseNextId a) e.waiting (end_on_next_id e a).waiting
+next_waits e (answers.UseNextId (Ok done)) = taken (retires_for_next e.ids)
+  where
+    taken : (o : Option (Range ℕ)) → LeavesBy false false true e.waiting (next_id_taken o e).waiting
+    taken None = unmoved false false true e.waiting
+    taken (Some r) = subst (λ (v : Waiting). LeavesBy false false true e.waiting v) (sym (shortened_waiting _ (retiring r (with_ids e (next_used e.ids)))))
+        (numbers_move false false e.waiting (after_retire e.waiting.frames r.start r.end).retire_cids)
+next_waits e a = unmoved false false false e.waiting
+
+-- a poll
+pub polled_signals : (p : Policy) (e : End) (now : ℕ) → (polled p e now).end.closing.state ≡ states.Open → SignalsBy false e.waiting.signals (polled p e now).end.waiting.signals
+polled_signals p e now opened = (
+  (λ set. elim ((polled_flags p e now challenge opened).0 set) [ inl set_then ↦ ready.0 set_then | inr was ↦ was ]),
+  (λ set. elim ((polled_flags p e now response opened).0 set) [ inl set_then ↦ ready.1 set_then | inr was ↦ inl was ]),
+)
+  where
+    ready : SignalsBy false e.waiting.signals (ready_at e now).end.waiting.signals
+    ready = subst (λ (w : Waiting). SignalsBy false e.waiting.signals w.signals) (sym (ready_waiting e now))
+        (by_probed (begun e now) (λ (x : End). SignalsBy false e.waiting.signals x.waiting.signals) (signals_same false e.waiting.signals) ((λ is. is), λ is. inl is) (λ q probes is. signals_same false e.waiting.signals))
+
+-- any but a poll, a moment that comes and a delivery
+pub quiet_signals : (p : Policy) (e : End) (theirs : List (List ℕ)) (call : Call) (a : Answer) → is_delivery call ≡ false → is_poll call ≡ false → is_timeout call ≡ false → SignalsBy false e.waiting.signals (after_call p e theirs call a).waiting.signals
+quiet_signals p e theirs call a apart silent calm = by_plain_call p e theirs Of call a keep
+  where
+    Of : End → Type 0
+    Of x = SignalsBy false e.waiting.signals x.waiting.signals
+
+    keep : Plain p e call Of
+    keep (cases.times now expiry) is = (let clash : true ≡ false = sym is ∙ calm in cc)
+    keep (cases.waits now b) is = (let clash : true ≡ false = sym is ∙ calm in cc)
+    keep (cases.polls now) is = (let clash : true ≡ false = sym is ∙ silent in cc)
+    keep (cases.hears arrival d) is = (let clash : true ≡ false = sym is ∙ apart in cc)
+    keep (cases.changes_id b) may = (next_waits e b).signals
+    keep cases.pings may = ((λ is. is), λ is. inl is)
+    keep c may = signals_same false e.waiting.signals
+
+-- ---- what waits is F
+
+-- so it is behind such a change, where the ids and the numbers that begin to wait are
+pub leaves_pend : (F : Thing → Type 0) (e x : End) (asked issues retires : Bool) → LeavesBy asked issues retires e.waiting x.waiting → x.streams ≡ e.streams → (issues ≡ true → (n : ℕ) → F (Frame (NewId n))) → (retires ≡ true → (n : ℕ) → F (Frame (Retirement n))) → Pends F e → Pends F x
+leaves_pend F e x asked issues retires l streams issued late i = subst (λ (s : StreamsState). PendsAt F s x.waiting.frames) (sym streams) (subst (λ (p : Retransmits). PendsAt F e.streams p) (sym l.frames)
+    (ids_pend F e.streams e.waiting.frames x.waiting.frames.new_cids x.waiting.frames.retire_cids
+    (λ n is. elim (l.new_ids n is) [ inl was ↦ i.controls (NewId n) was | inr new ↦ issued new n ])
+    (λ n is. elim (l.retirements n is) [ inl was ↦ i.controls (Retirement n) was | inr new ↦ late new n ]) i))

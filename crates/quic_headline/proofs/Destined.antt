@@ -1,0 +1,7 @@
+pub mod Sole
+pub mod Issues
+pub mod Own
+pub mod Known
+pub mod Used
+pub mod Issued
+pub mod InUse

@@ -1,0 +1,99 @@
+-- What leaves the ids of the peer that an end knows: all but frames that bring one, and the call
+-- that changes to the next.
+use Rattle.std.proofs.Common.{◌≡◌, ℕ, Bool, true, false, List, Option, Some, None, Result, Ok, Err, refl, sym, ◌∙◌, subst}
+use Rattle.quic_wire_core.specs.TransportError.{ErrorValue}
+use Rattle.quic_wire.specs.Value.{FrameValue, NewConnectionIdValue, ack, datagram, new_connection_id, retire_connection_id, path_response}
+use Rattle.quic_ids.specs.CidState.{retirement_answer}
+use Rattle.quic_ids.specs.CidQueue.{PeerIds}
+use Rattle.quic_paths.specs.Paths.{is_asked}
+use Rattle.quic_machine.specs.declared.run.Call.{Call}
+use Rattle.quic_machine.specs.declared.run.Answer.{Answer}
+use Rattle.quic_machine.specs.Closing.{ticked}
+use Rattle.quic_machine.specs.Policy.{Policy}
+use Rattle.quic_machine.specs.MessageCalls.{most_message}
+use Rattle.quic_machine.specs.Sizes.{without_longer_if, shortened}
+use Rattle.quic_machine.specs.Ids.{Ids, retired, may_issue}
+use Rattle.quic_machine.specs.IdFrames.{issued_if, end_on_next_id}
+use Rattle.quic_machine.specs.Validation.{word_of, validated_if}
+use Rattle.quic_machine.specs.End.{End, with_ids, with_closing, closed_by}
+use Rattle.quic_machine.specs.Receive.{is_above, names_ungiven, retirement_judged, take_frame}
+use Rattle.quic_machine.specs.Poll.{Polled, polled}
+use Rattle.quic_machine.specs.FrameCases.{Settling, acked_keeps, losses_keep, named, ack_taken, message_leaves}
+use Rattle.quic_machine.specs.Steps as steps
+use Rattle.quic_machine.specs.PollCases.{at_poll, by_poll, composes}
+use Rattle.quic_machine.specs.LeaveCases.{by_expired, by_event}
+use Rattle.quic_machine.specs.CallCases.{is_delivery, uses_next_id, by_call}
+use Rattle.quic_machine.specs.Machine.{after_call}
+use Rattle.quic_headline.proofs.Packets.Apart.{by_waits}
+use Rattle.quic_headline.proofs.Packets.Closes.{by_closes}
+use Rattle.quic_headline.proofs.Packets.Probes.{may_leave}
+
+-- a fact of the ids of the peer
+module _ (P : PeerIds → Type 0) where
+  abbrev pub Of : End → Type 0
+  Of e = P e.ids.peer
+
+  pub peer_settles : Settling Of
+  peer_settles (steps.known n) e i = i
+  peer_settles s e i = i
+
+  -- messages that are dropped leave them
+  pub peer_shortened : (b : Bool) (e : End) → Of e → Of (shortened b e)
+  peer_shortened false e i = i
+  peer_shortened true e i = lasts (most_message e)
+    where
+      lasts : (o : Option ℕ) → Of (without_longer_if o e)
+      lasts None = i
+      lasts (Some most) = i
+
+  -- so does a frame that brings no id
+  pub peer_frame : (f : FrameValue) (e : End) → ((g : NewConnectionIdValue) → f ≡ new_connection_id g → Of (take_frame (new_connection_id g) e).end) → Of e → Of (take_frame f e).end
+  peer_frame (ack a) e brings i = go (names_ungiven a e)
+    where
+      go : (b : Bool) → Of (ack_taken b a e).end
+      go true = i
+      go false = acked_keeps Of peer_settles (is_above e.numbers.largest_acked a.largest) a (named a e) i
+  peer_frame (datagram m) e brings i = message_leaves Of m e i (λ left. i)
+  peer_frame (new_connection_id g) e brings i = brings g refl
+  peer_frame (retire_connection_id n) e brings i = go (retirement_answer e.ids.own n e.ids.limit)
+    where
+      issues : (b : Bool) → Of (issued_if b (with_ids e (retired n e.ids)))
+      issues true = i
+      issues false = i
+
+      go : (r : Result Bool ErrorValue) → Of (retirement_judged r n e).end
+      go (Ok more) = issues (may_issue e.ids n)
+      go (Err error) = i
+  peer_frame (path_response token) e brings i = go (is_asked e.validation.challenge (word_of token))
+    where
+      go : (b : Bool) → Of (validated_if b e)
+      go true = i
+      go false = i
+  peer_frame f e brings i = i
+
+  -- and a poll
+  polled_peer : (p : Policy) (e : End) (now : ℕ) → Of e → Of (polled p e now).end
+  polled_peer p e now i = by_poll p e now (λ (q : Polled). Of q.end) (record {
+    silent = i;
+    failed = i;
+    nothing = λ c. i;
+    repeats = λ is. by_closes p (with_closing e (ticked e.closing now)) (λ (q : Polled). Of q.end) i (λ f goes. i);
+    closes = λ reason c bound. by_closes p (closed_by reason (at_poll e now c)) (λ (q : Polled). Of q.end) i (λ f goes. i);
+    gives = λ leaving c left is may ready some. subst (λ (ids : Ids). P ids.peer) (sym (composes leaving (at_poll e now c) (may_leave e now leaving (at_poll e now c) ready)).ids) i;
+  })
+
+  -- and any call that is no delivery, and doesn't change to another
+  pub peer_call : (p : Policy) (e : End) (theirs : List (List ℕ)) (call : Call) (a : Answer) → is_delivery call ≡ false → (uses_next_id call ≡ true → Of (end_on_next_id e a)) → Of e → Of (after_call p e theirs call a)
+  peer_call p e theirs call a other next i = by_call p e theirs Of call a (record {
+    same = i;
+    on_streams = λ on answer. i;
+    on_messages = λ on answer. i;
+    pings = i;
+    closes = λ reason f now own. i;
+    waits = λ now b set. by_waits Of b (with_closing e (ticked e.closing now)) i i;
+    changes_id = λ uses answer. next uses;
+    times = λ now expiry set. by_expired p.words e now Of (λ pending tracking timers waits asked runs packets. i) (λ pending timers waits asked runs. losses_keep Of peer_settles (with_closing e (ticked e.closing now)) i) (λ x j. j) expiry;
+    polls = λ now set. polled_peer p e now i;
+    hears = λ arrival d set. (let clash : false ≡ true = sym other ∙ set in cc);
+    tells = λ asks. by_event e Of i (λ told. i);
+  })

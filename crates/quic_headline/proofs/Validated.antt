@@ -1,0 +1,5 @@
+-- What validates the address of an end's peer.
+pub mod Standing
+pub mod Went
+pub mod Group
+pub mod Clause

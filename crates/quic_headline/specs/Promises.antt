@@ -1,0 +1,311 @@
+-- What `run` promises, in families: each field is a clause of every run of two honest ends, and its
+-- comment says what the definition says. `Isolates` is of any two ends.
+use Rattle.quic_machine.specs.Machine.{World}
+use Rattle.quic_machine.specs.Start.{AreStarted}
+use Rattle.quic_headline.specs.Runs.{Run}
+use Rattle.quic_headline.specs.Headline.{OrderedPrefix, Slices, Once, EndAfterAll, BlockedOnlyWithoutBytes, FinishedMeansArrived, FinishedIsTold, AcceptsAll, AcknowledgedWereTaken, NamesWereTaken, NumbersRise, OpensExactly, NewestOpens}
+use Rattle.quic_headline.specs.Amounts.{WritesTakeWhatLimitsAllow}
+use Rattle.quic_headline.specs.Duties.{DutiesStand}
+use Rattle.quic_headline.specs.InFlight.{TracksInFlight}
+use Rattle.quic_headline.specs.Causes.{NoBlame, TakenOrTooMany, TooManyPieces, ApplicationClosed, PeerClosed, IdleExpired, NumberLimit, KeyLimited, KeysLast}
+use Rattle.quic_headline.specs.Moments.{AckMoments, LossMoments, LossTimerQuiet}
+use Rattle.quic_headline.specs.Grown.{GrownLimitsWait}
+use Rattle.quic_headline.specs.Messages.{MessagesAtMostOnce}
+use Rattle.quic_headline.specs.Polls.{PollsSendWhatWaits, PollsSendMessages, ProbesPass, WindowIsOfHistory, PacerSetsItsTimer, AskingGoesWhereLet}
+use Rattle.quic_headline.specs.Rest.{DeliveredAtRest, NothingOwedAtRest}
+use Rattle.quic_headline.specs.AcksDue.{AcksAreDue}
+use Rattle.quic_headline.specs.Resets.{ResetsAreTold}
+use Rattle.quic_headline.specs.Ids.{IdsAreNew, AcceptedWereOpened}
+use Rattle.quic_headline.specs.ConnectionIds.{NewestOpensAtEnd, IdsAreIssued, IdsAreInUse, UnknownOnlyWhereRetired, ToldIdsAreKnown, NoIdIsExact, TooManyIsExact}
+use Rattle.quic_headline.specs.Reasons.{ClosedHasAReason}
+use Rattle.quic_headline.specs.Views.{ViewsTell}
+use Rattle.quic_headline.specs.Isolated.{Isolated, IsolatedByAnswers, IsolatedByLists}
+use Rattle.quic_headline.specs.Sizes.{DatagramsAreSized, SizeIsOfHistory, SizesMove}
+use Rattle.quic_headline.specs.Unread.{BlockedOnlyForUnread}
+use Rattle.quic_headline.specs.Undone.{NoneOpenedOnlyForUndone}
+use Rattle.quic_headline.specs.Credit.{CreditIsBounded, CountsAreBounded}
+use Rattle.quic_headline.specs.Allowed.{ReadsAreAllowed, ReadsAreOver, WritesAreAllowed, ResetsAreAllowed}
+use Rattle.quic_headline.specs.Queue.{MessagesGo, MessagesGoInOrder}
+use Rattle.quic_headline.specs.Events.{MessagesAreTold, OpeningsAreTold, ReadablesAreTold, WritablesAreTold}
+use Rattle.quic_headline.specs.Telling.{ControllersAreTold}
+use Rattle.quic_headline.specs.AckFrames.{AcksCountMarks, AcksNameAll}
+use Rattle.quic_headline.specs.Pings.{PingsGo}
+use Rattle.quic_headline.specs.Waited.{EachWaited}
+use Rattle.quic_headline.specs.Begins.{WaitingBegins}
+use Rattle.quic_headline.specs.Spread.{PacerIsOfHistory}
+use Rattle.quic_headline.specs.Threefold.{Threefold}
+use Rattle.quic_headline.specs.PeerLimits.{LimitsAreThePeers}
+use Rattle.quic_headline.specs.Validated.{ValidatedByAnswer, AnswersValidate}
+use Rattle.quic_headline.specs.Expiring.{IdleMoments, AliveMoments, PathMoments, ClosedTimers, CloseMoments, CloseMomentsStay, DrainsInTime}
+use Rattle.quic_headline.specs.Closes.{ClosesSayWhy, PeerClosesCome, ClosesAreOwed, OwedClosesGo, DrainedAreSilent}
+
+-- What reads give of a stream, and when it is told to be finished (RFC 9000, sections 2.2, 3.1 and
+-- 3.2).
+pub record Delivers (r : Run) : Type 0 where
+  -- what is read of a stream in order alone is a prefix of what was written on it (section 2.2)
+  pub ordered_prefix : OrderedPrefix r
+  -- each chunk that is read is a slice of what was written, at its offset (section 2.2)
+  pub slices : Slices r
+  -- no offset of a stream is read twice, whatever the order of reads (section 2.2)
+  pub once : Once r
+  -- the FIN is told only where the other end finished the stream, behind all its bytes (section
+  -- 3.2)
+  pub end_after_all : EndAfterAll r
+  -- a read is blocked only where no byte has arrived that it may give, nor the FIN (section 2.2)
+  pub blocked_only_without_bytes : BlockedOnlyWithoutBytes r
+  -- a reset is told only of a stream that the other end reset, with its code (sections 3.2 and
+  -- 19.4)
+  pub resets_are_told : ResetsAreTold r
+  -- a stream is told to be finished only where the other end took all its bytes and its FIN
+  -- (section 3.1)
+  pub finished_means_arrived : FinishedMeansArrived r
+  -- that is told at most once, and is told where all of it was acknowledged in flight (section 3.1)
+  pub finished_is_told : FinishedIsTold r
+
+-- Which streams are opened and accepted, and where calls find one closed (RFC 9000, sections 2 and
+-- 3).
+pub record Streams (r : Run) : Type 0 where
+  -- nothing is accepted only where each stream that a frame opened, and each below it, was (section
+  -- 3.2)
+  pub accepts_all : AcceptsAll r
+  -- a stream that a call opens or accepts at an end, no call before did there (section 2.1)
+  pub ids_are_new : IdsAreNew r
+  -- a stream is accepted only where a frame opened it, or one of its kind above it (section 3.2)
+  pub accepted_were_opened : AcceptedWereOpened r
+  -- calls that read or stop one find it closed only where nothing more is to be read (section 3.2)
+  pub reads_are_allowed : ReadsAreAllowed r
+  -- where nothing more is to be read, they find it closed, or find no memory (section 3.2)
+  pub reads_are_over : ReadsAreOver r
+  -- calls that write or finish find it closed only where it was finished or reset, or only receives
+  -- (section 3.1)
+  pub writes_are_allowed : WritesAreAllowed r
+  -- calls that reset it find it closed only where it was reset, all of it came, or it only receives
+  -- (section 3.1)
+  pub resets_are_allowed : ResetsAreAllowed r
+
+-- What an end may send by its limits, and what it lets come (RFC 9000, section 4).
+pub record Limits (r : Run) : Type 0 where
+  -- an open end keeps to the limits in its peer's parameters and frames (sections 4.1, 4.6 and
+  -- 18.2)
+  pub limits_are_the_peers : LimitsAreThePeers r
+  -- a write takes as much as the peer's limits and the send window leave (section 4.1)
+  pub writes_take_what_limits_allow : WritesTakeWhatLimitsAllow r
+  -- a limit that grew waits to be told (sections 4.1, 4.2 and 4.6)
+  pub grown_limits_wait : GrownLimitsWait r
+  -- a limit that an end says lies at most a window past what was consumed (sections 4.1, 19.9 and
+  -- 19.10)
+  pub credit_is_bounded : CreditIsBounded r
+  -- a count of streams lies past those that are done by at most as many as may be open (sections
+  -- 4.6 and 19.11)
+  pub counts_are_bounded : CountsAreBounded r
+
+-- What waits to go, and that it goes (RFC 9000, section 13.3).
+pub record Waits (r : Run) : Type 0 where
+  -- what has to reach the peer waits to go, is in flight, or arrived (section 13.3)
+  pub duties_stand : DutiesStand r
+  -- a poll gives what waits of streams, but for window, pacer and address (RFC 9002, sections 7 and
+  -- 7.7)
+  pub polls_send_what_waits : PollsSendWhatWaits r
+  -- each datagram carries something that waited (sections 8.2, 12.2, 13.2 and 13.3)
+  pub each_waited : EachWaited r
+  -- PING goes where it was asked for, or keep-alive asks for it, but for window, pacer and address
+  -- (sections 8.1, 10.1.2 and 19.2)
+  pub pings_go : PingsGo r
+  -- what waits behind a call waited before it, or has one of the causes for which such goes
+  -- (section 13.3)
+  pub waiting_begins : WaitingBegins r
+
+-- Which messages go, and which are received (RFC 9221, section 5).
+pub record Messages (r : Run) : Type 0 where
+  -- each is received whole, and at most as often as the other end sent it (section 5)
+  pub messages_at_most_once : MessagesAtMostOnce r
+  -- a poll gives what waits in the end's queue, but for window, pacer and address (section 5.4)
+  pub polls_send_messages : PollsSendMessages r
+  -- so it does of the messages that wait by the lists (section 5.4)
+  pub messages_go : MessagesGo r
+  -- a datagram has the first of these, in their order (section 5)
+  pub messages_go_in_order : MessagesGoInOrder r
+
+-- What applications are told by events and queries. The first four say what was told where no event
+-- is left (RFC 9000, section 2).
+pub record Tells (r : Run) : Type 0 where
+  -- that messages came, since the first of those that wait to be received (RFC 9221, section 5)
+  pub messages_are_told : MessagesAreTold r
+  -- that the peer opened streams, behind each that a frame opened (sections 2.1 and 3.2)
+  pub openings_are_told : OpeningsAreTold r
+  -- that a stream may be read, since the last frame came on it (sections 2.2 and 3.2)
+  pub readables_are_told : ReadablesAreTold r
+  -- that a stream takes bytes again, since a write on it was blocked (sections 4.1 and 19.10)
+  pub writables_are_told : WritablesAreTold r
+  -- what is answered of timers, of the state and of the address is what the view behind it shows
+  pub views_tell : ViewsTell r
+
+-- What ACK frames name, and when they go (RFC 9000, sections 13.1 and 13.2).
+pub record Acknowledges (r : Run) : Type 0 where
+  -- an ACK frame that came names only packets that its end had taken whole (section 13.1)
+  pub acknowledged_were_taken : AcknowledgedWereTaken r
+  -- so does an ACK frame in a datagram that was given (section 13.1)
+  pub names_were_taken : NamesWereTaken r
+  -- that one names all that its end had taken, but for what the peer is known to know, and for what
+  -- lies below 64 runs of numbers (sections 13.2.3 and 13.2.4)
+  pub acks_name_all : AcksNameAll r
+  -- it counts what came with each ECN mark (section 13.4.1)
+  pub acks_count_marks : AcksCountMarks r
+  -- a poll gives the ACK frame that is due (sections 13.2.1 and 13.2.2)
+  pub acks_are_due : AcksAreDue r
+  -- the timer of acknowledgements, where set, is set for the first packet that waits (section
+  -- 13.2.1)
+  pub ack_moments : AckMoments r
+
+-- What is in flight, when it is lost, and the congestion window over it (RFC 9002, sections 2, 6
+-- and 7).
+pub record Loses (r : Run) : Type 0 where
+  -- an open end tracks exactly what it gave, and is neither acknowledged, lost nor forgotten
+  -- (sections 2 and 6.1)
+  pub tracks_in_flight : TracksInFlight r
+  -- the loss timer is set to the moment that is due (section 6.2.1)
+  pub loss_moments : LossMoments r
+  -- it isn't set once all that is ack-eliciting was named in ACK frames (section 6.2.1)
+  pub loss_timer_quiet : LossTimerQuiet r
+  -- PTO probes, two for each expiry, go past window and pacer (sections 6.2.4 and 7.5)
+  pub probes_pass : ProbesPass r
+  -- the window is that of a controller which was told what the lists say (sections 6, 7 and 7.6)
+  pub controllers_are_told : ControllersAreTold r
+  -- it is that of one which was told what the calls tell (section 7)
+  pub window_is_of_history : WindowIsOfHistory r
+
+-- When the pacer lets datagrams go (RFC 9002, section 7.7).
+pub record Paces (r : Run) : Type 0 where
+  -- the pacer's timer is set only to the moment that it named in the last poll (section 7.7)
+  pub pacer_sets_its_timer : PacerSetsItsTimer r
+  -- what is ack-eliciting goes only where window and pacer let it, but for probes (sections 7 and
+  -- 7.7)
+  pub asking_goes_where_let : AskingGoesWhereLet r
+  -- the tokens of the pacer follow from the polls and the bytes that went (section 7.7)
+  pub pacer_is_of_history : PacerIsOfHistory r
+
+-- How many bytes datagrams have (RFC 9000, section 14; RFC 8899).
+pub record Sizes (r : Run) : Type 0 where
+  -- a datagram has at most the current size, or is an MTU probe of the size looked for (section 14)
+  pub datagrams_are_sized : DatagramsAreSized r
+  -- the size shown is the last that the controller was told of (RFC 8899, section 4.3)
+  pub size_is_of_history : SizeIsOfHistory r
+  -- it grows only to that of a probe that was acknowledged, or falls to the least (RFC 8899,
+  -- section 4.3)
+  pub sizes_move : SizesMove r
+
+-- Which numbers packets have, and where these let them open (RFC 9000, sections 12.3 and 17.1).
+pub record Numbers (r : Run) : Type 0 where
+  -- each datagram has a number, one or two above the one before (sections 12.3 and 17.1)
+  pub numbers_rise : NumbersRise r
+  -- an injection is answered `Opens` exactly where its bytes open (sections 5.2 and 12.2)
+  pub opens_exactly : OpensExactly r
+  -- each datagram opens as it was sent where none above it was taken (sections 12.3, 17.1 and A.3)
+  pub newest_opens : NewestOpens r
+  -- so it does at the other end with the ids that it has, where it knows its id still (section 5.1)
+  pub newest_opens_at_end : NewestOpensAtEnd r
+
+-- To which connection ids datagrams go, and when the next is refused (RFC 9000, section 5.1).
+pub record Identifies (r : Run) : Type 0 where
+  -- each goes to an id that the other end issued and that wasn't retired (sections 5.1.1 and 5.1.2)
+  pub ids_are_issued : IdsAreIssued r
+  -- each of an open end goes to the id in use (section 5.1.2)
+  pub ids_are_in_use : IdsAreInUse r
+  -- one is dropped for its id only where the peer retired that (sections 5.1.2 and 5.2)
+  pub unknown_only_where_retired : UnknownOnlyWhereRetired r
+  -- an open end knows the ids that it told until they are retired (section 5.1.1)
+  pub told_ids_are_known : ToldIdsAreKnown r
+  -- `NoId` is answered exactly where the peer told of no further id (section 5.1.2)
+  pub no_id_is_exact : NoIdIsExact r
+  -- `TooManyPending` exactly where it told of one, and over 50 retirements would wait (section
+  -- 5.1.2)
+  pub too_many_is_exact : TooManyIsExact r
+
+-- What goes to an address, and when that becomes validated (RFC 9000, section 8).
+pub record Validates (r : Run) : Type 0 where
+  -- until then at most three times the bytes that were handed in go (section 8.1)
+  pub threefold : Threefold r
+  -- it becomes validated only by the answer to the challenge that went (section 8.2.2)
+  pub validated_by_answer : ValidatedByAnswer r
+  -- it becomes validated by that answer (section 8.2.3)
+  pub answers_validate : AnswersValidate r
+
+-- Why an end closes, and that it takes what comes otherwise (RFC 9000, sections 10 and 11).
+pub record Causes (r : Run) : Type 0 where
+  -- no end closes for a rule that the other one broke (sections 4.1, 4.5, 4.6 and 13.1)
+  pub no_blame : NoBlame r
+  -- a packet that is no duplicate is taken whole, or comes to too many pieces (section 12.3)
+  pub taken_or_too_many : TakenOrTooMany r
+  -- an end closes for too many pieces only where over 2048 of a stream wait to be read (section
+  -- 21.7)
+  pub too_many_pieces : TooManyPieces r
+  -- each view shows why an end isn't open, unless it failed (section 10)
+  pub closed_has_a_reason : ClosedHasAReason r
+  -- an end closes for its application only where that closed it while it was open (section 10.2)
+  pub application_closed : ApplicationClosed r
+  -- for its peer only where a view shows why that had closed (section 10.2)
+  pub peer_closed : PeerClosed r
+  -- for being idle only where its idle timer expired (section 10.1)
+  pub idle_expired : IdleExpired r
+  -- for used-up numbers only where they are (sections 12.3 and A.2)
+  pub number_limit : NumberLimit r
+  -- for a key's limit only where its own sealed, or its peer's refused, so many (RFC 9001, section
+  -- 6.6)
+  pub key_limited : KeyLimited r
+  -- no key seals more than it may (RFC 9001, section 6.6)
+  pub keys_last : KeysLast r
+
+-- What closes say, and when they go (RFC 9000, section 10.2).
+pub record Closes (r : Run) : Type 0 where
+  -- each says why its end isn't open (sections 19.19 and 20.1)
+  pub closes_say_why : ClosesSayWhy r
+  -- the close for which an end was closed by its peer, the peer gave (section 10.2)
+  pub peer_closes_come : PeerClosesCome r
+  -- a closing end gives its close once, and once more for what came since (section 10.2.1)
+  pub closes_are_owed : ClosesAreOwed r
+  -- a poll gives it, while keys and numbers last and the address is validated (section 10.2.1)
+  pub owed_closes_go : OwedClosesGo r
+  -- a drained end gives nothing (section 10.2.2)
+  pub drained_are_silent : DrainedAreSilent r
+
+-- To which moments timers are set, but for losses, acknowledgements and the pacer (RFC 9000,
+-- section 10).
+pub record Times (r : Run) : Type 0 where
+  -- the idle timer is set to the moment that is due (section 10.1)
+  pub idle_moments : IdleMoments r
+  -- so is the timer of keep-alive (section 10.1.2)
+  pub alive_moments : AliveMoments r
+  -- so is the timer of path validation (section 8.2.4)
+  pub path_moments : PathMoments r
+  -- an end that isn't open has no timer set but that of its close (section 10.2)
+  pub closed_timers : ClosedTimers r
+  -- the timer of its close is set to three probe timeouts behind the call that closed it (section
+  -- 10.2)
+  pub close_moments : CloseMoments r
+  -- it stays so while the end is closing (section 10.2)
+  pub close_moments_stay : CloseMomentsStay r
+  -- a closing end is drained once that moment has come, and no sooner (section 10.2)
+  pub drains_in_time : DrainsInTime r
+
+-- What holds where ends rest, if controllers keep room for two datagrams (RFC 9002, section 7.2).
+pub record Rests (r : Run) : Type 0 where
+  -- all that was written, and not reset, has arrived (RFC 9000, section 13.3)
+  pub delivered_at_rest : DeliveredAtRest r
+  -- no acknowledgement is owed (RFC 9000, sections 13.2.1 and 13.2.4)
+  pub nothing_owed_at_rest : NothingOwedAtRest r
+  -- a write is blocked only for bytes that were left unread (RFC 9000, section 4.1)
+  pub blocked_only_for_unread : BlockedOnlyForUnread r
+  -- no stream is opened only for those that aren't done (RFC 9000, section 4.6)
+  pub none_opened_only_for_undone : NoneOpenedOnlyForUndone r
+
+-- What changes nothing of a run, whatever the keys and the applications (RFC 9000, sections 5.2,
+-- 12.2 and 12.3).
+pub record Isolates (r : Run) (end : World) : Type 0 where
+  -- the run less any injections, and deliveries that were dropped, but where an end is closing, is
+  -- a run again
+  pub isolated : Isolated r end
+  -- so it is less those that didn't open, or came before, by their answers
+  pub isolated_by_answers : IsolatedByAnswers r end
+  -- so it is less those that don't open, or came before, by the lists, of ends that were made for
+  -- one another
+  pub isolated_by_lists : AreStarted r.start → IsolatedByLists r

@@ -1,0 +1,4 @@
+pub mod PeerIdSteps
+pub mod OwnIdSteps
+pub mod PeerIdLaws
+pub mod OwnIdLaws

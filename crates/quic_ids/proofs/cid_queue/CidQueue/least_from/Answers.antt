@@ -1,0 +1,14 @@
+use Rattle.std.proofs.Common.{◌+◌, arith, subst, ap, ◌∙◌}
+use Rattle.quic_ids.specs.CidQueue.{PeerIds, IsWindow, kept_ids, least_from}
+use Rattle.quic_ids.proofs.PeerIdSteps.{window_kept}
+use Rattle.quic_ids.proofs.cid_queue.CidQueue.least_from.Goals as goal
+
+pub returns-clause-found : goal.returns-clause-found
+returns-clause-found c = c.first_from.ensures.found ∙ ap (λ (ids : PeerIds). least_from c.args.least ids.later) c.self.view_is
+
+pub returns-clause-window : goal.returns-clause-window
+returns-clause-window c =
+    let i = c.self.inside in
+    let long = c.self.invariant.0 in
+    let P : PeerIds → Type 0 = λ ids. IsWindow ids in
+    subst P c.self.view_is (window_kept i.later (i.offset + 1) (i.offset + kept_ids) c.self.invariant.1 (omega arith))

@@ -1,0 +1,7 @@
+use Rattle.std.proofs.Common.{refl}
+use Rattle.rand_core.proofs.StepsLemmas.{meets_next_u64}
+use Rattle.quic_keys.specs.Words.{word_steps}
+use Rattle.quic_keys.proofs.words.WordsRng.next_u64.Goals as goal
+
+pub returns-in-Constant : goal.returns-in-Constant
+returns-in-Constant c = rw c.in-Constant.is (meets_next_u64 word_steps c.in-Constant.word _ _ refl)

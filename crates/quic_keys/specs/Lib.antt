@@ -1,0 +1,5 @@
+pub mod Plain
+pub mod PlainLaw
+pub mod KeysOf
+pub mod Words
+pub mod Policies

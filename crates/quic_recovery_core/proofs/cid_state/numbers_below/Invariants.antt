@@ -1,6 +1,0 @@
-use Rattle.std.proofs.Common.{◌≡◌}
-use Rattle.quic_recovery_core.specs.CidState.{below}
-use Rattle.quic_recovery_core.proofs.cid_state.numbers_below.Given as goal
-
-abbrev pub invariant-loop-n : goal.invariant-loop-n
-invariant-loop-n l = l.numbers.keys ≡ below l.n

@@ -1,0 +1,27 @@
+//! Messages, which may be lost and aren't sent again (RFC 9221).
+
+use crate::endpoint::millis;
+use crate::{Endpoint, MANY};
+use anyhow::Result;
+use quic_connection::{Bytes, Instant, Side};
+
+/// Queues a message. Where there is no room for it, older ones go for it.
+pub(crate) fn send(endpoint: &mut Endpoint, text: &'static [u8]) -> Result<()> {
+    Ok(endpoint.datagrams().send(Bytes::from_static(text), true)?)
+}
+
+/// Prints all messages that came.
+pub(crate) fn receive(
+    rt: &impl Print,
+    side: Side,
+    endpoint: &mut Endpoint,
+    now: Instant,
+) -> Result<()> {
+    for _ in 0..MANY {
+        let Some(message) = endpoint.datagrams().recv() else {
+            break;
+        };
+        println!(rt; "{} ms: a message for the {side}: {message:?}", millis(now))?;
+    }
+    Ok(())
+}

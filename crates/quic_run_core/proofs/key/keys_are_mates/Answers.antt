@@ -1,5 +1,0 @@
-use Rattle.quic_run_core.proofs.Mates.{keys_mate}
-use Rattle.quic_run_core.proofs.key.keys_are_mates.Goals as goal
-
-pub returns : goal.returns
-returns c = keys_mate
