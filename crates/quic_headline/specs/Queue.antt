@@ -41,7 +41,7 @@ and_gone (s ∷ ss) waiting = record { waiting = drop (length (messages_in s.fra
 -- One more message waits behind the others. Where its call lets older ones be dropped, the oldest
 -- are, until it fits beside the others in so many bytes; where it doesn't, none is.
 abbrev pub and_queued : Bool → ℕ → List ℕ → List (List ℕ) → List (List ℕ)
-and_queued true room message waiting = with_message room message waiting
+and_queued true room message waiting = with_message length room message waiting
 and_queued false room message waiting = waiting ++ message ∷ []
 
 -- what a call leaves waiting: one that sends a message, or a poll that gives a datagram

@@ -5,7 +5,7 @@ use Rattle.std.specs.Option.{option_to_list, is_some}
 use Rattle.std.proofs.lemmas.List.Sums.{sum_by-append}
 use Rattle.std.proofs.lemmas.List.Filters.{sum_by-filter_both}
 use Rattle.quic_messages.specs.declared.limits.DatagramLimits.{DatagramLimits}
-use Rattle.quic_messages.specs.Messages.{Messages, oldest, left_for, gone_for, with_message, frame_bytes, fitting, is_within}
+use Rattle.quic_messages.specs.Messages.{Messages, weight, oldest, left_for, gone_for, with_message, frame_bytes, fitting, is_within}
 use Rattle.quic_messages.specs.Sending.{send_answer}
 use Rattle.quic_messages.specs.History.{Call, received, recv, send, next_frame, drop_oversized, after_call, after_calls, over, came_by, given_by, incoming_dropped_by, queued_by, sent_by, outgoing_dropped_by}
 use Rattle.quic_messages.proofs.Leaving.{gone_and_left}
@@ -29,16 +29,16 @@ module _ (p : List ℕ → Bool) where
   count_oldest (m ∷ ms) = sym (count-append (m ∷ []) ms)
 
   -- one more, for which the oldest go
-  count_put : (room : ℕ) (m : List ℕ) (ms : List (List ℕ)) → count (gone_for room (length m) ms) + count (with_message room m ms) ≡ count (m ∷ []) + count ms
-  count_put room m ms =
-      let all = sym (count-append (gone_for room (length m) ms) (left_for room (length m) ms)) ∙ ap count (gone_and_left room (length m) ms) in
-      let more = count-append (left_for room (length m) ms) (m ∷ []) in
+  count_put : (size : List ℕ → ℕ) (room : ℕ) (m : List ℕ) (ms : List (List ℕ)) → count (gone_for size room (size m) ms) + count (with_message size room m ms) ≡ count (m ∷ []) + count ms
+  count_put size room m ms =
+      let all = sym (count-append (gone_for size room (size m) ms) (left_for size room (size m) ms)) ∙ ap count (gone_and_left size room (size m) ms) in
+      let more = count-append (left_for size room (size m) ms) (m ∷ []) in
       omega arith
 
   -- ---- messages that come
 
-  came_step : (b : Bool) (window : ℕ) (m : List ℕ) (s : Messages) → count [] + count (cond b (gone_for window (length m) s.incoming) []) + count (cond b (record s { incoming = with_message window m s.incoming }) s).incoming ≡ count (cond b (m ∷ []) []) + count s.incoming
-  came_step true window m s = omega (arith, count_none, count_put window m s.incoming)
+  came_step : (b : Bool) (window : ℕ) (m : List ℕ) (s : Messages) → count [] + count (cond b (gone_for weight window (weight m) s.incoming) []) + count (cond b (record s { incoming = with_message weight window m s.incoming }) s).incoming ≡ count (cond b (m ∷ []) []) + count s.incoming
+  came_step true window m s = omega (arith, count_none, count_put weight window m s.incoming)
   came_step false window m s = omega (arith, count_none)
 
   -- what is only about messages that wait changes nothing here
@@ -68,8 +68,8 @@ module _ (p : List ℕ → Bool) where
 
   -- ---- messages that go
 
-  queued_step : (b : Bool) (limits : DatagramLimits) (m : List ℕ) (s : Messages) → count [] + count (cond b (gone_for limits.send_buffer_size (length m) s.outgoing) []) + count (cond b (record s { outgoing = with_message limits.send_buffer_size m s.outgoing }) s).outgoing ≡ count (cond b (m ∷ []) []) + count s.outgoing
-  queued_step true limits m s = omega (arith, count_none, count_put limits.send_buffer_size m s.outgoing)
+  queued_step : (b : Bool) (limits : DatagramLimits) (m : List ℕ) (s : Messages) → count [] + count (cond b (gone_for length limits.send_buffer_size (length m) s.outgoing) []) + count (cond b (record s { outgoing = with_message length limits.send_buffer_size m s.outgoing }) s).outgoing ≡ count (cond b (m ∷ []) []) + count s.outgoing
+  queued_step true limits m s = omega (arith, count_none, count_put length limits.send_buffer_size m s.outgoing)
   queued_step false limits m s = omega (arith, count_none)
 
   -- what is only about messages that came changes nothing here

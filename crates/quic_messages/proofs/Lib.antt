@@ -1,4 +1,5 @@
 pub mod Fronts
 pub mod Leaving
+pub mod Unread
 pub mod Turning
 pub mod Counting

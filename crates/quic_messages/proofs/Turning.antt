@@ -34,15 +34,15 @@ module _ {X : Type 0} (keep : X → Bool) (xs : List X) (i : ℕ) (x : X) (rest 
   pub left_out : keep x ≡ false → rest ≡ drop (i + 1) xs ++ filter keep (take (i + 1) xs)
   left_out e = rw (passed, e, append-nil (filter keep (take i xs))) others
 
--- one that is put back leaves the sum of lengths
-pub bytes_put_back : (m : List ℕ) (ms : List (List ℕ)) → bytes_of (ms ++ m ∷ []) ≡ bytes_of (m ∷ ms)
-bytes_put_back m ms =
-    let front = sum_by-cons (λ m. length m) m ms in
-    let back = sum_by_push (λ m. length m) ms m in
+-- one that is put back leaves what they take together
+pub bytes_put_back : (size : List ℕ → ℕ) (m : List ℕ) (ms : List (List ℕ)) → bytes_of size (ms ++ m ∷ []) ≡ bytes_of size (m ∷ ms)
+bytes_put_back size m ms =
+    let front = sum_by-cons size m ms in
+    let back = sum_by_push size ms m in
     omega arith
 
--- one that is taken out lessens it by its length
-pub bytes_taken : (m : List ℕ) (ms : List (List ℕ)) → bytes_of (m ∷ ms) - length m ≡ bytes_of ms
-bytes_taken m ms =
-    let front = sum_by-cons (λ m. length m) m ms in
+-- one that is taken out lessens it by what it takes
+pub bytes_taken : (size : List ℕ → ℕ) (m : List ℕ) (ms : List (List ℕ)) → bytes_of size (m ∷ ms) - size m ≡ bytes_of size ms
+bytes_taken size m ms =
+    let front = sum_by-cons size m ms in
     omega arith

@@ -3,7 +3,7 @@ use Rattle.std.specs.Prelude.{ℕ, Bool, not, if◌then◌else◌, List, [], ◌
 use Rattle.std.specs.Option.{option_to_list}
 use Rattle.std.specs.Str.{bytes_eq}
 use Rattle.quic_messages.specs.declared.limits.DatagramLimits.{DatagramLimits}
-use Rattle.quic_messages.specs.Messages.{Messages, oldest, gone_for, is_taken, after_received, after_recv, is_within, fitting, after_fitting, without_longer}
+use Rattle.quic_messages.specs.Messages.{Messages, oldest, weight, gone_for, is_taken, after_received, after_recv, is_within, fitting, after_fitting, without_longer}
 use Rattle.quic_messages.specs.Sending.{send_answer, after_send}
 
 -- a call, which memory doesn't lack for
@@ -35,7 +35,7 @@ given_by call s = []
 -- the messages that it drops unread
 abbrev pub incoming_dropped_by : Call → Messages → List (List ℕ)
 incoming_dropped_by (received None m) s = []
-incoming_dropped_by (received (Some window) m) s = if is_taken (Some window) m then gone_for window (length m) s.incoming else []
+incoming_dropped_by (received (Some window) m) s = if is_taken (Some window) m then gone_for weight window (weight m) s.incoming else []
 incoming_dropped_by call s = []
 
 -- the message that it takes of the application, if it does
@@ -50,7 +50,7 @@ sent_by call s = []
 
 -- the messages that it drops unsent
 abbrev pub outgoing_dropped_by : Call → Messages → List (List ℕ)
-outgoing_dropped_by (send limits makes_room m) s = if is_ok (send_answer limits makes_room m s) then gone_for limits.send_buffer_size (length m) s.outgoing else []
+outgoing_dropped_by (send limits makes_room m) s = if is_ok (send_answer limits makes_room m s) then gone_for length limits.send_buffer_size (length m) s.outgoing else []
 outgoing_dropped_by (drop_oversized size) s = filter (λ m. not (is_within size m)) s.outgoing
 outgoing_dropped_by call s = []
 

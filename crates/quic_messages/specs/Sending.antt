@@ -13,7 +13,7 @@ max_size frame size id = if frame == 0 then None else Some (min (frame - 9) (siz
 
 -- whether one more message fits beside those that wait
 abbrev pub has_room : ℕ → List ℕ → Messages → Bool
-has_room room m s = nat_le (bytes_of s.outgoing + length m) room
+has_room room m s = nat_le (bytes_of length s.outgoing + length m) room
 
 -- what `send` answers at an end that is open and takes messages
 abbrev pub sized_answer : Option ℕ → Bool → List ℕ → Result (Unit {0}) SendDatagramError
@@ -31,4 +31,4 @@ send_answer limits makes_room m s =
 -- fits
 abbrev pub after_send : DatagramLimits → Bool → List ℕ → Messages → Messages
 after_send limits makes_room m s =
-    if is_ok (send_answer limits makes_room m s) then record s { outgoing = with_message limits.send_buffer_size m s.outgoing } else s
+    if is_ok (send_answer limits makes_room m s) then record s { outgoing = with_message length limits.send_buffer_size m s.outgoing } else s

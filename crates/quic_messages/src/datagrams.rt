@@ -1,5 +1,5 @@
 //! The messages of an end, as an application holds them.
-ghost use Rattle.std.specs.Prelude.{◌≡◌, ◌≢◌, ◌-◌, Ok, Err};
+ghost use Rattle.std.specs.Prelude.{◌≡◌, ◌≢◌, ◌-◌, length, Ok, Err};
 ghost use Rattle.quic_messages.specs.declared.errors.SendDatagramError.TheVariants as send_errors;
 ghost use Rattle.quic_messages.specs.Messages.{bytes_of, oldest, after_recv};
 ghost use Rattle.quic_messages.specs.Sending.{send_answer, after_send};
@@ -74,7 +74,7 @@ impl<'a> Datagrams<'a> {
 
     /// How many more bytes may wait to be sent (quinn-proto's `Datagrams::send_buffer_space`).
     pub fn send_buffer_space(&self) -> usize
-        ensures { result ≡ self.now.limits.send_buffer_size - bytes_of self.now.datagrams.now.outgoing }
+        ensures { result ≡ self.now.limits.send_buffer_size - bytes_of length self.now.datagrams.now.outgoing }
     {
         self.datagrams
             .send_buffer_space(self.limits.send_buffer_size)

@@ -15,7 +15,7 @@ pub struct DatagramLimits {
     /// Whether the end is open: nothing is sent at any other.
     pub is_open: bool,
     /// How many bytes of unread messages this end keeps, and the longest message that it takes.
-    /// `None` where it takes none. It doesn't bound how many messages without a byte are kept.
+    /// `None` where it takes none. A message without a byte takes one of them.
     pub receive_buffer_size: Option<usize>,
     /// How many bytes of messages may wait to be sent.
     pub send_buffer_size: usize,

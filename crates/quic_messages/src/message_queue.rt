@@ -1,31 +1,31 @@
-//! Messages in a row, with the sum of their lengths.
+//! Messages in a row, with what they take of their buffer.
 ghost use Rattle.std.specs.Prelude.{◌≡◌, ◌+◌, ◌==◌, [], length, nat_le, drop, filter, OnOk, OnErr};
 ghost use Rattle.std.specs.Option.{option_copied};
-ghost use Rattle.quic_messages.specs.Messages.{bytes_of, is_within, oldest, with_message};
+ghost use Rattle.quic_messages.specs.Messages.{at_least, bytes_of, is_within, oldest, with_message};
 
 use bytes::Bytes;
 use std::alloc::{AllocError, Global};
 use std::collections::VecDeque;
 use std::marker::Model;
 
-/// Messages, the oldest first. No call walks more of them than it drops, but
-/// [`drop_longer`](Self::drop_longer).
+/// Messages, the oldest first, in a buffer of which each takes its bytes, and `LEAST` at least. No
+/// call walks more of them than it drops, but [`drop_longer`](Self::drop_longer).
 #[derive(Drop)]
-pub(crate) struct MessageQueue {
+pub(crate) struct MessageQueue<const LEAST: usize> {
     messages: VecDeque<Bytes>,
-    // How many bytes they have together.
+    // How many bytes of the buffer they take together.
     total: usize,
 }
 
-impl Model for MessageQueue {
+impl<const LEAST: usize> Model for MessageQueue<LEAST> {
     ghost use Rattle.std.specs.Prelude.{◌≡◌, ℕ, List};
-    ghost use Rattle.quic_messages.specs.Messages.{bytes_of};
+    ghost use Rattle.quic_messages.specs.Messages.{at_least, bytes_of};
 
     ghost Value = { List (List ℕ) };
 
     ghost view = { λ q. q.messages.items };
 
-    ghost invariant = { λ q. q.total ≡ bytes_of q.messages.items };
+    ghost invariant = { λ q. q.total ≡ bytes_of (at_least LEAST) q.messages.items };
 }
 
 /// Whether a message of `len` bytes fits in the room beside `total` bytes.
@@ -35,7 +35,14 @@ pub(crate) fn fits(total: usize, len: usize, room: usize) -> bool
     len <= room && total <= room - len
 }
 
-impl MessageQueue {
+impl<const LEAST: usize> MessageQueue<LEAST> {
+    /// How many bytes of the buffer a message takes.
+    fn size(message: &Bytes) -> usize
+        ensures { result ≡ at_least LEAST message.now }
+    {
+        message.len().max(LEAST)
+    }
+
     /// No messages.
     pub(crate) fn new(alloc: Global) -> Self
         ensures { result ≡ [] }
@@ -53,9 +60,9 @@ impl MessageQueue {
         self.messages.is_empty()
     }
 
-    /// How many bytes they have together.
+    /// How many bytes of the buffer they take together.
     pub(crate) fn total(&self) -> usize
-        ensures { result ≡ bytes_of self.now }
+        ensures { result ≡ bytes_of (at_least LEAST) self.now }
     {
         self.total
     }
@@ -73,7 +80,7 @@ impl MessageQueue {
         ensures left { self.new ≡ drop 1 self.old }
     {
         let message = self.messages.pop_front()?;
-        self.total -= message.len();
+        self.total -= Self::size(&message);
         Some(message)
     }
 
@@ -84,17 +91,18 @@ impl MessageQueue {
     ///
     /// - [`AllocError`]: an allocation fails. Nothing changes.
     pub(crate) fn push(&mut self, message: Bytes, room: usize) -> Result<(), AllocError>
-        ensures ok { OnOk result (self.new ≡ with_message room message self.old) }
+        ensures ok { OnOk result (self.new ≡ with_message (at_least LEAST) room message self.old) }
         ensures err { OnErr result (self.new ≡ self.old) }
     {
         self.messages.reserve(1)?;
-        while !fits(self.total, message.len(), room) {
+        let bytes = Self::size(&message);
+        while !fits(self.total, bytes, room) {
             let Some(dropped) = self.messages.pop_front() else {
                 break;
             };
-            self.total -= dropped.len();
+            self.total -= Self::size(&dropped);
         }
-        self.total += message.len();
+        self.total += bytes;
         self.messages.push_back_reserved(message);
         Ok(())
     }
@@ -110,7 +118,7 @@ impl MessageQueue {
             if message.len() <= size {
                 self.messages.push_back_reserved(message);
             } else {
-                self.total -= message.len();
+                self.total -= Self::size(&message);
             }
         }
     }

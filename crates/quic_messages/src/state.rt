@@ -1,5 +1,5 @@
 //! The messages of an end.
-ghost use Rattle.std.specs.Prelude.{◌≡◌, ◌≢◌, nat_le, ◌<◌, ◌≤◌, ◌-◌, ◌^◌, Ok, Err, true, is_some, IfSome};
+ghost use Rattle.std.specs.Prelude.{◌≡◌, ◌≢◌, nat_le, ◌<◌, ◌≤◌, ◌-◌, ◌^◌, length, Ok, Err, true, is_some, IfSome};
 ghost use Rattle.quic_wire.specs.Value.{datagram};
 ghost use Rattle.quic_wire.specs.Writing.{Fits};
 ghost use Rattle.quic_messages.specs.declared.errors.ReceivedError.TheVariants as received_errors;
@@ -23,8 +23,10 @@ use std::marker::Model;
 #[derive(Drop)]
 pub struct DatagramState {
     copies: Copies,
-    incoming: MessageQueue,
-    outgoing: MessageQueue,
+    // One that came takes a byte of the receive buffer at least, so that there is an end to those
+    // without a byte that a peer can have kept.
+    incoming: MessageQueue<1>,
+    outgoing: MessageQueue<0>,
 }
 
 impl Model for DatagramState {
@@ -57,8 +59,10 @@ impl DatagramState {
 
     /// A message came in a DATAGRAM frame (RFC 9221, section 4; quinn-proto's
     /// `DatagramState::received`). `window` is how many bytes of unread messages this end keeps,
-    /// `None` where it takes no messages. The oldest unread go until the new one fits. Answers
-    /// whether none was unread before, which is what the application is to be told.
+    /// `None` where it takes no messages. A message without a byte takes one of them: quinn-proto
+    /// counts none. The oldest unread go until the new one fits, or none is left: it is kept in
+    /// both cases. Answers whether none was unread before, which is what the application is to be
+    /// told.
     ///
     /// # Errors
     ///
@@ -160,7 +164,7 @@ impl DatagramState {
     /// How many more bytes may wait to be sent, of `send_buffer_size` in all (quinn-proto's
     /// `Datagrams::send_buffer_space`).
     pub fn send_buffer_space(&self, send_buffer_size: usize) -> usize
-        ensures { result ≡ send_buffer_size - bytes_of self.now.outgoing }
+        ensures { result ≡ send_buffer_size - bytes_of length self.now.outgoing }
     {
         send_buffer_size.saturating_sub(self.outgoing.total())
     }

@@ -130,3 +130,36 @@ fn messages_are_received(rt: HostRuntime) -> Result<(), Fail> {
     assert!(rt; Datagrams::new(&mut state, limits()).recv().is_none());
     Ok(())
 }
+
+// Each takes a byte of those that the end keeps, as the one with a byte does: so from the third on
+// the oldest goes. An end that keeps no byte keeps one message without a byte.
+#[test]
+fn empty_messages_take_a_byte(rt: HostRuntime) -> Result<(), Fail> {
+    let mut state = DatagramState::new(rt.alloc());
+    assert_eq!(rt; receive(&mut state, b"", Some(2)), Ok(true));
+    assert_eq!(rt; receive(&mut state, b"a", Some(2)), Ok(false));
+    assert_eq!(rt; receive(&mut state, b"", Some(2)), Ok(false));
+    assert_eq!(rt; receive(&mut state, b"", Some(2)), Ok(false));
+    reads(&rt, &mut state, b"");
+    reads(&rt, &mut state, b"");
+    assert!(rt; Datagrams::new(&mut state, limits()).recv().is_none());
+    assert_eq!(rt; receive(&mut state, b"", Some(0)), Ok(true));
+    assert_eq!(rt; receive(&mut state, b"", Some(0)), Ok(false));
+    reads(&rt, &mut state, b"");
+    assert!(rt; Datagrams::new(&mut state, limits()).recv().is_none());
+    Ok(())
+}
+
+#[test]
+fn empty_messages_take_nothing_of_the_send_buffer(rt: HostRuntime) -> Result<(), Fail> {
+    let mut state = DatagramState::new(rt.alloc());
+    send(&mut state, limits(), b"oldest", false)?;
+    send(&mut state, limits(), b"is", false)?;
+    send(&mut state, limits(), b"", false)?;
+    assert_eq!(rt; state.send_buffer_space(8), 0);
+    assert!(rt; state.next_frame(8).is_some());
+    assert!(rt; state.next_frame(4).is_some());
+    assert!(rt; state.next_frame(2).is_some());
+    assert!(rt; !state.is_waiting());
+    Ok(())
+}

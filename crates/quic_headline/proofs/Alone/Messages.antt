@@ -2,7 +2,7 @@
 use Rattle.std.proofs.Common.{◌≡◌, ℕ, Bool, true, false, List, [], ◌∷◌, ◌++◌, take, drop, length, Option, Some, None, Ok, refl, sym, ap, subst, inl, inr}
 use Rattle.std.specs.Prelude.{slice_get, nat_le, is_ok, if◌then◌else◌, ◌+◌}
 use Rattle.quic_wire.specs.Value.{datagram}
-use Rattle.quic_messages.specs.Messages.{Messages, bytes_of, oldest, left_for, with_message, after_received, without_longer}
+use Rattle.quic_messages.specs.Messages.{Messages, weight, bytes_of, oldest, left_for, with_message, after_received, without_longer}
 use Rattle.quic_messages.specs.Sending.{send_answer}
 use Rattle.quic_machine.specs.declared.run.Call.{Call}
 use Rattle.quic_machine.specs.declared.run.Call.TheVariants as calls
@@ -36,11 +36,11 @@ HaveCome came q = (m : List ℕ) → In m q.incoming → came m
 -- ---- one message more, and one less
 
 -- those that stay where the oldest go
-stays_in : (room len : ℕ) (ms : List (List ℕ)) (m : List ℕ) → In m (left_for room len ms) → In m ms
-stays_in room len [] m i = i
-stays_in room len (x ∷ ms) m i = go (nat_le (bytes_of (x ∷ ms) + len) room) (stays_in room len ms m) i
+stays_in : (size : List ℕ → ℕ) (room len : ℕ) (ms : List (List ℕ)) (m : List ℕ) → In m (left_for size room len ms) → In m ms
+stays_in size room len [] m i = i
+stays_in size room len (x ∷ ms) m i = go (nat_le (bytes_of size (x ∷ ms) + len) room) (stays_in size room len ms m) i
   where
-    go : (b : Bool) → (In m (left_for room len ms) → In m ms) → In m (if b then x ∷ ms else left_for room len ms) → In m (x ∷ ms)
+    go : (b : Bool) → (In m (left_for size room len ms) → In m ms) → In m (if b then x ∷ ms else left_for size room len ms) → In m (x ∷ ms)
     go true rest j = j
     go false rest j = inr (rest j)
 
@@ -62,9 +62,9 @@ module _ (came : List ℕ → Type 0) where
   received_came None x q here i = i
   received_came (Some window) x q here i = go (nat_le (length x) window)
     where
-      go : (b : Bool) → P (if b then record q { incoming = left_for window (length x) q.incoming ++ x ∷ [] } else q)
-      go true m among = elim (in_append m (left_for window (length x) q.incoming) (x ∷ []) among) [
-        | inl was ↦ i m (stays_in window (length x) q.incoming m was)
+      go : (b : Bool) → P (if b then record q { incoming = left_for weight window (weight x) q.incoming ++ x ∷ [] } else q)
+      go true m among = elim (in_append m (left_for weight window (weight x) q.incoming) (x ∷ []) among) [
+        | inl was ↦ i m (stays_in weight window (weight x) q.incoming m was)
         | inr (inl same) ↦ subst came (sym same) here
         | inr (inr none) ↦ absurd none
       ]
@@ -78,7 +78,7 @@ module _ (came : List ℕ → Type 0) where
   message_call : (e : End) (call : Call) (a : Answer) → P e.messages.queues → P (after_on_messages e call a).queues
   message_call e (calls.Send message makes_room) (answers.Send (Ok x)) i = go (is_ok (send_answer (limits_of e) makes_room message e.messages.queues))
     where
-      go : (b : Bool) → P (if b then record e.messages.queues { outgoing = with_message (limits_of e).send_buffer_size message e.messages.queues.outgoing } else e.messages.queues)
+      go : (b : Bool) → P (if b then record e.messages.queues { outgoing = with_message length (limits_of e).send_buffer_size message e.messages.queues.outgoing } else e.messages.queues)
       go true = i
       go false = i
   message_call e (calls.Send message makes_room) a i = i

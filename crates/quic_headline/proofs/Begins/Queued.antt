@@ -31,11 +31,11 @@ use Rattle.quic_headline.proofs.Packets.Heard.{by_taken}
 
 module _ (m : List ℕ) where
   -- what stays for another was there
-  in_left_for : (room len : ℕ) (ms : List (List ℕ)) → In m (left_for room len ms) → In m ms
-  in_left_for room len [] i = i
-  in_left_for room len (x ∷ ms) i = go (nat_le (bytes_of (x ∷ ms) + len) room) i (in_left_for room len ms)
+  in_left_for : (size : List ℕ → ℕ) (room len : ℕ) (ms : List (List ℕ)) → In m (left_for size room len ms) → In m ms
+  in_left_for size room len [] i = i
+  in_left_for size room len (x ∷ ms) i = go (nat_le (bytes_of size (x ∷ ms) + len) room) i (in_left_for size room len ms)
     where
-      go : (b : Bool) → In m (if b then x ∷ ms else left_for room len ms) → (In m (left_for room len ms) → In m ms) → In m (x ∷ ms)
+      go : (b : Bool) → In m (if b then x ∷ ms else left_for size room len ms) → (In m (left_for size room len ms) → In m ms) → In m (x ∷ ms)
       go true there later = there
       go false there later = inr (later there)
 
@@ -70,8 +70,8 @@ module _ (m : List ℕ) where
   sent_in : (limits : DatagramLimits) (makes_room : Bool) (x : List ℕ) (s : Messages) → In m (after_send limits makes_room x s).outgoing → In m s.outgoing ⊎ In m (x ∷ [])
   sent_in limits makes_room x s i = go (is_ok (send_answer limits makes_room x s)) i
     where
-      go : (b : Bool) → In m (if b then record s { outgoing = with_message limits.send_buffer_size x s.outgoing } else s).outgoing → In m s.outgoing ⊎ In m (x ∷ [])
-      go true there = elim (in_append m (left_for limits.send_buffer_size (length x) s.outgoing) (x ∷ []) there) [ inl old ↦ inl (in_left_for limits.send_buffer_size (length x) s.outgoing old) | inr new ↦ inr new ]
+      go : (b : Bool) → In m (if b then record s { outgoing = with_message length limits.send_buffer_size x s.outgoing } else s).outgoing → In m s.outgoing ⊎ In m (x ∷ [])
+      go true there = elim (in_append m (left_for length limits.send_buffer_size (length x) s.outgoing) (x ∷ []) there) [ inl old ↦ inl (in_left_for length limits.send_buffer_size (length x) s.outgoing old) | inr new ↦ inr new ]
       go false there = inl there
 
   delivered_fewer : (p : Policy) (e : End) (o : Option (List ℕ)) (arrival : Arrival) → Fewer e (after_delivered p e arrival o).messages.queues

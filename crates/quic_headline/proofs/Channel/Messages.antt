@@ -11,7 +11,7 @@ use Rattle.quic_streams_laws.specs.WrittenFrames.{all_append}
 use Rattle.quic_messages.specs.declared.errors.ReceivedError.{ReceivedError}
 use Rattle.quic_messages.specs.declared.errors.SendDatagramError.{SendDatagramError}
 use Rattle.quic_messages.specs.declared.errors.SendDatagramError.TheVariants.{Disabled, TooLarge, Blocked}
-use Rattle.quic_messages.specs.Messages.{is_within, Messages, bytes_of, is_taken, left_for, with_message, received_answer, after_received}
+use Rattle.quic_messages.specs.Messages.{is_within, Messages, weight, bytes_of, is_taken, left_for, with_message, received_answer, after_received}
 use Rattle.quic_messages.specs.Sending.{max_size, has_room, sized_answer, send_answer, after_send}
 use Rattle.quic_machine.specs.declared.run.Call.{Call}
 use Rattle.quic_machine.specs.declared.run.Call.TheVariants as calls
@@ -95,11 +95,11 @@ opened_answer true false r ok = ok
 opened_answer false none r ok = cc
 
 -- those that stay for one more
-left_taken : (window : Option ℕ) (room len : ℕ) (ms : List (List ℕ)) → AreTaken window ms → AreTaken window (left_for room len ms)
-left_taken window room len [] t = t
-left_taken window room len (m ∷ ms) t = go (nat_le (bytes_of (m ∷ ms) + len) room) (left_taken window room len ms t.1)
+left_taken : (size : List ℕ → ℕ) (window : Option ℕ) (room len : ℕ) (ms : List (List ℕ)) → AreTaken window ms → AreTaken window (left_for size room len ms)
+left_taken size window room len [] t = t
+left_taken size window room len (m ∷ ms) t = go (nat_le (bytes_of size (m ∷ ms) + len) room) (left_taken size window room len ms t.1)
   where
-    go : (b : Bool) → AreTaken window (left_for room len ms) → AreTaken window (if b then m ∷ ms else left_for room len ms)
+    go : (b : Bool) → AreTaken window (left_for size room len ms) → AreTaken window (if b then m ∷ ms else left_for size room len ms)
     go true rest = t
     go false rest = rest
 
@@ -122,11 +122,11 @@ module _ (window : Option ℕ) (e : End) (sized_one : TakesSized window e) (i : 
   send_leaves makes_room m = go (is_ok (send_answer (limits_of e) makes_room m e.messages.queues)) refl
     where
       go : (b : Bool) → is_ok (send_answer (limits_of e) makes_room m e.messages.queues) ≡ b
-          → AreTaken window (if b then record e.messages.queues { outgoing = with_message (limits_of e).send_buffer_size m e.messages.queues.outgoing } else e.messages.queues).outgoing
+          → AreTaken window (if b then record e.messages.queues { outgoing = with_message length (limits_of e).send_buffer_size m e.messages.queues.outgoing } else e.messages.queues).outgoing
       go true ok =
           let sized = opened_answer (limits_of e).is_open (is_none (limits_of e).receive_buffer_size) (sized_answer (limits_of e).max_size (makes_room || has_room (limits_of e).send_buffer_size m e.messages.queues) m) ok in
           let one = sized_one (makes_room || has_room (limits_of e).send_buffer_size m e.messages.queues) m sized in
-          all_append (λ n. is_taken window n ≡ true) (left_for (limits_of e).send_buffer_size (length m) e.messages.queues.outgoing) (m ∷ []) (left_taken window (limits_of e).send_buffer_size (length m) e.messages.queues.outgoing i) (one, tt)
+          all_append (λ n. is_taken window n ≡ true) (left_for length (limits_of e).send_buffer_size (length m) e.messages.queues.outgoing) (m ∷ []) (left_taken length window (limits_of e).send_buffer_size (length m) e.messages.queues.outgoing i) (one, tt)
       go false refused = i
 
   pub message_call_leaves : (call : Call) (a : Answer) → AreTaken window (after_on_messages e call a).queues.outgoing
@@ -213,7 +213,7 @@ received_leaves : (window : Option ℕ) (m : List ℕ) (s : Messages) → (after
 received_leaves None m s = refl
 received_leaves (Some window) m s = go (nat_le (length m) window)
   where
-    go : (b : Bool) → (if b then record s { incoming = with_message window m s.incoming } else s).outgoing ≡ s.outgoing
+    go : (b : Bool) → (if b then record s { incoming = with_message weight window m s.incoming } else s).outgoing ≡ s.outgoing
     go true = refl
     go false = refl
 

@@ -4,7 +4,7 @@ use Rattle.std.specs.Prelude.{◌==◌, if◌then◌else◌}
 use Rattle.quic_wire.specs.Value.{FrameValue, ack, datagram, new_connection_id, retire_connection_id, path_response}
 use Rattle.quic_messages.specs.declared.errors.ReceivedError.{ReceivedError}
 use Rattle.quic_messages.specs.declared.errors.ReceivedError.TheVariants as received_errors
-use Rattle.quic_messages.specs.Messages.{Messages, bytes_of, left_for, with_message, is_taken, received_answer, after_received}
+use Rattle.quic_messages.specs.Messages.{Messages, weight, bytes_of, left_for, with_message, is_taken, received_answer, after_received}
 use Rattle.quic_machine.specs.declared.run.Call.{Call}
 use Rattle.quic_machine.specs.declared.run.Call.TheVariants as calls
 use Rattle.quic_machine.specs.declared.run.Answer.{Answer}
@@ -121,11 +121,11 @@ pub frames_tell : (frames : List FrameValue) (e : End) → 0 < e.messages.to_tel
 frames_tell frames e some = frames_keep (λ (x : End). 0 < x.messages.to_tell) (λ f x here. frame_leaves (λ ms n. 0 < n) f x here (λ m first is was. still_told first x.messages.to_tell was)) frames e some
 
 -- where the oldest go, no more are left
-left_fewer : (room len : ℕ) (ms : List (List ℕ)) → length (left_for room len ms) ≤ length ms
-left_fewer room len [] = omega arith
-left_fewer room len (x ∷ ms) = go (nat_le (bytes_of (x ∷ ms) + len) room) (left_fewer room len ms)
+left_fewer : (size : List ℕ → ℕ) (room len : ℕ) (ms : List (List ℕ)) → length (left_for size room len ms) ≤ length ms
+left_fewer size room len [] = omega arith
+left_fewer size room len (x ∷ ms) = go (nat_le (bytes_of size (x ∷ ms) + len) room) (left_fewer size room len ms)
   where
-    go : (b : Bool) → length (left_for room len ms) ≤ length ms → length (if b then x ∷ ms else left_for room len ms) ≤ length (x ∷ ms)
+    go : (b : Bool) → length (left_for size room len ms) ≤ length ms → length (if b then x ∷ ms else left_for size room len ms) ≤ length (x ∷ ms)
     go true rest = omega arith
     go false rest = omega arith
 
@@ -138,8 +138,8 @@ received_longer : (window : Option ℕ) (m : List ℕ) (s : Messages) → length
 received_longer None m s = omega arith
 received_longer (Some window) m s = go (nat_le (length m) window)
   where
-    go : (b : Bool) → length (if b then record s { incoming = with_message window m s.incoming } else s).incoming ≤ length s.incoming + 1
-    go true = (let less = left_fewer window (length m) s.incoming in let more = one_longer (left_for window (length m) s.incoming) m in omega arith)
+    go : (b : Bool) → length (if b then record s { incoming = with_message weight window m s.incoming } else s).incoming ≤ length s.incoming + 1
+    go true = (let less = left_fewer weight window (weight m) s.incoming in let more = one_longer (left_for weight window (weight m) s.incoming) m in omega arith)
     go false = omega arith
 
 -- what is told of one that is taken: whether none waited

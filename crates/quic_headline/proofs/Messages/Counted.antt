@@ -7,7 +7,7 @@ use Rattle.std.proofs.lemmas.List.Sums.{sum_by-append}
 use Rattle.quic_wire.specs.Value.{FrameValue, padding, datagram}
 use Rattle.quic_recovery_core.specs.Duplicates.{duplicate_span}
 use Rattle.quic_messages.specs.declared.limits.DatagramLimits.{DatagramLimits}
-use Rattle.quic_messages.specs.Messages.{Messages, bytes_of, oldest, left_for, with_message, after_received}
+use Rattle.quic_messages.specs.Messages.{Messages, weight, bytes_of, oldest, left_for, with_message, after_received}
 use Rattle.quic_messages.specs.Sending.{send_answer, after_send}
 use Rattle.quic_messages.specs.History.{times}
 pub use Rattle.quic_headline.specs.Queue.{messages_in}
@@ -54,19 +54,19 @@ often_filter m keep (x ∷ xs) = go (keep x) (often_filter m keep xs)
 
 module _ (m : List ℕ) where
   -- where the oldest go, no more are left
-  left_less : (room len : ℕ) (ms : List (List ℕ)) → often m (left_for room len ms) ≤ often m ms
-  left_less room len [] = omega arith
-  left_less room len (x ∷ ms) = go (nat_le (bytes_of (x ∷ ms) + len) room) (left_less room len ms)
+  left_less : (size : List ℕ → ℕ) (room len : ℕ) (ms : List (List ℕ)) → often m (left_for size room len ms) ≤ often m ms
+  left_less size room len [] = omega arith
+  left_less size room len (x ∷ ms) = go (nat_le (bytes_of size (x ∷ ms) + len) room) (left_less size room len ms)
     where
-      go : (b : Bool) → often m (left_for room len ms) ≤ often m ms → often m (if b then x ∷ ms else left_for room len ms) ≤ often m (x ∷ ms)
+      go : (b : Bool) → often m (left_for size room len ms) ≤ often m ms → often m (if b then x ∷ ms else left_for size room len ms) ≤ often m (x ∷ ms)
       go true rest = omega arith
       go false rest = let all = often_more m x ms in omega arith
 
   -- one more behind them, for which the oldest go
-  with_more : (room : ℕ) (x : List ℕ) (ms : List (List ℕ)) → often m (with_message room x ms) ≤ often m ms + often m (x ∷ [])
-  with_more room x ms =
-      let all = often_append m (left_for room (length x) ms) (x ∷ []) in
-      let less = left_less room (length x) ms in
+  with_more : (size : List ℕ → ℕ) (room : ℕ) (x : List ℕ) (ms : List (List ℕ)) → often m (with_message size room x ms) ≤ often m ms + often m (x ∷ [])
+  with_more size room x ms =
+      let all = often_append m (left_for size room (size x) ms) (x ∷ []) in
+      let less = left_less size room (size x) ms in
       omega arith
 
   -- the oldest and the others
@@ -79,16 +79,16 @@ module _ (m : List ℕ) where
   received_more None x s = omega arith
   received_more (Some window) x s = go (nat_le (length x) window)
     where
-      go : (b : Bool) → often m (if b then record s { incoming = with_message window x s.incoming } else s).incoming ≤ often m s.incoming + often m (x ∷ [])
-      go true = with_more window x s.incoming
+      go : (b : Bool) → often m (if b then record s { incoming = with_message weight window x s.incoming } else s).incoming ≤ often m s.incoming + often m (x ∷ [])
+      go true = with_more weight window x s.incoming
       go false = omega arith
 
   -- one that is sent stands at most once more among those that wait
   pub sent_more : (limits : DatagramLimits) (makes_room : Bool) (x : List ℕ) (s : Messages) → often m (after_send limits makes_room x s).outgoing ≤ often m s.outgoing + often m (x ∷ [])
   sent_more limits makes_room x s = go (is_ok (send_answer limits makes_room x s))
     where
-      go : (b : Bool) → often m (if b then record s { outgoing = with_message limits.send_buffer_size x s.outgoing } else s).outgoing ≤ often m s.outgoing + often m (x ∷ [])
-      go true = with_more limits.send_buffer_size x s.outgoing
+      go : (b : Bool) → often m (if b then record s { outgoing = with_message length limits.send_buffer_size x s.outgoing } else s).outgoing ≤ often m s.outgoing + often m (x ∷ [])
+      go true = with_more length limits.send_buffer_size x s.outgoing
       go false = omega arith
 
 -- one that comes changes none that waits
@@ -96,7 +96,7 @@ pub received_leaves : (window : Option ℕ) (x : List ℕ) (s : Messages) → (a
 received_leaves None x s = refl
 received_leaves (Some window) x s = go (nat_le (length x) window)
   where
-    go : (b : Bool) → (if b then record s { incoming = with_message window x s.incoming } else s).outgoing ≡ s.outgoing
+    go : (b : Bool) → (if b then record s { incoming = with_message weight window x s.incoming } else s).outgoing ≡ s.outgoing
     go true = refl
     go false = refl
 
@@ -104,7 +104,7 @@ received_leaves (Some window) x s = go (nat_le (length x) window)
 pub sent_leaves : (limits : DatagramLimits) (makes_room : Bool) (x : List ℕ) (s : Messages) → (after_send limits makes_room x s).incoming ≡ s.incoming
 sent_leaves limits makes_room x s = go (is_ok (send_answer limits makes_room x s))
   where
-    go : (b : Bool) → (if b then record s { outgoing = with_message limits.send_buffer_size x s.outgoing } else s).incoming ≡ s.incoming
+    go : (b : Bool) → (if b then record s { outgoing = with_message length limits.send_buffer_size x s.outgoing } else s).incoming ≡ s.incoming
     go true = refl
     go false = refl
 

@@ -143,9 +143,9 @@ polled_leaves room p e now owes = by_sends p e now (λ q sents. Leaves room (cal
 -- ---- a message is sent
 
 -- where it fits, none goes for it
-all_left : (room len : ℕ) (ms : List (List ℕ)) → nat_le (bytes_of ms + len) room ≡ true → left_for room len ms ≡ ms
+all_left : (room len : ℕ) (ms : List (List ℕ)) → nat_le (bytes_of length ms + len) room ≡ true → left_for length room len ms ≡ ms
 all_left room len [] fits = refl
-all_left room len (m ∷ ms) fits = ap (λ (b : Bool). if b then m ∷ ms else left_for room len ms) fits
+all_left room len (m ∷ ms) fits = ap (λ (b : Bool). if b then m ∷ ms else left_for length room len ms) fits
 
 -- one that no older one goes for has room
 had_room : (is_open none : Bool) (most : Option ℕ) (fits : Bool) (m : List ℕ) → is_ok (if not is_open then Err send_errors.Blocked else (if none then Err send_errors.Disabled else sized_answer most fits m)) ≡ true → fits ≡ true
@@ -160,9 +160,9 @@ had_room true false (Some most) false m ok = (let never : ⊥ = go (nat_lt most 
     go false e = cc
 
 queued_is : (limits : DatagramLimits) (makes_room : Bool) (m : List ℕ) (s : Messages) → is_ok (send_answer limits makes_room m s) ≡ true → and_queued makes_room limits.send_buffer_size m s.outgoing ≡ (after_send limits makes_room m s).outgoing
-queued_is limits makes_room m s ok = by_kind makes_room ok ∙ ap (λ (b : Bool). (if b then record s { outgoing = with_message limits.send_buffer_size m s.outgoing } else s).outgoing) (sym ok)
+queued_is limits makes_room m s ok = by_kind makes_room ok ∙ ap (λ (b : Bool). (if b then record s { outgoing = with_message length limits.send_buffer_size m s.outgoing } else s).outgoing) (sym ok)
   where
-    by_kind : (makes_room : Bool) → is_ok (send_answer limits makes_room m s) ≡ true → and_queued makes_room limits.send_buffer_size m s.outgoing ≡ with_message limits.send_buffer_size m s.outgoing
+    by_kind : (makes_room : Bool) → is_ok (send_answer limits makes_room m s) ≡ true → and_queued makes_room limits.send_buffer_size m s.outgoing ≡ with_message length limits.send_buffer_size m s.outgoing
     by_kind true ok = refl
     by_kind false ok = ap (λ (ms : List (List ℕ)). ms ++ m ∷ []) (sym (all_left limits.send_buffer_size (length m) s.outgoing (had_room limits.is_open (is_none limits.receive_buffer_size) limits.max_size (has_room limits.send_buffer_size m s) m ok)))
 
