@@ -38,7 +38,7 @@ pub use quic_packet::crypto::{
 pub use quic_packet::width_in;
 pub use quic_parameters::{TransportParameters, TransportParametersError};
 pub use quic_send_buffer::{BytesSource, ShouldTransmit};
-pub use quic_stats::{ConnectionStats, FrameStats, PathStats, UdpStats};
+pub use quic_stats::{ConnectionStats, DropStats, FrameStats, PathStats, UdpStats};
 pub use quic_streams_handles::{Chunks, EndStreams, RecvStream, SendStream, Streams};
 pub use quic_streams_parts::{
     ClosedStream, FinishError, ReadError, ReadableError, StreamEvent, UpdateError, WriteError,

@@ -10,3 +10,4 @@ pub mod Drawn
 pub mod Leaving
 pub mod Closes
 pub mod Living
+pub mod Drops

@@ -19,7 +19,7 @@ pub mod polling;
 pub mod receiving;
 pub mod searching;
 pub mod sent;
-mod statistics;
+pub mod statistics;
 pub mod stream_frames;
 pub mod telling;
 

@@ -1,6 +1,10 @@
-//! Frames that are counted as they go.
+//! Frames that are counted as they go, and datagrams as they are dropped.
+ghost use Rattle.std.specs.Prelude.{◌≡◌};
+ghost use Rattle.quic_stats.specs.Stats.{counted};
+ghost use Rattle.quic_connection_parts.specs.Drops.{after_drop};
 
-use quic_stats::FrameStats;
+use quic_machine::DropReason;
+use quic_stats::{DropStats, FrameStats};
 use quic_wire::frame::Iter;
 
 /// The frames in these bytes go: those of control, of which there are few.
@@ -15,4 +19,29 @@ pub(crate) fn count_frames(stats: &mut FrameStats, bytes: &[u8]) {
 /// So many STREAM frames go.
 pub(crate) fn count_streams(stats: &mut FrameStats, frames: usize) {
     stats.stream = stats.stream.saturating_add(frames as u64);
+}
+
+/// One more.
+fn count(counter: &mut u64)
+    ensures { counter.new ≡ counted counter.old }
+{
+    *counter = counter.saturating_add(1);
+}
+
+/// A datagram is dropped for this reason.
+pub fn count_drop(stats: &mut DropStats, reason: DropReason)
+    ensures { stats.new ≡ after_drop reason stats.old }
+{
+    match reason {
+        DropReason::TooShort => count(&mut stats.too_short),
+        DropReason::NotShort => count(&mut stats.not_short),
+        DropReason::FixedBit => count(&mut stats.fixed_bit),
+        DropReason::UnknownId => count(&mut stats.unknown_id),
+        DropReason::NotOpened => count(&mut stats.not_opened),
+        DropReason::KeyPhase => count(&mut stats.key_phase),
+        DropReason::Duplicate => count(&mut stats.duplicate),
+        DropReason::Closing => count(&mut stats.closing),
+        DropReason::Drained => count(&mut stats.drained),
+        DropReason::Failed => count(&mut stats.failed),
+    }
 }

@@ -7,6 +7,8 @@ mod closing;
 #[cfg(test)]
 mod config;
 #[cfg(test)]
+mod drops;
+#[cfg(test)]
 mod frames;
 #[cfg(test)]
 mod lacking;

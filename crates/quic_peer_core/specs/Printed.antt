@@ -3,6 +3,7 @@ use Rattle.std.specs.Prelude.{ℕ, List, ◌∷◌, ◌++◌, codes, Option, Som
 use Rattle.std.specs.Fmt.{decimal}
 use Rattle.quic_wire_core.specs.declared.shared.EcnCodepoint.{EcnCodepoint}
 use Rattle.quic_stats.specs.declared.connection.ConnectionStats.{ConnectionStats}
+use Rattle.quic_stats.specs.declared.drops.DropStats.{DropStats}
 use Rattle.quic_stats.specs.declared.path.PathStats.{PathStats}
 use Rattle.quic_parameters.specs.ParametersWritten.{written_parameters}
 use Rattle.quic_config.specs.Transport.{parameters_of}
@@ -68,6 +69,22 @@ losses_text p = figure (codes "sent_packets") p.sent_packets ++ (figure (codes "
 abbrev pub probes_text : PathStats → List ℕ
 probes_text p = figure (codes "sent_plpmtud_probes") p.sent_plpmtud_probes ++ (figure (codes "lost_plpmtud_probes") p.lost_plpmtud_probes ++ figure (codes "black_holes_detected") p.black_holes_detected)
 
--- what was counted of an end: its datagrams and its path, not its frames
+-- how many datagrams were dropped whose header can't be read or names no ID
+abbrev pub headers_text : DropStats → List ℕ
+headers_text d = figure (codes "dropped_too_short") d.too_short ++ (figure (codes "dropped_not_short") d.not_short ++ (figure (codes "dropped_fixed_bit") d.fixed_bit ++ figure (codes "dropped_unknown_id") d.unknown_id))
+
+-- how many were dropped for their packet
+abbrev pub packets_text : DropStats → List ℕ
+packets_text d = figure (codes "dropped_not_opened") d.not_opened ++ (figure (codes "dropped_key_phase") d.key_phase ++ figure (codes "dropped_duplicate") d.duplicate)
+
+-- how many were dropped for the state of the endpoint
+abbrev pub states_text : DropStats → List ℕ
+states_text d = figure (codes "dropped_closing") d.closing ++ (figure (codes "dropped_drained") d.drained ++ figure (codes "dropped_failed") d.failed)
+
+-- how many datagrams were dropped, by reason
+abbrev pub drops_text : DropStats → List ℕ
+drops_text d = headers_text d ++ (packets_text d ++ states_text d)
+
+-- what was counted of an end: its datagrams, its path and what it dropped, not its frames
 abbrev pub stats_line : ConnectionStats → List ℕ
-stats_line s = codes "stats" ++ (udp_text s ++ (rtt_text s.path ++ (losses_text s.path ++ (probes_text s.path ++ line_feed))))
+stats_line s = codes "stats" ++ (udp_text s ++ (rtt_text s.path ++ (losses_text s.path ++ (probes_text s.path ++ (drops_text s.dropped ++ line_feed)))))

@@ -1,10 +1,10 @@
 //! What is told of an end in figures.
 ghost use Rattle.std.specs.Prelude.{◌≡◌, ◌++◌, IfOk, OnOk, string_bytes};
-ghost use Rattle.quic_peer_core.specs.Printed.{window_line, udp_text, rtt_text, losses_text, probes_text, stats_line};
+ghost use Rattle.quic_peer_core.specs.Printed.{window_line, udp_text, rtt_text, losses_text, probes_text, headers_text, packets_text, states_text, drops_text, stats_line};
 ghost use Rattle.quic_peer_core.specs.Peer.{Counts};
 
 use crate::end::End;
-use quic_stats::{ConnectionStats, PathStats};
+use quic_stats::{ConnectionStats, DropStats, PathStats};
 use std::alloc::{AllocError, Global};
 
 /// The line that tells how many bytes may be in flight.
@@ -31,6 +31,7 @@ fn figures_line(alloc: Global, stats: &ConnectionStats) -> Result<String, AllocE
     put_rtt(&mut out, &stats.path)?;
     put_losses(&mut out, &stats.path)?;
     put_probes(&mut out, &stats.path)?;
+    put_drops(&mut out, &stats.dropped)?;
     out.push_str("\n")?;
     Ok(out)
 }
@@ -84,4 +85,53 @@ fn put_probes(out: &mut String, path: &PathStats) -> Result<(), AllocError>
         " sent_plpmtud_probes {sent} lost_plpmtud_probes {lost}"
     )?;
     write!(out, " black_holes_detected {holes}")
+}
+
+/// Appends how many datagrams were dropped, by reason.
+fn put_drops(out: &mut String, drops: &DropStats) -> Result<(), AllocError>
+    ensures { OnOk result (string_bytes out.new ≡ string_bytes out.old ++ drops_text drops.now) }
+{
+    put_headers(out, drops)?;
+    put_packets(out, drops)?;
+    put_states(out, drops)
+}
+
+/// Appends how many were dropped whose header can't be read, or names no connection ID.
+fn put_headers(out: &mut String, drops: &DropStats) -> Result<(), AllocError>
+    ensures { OnOk result (string_bytes out.new ≡ string_bytes out.old ++ headers_text drops.now) }
+{
+    let short = drops.too_short;
+    let long = drops.not_short;
+    let fixed = drops.fixed_bit;
+    let unknown = drops.unknown_id;
+    write!(out, " dropped_too_short {short} dropped_not_short {long}")?;
+    write!(
+        out,
+        " dropped_fixed_bit {fixed} dropped_unknown_id {unknown}"
+    )
+}
+
+/// Appends how many were dropped for their packet.
+fn put_packets(out: &mut String, drops: &DropStats) -> Result<(), AllocError>
+    ensures { OnOk result (string_bytes out.new ≡ string_bytes out.old ++ packets_text drops.now) }
+{
+    let refused = drops.not_opened;
+    let phase = drops.key_phase;
+    let again = drops.duplicate;
+    write!(
+        out,
+        " dropped_not_opened {refused} dropped_key_phase {phase}"
+    )?;
+    write!(out, " dropped_duplicate {again}")
+}
+
+/// Appends how many were dropped for the state of the endpoint.
+fn put_states(out: &mut String, drops: &DropStats) -> Result<(), AllocError>
+    ensures { OnOk result (string_bytes out.new ≡ string_bytes out.old ++ states_text drops.now) }
+{
+    let closing = drops.closing;
+    let drained = drops.drained;
+    let failed = drops.failed;
+    write!(out, " dropped_closing {closing} dropped_drained {drained}")?;
+    write!(out, " dropped_failed {failed}")
 }

@@ -3,6 +3,7 @@ use Rattle.std.specs.Prelude.{ℕ, ◌+◌, ◌-◌, ◌^◌, min, if◌then◌e
 use Rattle.quic_wire.specs.Value.{FrameValue}
 use Rattle.quic_wire.specs.Value as frames
 use Rattle.quic_stats.specs.declared.connection.ConnectionStats.{ConnectionStats}
+use Rattle.quic_stats.specs.declared.drops.DropStats.{DropStats}
 use Rattle.quic_stats.specs.declared.frames.FrameStats.{FrameStats}
 use Rattle.quic_stats.specs.declared.path.PathStats.{PathStats}
 use Rattle.quic_stats.specs.declared.udp.UdpStats.{UdpStats}
@@ -29,9 +30,13 @@ no_frames = record { acks = 0; ack_frequency = 0; crypto = 0; connection_close =
 abbrev pub no_path : PathStats
 no_path = record { rtt = 0; min_rtt = 0; cwnd = 0; congestion_events = 0; lost_packets = 0; lost_bytes = 0; sent_packets = 0; sent_plpmtud_probes = 0; lost_plpmtud_probes = 0; black_holes_detected = 0; current_mtu = 0 }
 
+-- no datagram that was dropped was counted
+abbrev pub no_drops : DropStats
+no_drops = record { too_short = 0; not_short = 0; fixed_bit = 0; unknown_id = 0; not_opened = 0; key_phase = 0; duplicate = 0; closing = 0; drained = 0; failed = 0 }
+
 -- nothing was counted at all
 abbrev pub no_stats : ConnectionStats
-no_stats = record { udp_tx = no_datagrams; udp_rx = no_datagrams; frame_tx = no_frames; frame_rx = no_frames; path = no_path }
+no_stats = record { udp_tx = no_datagrams; udp_rx = no_datagrams; frame_tx = no_frames; frame_rx = no_frames; path = no_path; dropped = no_drops }
 
 -- ---- what counts
 

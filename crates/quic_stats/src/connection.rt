@@ -1,5 +1,6 @@
 //! Statistics of a connection.
 
+use crate::drops::DropStats;
 use crate::frames::FrameStats;
 use crate::path::PathStats;
 use crate::udp::UdpStats;
@@ -17,4 +18,6 @@ pub struct ConnectionStats {
     pub frame_rx: FrameStats,
     /// The path.
     pub path: PathStats,
+    /// The datagrams that came and were dropped, which quinn-proto doesn't count.
+    pub dropped: DropStats,
 }

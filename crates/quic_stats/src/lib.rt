@@ -1,8 +1,9 @@
-//! Statistics of a connection: what it sent and received, and its path (quinn-proto's
+//! Statistics of a connection: what it sent, received and dropped, and its path (quinn-proto's
 //! `connection::stats`). No count passes the greatest number of its type, where it stays.
 #![tactic(auto)]
 
 mod connection;
+mod drops;
 mod frames;
 pub mod laws;
 mod path;
@@ -10,6 +11,7 @@ mod printing;
 mod udp;
 
 pub use connection::ConnectionStats;
+pub use drops::DropStats;
 pub use frames::FrameStats;
 pub use path::PathStats;
 pub use udp::UdpStats;

@@ -5,9 +5,10 @@
 //! `udp_tx.bytes 1200`. Times have a unit, as `path.rtt 40ms`.
 ghost use Rattle.std.specs.Prelude.{Some, []};
 ghost use Rattle.std.specs.Fmt.{DisplaysOnOk};
-ghost use Rattle.quic_stats.specs.Printing.{figure_text, length_text, udp_text};
+ghost use Rattle.quic_stats.specs.Printing.{figure_text, length_text, udp_text, headers_text, packets_text, states_text, drops_text};
 
 use crate::connection::ConnectionStats;
+use crate::drops::DropStats;
 use crate::frames::FrameStats;
 use crate::path::PathStats;
 use crate::udp::UdpStats;
@@ -141,12 +142,58 @@ fn write_path<W: fmt::Write>(f: &mut Formatter<W>, part: &str, s: &PathStats) ->
     write_mtu(f, part, s)
 }
 
+// The lines of datagrams whose header can't be read, or names no connection ID.
+fn write_headers<W: fmt::Write>(f: &mut Formatter<W>, part: &str, s: &DropStats) -> fmt::Result
+    ensures { DisplaysOnOk W.write_str_gives f.old result (Some (headers_text part.now s.now)) f.new }
+{
+    write_figure(f, part, "too_short", s.too_short)?;
+    write_figure(f, part, "not_short", s.not_short)?;
+    write_figure(f, part, "fixed_bit", s.fixed_bit)?;
+    write_figure(f, part, "unknown_id", s.unknown_id)
+}
+
+// The lines of datagrams that were dropped for their packet.
+fn write_packets<W: fmt::Write>(f: &mut Formatter<W>, part: &str, s: &DropStats) -> fmt::Result
+    ensures { DisplaysOnOk W.write_str_gives f.old result (Some (packets_text part.now s.now)) f.new }
+{
+    write_figure(f, part, "not_opened", s.not_opened)?;
+    write_figure(f, part, "key_phase", s.key_phase)?;
+    write_figure(f, part, "duplicate", s.duplicate)
+}
+
+// The lines of datagrams that were dropped for the state of the endpoint.
+fn write_states<W: fmt::Write>(f: &mut Formatter<W>, part: &str, s: &DropStats) -> fmt::Result
+    ensures { DisplaysOnOk W.write_str_gives f.old result (Some (states_text part.now s.now)) f.new }
+{
+    write_figure(f, part, "closing", s.closing)?;
+    write_figure(f, part, "drained", s.drained)?;
+    write_figure(f, part, "failed", s.failed)
+}
+
+// The lines of datagrams that were dropped.
+fn write_drops<W: fmt::Write>(f: &mut Formatter<W>, part: &str, s: &DropStats) -> fmt::Result
+    ensures { DisplaysOnOk W.write_str_gives f.old result (Some (drops_text part.now s.now)) f.new }
+{
+    write_headers(f, part, s)?;
+    write_packets(f, part, s)?;
+    write_states(f, part, s)
+}
+
 /// A line for each of the three counts, as `bytes 1200`.
 impl Display for UdpStats {
     ghost output = { λ s. Some (udp_text [] s) };
 
     fn fmt<W: fmt::Write>(&self, f: &mut Formatter<W>) -> fmt::Result {
         write_udp(f, "", self)
+    }
+}
+
+/// A line for each reason, as `duplicate 2`.
+impl Display for DropStats {
+    ghost output = { λ s. Some (drops_text [] s) };
+
+    fn fmt<W: fmt::Write>(&self, f: &mut Formatter<W>) -> fmt::Result {
+        write_drops(f, "", self)
     }
 }
 
@@ -164,14 +211,15 @@ impl Display for PathStats {
     }
 }
 
-/// A line for each figure of each part, as `udp_tx.bytes 1200`, `frame_rx.stream 3` or
-/// `path.rtt 40ms`; the last ends in a newline too.
+/// A line for each figure of each part, as `udp_tx.bytes 1200`, `frame_rx.stream 3`,
+/// `path.rtt 40ms` or `dropped.duplicate 2`; the last ends in a newline too.
 impl Display for ConnectionStats {
     fn fmt<W: fmt::Write>(&self, f: &mut Formatter<W>) -> fmt::Result {
         write_udp(f, "udp_tx.", &self.udp_tx)?;
         write_udp(f, "udp_rx.", &self.udp_rx)?;
         write_frames(f, "frame_tx.", &self.frame_tx)?;
         write_frames(f, "frame_rx.", &self.frame_rx)?;
-        write_path(f, "path.", &self.path)
+        write_path(f, "path.", &self.path)?;
+        write_drops(f, "dropped.", &self.dropped)
     }
 }

@@ -2,8 +2,8 @@
 //! and is polled; the server takes the datagram. And where frames of several kinds go both ways.
 use bytes::Bytes;
 use quic_connection::{
-    Call, ConnectionStats, Delivery, Dir, Duration, FrameStats, Instant, PathStats, RunEvent, Side,
-    TransportConfig, UdpStats, VarInt,
+    Call, ConnectionStats, Delivery, Dir, DropStats, Duration, FrameStats, Instant, PathStats,
+    RunEvent, Side, TransportConfig, UdpStats, VarInt,
 };
 use quic_pairs::ends::{Pair, delivery, event, hello, stream, with_pair};
 use std::process::Abort;
@@ -46,6 +46,7 @@ fn sent() -> ConnectionStats {
         frame_tx: first_frames(),
         frame_rx: FrameStats::default(),
         path: fresh_path(1),
+        dropped: DropStats::default(),
     }
 }
 
@@ -57,6 +58,7 @@ fn came() -> ConnectionStats {
         frame_tx: FrameStats::default(),
         frame_rx: first_frames(),
         path: fresh_path(0),
+        dropped: DropStats::default(),
     }
 }
 

@@ -72,7 +72,9 @@ impl<H: HeaderKey + Drop, K: PacketKey + Drop, R: Rng + Drop, C: Controller> Con
         let len = datagram.len();
         self.stats.udp_rx.on_datagram(len);
         self.path.on_datagram_received(len as u64);
-        self.take_datagram(now, ecn, datagram)
+        let received = self.take_datagram(now, ecn, datagram);
+        self.count_drop(&received);
+        received
     }
 
     /// Takes a datagram that came at this moment with this mark, opening it in place.

@@ -5,6 +5,8 @@ ghost use Rattle.quic_machine.specs.Parts.{current_mtu};
 
 use crate::connection::Connection;
 use quic_congestion::Controller;
+use quic_connection_parts::statistics::count_drop;
+use quic_machine::Received;
 use quic_stats::ConnectionStats;
 
 impl<H, K, R, C: Controller> Connection<H, K, R, C> {
@@ -22,6 +24,15 @@ impl<H, K, R, C: Controller> Connection<H, K, R, C> {
         stats.path.cwnd = self.path.congestion.window();
         stats.path.current_mtu = self.path.current_mtu();
         stats
+    }
+
+    /// A datagram that came was answered so: it counts as dropped where it was.
+    pub(crate) fn count_drop(&mut self, received: &Received)
+        ensures { self.new ≡ self.old }
+    {
+        if let Received::Dropped(reason) = received {
+            count_drop(&mut self.stats.dropped, *reason);
+        }
     }
 
     /// An ACK frame goes.
