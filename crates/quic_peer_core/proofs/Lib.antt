@@ -1,4 +1,3 @@
 pub mod Saying
 pub mod Making
-pub mod Running
 pub mod Behind

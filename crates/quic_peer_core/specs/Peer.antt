@@ -1,5 +1,5 @@
 -- What the lines of one end do, each with what it prints.
-use Rattle.std.specs.Prelude.{ℕ, ◌≡◌, ◌≢◌, true, false, List, [], ◌∷◌, ◌++◌, codes, Option, Some, None, IsSome, IsNone}
+use Rattle.std.specs.Prelude.{ℕ, ◌≡◌, ◌≢◌, true, false, List, [], codes, Option, Some, None, IsSome, IsNone}
 use Rattle.quic_wire_core.specs.declared.shared.EcnCodepoint.{EcnCodepoint}
 use Rattle.quic_time.specs.Rtt.{best_rtt}
 use Rattle.quic_parameters.specs.ParametersRead.{parameters_at}
@@ -27,6 +27,7 @@ use Rattle.quic_keys.specs.declared.words.Words.{Words}
 use Rattle.quic_keys.specs.KeysOf.{keys_with}
 use Rattle.quic_run_core.specs.Language.{Asked, asked_of}
 use Rattle.quic_keys.specs.Plain.{plain_protection, plain_aead}
+use Rattle.quic_run_core.specs.LineByLine.{LineRules}
 use Rattle.quic_run_core.specs.Printed.{call_text, received_text}
 use Rattle.quic_run_core.specs.Scripts.{first_options, settings_of, with_setting, limits_in, first_windows}
 use Rattle.quic_keys.specs.Words.{stream_from, source_stream, words_from}
@@ -159,9 +160,6 @@ abbrev pub IsRefused : Option Command → Stage → Type 0
 IsRefused None s = Unit {0}
 IsRefused (Some command) s = IsBad command s
 
--- ---- lines
-
--- lines that are run in turn from a stage, what they print, and the stage behind them
-abbrev pub IsRun : Stage → List (List ℕ) → List ℕ → Stage → Type 0
-IsRun s [] text t = (text ≡ []) × (t ≡ s)
-IsRun s (line ∷ lines) text t = (first : List ℕ) × (mid : Stage) × (rest : List ℕ) × Does (said line) s first mid × IsRun mid lines rest t × (text ≡ first ++ rest)
+-- what the language says of lines
+abbrev pub peer_rules : LineRules Stage
+peer_rules = record { Does = λ line s text t. Does (said line) s text t; IsRefused = λ line s. IsRefused (said line) s }

@@ -132,6 +132,8 @@ fn put_states(out: &mut String, drops: &DropStats) -> Result<(), AllocError>
     let closing = drops.closing;
     let drained = drops.drained;
     let failed = drops.failed;
-    write!(out, " dropped_closing {closing} dropped_drained {drained}")?;
-    write!(out, " dropped_failed {failed}")
+    write!(
+        out,
+        " dropped_closing {closing} dropped_drained {drained} dropped_failed {failed}"
+    )
 }

@@ -1,9 +1,8 @@
-//! Runs the lines of one end: reads them, and prints what each answers.
-ghost use Rattle.std.specs.Prelude.{◌≡◌, ◌⊎◌, [], Some, MatchResult, IfErr, OnOk, string_bytes};
-ghost use Rattle.quic_run_core.specs.Reading.{left_of, KnowsEnd};
-ghost use Rattle.quic_peer_core.specs.Language.{sets, makes, receives, tells_window, tells_stats, asks, said};
+//! Runs the lines of one end: what each of them does, and answers.
+ghost use Rattle.std.specs.Prelude.{◌≡◌, ◌⊎◌, Some, MatchResult, IfErr, OnOk, string_bytes};
+ghost use Rattle.quic_peer_core.specs.Language.{sets, makes, receives, tells_window, tells_stats, asks};
 ghost use Rattle.quic_run_core.specs.Language.{asked_of};
-ghost use Rattle.quic_peer_core.specs.Peer.{first_stage, IsDone, Does, IsRefused};
+ghost use Rattle.quic_peer_core.specs.Peer.{first_stage, IsDone, IsRefused};
 ghost use Rattle.quic_peer_core.specs.Stages.{stage_of};
 ghost use Rattle.quic_peer_core.specs.Outcomes.{RanAll, Stopped};
 
@@ -12,7 +11,9 @@ use crate::end::{End, ask, make_end, refusal_name, take, tell_params};
 use crate::figures::{tell_stats, tell_window};
 use quic_connection::{Call, Injection};
 use quic_run_core::ScriptError;
-use quic_run_core::language::{LineError, Lines, MOST_TURNS, Options, Setting, print};
+use quic_run_core::language::{
+    LineError, Lines, MOST_TURNS, Options, RunsLines, Setting, print, run_lines,
+};
 use std::alloc::Global;
 use std::io::{Read, Write};
 
@@ -37,48 +38,6 @@ impl Peer {
             alloc,
             options: Options::new(),
             end: None,
-        }
-    }
-
-    /// Runs lines in turn, of which none was run.
-    fn run_lines<R: Read + Drop, W: Write>(
-        &mut self,
-        lines: &mut Lines<R>,
-        writer: &mut W,
-    ) -> Result<(), ScriptError>
-        requires first { stage_of self.old ≡ first_stage }
-        requires known { KnowsEnd R.remaining lines.old }
-        ensures ok { OnOk result (RanAll [] (left_of R.remaining lines.old) (W.contents writer.old) (W.contents writer.new)) }
-        ensures err { IfErr result (λ e. Stopped e [] (left_of R.remaining lines.old) (W.contents writer.old) (W.contents writer.new)) }
-    {
-        let mut line = Vec::new(self.alloc);
-        for number in 1..u64::MAX {
-            if !lines.next(&mut line)? {
-                return Ok(());
-            }
-            match self.run_line(&line) {
-                Ok(answer) => print(writer, answer.as_str())?,
-                Err(error) => return Err(error.at(number)),
-            }
-        }
-        Err(ScriptError::ReadFault)
-    }
-
-    /// Runs one line, and gives what is printed of it.
-    fn run_line(&mut self, line: &[u8]) -> Result<String, LineError>
-        ensures { MatchResult result
-            (λ text. Does (said line.now) (stage_of self.old) (string_bytes text) (stage_of self.new))
-            (λ e. (e ≡ LineError.OutOfMemory) ⊎ ((e ≡ LineError.BadCommand) × IsRefused (said line.now) (stage_of self.old))) }
-    {
-        match parse_line(self.alloc, line)? {
-            Line::Empty => Ok(String::new(self.alloc)),
-            Line::Set(setting) => self.set(setting),
-            Line::Params => Ok(tell_params(self.alloc, &self.options)?),
-            Line::New(new) => self.make(&new),
-            Line::Receive(datagram) => self.receive(&datagram),
-            Line::Window => self.window(),
-            Line::Stats => self.stats(),
-            Line::Call(call) => self.call(&call),
         }
     }
 
@@ -163,6 +122,33 @@ impl Peer {
     }
 }
 
+impl RunsLines for Peer {
+    ghost use Rattle.quic_peer_core.specs.LongLines.{refuses_long as no_long_line};
+    ghost use Rattle.quic_peer_core.specs.Peer.{Stage as PeerStage, peer_rules};
+    ghost use Rattle.quic_peer_core.specs.Stages.{stage_of as stage_at};
+
+    ghost Stage = { PeerStage };
+
+    ghost stage_of = { stage_at };
+
+    ghost line_rules = { peer_rules };
+
+    fn run_line(&mut self, line: &[u8]) -> Result<String, LineError> {
+        match parse_line(self.alloc, line)? {
+            Line::Empty => Ok(String::new(self.alloc)),
+            Line::Set(setting) => self.set(setting),
+            Line::Params => Ok(tell_params(self.alloc, &self.options)?),
+            Line::New(new) => self.make(&new),
+            Line::Receive(datagram) => self.receive(&datagram),
+            Line::Window => self.window(),
+            Line::Stats => self.stats(),
+            Line::Call(call) => self.call(&call),
+        }
+    }
+
+    ghost refuses_long = { no_long_line };
+}
+
 /// Drives one end of a connection by lines, each of which sets an option, makes the end, hands a
 /// datagram in, asks for figures or is a call: prints that the keys hide nothing, and then each
 /// answer before the next line is read.
@@ -187,5 +173,5 @@ pub fn run_peer<R: Read + Drop, W: Write>(
     print(writer, NOTICE)?;
     let mut lines = Lines::new(alloc, reader, MOST_TURNS)?;
     let mut peer = Peer::new(alloc);
-    peer.run_lines(&mut lines, writer)
+    run_lines(alloc, &mut peer, &mut lines, writer)
 }

@@ -1,11 +1,12 @@
 -- How a script is run and its lines are kept, line by line.
 use Rattle.std.proofs.Common.{◌≡◌, ℕ, ◌+◌, List, [], ◌∷◌, ◌++◌, length, Option, None, refl, sym, subst, arith, append_assoc, append-nil, length-append}
 use Rattle.quic_run_core.specs.Language.{said}
-use Rattle.quic_run_core.specs.Scripts.{Stage, first_stage, Does}
+use Rattle.quic_run_core.specs.Scripts.{Stage, first_stage, Does, script_rules}
+use Rattle.quic_run_core.specs.LongLines.{refuses_long}
 use Rattle.quic_run_core.specs.Reading.{IsNextLine, IsOver}
 use Rattle.quic_run_core.specs.Erased.{line_kept, IsErased, ErasedAll}
 use Rattle.quic_run_core.specs.Outcomes.{HasRun}
-use Rattle.quic_run_core.proofs.Running.{Running, IsBehind, run-push, behind-none, behind-more, does_short, all_done}
+use Rattle.quic_run_core.proofs.Running.{Running, IsBehind, run-push, behind-none, behind-more, all_done}
 
 -- one line more is run, and kept or left out
 erased_push : (s : Stage) (lines : List (List ℕ)) (kept : List ℕ) (t : Stage) (line text : List ℕ) (u : Stage) → IsErased s lines kept t → Does (said line) t text u → IsErased s (lines ++ line ∷ []) (kept ++ line_kept text line) u
@@ -33,14 +34,14 @@ pub erasing_more : (script : Option (List ℕ)) (number : ℕ) (stage : Stage) (
     → Erasing script (number + 1) next rest (kept ++ line_kept text line)
 erasing_more script number stage left kept line text next rest e taken does = record {
   done = e.done ++ line ∷ [];
-  ran = record { text = e.ran.text ++ text; run = run-push first_stage e.done e.ran.text stage line text next e.ran.run does; printed = tt };
+  ran = record { text = e.ran.text ++ text; run = run-push script_rules first_stage e.done e.ran.text stage line text next e.ran.run does; printed = tt };
   count = (let size : length (e.done ++ line ∷ []) ≡ length e.done + 1 = length-append e.done (line ∷ []) in let had = e.count in omega arith);
-  behind = behind-more script e.done left rest line e.behind taken (does_short line stage text next does);
+  behind = behind-more script e.done left rest line e.behind taken (λ long. refuses_long.undone line stage text next long does);
   erased = erased_push first_stage e.done kept stage line text next e.erased does;
 }
 
 -- so they were run
-pub erasing_runs : (script : Option (List ℕ)) (number : ℕ) (stage : Stage) (left : Option (List ℕ)) (kept : List ℕ) → Erasing script number stage left kept → Running script None number stage left None
+pub erasing_runs : (script : Option (List ℕ)) (number : ℕ) (stage : Stage) (left : Option (List ℕ)) (kept : List ℕ) → Erasing script number stage left kept → Running script_rules first_stage script None number stage left None
 erasing_runs script number stage left kept e = record { done = e.done; ran = e.ran; count = e.count; behind = e.behind }
 
 -- the script is over

@@ -4,5 +4,5 @@ pub mod Showing
 pub mod Taking
 pub mod Running
 pub mod Making
-pub mod Given
+pub mod Behind
 mod Kept

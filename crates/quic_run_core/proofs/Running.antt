@@ -1,30 +1,13 @@
--- How a script is run, line by line.
+-- How lines are run, one by one.
 use Rattle.std.proofs.Common.{◌≡◌, ◌⊎◌, ℕ, ◌+◌, ◌<◌, List, [], ◌∷◌, ◌++◌, length, Option, Some, None, refl, sym, subst, ◌∙◌, inl, inr, arith, append_assoc, append-nil, length-append}
 use Rattle.std.specs.Prelude.{IfSome}
 use Rattle.std.specs.Io.KnownBytes.{Appends}
-use Rattle.std.proofs.lemmas.Bool.{lt-ltb}
 use Rattle.quic_run_core.specs.declared.error.ScriptError.{ScriptError}
 use Rattle.quic_run_core.specs.declared.script.LineError.{LineError}
 use Rattle.quic_run_core.specs.declared.script.LineError.TheVariants.{BadCommand, OutOfMemory}
 use Rattle.quic_run_core.specs.Refusals.{script_error}
-use Rattle.quic_run_core.specs.Language.{said}
-use Rattle.quic_run_core.specs.Scripts.{Stage, first_stage, Does, IsRefused, IsRun, lines_of}
 use Rattle.quic_run_core.specs.Reading.{IsNextLine, IsOver, BeginsTooLong, IsUnread}
-use Rattle.quic_run_core.specs.Outcomes.{HasRun, Begins, RanAll, RanSome, StopsAt, Stopped}
-
--- ---- lines
-
--- a line that is too long asks for nothing
-said-long : (line : List ℕ) → 1048576 < length line → said line ≡ None
-said-long line long = rw (lt-ltb 1048576 (length line) long) refl
-
--- one line more is run
-pub run-push : (s : Stage) (lines : List (List ℕ)) (text : List ℕ) (t : Stage) (line more : List ℕ) (u : Stage) → IsRun s lines text t → Does (said line) t more u → IsRun s (lines ++ line ∷ []) (text ++ more) u
-run-push s [] text t line more u run does =
-    let at : Does (said line) s more u = subst (λ (x : Stage). Does (said line) x more u) run.1 does in
-    (more, u, [], at, (refl, refl), rw run.0 (sym (append-nil more)))
-run-push s (l ∷ ls) text t line more u run does =
-    (run.0, run.1, run.2 ++ more, run.3, run-push run.1 ls run.2 t line more u run.4 does, rw run.5 (append_assoc run.0 run.2 more))
+use Rattle.quic_run_core.specs.LineByLine.{lines_of, Begins, LineRules, RefusesLong, IsRun, HasRun, RanAll, RanSome, StopsAt, Stopped}
 
 -- ---- what a writer holds
 
@@ -40,7 +23,7 @@ appends-more (Some xs) None new text more a b = absurd a
 appends-more (Some xs) (Some ys) None text more a b = absurd b
 appends-more (Some xs) (Some ys) (Some zs) text more a b = rw (b, a) (append_assoc xs text more)
 
--- ---- a script
+-- ---- lines that were taken
 
 -- these lines of a script were taken, and these bytes are left
 abbrev pub IsBehind : Option (List ℕ) → List (List ℕ) → Option (List ℕ) → Type 0
@@ -48,27 +31,10 @@ IsBehind None done left = Unit {0}
 IsBehind (Some bytes) done None = ⊥
 IsBehind (Some bytes) done (Some rest) = lines_of bytes ≡ done ++ lines_of rest
 
--- Some lines of a script were run; `number` is that of the next one, and `left` are the bytes
--- behind them.
-pub record Running (script old : Option (List ℕ)) (number : ℕ) (stage : Stage) (left new : Option (List ℕ)) : Type 0 where
-  pub done : List (List ℕ)
-  pub ran : HasRun done stage old new
-  pub count : number ≡ length done + 1
-  pub behind : IsBehind script done left
-
 -- all is left
 pub behind-none : (script : Option (List ℕ)) → IsBehind script [] script
 behind-none None = tt
 behind-none (Some bytes) = refl
-
--- no line was run
-pub running-none : (script old : Option (List ℕ)) (stage : Stage) → stage ≡ first_stage → Running script old 1 stage script old
-running-none script old stage is = record {
-  done = [];
-  ran = record { text = []; run = (refl, is); printed = appends-nil old };
-  count = refl;
-  behind = behind-none script;
-}
 
 -- the next line was taken, which isn't too long
 pub behind-more : (script : Option (List ℕ)) (done : List (List ℕ)) (left next : Option (List ℕ)) (line : List ℕ) → IsBehind script done left → IsNextLine left line next → (1048576 < length line → ⊥) → IsBehind script (done ++ line ∷ []) next
@@ -81,32 +47,11 @@ behind-more (Some bytes) done (Some rest) (Some more) line b n short =
       | inr long ↦ absurd (short long.0)
     ]
 
--- a line that does something isn't too long
-pub does_short : (line : List ℕ) (s : Stage) (text : List ℕ) (t : Stage) → Does (said line) s text t → 1048576 < length line → ⊥
-does_short line s text t does long = rw (said-long line long) at does
-
--- the next line was run, and its answer printed
-pub running-more : (script old : Option (List ℕ)) (number : ℕ) (stage : Stage) (left new : Option (List ℕ)) (line text : List ℕ) (next : Stage) (rest written : Option (List ℕ)) → Running script old number stage left new → IsNextLine left line rest → Does (said line) stage text next → Appends new written text → Running script old (number + 1) next rest written
-running-more script old number stage left new line text next rest written r taken does printed = record {
-  done = r.done ++ line ∷ [];
-  ran = record {
-    text = r.ran.text ++ text;
-    run = run-push first_stage r.done r.ran.text stage line text next r.ran.run does;
-    printed = appends-more old new written r.ran.text text r.ran.printed printed;
-  };
-  count = (let size : length (r.done ++ line ∷ []) ≡ length r.done + 1 = length-append r.done (line ∷ []) in let had = r.count in omega arith);
-  behind = behind-more script r.done left rest line r.behind taken (does_short line stage text next does);
-}
-
 -- the lines that were run are the first ones
 pub begins_done : (script : Option (List ℕ)) (done : List (List ℕ)) (left : Option (List ℕ)) → IsBehind script done left → Begins script done
 begins_done None done left b = tt
 begins_done (Some bytes) done None b = absurd b
 begins_done (Some bytes) done (Some rest) b = (lines_of rest, b)
-
--- the script stops somewhere
-pub running-some : (script old : Option (List ℕ)) (number : ℕ) (stage : Stage) (left new : Option (List ℕ)) → Running script old number stage left new → RanSome script old new
-running-some script old number stage left new r = (r.done, stage, r.ran, begins_done script r.done left r.behind)
 
 -- no line is left
 pub all_done : (script : Option (List ℕ)) (done : List (List ℕ)) (left : Option (List ℕ)) → IsBehind script done left → IsOver left → IfSome script (λ bytes. lines_of bytes ≡ done)
@@ -114,48 +59,97 @@ all_done None done left b over = tt
 all_done (Some bytes) done None b over = absurd b
 all_done (Some bytes) done (Some rest) b over = b ∙ rw over (append-nil done)
 
--- the script is over
-pub running-all : (script old : Option (List ℕ)) (number : ℕ) (stage : Stage) (left new : Option (List ℕ)) → Running script old number stage left new → IsOver left → RanAll script old new
-running-all script old number stage left new r over = (r.done, stage, r.ran, all_done script r.done left r.behind over)
+-- ---- lines that were run
 
--- a line of the script that can't be run, behind these
-abbrev Bad : Option (List ℕ) → List (List ℕ) → Stage → Type 0
-Bad script done stage = (bad : List ℕ) × IsRefused (said bad) stage × Begins script (done ++ bad ∷ [])
+module _ {S : Type 0} (rules : LineRules S) where
+  -- one line more is run
+  pub run-push : (s : S) (lines : List (List ℕ)) (text : List ℕ) (t : S) (line more : List ℕ) (u : S) → IsRun rules s lines text t → rules.Does line t more u → IsRun rules s (lines ++ line ∷ []) (text ++ more) u
+  run-push s [] text t line more u run does =
+      let at : rules.Does line s more u = subst (λ (x : S). rules.Does line x more u) run.1 does in
+      (more, u, [], at, (refl, refl), rw run.0 (sym (append-nil more)))
+  run-push s (l ∷ ls) text t line more u run does =
+      (run.0, run.1, run.2 ++ more, run.3, run-push run.1 ls run.2 t line more u run.4 does, rw run.5 (append_assoc run.0 run.2 more))
 
--- a long line can't be run
-long_bad : (bytes : List ℕ) (done lines : List (List ℕ)) (stage : Stage) → lines_of bytes ≡ done ++ lines → BeginsTooLong lines → Bad (Some bytes) done stage
-long_bad bytes done [] stage is long = absurd long
-long_bad bytes done (line ∷ lines) stage is long =
-    (line, rw (said-long line long) tt, (lines, is ∙ sym (append_assoc done (line ∷ []) lines)))
+  -- Some lines of a script were run; `number` is that of the next one, and `left` are the bytes
+  -- behind them.
+  pub record Running (from : S) (script old : Option (List ℕ)) (number : ℕ) (stage : S) (left new : Option (List ℕ)) : Type 0 where
+    pub done : List (List ℕ)
+    pub ran : HasRun rules from [] done stage old new
+    pub count : number ≡ length done + 1
+    pub behind : IsBehind script done left
 
--- the line that was taken can't be run
-bad_line : (script : Option (List ℕ)) (done : List (List ℕ)) (left next : Option (List ℕ)) (line : List ℕ) (stage : Stage) → IsBehind script done left → IsNextLine left line next → IsRefused (said line) stage → Bad script done stage
-bad_line None done left next line stage b n refused = (line, refused, tt)
-bad_line (Some bytes) done None next line stage b n refused = absurd b
-bad_line (Some bytes) done (Some rest) None line stage b n refused = absurd n
-bad_line (Some bytes) done (Some rest) (Some more) line stage b n refused =
-    elim n [
-      | inl e ↦ (line, refused, (lines_of more, b ∙ rw e (sym (append_assoc done (line ∷ []) (lines_of more)))))
-      | inr long ↦ long_bad bytes done (lines_of rest) stage b long.1
-    ]
+  -- no line was run
+  pub running-none : (script old : Option (List ℕ)) (stage : S) → Running stage script old 1 stage script old
+  running-none script old stage = record {
+    done = [];
+    ran = record { text = []; run = (refl, refl); printed = appends-nil old };
+    count = refl;
+    behind = behind-none script;
+  }
 
--- the script stops at a line that can't be run
-pub running-bad : (script old : Option (List ℕ)) (number : ℕ) (stage : Stage) (left new : Option (List ℕ)) (line : List ℕ) (rest : Option (List ℕ)) → Running script old number stage left new → IsNextLine left line rest → IsRefused (said line) stage → StopsAt number script old new
-running-bad script old number stage left new line rest r taken refused =
-    let bad = bad_line script r.done left rest line stage r.behind taken refused in
-    (r.done, stage, bad.0, r.ran, bad.1, r.count, bad.2)
+  -- the script stops somewhere
+  pub running-some : (from : S) (script old : Option (List ℕ)) (number : ℕ) (stage : S) (left new : Option (List ℕ)) → Running from script old number stage left new → RanSome rules from [] script old new
+  running-some from script old number stage left new r = (r.done, stage, r.ran, begins_done script r.done left r.behind)
 
--- a fault of the reader, or want of memory, stops the script somewhere
-pub stopped_fault : (e : ScriptError) (script old new : Option (List ℕ)) → IsUnread e → RanSome script old new → Stopped e script old new
-stopped_fault e script old new fault some =
-    elim fault [
-      | inl is ↦ rw is some
-      | inr is ↦ rw is some
-    ]
+  -- the script is over
+  pub running-all : (from : S) (script old : Option (List ℕ)) (number : ℕ) (stage : S) (left new : Option (List ℕ)) → Running from script old number stage left new → IsOver left → RanAll rules from [] script old new
+  running-all from script old number stage left new r over = (r.done, stage, r.ran, all_done script r.done left r.behind over)
 
--- a line stops the script that can't be run, or at which memory lacked
-pub running-refused : (script old : Option (List ℕ)) (number : ℕ) (stage : Stage) (left new : Option (List ℕ)) (line : List ℕ) (rest : Option (List ℕ)) (e : LineError) → Running script old number stage left new → IsNextLine left line rest → (e ≡ OutOfMemory) ⊎ ((e ≡ BadCommand) × IsRefused (said line) stage) → Stopped (script_error number e) script old new
-running-refused script old number stage left new line rest e r taken or = elim or [
-  | inl memory ↦ rw memory (running-some script old number stage left new r)
-  | inr bad ↦ rw bad.0 (running-bad script old number stage left new line rest r taken bad.1)
-]
+  -- a fault of the reader, or want of memory, stops the script somewhere
+  pub stopped_fault : (e : ScriptError) (from : S) (script old new : Option (List ℕ)) → IsUnread e → RanSome rules from [] script old new → Stopped rules e from [] script old new
+  stopped_fault e from script old new fault some =
+      elim fault [
+        | inl is ↦ rw is some
+        | inr is ↦ rw is some
+      ]
+
+-- ---- where no line that is too long can be run
+
+module _ {S : Type 0} (rules : LineRules S) (long : RefusesLong rules) where
+  -- the next line was run, and its answer printed
+  pub running-more : (from : S) (script old : Option (List ℕ)) (number : ℕ) (stage : S) (left new : Option (List ℕ)) (line text : List ℕ) (next : S) (rest written : Option (List ℕ)) → Running rules from script old number stage left new → IsNextLine left line rest → rules.Does line stage text next → Appends new written text
+      → Running rules from script old (number + 1) next rest written
+  running-more from script old number stage left new line text next rest written r taken does printed = record {
+    done = r.done ++ line ∷ [];
+    ran = record {
+      text = r.ran.text ++ text;
+      run = run-push rules from r.done r.ran.text stage line text next r.ran.run does;
+      printed = appends-more old new written r.ran.text text r.ran.printed printed;
+    };
+    count = (let size : length (r.done ++ line ∷ []) ≡ length r.done + 1 = length-append r.done (line ∷ []) in let had = r.count in omega arith);
+    behind = behind-more script r.done left rest line r.behind taken (λ size. long.undone line stage text next size does);
+  }
+
+  -- a line of the script that can't be run, behind these
+  abbrev Bad : Option (List ℕ) → List (List ℕ) → S → Type 0
+  Bad script done stage = (bad : List ℕ) × rules.IsRefused bad stage × Begins script (done ++ bad ∷ [])
+
+  -- a long line can't be run
+  long_bad : (bytes : List ℕ) (done lines : List (List ℕ)) (stage : S) → lines_of bytes ≡ done ++ lines → BeginsTooLong lines → Bad (Some bytes) done stage
+  long_bad bytes done [] stage is size = absurd size
+  long_bad bytes done (line ∷ lines) stage is size =
+      (line, long.refused line stage size, (lines, is ∙ sym (append_assoc done (line ∷ []) lines)))
+
+  -- the line that was taken can't be run
+  bad_line : (script : Option (List ℕ)) (done : List (List ℕ)) (left next : Option (List ℕ)) (line : List ℕ) (stage : S) → IsBehind script done left → IsNextLine left line next → rules.IsRefused line stage → Bad script done stage
+  bad_line None done left next line stage b n refused = (line, refused, tt)
+  bad_line (Some bytes) done None next line stage b n refused = absurd b
+  bad_line (Some bytes) done (Some rest) None line stage b n refused = absurd n
+  bad_line (Some bytes) done (Some rest) (Some more) line stage b n refused =
+      elim n [
+        | inl e ↦ (line, refused, (lines_of more, b ∙ rw e (sym (append_assoc done (line ∷ []) (lines_of more)))))
+        | inr size ↦ long_bad bytes done (lines_of rest) stage b size.1
+      ]
+
+  -- the script stops at a line that can't be run
+  running-bad : (from : S) (script old : Option (List ℕ)) (number : ℕ) (stage : S) (left new : Option (List ℕ)) (line : List ℕ) (rest : Option (List ℕ)) → Running rules from script old number stage left new → IsNextLine left line rest → rules.IsRefused line stage → StopsAt rules number from [] script old new
+  running-bad from script old number stage left new line rest r taken refused =
+      let bad = bad_line script r.done left rest line stage r.behind taken refused in
+      (r.done, stage, bad.0, r.ran, bad.1, r.count, bad.2)
+
+  -- a line stops the script that can't be run, or at which memory lacked
+  pub running-refused : (from : S) (script old : Option (List ℕ)) (number : ℕ) (stage : S) (left new : Option (List ℕ)) (line : List ℕ) (rest : Option (List ℕ)) (e : LineError) → Running rules from script old number stage left new → IsNextLine left line rest → (e ≡ OutOfMemory) ⊎ ((e ≡ BadCommand) × rules.IsRefused line stage) → Stopped rules (script_error number e) from [] script old new
+  running-refused from script old number stage left new line rest e r taken or = elim or [
+    | inl memory ↦ rw memory (running-some rules from script old number stage left new r)
+    | inr bad ↦ rw bad.0 (running-bad from script old number stage left new line rest r taken bad.1)
+  ]

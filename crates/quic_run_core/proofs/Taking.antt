@@ -6,7 +6,7 @@ use Rattle.std.specs.Io.KnownBytes.{prepend_known, Keeps, IsAtEnd}
 use Rattle.std.proofs.lemmas.Bool.{eqb-true, ltb-true, ltb-false}
 use Rattle.std.proofs.lemmas.List.{take_all, drop-drop, drop-take}
 use Rattle.std.proofs.lemmas.List.Sums.{split_at_first, passes_at_first}
-use Rattle.quic_run_core.specs.Scripts.{ended, lines_of}
+use Rattle.quic_run_core.specs.LineByLine.{ended, lines_of}
 use Rattle.quic_run_core.specs.Reading.{IsWhole, Moves, BeginsTooLong, IsNextLine, IsOver}
 
 -- a line feed

@@ -5,8 +5,9 @@ use Rattle.quic_wire_core.specs.declared.stream_id.Side.TheVariants.{Client, Ser
 use Rattle.quic_machine.specs.declared.answers.DropReason.{DropReason}
 use Rattle.quic_machine.specs.declared.answers.DropReason.TheVariants as drops
 use Rattle.quic_run_core.specs.Language.{said}
+use Rattle.quic_run_core.specs.LineByLine.{lines_of}
 use Rattle.quic_run_core.specs.Printed.{reason_text}
-use Rattle.quic_run_core.specs.Scripts.{Stage, first_stage, heading, line_feed, Does, lines_of}
+use Rattle.quic_run_core.specs.Scripts.{Stage, first_stage, heading, line_feed, Does}
 
 -- why a datagram is dropped that doesn't open, or came before
 abbrev pub shut_out : List DropReason

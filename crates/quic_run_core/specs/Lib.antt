@@ -4,7 +4,9 @@ pub mod Language
 pub mod Printed
 pub mod Shown
 pub mod Policies
+pub mod LineByLine
 pub mod Scripts
+pub mod LongLines
 pub mod Stages
 pub mod Reading
 pub mod Outcomes

@@ -4,7 +4,7 @@ use Rattle.std.specs.Io.KnownBytes.{prepend_known, IsAtEnd}
 use Rattle.quic_run_core.specs.declared.error.ScriptError.{ScriptError}
 use Rattle.quic_run_core.specs.declared.error.ScriptError.TheVariants.{ReadFault, OutOfMemory}
 use Rattle.quic_run_core.specs.declared.lines.Lines.{Lines}
-use Rattle.quic_run_core.specs.Scripts.{lines_of}
+use Rattle.quic_run_core.specs.LineByLine.{lines_of}
 
 -- what was read and not taken yet
 abbrev pub unread_of : {R : Type 0} → Lines R → List ℕ

@@ -1,7 +1,6 @@
--- What a script does: its lines in turn, each with what it prints.
+-- What each line of a script does, with what it prints.
 use Rattle.std.specs.Prelude.{min, ◌^◌, ◌≡◌, ◌≤◌, ◌==◌, ◌||◌, ℕ, Bool, true, false, if◌then◌else◌, List, [], ◌∷◌, ◌++◌, length, replicate, codes, Option, Some, None, IsSome, IfSome, Ok}
 use Rattle.std.specs.declared.alloc.AllocError.{AllocError}
-use Rattle.std.specs.List.{slice_split}
 use Rattle.quic_wire_core.specs.declared.stream_id.Side.{Side}
 use Rattle.quic_wire_core.specs.declared.stream_id.Side.TheVariants.{Client, Server}
 use Rattle.quic_wire_core.specs.StreamId.{other_side}
@@ -25,6 +24,7 @@ use Rattle.quic_keys.specs.declared.words.Source.TheVariants as sources
 use Rattle.quic_keys.specs.Words.{words_from}
 use Rattle.quic_keys.specs.KeysOf.{usual_limit}
 use Rattle.quic_keys.specs.Policies.{plain_policies}
+use Rattle.quic_run_core.specs.LineByLine.{LineRules}
 use Rattle.quic_run_core.specs.Printed.{call_text, rest_text, answer_text}
 use Rattle.quic_run_core.specs.Shown.{shown_text}
 use Rattle.quic_run_core.specs.Language.{Command, Asked, nothing, sets, asks, shows, settles, asked_of, said}
@@ -255,24 +255,6 @@ IsRefused (Some (asks side asked)) s = has_no_ends s ≡ true
 IsRefused (Some (shows side index)) s = has_no_ends s ≡ true
 IsRefused (Some (settles now)) s = has_no_ends s ≡ true
 
--- ---- a script
-
--- what stands behind the last line feed is a line where it isn't empty
-abbrev pub last_line : List ℕ → List (List ℕ)
-last_line [] = []
-last_line (b ∷ bs) = (b ∷ bs) ∷ []
-
--- the lines that are made of the parts between line feeds
-abbrev pub ended : List (List ℕ) → List (List ℕ)
-ended [] = []
-ended (x ∷ []) = last_line x
-ended (x ∷ y ∷ more) = x ∷ ended (y ∷ more)
-
--- the lines of a script, each ended by a line feed, which the last may lack
-abbrev pub lines_of : List ℕ → List (List ℕ)
-lines_of bytes = ended (slice_split (λ b. b == 10) bytes)
-
--- lines that are run in turn from a stage, what they print, and the stage behind them
-abbrev pub IsRun : Stage → List (List ℕ) → List ℕ → Stage → Type 0
-IsRun s [] text t = (text ≡ []) × (t ≡ s)
-IsRun s (line ∷ lines) text t = (first : List ℕ) × (mid : Stage) × (rest : List ℕ) × Does (said line) s first mid × IsRun mid lines rest t × (text ≡ first ++ rest)
+-- what scripts say of lines
+abbrev pub script_rules : LineRules Stage
+script_rules = record { Does = λ line s text t. Does (said line) s text t; IsRefused = λ line s. IsRefused (said line) s }

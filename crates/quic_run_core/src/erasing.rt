@@ -7,6 +7,7 @@ ghost use Rattle.quic_run_core.specs.Scripts.{first_stage};
 ghost use Rattle.quic_run_core.specs.Stages.{stage_of};
 
 use crate::error::ScriptError;
+use crate::line_by_line::RunsLines;
 use crate::lines::Lines;
 use crate::runner::{MOST_TURNS, Runner};
 use std::alloc::{AllocError, Global};

@@ -5,6 +5,7 @@ mod answer;
 mod erasing;
 mod error;
 pub mod language;
+mod line_by_line;
 mod lines;
 mod options;
 mod runner;

@@ -1,14 +1,13 @@
-//! Runs a script: reads its lines, and prints what each answers.
+//! Runs a script: what each of its lines does, and answers.
 ghost use Rattle.std.specs.Prelude.{◌≡◌, ◌⊎◌, true, false, MatchResult, IfErr, IfOk, OnOk, IsSome, string_bytes};
-ghost use Rattle.std.specs.Io.KnownBytes.{Appends};
-ghost use Rattle.quic_run_core.specs.Language.{sets, asks, shows, settles, asked_of, said};
-ghost use Rattle.quic_run_core.specs.Scripts.{first_stage, with_made, made_at, has_no_ends, IsDone, Does, IsRefused, heading as heading_of};
+ghost use Rattle.quic_run_core.specs.Language.{sets, asks, shows, settles, asked_of};
+ghost use Rattle.quic_run_core.specs.Scripts.{first_stage, with_made, made_at, has_no_ends, IsDone, heading as heading_of};
 ghost use Rattle.quic_run_core.specs.Stages.{stage_of};
-ghost use Rattle.quic_run_core.specs.Reading.{left_of, KnowsEnd};
 ghost use Rattle.quic_run_core.specs.Outcomes.{RanAll, Stopped};
 
 use crate::answer::call_name;
 use crate::error::ScriptError;
+use crate::line_by_line::{RunsLines, run_lines};
 use crate::lines::Lines;
 use crate::options::Options;
 use crate::script::{Line, LineError, Setting, parse_line};
@@ -49,45 +48,6 @@ impl Runner {
             client: Options::new(),
             server: Options::new(),
             session: None,
-        }
-    }
-
-    /// Runs the lines of a script in turn, of which none was run.
-    fn run_lines<R: Read + Drop, W: Write>(
-        &mut self,
-        lines: &mut Lines<R>,
-        writer: &mut W,
-    ) -> Result<(), ScriptError>
-        requires first { stage_of self.old ≡ first_stage }
-        requires known { KnowsEnd R.remaining lines.old }
-        ensures ok { OnOk result (RanAll (left_of R.remaining lines.old) (W.contents writer.old) (W.contents writer.new)) }
-        ensures err { IfErr result (λ e. Stopped e (left_of R.remaining lines.old) (W.contents writer.old) (W.contents writer.new)) }
-    {
-        let mut line = Vec::new(self.alloc);
-        for number in 1..u64::MAX {
-            if !lines.next(&mut line)? {
-                return Ok(());
-            }
-            match self.run_line(&line) {
-                Ok(answer) => print(writer, answer.as_str())?,
-                Err(error) => return Err(error.at(number)),
-            }
-        }
-        Err(ScriptError::ReadFault)
-    }
-
-    /// Runs one line, and gives what is printed of it.
-    pub(crate) fn run_line(&mut self, line: &[u8]) -> Result<String, LineError>
-        ensures { MatchResult result
-            (λ text. Does (said line.now) (stage_of self.old) (string_bytes text) (stage_of self.new))
-            (λ e. (e ≡ LineError.OutOfMemory) ⊎ ((e ≡ LineError.BadCommand) × IsRefused (said line.now) (stage_of self.old))) }
-    {
-        match parse_line(self.alloc, line)? {
-            Line::Empty => Ok(String::new(self.alloc)),
-            Line::Set(side, setting) => self.set(side, setting),
-            Line::Call(event) => self.call(&event),
-            Line::Show(side, index) => self.show(side, index),
-            Line::Settle(now) => self.settle(now),
         }
     }
 
@@ -172,6 +132,30 @@ impl Runner {
     }
 }
 
+impl RunsLines for Runner {
+    ghost use Rattle.quic_run_core.specs.LongLines.{refuses_long as no_long_line};
+    ghost use Rattle.quic_run_core.specs.Scripts.{Stage as ScriptStage, script_rules};
+    ghost use Rattle.quic_run_core.specs.Stages.{stage_of as stage_at};
+
+    ghost Stage = { ScriptStage };
+
+    ghost stage_of = { stage_at };
+
+    ghost line_rules = { script_rules };
+
+    fn run_line(&mut self, line: &[u8]) -> Result<String, LineError> {
+        match parse_line(self.alloc, line)? {
+            Line::Empty => Ok(String::new(self.alloc)),
+            Line::Set(side, setting) => self.set(side, setting),
+            Line::Call(event) => self.call(&event),
+            Line::Show(side, index) => self.show(side, index),
+            Line::Settle(now) => self.settle(now),
+        }
+    }
+
+    ghost refuses_long = { no_long_line };
+}
+
 /// The first two words of a line, and a blank.
 fn heading(alloc: Global, side: Side, name: &str) -> Result<String, AllocError>
     ensures { IfOk result (λ text. string_bytes text ≡ heading_of side name.now) }
@@ -229,25 +213,5 @@ pub fn run_script_within<R: Read + Drop, W: Write>(
 {
     let mut lines = Lines::new(alloc, reader, turns)?;
     let mut runner = Runner::new(alloc);
-    runner.run_lines(&mut lines, writer)
-}
-
-/// Prints an answer, where there is one.
-///
-/// # Errors
-///
-/// - [`ScriptError::WriteFault`]: the writer failed, or took nothing. Some of the answer may be
-///   written.
-pub fn print<W: Write>(writer: &mut W, answer: &str) -> Result<(), ScriptError>
-    ensures printed { OnOk result (Appends (W.contents writer.old) (W.contents writer.new) answer.now) }
-    ensures fault { IfErr result (λ e. e ≡ ScriptError.WriteFault) }
-{
-    if answer.is_empty() {
-        return Ok(());
-    }
-    match writer.write_all(answer.as_bytes()) {
-        Ok(()) => {}
-        Err(_) => return Err(ScriptError::WriteFault),
-    }
-    writer.flush().map_err(|_| ScriptError::WriteFault)
+    run_lines(alloc, &mut runner, &mut lines, writer)
 }
