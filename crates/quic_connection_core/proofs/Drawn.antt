@@ -6,7 +6,7 @@ use Rattle.std.proofs.lemmas.Bool.{and_parts, ltb-true}
 use Rattle.std.proofs.lemmas.List.{length-append}
 use Rattle.quic_wire_core.specs.declared.shared.EcnCodepoint.{EcnCodepoint}
 use Rattle.quic_wire_core.specs.TransportError.{ErrorValue}
-use Rattle.quic_wire.specs.Value.{FrameValue, NewConnectionIdValue, ack, datagram, new_connection_id, retire_connection_id, path_challenge, path_response}
+use Rattle.quic_wire.specs.Value.{FrameValue, NewConnectionIdValue, ack, datagram, new_connection_id, retire_connection_id, path_challenge, path_response, ack_frequency}
 use Rattle.quic_wire.specs.Items.{items}
 use Rattle.quic_wire.specs.declared.frame.InvalidFrame.{InvalidFrame}
 use Rattle.quic_packet.specs.Header.{key_phase, reserved_bits}
@@ -34,7 +34,8 @@ use Rattle.quic_machine.specs.MessageCalls.{most_message}
 use Rattle.quic_machine.specs.Sizes.{without_longer_if, shortened}
 use Rattle.quic_machine.specs.Validation.{word_of, validated_if}
 use Rattle.quic_machine.specs.Steps as steps
-use Rattle.quic_machine.specs.Receive.{Fault, closed_by_peer, violation, is_empty, dropped, Outcome, retired_for, id_judged, retirement_judged, take_frame, is_read, take_payload, take_items, ends_as, processed, by_state, opened_to, unopened_in, drawn_if, with_ids_drawn, opened_as, opening, headed, received_in, received}
+use Rattle.quic_machine.specs.Receive.{Fault, closed_by_peer, violation, is_empty, dropped, Outcome, retired_for, id_judged, retirement_judged, asks_too_soon, frequency_judged, take_frame, is_read, take_payload, take_items, ends_as, processed, by_state, opened_to, unopened_in, drawn_if, with_ids_drawn, opened_as, opening, headed, received_in, received}
+use Rattle.quic_recovery_core.specs.AckFrequency.{is_stale}
 use Rattle.quic_machine.specs.FrameCases.{Settling, IsApart, acked_keeps, frame_keeps, frame_leaves, items_keep}
 
 -- messages that are too long draw none
@@ -104,6 +105,12 @@ module _ (e : End) where
       go : (b : Bool) → Same (validated_if b x)
       go true = i
       go false = i
+  apart (ack_frequency f) x may i = go (is_stale x.frequency.last f.sequence) (asks_too_soon f)
+    where
+      go : (stale soon : Bool) → Same (frequency_judged stale soon f x).end
+      go true soon = i
+      go false true = i
+      go false false = i
   apart f x may i = i
 
   frame : (f : FrameValue) (x : End) → Same x → Same (take_frame f x).end

@@ -23,6 +23,7 @@ pub mod Unread
 pub mod Undone
 pub mod Credit
 pub mod Allowed
+pub mod Requested
 pub mod Queue
 pub mod Events
 pub mod AppLimited

@@ -4,7 +4,7 @@ use Rattle.std.specs.Prelude.{ℕ, ◌+◌, ◌<◌, ◌≤◌, ◌≡◌, ◌�
 use Rattle.std.specs.List.{list_any, count_by}
 use Rattle.quic_wire_core.specs.declared.stream_id.Side.{Side}
 use Rattle.quic_time.specs.Clocks.{saturated}
-use Rattle.quic_wire.specs.Value.{FrameValue, StreamValue, ping, stream, max_data, max_streams, data_blocked, path_challenge, path_response, padding, asks}
+use Rattle.quic_wire.specs.Value.{FrameValue, StreamValue, ping, immediate_ack, stream, max_data, max_streams, data_blocked, path_challenge, path_response, padding, asks}
 use Rattle.quic_machine.specs.declared.run.Call.{Call}
 use Rattle.quic_machine.specs.declared.run.Call.TheVariants as calls
 use Rattle.quic_machine.specs.CallCases.{is_poll}
@@ -14,7 +14,7 @@ use Rattle.quic_headline.specs.Observer.{Sent, HoldsOffset, asks_of, is_close, W
 use Rattle.quic_headline.specs.InFlight.{is_max_data, is_data_blocked, is_max_streams}
 use Rattle.quic_headline.specs.Moments.{acknowledges, went}
 use Rattle.quic_headline.specs.Polls.{GaveOne, IsSizeProbe}
-use Rattle.quic_headline.specs.AcksDue.{takes_marked}
+use Rattle.quic_headline.specs.AcksDue.{takes_marked, is_immediate_ack}
 
 -- ---- what is wanted of an end
 
@@ -59,9 +59,9 @@ asks_ping call = false
 -- gave an ACK frame, the latest first; whether one of them bore the mark of congestion; whether
 -- PING was asked for since one went, or the time without a packet was over; when that is over, if
 -- it is kept (RFC 9000, section 10.1.2); whether a probe of losses waited at a poll that gave
--- nothing, since a datagram went that asks: it may be PING, and wait (section 8.1); and the
--- datagrams that it gave since it last was called otherwise than to be polled, or a probe of losses
--- waited.
+-- nothing, since a datagram went that asks: it may be PING or IMMEDIATE_ACK, and wait (section
+-- 8.1); and the datagrams that it gave since it last was called otherwise than to be polled, or a
+-- probe of losses waited.
 pub record Wants : Type 0 where
   pub watch : Watch
   pub packets : List Packet
@@ -132,13 +132,15 @@ abbrev pub HoldsNone : List Sent → StreamValue → Type 0
 HoldsNone sents f = (offset : ℕ) → f.offset ≤ offset → offset < f.offset + length f.bytes → HoldsOffset sents f.id offset → ⊥
 
 -- A frame waited where this is wanted: PING was asked for since one went, or the time without a
--- packet was over, or it may be a probe that waited in vain; a STREAM frame brings a byte, or the
--- end of its stream, and no byte that was acknowledged in flight; and none of the datagrams that
--- went since something else than a poll could make it wait had MAX_DATA, MAX_STREAMS of these
--- streams, DATA_BLOCKED, PATH_CHALLENGE or PATH_RESPONSE. Of the other frames that ask for an
--- acknowledgement it isn't said what made them wait; ACK frames and PADDING go along.
+-- packet was over, or it may be a probe that waited in vain, as IMMEDIATE_ACK is; a STREAM frame
+-- brings a byte, or the end of its stream, and no byte that was acknowledged in flight; and none of
+-- the datagrams that went since something else than a poll could make it wait had MAX_DATA,
+-- MAX_STREAMS of these streams, DATA_BLOCKED, PATH_CHALLENGE or PATH_RESPONSE. Of the other frames
+-- that ask for an acknowledgement it isn't said what made them wait; ACK frames and PADDING go
+-- along.
 abbrev pub FrameWaited : Wants → FrameValue → Type 0
 FrameWaited w ping = w.pinged || w.probed ≡ true
+FrameWaited w immediate_ack = w.probed ≡ true
 FrameWaited w (stream f) = ((0 < length f.bytes) ⊎ (f.fin ≡ true)) × HoldsNone w.watch.flight.acked f
 FrameWaited w (max_data limit) = stands is_max_data w.since ≡ false
 FrameWaited w (max_streams f) = stands (is_max_streams f.one_way) w.since ≡ false

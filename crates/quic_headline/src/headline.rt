@@ -290,7 +290,9 @@ pub fn numbers_rise()
 /// yet; or it arrived. So does the end of each such stream that was finished, and the reset of
 /// each that was reset; and so does the greatest limit of each kind that the end said and that
 /// matters still: it waits to be said anew, stands with its value in such a datagram, or one as
-/// great arrived (RFC 9000, section 13.3).
+/// great arrived (RFC 9000, section 13.3). Of each request in an ACK_FREQUENCY frame that the end
+/// gave, another waits, or one as new stands in such a datagram or arrived (QUIC Acknowledgement
+/// Frequency, section 4).
 pub fn duties_stand()
     ensures { (r : Run) (end : World) → IsHonest r → IsRun r end → DutiesStand r }
 {}
@@ -330,8 +332,10 @@ pub fn tracks_in_flight()
 /// Behind each event an open end shows its loss timer set to the moment that an observer of the
 /// run's lists reckons: that at which the first datagram is lost by time; else that at which the
 /// last ack-eliciting datagram went and the probe timeout, by the round trips that the observer
-/// measured, doubled at each expiry of the timer since a tracked datagram was acknowledged, up to
-/// 16 times. Where no tracked datagram asks, it isn't set (RFC 9002, section 6.2.1).
+/// measured and by how long the peer may hold an ACK frame back, as it told or was asked to,
+/// doubled at each expiry of the timer since a tracked datagram was acknowledged, up to 16 times.
+/// Where no tracked datagram asks, it isn't set (RFC 9002, section 6.2.1; QUIC Acknowledgement
+/// Frequency, section 4).
 pub fn loss_moments()
     ensures { (r : Run) (end : World) → IsHonest r → IsRun r end → LossMoments r }
 {}
@@ -345,7 +349,9 @@ pub fn loss_timer_quiet()
 
 /// Where an open end shows its timer of acknowledgements set behind an event, it is set to 25 ms
 /// behind the moment at which the first ack-eliciting packet came that the end took since it gave
-/// an ACK frame (RFC 9000, section 13.2.1).
+/// an ACK frame (RFC 9000, section 13.2.1), or as long behind as the newest ACK_FREQUENCY frame
+/// asked for that it had taken by then, in that packet at the latest (QUIC Acknowledgement
+/// Frequency, section 4).
 pub fn ack_moments()
     ensures { (r : Run) (end : World) → IsHonest r → IsRun r end → AckMoments r }
 {}
@@ -575,7 +581,9 @@ pub fn resets_are_allowed()
 /// due from any of these on, until one goes: a packet that asks came, with which two wait, or out
 /// of order, which is below one that asks, or above all of them with a number missing between; a
 /// packet bore the mark of congestion while one that asks waits; or a timeout told that 25 ms have
-/// passed since one came (RFC 9000, sections 13.2.1 and 13.2.2).
+/// passed since one came (RFC 9000, sections 13.2.1 and 13.2.2). The peer may ask for other numbers
+/// of these by ACK_FREQUENCY, and for an ACK frame at once by IMMEDIATE_ACK (QUIC Acknowledgement
+/// Frequency, sections 4 to 6).
 pub fn acks_are_due()
     ensures { (r : Run) (end : World) → IsHonest r → IsRun r end → AcksAreDue r }
 {}
@@ -584,10 +592,11 @@ pub fn acks_are_due()
 /// probe waited; or it isn't ack-eliciting, and has an ACK frame, and since the last one a packet
 /// came that is ack-eliciting or bore the mark CE, or more than ten that aren't ack-eliciting; or
 /// it is, and each PING in it was asked for since one went, by a call or by keep-alive, or may be a
-/// PTO probe that waited at a poll which gave nothing, each STREAM frame brings a byte or an end,
-/// and no byte that was acknowledged in flight, and MAX_DATA, MAX_STREAMS, DATA_BLOCKED,
-/// PATH_CHALLENGE and PATH_RESPONSE go once behind what made them wait (RFC 9000, sections 8.2,
-/// 12.2, 13.2 and 13.3); or it closes the connection (section 10.2).
+/// PTO probe that waited at a poll which gave nothing, as IMMEDIATE_ACK is, each STREAM frame
+/// brings a byte or an end, and no byte that was acknowledged in flight, and MAX_DATA, MAX_STREAMS,
+/// DATA_BLOCKED, PATH_CHALLENGE, PATH_RESPONSE and ACK_FREQUENCY go once behind what made them wait
+/// (RFC 9000, sections 8.2, 12.2, 13.2 and 13.3; QUIC Acknowledgement Frequency, sections 4 and 5);
+/// or it closes the connection (section 10.2).
 pub fn each_waited()
     ensures { (r : Run) (end : World) → IsHonest r → IsRun r end → EachWaited r }
 {}
@@ -603,11 +612,13 @@ pub fn pings_go()
 
 /// What waits at an open end behind a call waited before it, or has one of these causes: a call
 /// asks for it, as a write of bytes, a finish, a reset, a stop, a message or PING; PING, where
-/// keep-alive asks for it, or a PTO probe waits at a poll that gives nothing; a write is blocked;
-/// bytes are read, or a frame that comes uses up what may come, or may end a stream; a packet comes
-/// that is to be acknowledged, or waited for 25 ms; a datagram that bore it is lost; or the loss
-/// timer expired, and a PTO probe says it again. At the other end nothing begins to wait (RFC 9000,
-/// sections 13.2.1 and 13.3; RFC 9002, sections 6.1 and 6.2.4).
+/// keep-alive asks for it, or it or IMMEDIATE_ACK, where a PTO probe waits at a poll that gives
+/// nothing; a write is blocked; bytes are read, or a frame that comes uses up what may come, or may
+/// end a stream; a packet comes that is to be acknowledged, or waited for as long as it may; a poll
+/// finds that the peer is to be asked how often to acknowledge; a datagram that bore it is lost; or
+/// the loss timer expired, and a PTO probe says it again. At the other end nothing begins to wait
+/// (RFC 9000, sections 13.2.1 and 13.3; RFC 9002, sections 6.1 and 6.2.4; QUIC Acknowledgement
+/// Frequency, sections 4 and 5).
 pub fn waiting_begins()
     ensures { (r : Run) (end : World) → IsHonest r → IsRun r end → WaitingBegins r }
 {}

@@ -34,6 +34,7 @@ use Rattle.quic_machine.specs.declared.run.Call.{Call}
 use Rattle.quic_machine.specs.declared.run.Call.TheVariants as calls
 use Rattle.quic_machine.specs.declared.run.Delivery.{Delivery}
 use Rattle.quic_machine.specs.declared.run.Answer.{Answer}
+use Rattle.quic_machine.specs.declared.run.Answer.TheVariants as answers
 use Rattle.quic_time.specs.Timers.{has_come}
 use Rattle.quic_machine.specs.Closing.{Closing, ticked}
 use Rattle.quic_machine.specs.Calls.{closed_in}
@@ -55,10 +56,10 @@ use Rattle.quic_headline.specs.Runs.{Run, Told, Packet, Intake, In, and_told, fo
 use Rattle.quic_headline.specs.Observer.{Sent, HoldsOffset, HoldsEnd, Flight, after_frames, Watch, first_watch, watch, news, clock_behind, moment_of, is_past, is_timely, watch_moment, watch_given, watch_told, watch_from, terms_of, lens_of}
 use Rattle.quic_headline.specs.Headline.{IsHonest, IsRun, IsAt}
 use Rattle.quic_headline.specs.Duties.{AllData, StreamCount, on_half, has_new_id}
-use Rattle.quic_headline.specs.Moments.{went, debt}
-use Rattle.quic_headline.specs.AcksDue.{takes_marked, are_some, waits_out}
+use Rattle.quic_headline.specs.Moments.{went, debt, first_deadline}
+use Rattle.quic_headline.specs.AcksDue.{takes_marked, are_some, waits_out, is_immediate_ack}
 use Rattle.quic_headline.specs.Waited.{one_asks, count_silent, may_come, stands, is_ping, asks_ping, is_path_challenge, wakes, wants, wants_told, no_wants}
-use Rattle.quic_headline.specs.Begins.{Control, LimitOf, Blocked, NewId, Retirement, Thing, Ack, Ping, Challenge, Response, Probe, Message, Byte, Fin, Frame, byte_waits, IsPending, Bears, Seen, came, brings, WasLost, may_end, brings_data, is_retirement, is_new_id, uses_next, asks_for, HasCause, HasGone, seen_at, still, BeginsAt, WaitingBegins}
+use Rattle.quic_headline.specs.Begins.{Control, LimitOf, Blocked, NewId, Retirement, Thing, Ack, Ping, Immediate, Challenge, Response, Probe, Message, Byte, Fin, Frame, byte_waits, IsPending, Bears, Seen, came, brings, WasLost, may_end, brings_data, is_retirement, is_new_id, uses_next, asks_for, fails_to_probe, HasCause, HasGone, seen_at, still, BeginsAt, WaitingBegins, Request}
 use Rattle.quic_headline.specs.Begins as new
 use Rattle.quic_headline.proofs.Packets.Intakes.{folded_more}
 use Rattle.quic_headline.proofs.Packets.Group.{PacketsHold, meets}
@@ -87,7 +88,7 @@ use Rattle.quic_headline.proofs.Steps.Made.{MadeAt, made_at, made_served, made_e
 use Rattle.quic_headline.proofs.Waited.Marks.{call_due}
 use Rattle.quic_headline.proofs.Packets.Apart.{next_acks}
 use Rattle.quic_headline.proofs.Waited.Alive.{timed, wakes_at, past_is}
-use Rattle.quic_headline.proofs.Waited.Pings.{call_pinged, polled_pinged}
+use Rattle.quic_headline.proofs.Waited.Pings.{of_ping, of_immediate, call_pinged, call_hastened, polled_pinged}
 use Rattle.quic_headline.proofs.Waited.Flags.{Flag, all, counts, blocked, challenge, response, flag, says as flag_says}
 use Rattle.quic_headline.proofs.Waited.Group.{polled_flags, wants_of, Wanting, wanting_group}
 use Rattle.quic_headline.proofs.Begins.Acks.{timeout_due, polled_due}
@@ -98,8 +99,9 @@ use Rattle.quic_headline.proofs.Begins.Halves.{Any, Waits as HalfWaits, all_pend
 use Rattle.quic_headline.proofs.Begins.Walk.{Pends, pend_more}
 use Rattle.quic_headline.proofs.Begins.Apart.{SignalsBy, signals_same, frames_signals, polled_signals, quiet_signals}
 use Rattle.quic_headline.proofs.Begins.Flights.{By, BegunAt, Begun, ids_begun, begun_loses, begun_flies}
-use Rattle.quic_headline.proofs.Begins.Gone.{polled_goes}
+use Rattle.quic_headline.proofs.Begins.Gone.{polled_goes, polled_request}
 use Rattle.quic_headline.proofs.Begins.Steps.{Left, left_of, polled_left, streams_left, quiet_left}
+use Rattle.quic_headline.specs.InFlight.{is_ack_frequency}
 
 -- ---- what is known
 
@@ -147,9 +149,8 @@ seen_of x y call a = record {
   behind = watch_told (lens x y) (told_of call a x.end.closing.state) (watch_of x y);
   unanswered = (wants_of x y).packets;
   unanswered_behind = (wants_of (called x y.given call a) y).packets;
-  arrivals = (debt_of x y).arrivals;
+  deadlines = (debt_of x y).deadlines;
   alive = (wants_of x y).alive;
-  terms = x.terms;
 }
 
 -- it waited, or has a cause
@@ -168,13 +169,13 @@ module _ (x y : Party) (call : Call) (a : Answer) (s : Stepped x y call a) where
 
   -- what the observer knows behind the call
   behind_is : watch_of next y ≡ seen.behind
-  behind_is = folded_more (watch_told (lens x y)) x.told (told_of call a x.end.closing.state) (first_watch x.final x.began x.initial_rtt)
+  behind_is = folded_more (watch_told (lens x y)) x.told (told_of call a x.end.closing.state) (first_watch x.final x.began x.initial_rtt x.initial_delay)
 
   -- what came
   came_is : came seen ≡ news (came_to x y) (came_to next y)
   came_is =
-      ap (λ (i : Intake). news i seen.behind.intake) (watched_intake (lens x y) x.told (first_watch x.final x.began x.initial_rtt))
-      ∙ ap (λ (i : Intake). news (came_to x y) i) (ap (λ (w : Watch). w.intake) (sym behind_is) ∙ watched_intake (lens x y) next.told (first_watch x.final x.began x.initial_rtt))
+      ap (λ (i : Intake). news i seen.behind.intake) (watched_intake (lens x y) x.told (first_watch x.final x.began x.initial_rtt x.initial_delay))
+      ∙ ap (λ (i : Intake). news (came_to x y) i) (ap (λ (w : Watch). w.intake) (sym behind_is) ∙ watched_intake (lens x y) next.told (first_watch x.final x.began x.initial_rtt x.initial_delay))
 
 -- what goes at a call is what its end sends
 went_here : (x y : Party) (call : Call) (a : Answer) → Stepped x y call a → went (seen_of x y call a).before (seen_of x y call a).behind ≡ sents_by x.policy x.end call a
@@ -221,11 +222,11 @@ ack_begins x y (calls.Deliver delivery) a s due = elim (call_due x.policy x.end 
   where
     v : Seen
     v = seen_of x y (calls.Deliver delivery) a
-ack_begins x y (calls.Timeout now) a s due = elim (timeout_due x.policy x.end now (debt_of x y).arrivals opened (s.gives.0.1.1.owes opened) due) [
+ack_begins x y (calls.Timeout now) a s due = elim (timeout_due x.policy x.end now (debt_of x y).deadlines opened (s.gives.0.1.1.owes opened) due) [
   | inl before ↦ inl before
-  | inr late ↦ inr (or_right (are_some (came v) && one_asks v.unanswered_behind) _ (or_right (takes_marked (calls.Timeout now) a) _ (or_left (waits_out v.now v.arrivals v.behind.clock) _
+  | inr late ↦ inr (or_right (are_some (came v) && one_asks v.unanswered_behind) _ (or_right (takes_marked (calls.Timeout now) a) _ (or_left (waits_out v.now v.deadlines v.behind.clock) _
       (and_from (is_timely x.end.closing.state (calls.Timeout now)) _ (ap (λ (z : State). is_timely z (calls.Timeout now)) opened)
-      (ap (λ (n : ℕ). list_any (λ arrival. nat_le (min (arrival + 25000000) (2 ^ 64 - 1)) n) v.arrivals) clock ∙ late)))))
+      (ap (λ (n : ℕ). is_past (first_deadline v.deadlines) n) clock ∙ late)))))
 ]
   where
     v : Seen
@@ -238,7 +239,7 @@ ack_begins x y (calls.Timeout now) a s due = elim (timeout_due x.policy x.end no
     clock = timeout_clock x y now a s
 ack_begins x y (calls.Poll now) a s due = elim (polled_due x.policy x.end now due) [
   | inl before ↦ inl before
-  | inr many ↦ inr (or_right (are_some (came v) && one_asks v.unanswered_behind) _ (or_right (takes_marked (calls.Poll now) a) _ (or_right (waits_out v.now v.arrivals v.behind.clock) _
+  | inr many ↦ inr (or_right (are_some (came v) && one_asks v.unanswered_behind) _ (or_right (takes_marked (calls.Poll now) a) _ (or_right (waits_out v.now v.deadlines v.behind.clock) _
       (let most = (s.gives.1.wanted (was x y (calls.Poll now) a s)).acks.silent in let less = ltb-true lazy_threshold x.end.acknowledging.silent many in lt-ltb may_come (count_silent v.unanswered) (omega arith)))))
 ]
   where
@@ -268,12 +269,20 @@ other_ping x y call a s silent woken set = elim (or_cases (asks_ping call) (wake
   ]
 ]
 
+-- a probe waits at a poll in vain
+vain_poll : (x y : Party) (now : ℕ) (a : Answer) → Stepped x y (calls.Poll now) a → 0 < x.end.tracking.probes → sent_if (gave (answers.Poll (polled x.policy x.end now).answer)) (sent_by x.policy x.end now) ≡ [] → fails_to_probe (seen_of x y (calls.Poll now) a) ≡ true
+vain_poll x y now a s some none =
+    and_from (nat_lt 0 v.before.flight.probes) (not (nat_lt 0 (length (went v.before v.behind))))
+    (let same = ((sight x y s.gives).watched.flight (was x y (calls.Poll now) a s)).probes in lt-ltb 0 v.before.flight.probes (omega arith))
+    (ap (λ (ss : List Sent). not (nat_lt 0 (length ss))) (went_here x y (calls.Poll now) a s ∙ ap (λ (b : Answer). sent_if (gave b) (sent_by x.policy x.end now)) (poll_answer x.policy x.end now a s.answer s.served) ∙ none))
+  where
+    v : Seen
+    v = seen_of x y (calls.Poll now) a
+
 ping_begins : (x y : Party) (call : Call) (a : Answer) → Stepped x y call a → IsPending (called x y.given call a).end Ping → Caused x y call a Ping
-ping_begins x y (calls.Poll now) a s set = elim (polled_pinged x.policy x.end now s.opened set).before [
+ping_begins x y (calls.Poll now) a s set = elim (polled_pinged of_ping x.policy x.end now s.opened set).before [
   | inl before ↦ inl before
-  | inr waited ↦ inr (or_right (wakes v.now v.behind.clock v.alive) _ (and_from (nat_lt 0 v.before.flight.probes) (not (nat_lt 0 (length (went v.before v.behind))))
-      (let same = ((sight x y s.gives).watched.flight (was x y (calls.Poll now) a s)).probes in let some = waited.0 in lt-ltb 0 v.before.flight.probes (omega arith))
-      (ap (λ (ss : List Sent). not (nat_lt 0 (length ss))) (went_here x y (calls.Poll now) a s ∙ ap (λ (b : Answer). sent_if (gave b) (sent_by x.policy x.end now)) (poll_answer x.policy x.end now a s.answer s.served) ∙ waited.1))))
+  | inr waited ↦ inr (or_right (wakes v.now v.behind.clock v.alive) _ (vain_poll x y now a s waited.0 waited.1))
 ]
   where
     v : Seen
@@ -291,6 +300,14 @@ ping_begins x y (calls.Timeout now) a s set = other_ping x y (calls.Timeout now)
     opened : x.end.closing.state ≡ states.Open
     opened = was x y (calls.Timeout now) a s
 ping_begins x y call a s set = other_ping x y call a s refl (λ woke. cc) set
+
+-- IMMEDIATE_ACK waited, or a probe does in vain
+immediate_begins : (x y : Party) (call : Call) (a : Answer) → Stepped x y call a → IsPending (called x y.given call a).end Immediate → Caused x y call a Immediate
+immediate_begins x y (calls.Poll now) a s set = elim (polled_pinged of_immediate x.policy x.end now s.opened set).before [
+  | inl before ↦ inl before
+  | inr waited ↦ inr (vain_poll x y now a s waited.0 waited.1)
+]
+immediate_begins x y call a s set = inl (sym (call_hastened x.policy x.end y.given call a refl s.opened) ∙ set)
 
 probe_begins : (x y : Party) (call : Call) (a : Answer) → Stepped x y call a → IsPending (called x y.given call a).end Probe → Caused x y call a Probe
 probe_begins x y call a s some = elim (told_probes (lens x y) (told_of call a x.end.closing.state) (watch_of x y) (subst (λ (n : ℕ). 0 < n) (sym here) some)) [
@@ -428,7 +445,7 @@ module _ (x y : Party) (delivery : Delivery) (a : Answer) (s : Stepped x y (call
   i = came_to x y
 
   intake : w.intake ≡ i
-  intake = watched_intake (lens x y) x.told (first_watch x.final x.began x.initial_rtt)
+  intake = watched_intake (lens x y) x.told (first_watch x.final x.began x.initial_rtt x.initial_delay)
 
   -- nothing came
   same_arrived : Arrived x y delivery x.end i
@@ -549,7 +566,7 @@ delivery_begins x y delivery a s = left_of (Caused x y call a) (called x y.given
         ap (λ (b : Bool). watch_given b (lens x y) (timed_with (lens x y) (told_of call a x.end.closing.state) (watch_of x y))) (only_polls_give x.policy x.end y.given call a refl s.answer)
         ∙ ap (λ (b : Bool). watch_moment b x.terms (came_with (lens x y) (told_of call a x.end.closing.state) (watch_of x y))) (untimely x.end.closing.state call refl)
         ∙ ap (λ (j : Intake). with_delivery x.terms (watch_of x y) x.end.closing.state delivery j)
-        (ap (λ (i : Intake). and_told x.policy y.final (told_of call a x.end.closing.state) i) (watched_intake (lens x y) x.told (first_watch x.final x.began x.initial_rtt)) ∙ sym (came_more x y call a))
+        (ap (λ (i : Intake). and_told x.policy y.final (told_of call a x.end.closing.state) i) (watched_intake (lens x y) x.told (first_watch x.final x.began x.initial_rtt x.initial_delay)) ∙ sym (came_more x y call a))
 
     at : BegunAt (λ q. IsPending x.end q) (watch_of x y).flight.flying (watch_of x y).flight.acked r.frames (seen_of x y call a).behind.flight.flying (seen_of x y call a).behind.flight.acked (called x y.given call a).end.streams (called x y.given call a).end.waiting.frames
     at = subst (λ (v : Watch). BegunAt (λ q. IsPending x.end q) (watch_of x y).flight.flying (watch_of x y).flight.acked r.frames v.flight.flying v.flight.acked (called x y.given call a).end.streams (called x y.given call a).end.waiting.frames) (sym behind) r.begins
@@ -590,7 +607,7 @@ timeout_begins x y now a s = left_of (Caused x y call a) (called x y.given call 
 -- a poll
 poll_begins : (x y : Party) (now : ℕ) (a : Answer) → Stepped x y (calls.Poll now) a → StreamsBegin x y (calls.Poll now) a
 poll_begins x y now a s = polled_left (Caused x y call a) x.policy x.end now (watch_of x y).flight.flying seen_waits.tells.waits
-    (λ some u among c bears. inr (inr (inr (record { polls = refl; waited = subst (λ (n : ℕ). 0 < n) (sym seen_waits.probes) some; sent = u; flies = among; bears = bears }))))
+    (λ some u among c bears. inr (inr (inr (record { polls = refl; waited = subst (λ (n : ℕ). 0 < n) (sym seen_waits.probes) some; sent = u; flies = among; bears = bears })))) (inr (inl refl))
     (pend_more (λ q. IsPending x.end q) (Caused x y call a) x.end.streams x.end.waiting.frames (λ q is. inl is) (pends_start x y s.gives)) s.opened
   where
     call : Call
@@ -604,6 +621,7 @@ asked_is : (x y : Party) (call : Call) (a : Answer) (c : Control) → call_asks 
 asked_is x y call a (LimitOf AllData) is = or_left (call_asks call a (LimitOf AllData)) (brings brings_data (seen_of x y call a)) is
 asked_is x y call a (LimitOf (StreamCount dir)) is = or_left (call_asks call a (LimitOf (StreamCount dir))) (brings may_end (seen_of x y call a)) is
 asked_is x y call a (NewId number) is = cc
+asked_is x y call a Request is = cc
 asked_is x y call a (Retirement number) is = or_left (uses_next call a) (brings is_new_id (seen_of x y call a)) is
 asked_is x y call a c is = is
 
@@ -618,6 +636,7 @@ other_begins x y call a apart silent other s = go (is_on_streams call) refl
     almost : (q : Thing) → IsPending x.end q → Almost x y call a q
     almost Ack is = inl is
     almost Ping is = inl is
+    almost Immediate is = inl is
     almost Challenge is = inl is
     almost Response is = inl is
     almost Probe is = inl is
@@ -639,6 +658,7 @@ other_begins x y call a apart silent other s = go (is_on_streams call) refl
 begins : (x y : Party) (call : Call) (a : Answer) → Stepped x y call a → (q : Thing) → IsPending (called x y.given call a).end q → Caused x y call a q
 begins x y call a s Ack is = ack_begins x y call a s is
 begins x y call a s Ping is = ping_begins x y call a s is
+begins x y call a s Immediate is = immediate_begins x y call a s is
 begins x y call a s Challenge is = (signals_begin x y call a s).0 is
 begins x y call a s Response is = (signals_begin x y call a s).1 is
 begins x y call a s Probe is = probe_begins x y call a s is
@@ -674,21 +694,27 @@ flag_gone x y now a s k there set = both_ways (flag k (polled x.policy x.end now
 gone_waits : (x y : Party) (call : Call) (a : Answer) → Stepped x y call a → (q : Thing) → HasGone (sents_by x.policy x.end call a) q → IsPending (called x y.given call a).end q → ⊥
 gone_waits x y call a s Ack there due = both_ways (called x y.given call a).end.acknowledging.due (call_answered (λ (p : Pending) (o : Option ℕ). p.due ≡ false) (λ p. refl) x.policy x.end y.given call a (packets x y s.gives).owes s.answer s.served there) due
 gone_waits x y (calls.Poll now) a s Ping there set = both_ways (stands is_ping (sents_by x.policy x.end (calls.Poll now) a))
-    (ap (λ (b : Answer). stands is_ping (sent_if (gave b) (sent_by x.policy x.end now))) (poll_answer x.policy x.end now a s.answer s.served) ∙ (polled_pinged x.policy x.end now s.opened set).none) there
+    (ap (λ (b : Answer). stands is_ping (sent_if (gave b) (sent_by x.policy x.end now))) (poll_answer x.policy x.end now a s.answer s.served) ∙ (polled_pinged of_ping x.policy x.end now s.opened set).none) there
+gone_waits x y (calls.Poll now) a s Immediate there set = both_ways (stands is_immediate_ack (sents_by x.policy x.end (calls.Poll now) a))
+    (ap (λ (b : Answer). stands is_immediate_ack (sent_if (gave b) (sent_by x.policy x.end now))) (poll_answer x.policy x.end now a s.answer s.served) ∙ (polled_pinged of_immediate x.policy x.end now s.opened set).none) there
 gone_waits x y (calls.Poll now) a s Challenge there set = flag_gone x y now a s challenge there set
 gone_waits x y (calls.Poll now) a s Response there set = flag_gone x y now a s response there set
 gone_waits x y (calls.Poll now) a s (Frame (LimitOf AllData)) there set = flag_gone x y now a s all there set
 gone_waits x y (calls.Poll now) a s (Frame (LimitOf (StreamCount dir))) there set = flag_gone x y now a s (counts (is_one_way dir)) there (ap (λ (d : Dir). of d (called x y.given (calls.Poll now) a).end.waiting.frames.max_stream_id) (dir_same dir) ∙ set)
 gone_waits x y (calls.Poll now) a s (Frame Blocked) there set = flag_gone x y now a s blocked there set
+gone_waits x y (calls.Poll now) a s (Frame Request) there set = both_ways (polled x.policy x.end now).end.waiting.frames.ack_frequency
+    (polled_request x.policy x.end now s.opened (ap (λ (b : Answer). stands is_ack_frequency (sent_if (gave b) (sent_by x.policy x.end now))) (sym (poll_answer x.policy x.end now a s.answer s.served)) ∙ there)) set
 gone_waits x y (calls.Poll now) a s (Byte id o) there set = (polled_goes x.policy x.end now s.opened).0 id o (subst (λ (b : Answer). HoldsOffset (sent_if (gave b) (sent_by x.policy x.end now)) id o) (poll_answer x.policy x.end now a s.answer s.served) there) set
 gone_waits x y (calls.Poll now) a s (Fin id) there set = (polled_goes x.policy x.end now s.opened).1 id (subst (λ (b : Answer). HoldsEnd (sent_if (gave b) (sent_by x.policy x.end now)) id) (poll_answer x.policy x.end now a s.answer s.served) there) set
 gone_waits x y (calls.Poll now) a s q there set = absurd there
 gone_waits x y call a s Ping there set = cc
+gone_waits x y call a s Immediate there set = cc
 gone_waits x y call a s Challenge there set = cc
 gone_waits x y call a s Response there set = cc
 gone_waits x y call a s (Frame (LimitOf AllData)) there set = cc
 gone_waits x y call a s (Frame (LimitOf (StreamCount dir))) there set = cc
 gone_waits x y call a s (Frame Blocked) there set = cc
+gone_waits x y call a s (Frame Request) there set = cc
 gone_waits x y call a s (Byte id o) there set = there.among
 gone_waits x y call a s (Fin id) there set = there.among
 gone_waits x y call a s q there set = absurd there
@@ -699,6 +725,7 @@ gone_waits x y call a s q there set = absurd there
 reads_pends : (control : window.Control) (heard : Heard) (call : Call) (e : End) (q : Thing) → IsPending (reads_window control heard call e) q → IsPending e q
 reads_pends control heard (calls.Poll now) e Ack is = is
 reads_pends control heard (calls.Poll now) e Ping is = is
+reads_pends control heard (calls.Poll now) e Immediate is = is
 reads_pends control heard (calls.Poll now) e Challenge is = is
 reads_pends control heard (calls.Poll now) e Response is = is
 reads_pends control heard (calls.Poll now) e Probe is = is
@@ -715,7 +742,7 @@ reads_closing control heard call e = refl
 
 -- what the observer knows behind a call
 watched_behind : (x y : Party) (call : Call) (a : Answer) → watch_of (called x y.given call a) y ≡ (seen_of x y call a).behind
-watched_behind x y call a = folded_more (watch_told (lens x y)) x.told (told_of call a x.end.closing.state) (first_watch x.final x.began x.initial_rtt)
+watched_behind x y call a = folded_more (watch_told (lens x y)) x.told (told_of call a x.end.closing.state) (first_watch x.final x.began x.initial_rtt x.initial_delay)
 
 -- a call at one end leaves the other
 other_stays : (side : Side) (w : World) (e : End) (ds : List (List ℕ)) (control : window.Control) (heard : Heard) → end_at (other_side side) (changed side w e ds control heard) ≡ end_at (other_side side) w
@@ -760,10 +787,10 @@ module _ (r : Run) (end : World) (honest : IsHonest r) (run : IsRun r end) (side
       ∙ ap (λ (ts : List Told). until r side i ++ ts) (told_here side (state_at r side i) call a ∙ ap (λ (z : State). told_of call a z ∷ []) state)
 
   -- what an observer wants and owes, by what was told
-  wants_same : (told : List Told) → folded (wants_told (lens_of r side)) told (no_wants (watch_from (end_at side r.start) (given_of r side))) ≡ folded (wants_told (lens x y)) told (no_wants (first_watch x.final x.began x.initial_rtt))
+  wants_same : (told : List Told) → folded (wants_told (lens_of r side)) told (no_wants (watch_from (end_at side r.start) (given_of r side))) ≡ folded (wants_told (lens x y)) told (no_wants (first_watch x.final x.began x.initial_rtt x.initial_delay))
   wants_same told = refl
 
-  debt_same : (debt r side i).arrivals ≡ (debt_of x y).arrivals
+  debt_same : (debt r side i).deadlines ≡ (debt_of x y).deadlines
   debt_same = refl
 
   opened_stepped : (called x y.given call a).end.closing.state ≡ states.Open → Stepped x y call a
@@ -771,29 +798,28 @@ module _ (r : Run) (end : World) (honest : IsHonest r) (run : IsRun r end) (side
 
   -- what is seen of these
   abbrev seen_with : State → Watch → Watch → List Packet → List Packet → List ℕ → Option ℕ → Seen
-  seen_with z before behind unanswered unanswered_behind arrivals alive = record {
+  seen_with z before behind unanswered unanswered_behind deadlines alive = record {
     told = until r side i;
     now = record { call = call; answer = a; state = z };
     before = before;
     behind = behind;
     unanswered = unanswered;
     unanswered_behind = unanswered_behind;
-    arrivals = arrivals;
+    deadlines = deadlines;
     alive = alive;
-    terms = terms_of (end_at side r.start);
   }
 
   -- what is seen in the run is seen so
   seen_same : seen_at r side i call a ≡ seen_of x y call a
   seen_same =
-      ap (λ z. seen_with z (watch r side i) (watch r side (suc i)) (wants r side i).packets (wants r side (suc i)).packets (debt r side i).arrivals (wants r side i).alive) state
-      ∙ ap (λ b. seen_with x.end.closing.state b (watch r side (suc i)) (wants r side i).packets (wants r side (suc i)).packets (debt r side i).arrivals (wants r side i).alive) h.seen
-      ∙ ap (λ b. seen_with x.end.closing.state (watch_of x y) b (wants r side i).packets (wants r side (suc i)).packets (debt r side i).arrivals (wants r side i).alive) (h.seen_behind ∙ watched_behind x y call a)
-      ∙ ap (λ ps. seen_with x.end.closing.state (watch_of x y) v.behind ps (wants r side (suc i)).packets (debt r side i).arrivals (wants r side i).alive) (ap (λ q. q.packets) (wants_same (until r side i)))
-      ∙ ap (λ ps. seen_with x.end.closing.state (watch_of x y) v.behind (wants_of x y).packets ps (debt r side i).arrivals (wants r side i).alive)
+      ap (λ z. seen_with z (watch r side i) (watch r side (suc i)) (wants r side i).packets (wants r side (suc i)).packets (debt r side i).deadlines (wants r side i).alive) state
+      ∙ ap (λ b. seen_with x.end.closing.state b (watch r side (suc i)) (wants r side i).packets (wants r side (suc i)).packets (debt r side i).deadlines (wants r side i).alive) h.seen
+      ∙ ap (λ b. seen_with x.end.closing.state (watch_of x y) b (wants r side i).packets (wants r side (suc i)).packets (debt r side i).deadlines (wants r side i).alive) (h.seen_behind ∙ watched_behind x y call a)
+      ∙ ap (λ ps. seen_with x.end.closing.state (watch_of x y) v.behind ps (wants r side (suc i)).packets (debt r side i).deadlines (wants r side i).alive) (ap (λ q. q.packets) (wants_same (until r side i)))
+      ∙ ap (λ ps. seen_with x.end.closing.state (watch_of x y) v.behind (wants_of x y).packets ps (debt r side i).deadlines (wants r side i).alive)
       (ap (λ (ts : List Told). (folded (wants_told (lens_of r side)) ts (no_wants (watch_from (end_at side r.start) (given_of r side)))).packets) told_more ∙ ap (λ q. q.packets) (wants_same (called x y.given call a).told))
       ∙ ap (λ ns. seen_with x.end.closing.state (watch_of x y) v.behind (wants_of x y).packets (wants_of (called x y.given call a) y).packets ns (wants r side i).alive) debt_same
-      ∙ ap (λ o. seen_with x.end.closing.state (watch_of x y) v.behind (wants_of x y).packets (wants_of (called x y.given call a) y).packets (debt_of x y).arrivals o) (ap (λ q. q.alive) (wants_same (until r side i)))
+      ∙ ap (λ o. seen_with x.end.closing.state (watch_of x y) v.behind (wants_of x y).packets (wants_of (called x y.given call a) y).packets (debt_of x y).deadlines o) (ap (λ q. q.alive) (wants_same (until r side i)))
     where
       v : Seen
       v = seen_of x y call a

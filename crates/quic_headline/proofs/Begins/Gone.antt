@@ -3,7 +3,7 @@ use Rattle.std.proofs.Common.{◌≡◌, ℕ, zero, suc, ◌+◌, ◌-◌, ◌<�
 use Rattle.std.specs.Prelude.{ltb, leb}
 use Rattle.std.specs.Option.{is_none}
 use Rattle.std.proofs.lemmas.Bool.{or_cases, and_from, and_parts, both_ways, not-true, cond_both, cases_eq, lt-ltb, le-leb, leb-true}
-use Rattle.quic_wire.specs.Value.{FrameValue, StreamValue, stream, max_data, max_stream_data, max_streams, datagram, padding, ping, ack, connection_close, application_close}
+use Rattle.quic_wire.specs.Value.{FrameValue, StreamValue, stream, max_data, max_stream_data, max_streams, datagram, padding, ping, ack, connection_close, application_close, immediate_ack, ack_frequency}
 use Rattle.quic_sets.specs.Offsets.{is_within}
 use Rattle.quic_send_buffer.specs.Buffered.{is_lost, is_unsent, written, next_start, sent_end}
 use Rattle.quic_send_buffer.proofs.Buffered.Places.{has_without}
@@ -22,7 +22,7 @@ use Rattle.quic_machine.specs.declared.answers.State.TheVariants as states
 use Rattle.quic_machine.specs.declared.run.Answer.TheVariants as answers
 use Rattle.quic_machine.specs.Policy.{Policy}
 use Rattle.quic_machine.specs.End.{End}
-use Rattle.quic_machine.specs.Poll.{Draft, Leaving, Polled, draft_as, polled, zeros_behind, ack_of}
+use Rattle.quic_machine.specs.Poll.{Draft, Leaving, Polled, draft_as, polled, zeros_behind, ack_of, request_of}
 use Rattle.quic_machine.specs.PollCases.{ready_at, draft_at, may_leave_at}
 use Rattle.quic_machine.specs.DraftLaws.{Writing, by_leave, MayLeave}
 use Rattle.quic_machine.specs.Validation.{challenge_frame, response_frame}
@@ -37,6 +37,11 @@ use Rattle.quic_headline.proofs.Places.Parties.{sent_by, sent_if, sent_as}
 use Rattle.quic_headline.proofs.Places.Told.{in_append}
 use Rattle.quic_headline.proofs.Begins.Halves.{went_fewer}
 use Rattle.quic_headline.proofs.Packets.Sends.{by_sends}
+use Rattle.quic_headline.specs.InFlight.{is_ack_frequency}
+use Rattle.quic_headline.specs.Waited.{stands}
+use Rattle.std.specs.List.{list_any}
+use Rattle.std.proofs.lemmas.List.Folds.{list_any-append}
+use Rattle.quic_headline.proofs.Packets.Entries.{without_asks}
 
 -- ---- a half
 
@@ -154,6 +159,8 @@ draft_rids leaving e may = by_leave AllRid keep leaving e may (λ id h there. re
     keep (puts.stream id h room) d (found, first, some, is, more) i = half_rids d.end.transport.send_fairness d.frames d.end.streams id room h found i
     keep (puts.message m ms) d may i = λ id h there. rid_more d.frames (datagram m) id h (λ g same of_it. cc) (i id h there)
     keep puts.ping d may i = λ id h there. rid_more d.frames ping id h (λ g same of_it. cc) (i id h there)
+    keep puts.immediate d may i = λ id h there. rid_more d.frames immediate_ack id h (λ g same of_it. cc) (i id h there)
+    keep puts.request d may i = λ id h there. rid_more d.frames (ack_frequency (request_of d.end)) id h (λ g same of_it. cc) (i id h there)
     keep (puts.connection_close c) d may i = λ id h there. rid_more d.frames (connection_close c) id h (λ g same of_it. cc) (i id h there)
     keep (puts.application_close c) d may i = λ id h there. rid_more d.frames (application_close c) id h (λ g same of_it. cc) (i id h there)
     keep (puts.probes size) d may i = λ id h there. rid_more d.frames ping id h (λ g same of_it. cc) (i id h there)
@@ -205,3 +212,51 @@ polled_goes p e now = by_sends p e now (λ (q : Polled) (ss : List Sent). q.end.
   closes = λ reason is bound. ((λ opened. cc), λ f goes opened. cc);
   gives = λ is may some. by_going (λ (x : End). x.closing.state ≡ states.Open → Goes (sent_as e now (draft_at e now) ∷ []) x) p (draft_at e now) (λ pacing opened. draft_goes e now);
 })
+
+-- ---- ACK_FREQUENCY
+
+-- where it is one of the frames of a draft, it waits no more
+abbrev IsAsked : Draft → Type 0
+IsAsked d = list_any is_ack_frequency d.frames ≡ true → d.end.waiting.frames.ack_frequency ≡ false
+
+-- one more frame that is none
+other_asked : (d : Draft) (f : FrameValue) (waits : Bool) → is_ack_frequency f ≡ false → waits ≡ d.end.waiting.frames.ack_frequency → IsAsked d → list_any is_ack_frequency (d.frames ++ f ∷ []) ≡ true → waits ≡ false
+other_asked d f waits other same i some = same ∙ i (go (list_any is_ack_frequency d.frames) (ap (λ (b : Bool). list_any is_ack_frequency d.frames || (b || false)) (sym other) ∙ sym (list_any-append is_ack_frequency d.frames (f ∷ [])) ∙ some))
+  where
+    go : (b : Bool) → (b || (false || false)) ≡ true → b ≡ true
+    go true is = refl
+    go false is = cc
+
+-- a frame of control is none
+control_asks : (f : FrameValue) (kind : ControlKind) → kind_of f ≡ Some kind → is_ack_frequency f ≡ false
+control_asks (ack_frequency r) kind is = cc
+control_asks f kind is = refl
+
+asked_writing : Writing IsAsked
+asked_writing (puts.drops kind) d may i = λ some. without_asks kind d.end.waiting.frames ∙ i some
+asked_writing (puts.control kind f) d is i = other_asked d f _ (control_asks f kind is.of_kind) (without_asks kind d.end.waiting.frames) i
+asked_writing puts.request d may i = λ some. refl
+asked_writing p d may i = other_asked d _ _ refl refl i
+
+none_asked : (count : ℕ) → list_any is_ack_frequency (replicate count padding) ≡ false
+none_asked zero = refl
+none_asked (suc count) = none_asked count
+
+-- so a poll that gives it leaves none waiting
+pub polled_request : (p : Policy) (e : End) (now : ℕ) → (polled p e now).end.closing.state ≡ states.Open → stands is_ack_frequency (sent_if (gave (answers.Poll (polled p e now).answer)) (sent_by p e now)) ≡ true → (polled p e now).end.waiting.frames.ack_frequency ≡ false
+polled_request p e now = by_sends p e now (λ (q : Polled) (ss : List Sent). q.end.closing.state ≡ states.Open → stands is_ack_frequency ss ≡ true → q.end.waiting.frames.ack_frequency ≡ false) (record {
+  silent = λ opened some. cc;
+  failed = λ opened some. cc;
+  nothing = λ is none opened some. cc;
+  repeats = λ is. ((λ opened some. cc), λ f goes opened some. let clash : states.Closing ≡ states.Open = sym is ∙ opened in cc);
+  closes = λ reason is bound. ((λ opened some. cc), λ f goes opened some. cc);
+  gives = λ is may some. by_going (λ (x : End). x.closing.state ≡ states.Open → stands is_ack_frequency (sent_as e now (draft_at e now) ∷ []) ≡ true → x.waiting.frames.ack_frequency ≡ false) p (draft_at e now) (λ pacing opened there. drafted (among (list_any is_ack_frequency (draft_at e now).frames) refl there));
+})
+  where
+    drafted : IsAsked (draft_at e now)
+    drafted = by_leave IsAsked asked_writing (ready_at e now).leaving (ready_at e now).end (may_leave_at e now) (λ some. cc)
+
+    among : (b : Bool) → list_any is_ack_frequency (draft_at e now).frames ≡ b → (list_any is_ack_frequency ((draft_at e now).frames ++ replicate (zeros_behind (draft_at e now)) padding) || false) ≡ true → list_any is_ack_frequency (draft_at e now).frames ≡ true
+    among true is there = is
+    among false is there = (let all : (list_any is_ack_frequency (draft_at e now).frames || list_any is_ack_frequency (replicate (zeros_behind (draft_at e now)) padding)) ≡ false = rw (is, none_asked (zeros_behind (draft_at e now))) refl in
+        absurd (both_ways (list_any is_ack_frequency ((draft_at e now).frames ++ replicate (zeros_behind (draft_at e now)) padding) || false) (ap (λ (b : Bool). b || false) (list_any-append is_ack_frequency (draft_at e now).frames (replicate (zeros_behind (draft_at e now)) padding) ∙ all)) there))

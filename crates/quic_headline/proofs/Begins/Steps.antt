@@ -17,7 +17,7 @@ use Rattle.quic_machine.specs.End.{End, with_closing, streams_at, closed_by}
 use Rattle.quic_machine.specs.Tracking.{TrackedPacket}
 use Rattle.quic_machine.specs.Calls.{is_open, closed_in}
 use Rattle.quic_machine.specs.StreamCalls.{IsStreamAnswer, is_on_streams}
-use Rattle.quic_machine.specs.Poll.{Polled, Ready, polled, record_moved}
+use Rattle.quic_machine.specs.Poll.{Polled, Ready, polled, record_moved, request_queued}
 use Rattle.quic_machine.specs.PollCases.{ready_at, draft_at, by_poll_to, may_leave_at}
 use Rattle.quic_machine.specs.InjectionCases.{by_injection}
 use Rattle.quic_machine.specs.LeaveCases.{by_event}
@@ -29,7 +29,7 @@ use Rattle.quic_machine.specs.declared.answers.State.{State}
 use Rattle.quic_headline.proofs.Packets.Apart.{by_next_id}
 use Rattle.quic_headline.specs.Runs.{In, ended_by}
 use Rattle.quic_headline.specs.Observer.{Sent}
-use Rattle.quic_headline.specs.Begins.{Control, Retirement, control_waits, Thing, Byte, Fin, Frame, Bears, uses_next}
+use Rattle.quic_headline.specs.Begins.{Control, Retirement, control_waits, Thing, Byte, Fin, Frame, Bears, uses_next, Request}
 use Rattle.quic_headline.proofs.Packets.Closes.{by_closes}
 use Rattle.quic_headline.proofs.Packets.Probes.{by_ready, ready_state, by_going}
 use Rattle.quic_headline.proofs.Packets.Waited.{IsWaited, AreWaited}
@@ -38,9 +38,10 @@ use Rattle.quic_headline.proofs.Waited.Pings.{ready_still}
 use Rattle.quic_headline.proofs.Begins.Called.{call_asks, call_one}
 use Rattle.quic_headline.proofs.Begins.Halves.{Any, AllPend, pend_kept, pends_more}
 use Rattle.quic_headline.proofs.Begins.OnStreams.{calls_pend}
-use Rattle.quic_headline.proofs.Begins.Walk.{PendsAt, Pends, Sends, moved_pend, draft_pends}
+use Rattle.quic_headline.proofs.Begins.Walk.{PendsAt, Pends, Sends, moved_pend, draft_pends, asked_pend}
 use Rattle.quic_headline.proofs.Begins.Apart.{next_waits, leaves_pend}
 use Rattle.quic_headline.proofs.Begins.Flights.{control_borne}
+use Rattle.quic_headline.proofs.Steps.Probes.{begun}
 
 -- what waits at an end is F
 pub record Left (F : Thing → Type 0) (e : End) : Type 0 where
@@ -65,7 +66,7 @@ waited_back [] (q ∷ ps) p w i = absurd w
 waited_back (s ∷ ss) [] p w i = absurd w
 
 module _ (F : Thing → Type 0) (p : Policy) (e : End) (now : ℕ) (flying : List Sent) (waited : AreWaited flying e.tracking.packets)
-    (probed : 0 < e.tracking.probes → (s : Sent) → In s flying → (c : Control) → Bears s (Frame c) → F (Frame c)) (i : Pends F e) where
+    (probed : 0 < e.tracking.probes → (s : Sent) → In s flying → (c : Control) → Bears s (Frame c) → F (Frame c)) (asked : F (Frame Request)) (i : Pends F e) where
   abbrev g : Ready
   g = ready_at e now
 
@@ -79,8 +80,8 @@ module _ (F : Thing → Type 0) (p : Policy) (e : End) (now : ℕ) (flying : Lis
   ready_pends = go e.tracking.probes refl
     where
       go : (n : ℕ) → e.tracking.probes ≡ n → Pends F g.end
-      go zero none = subst (λ (w : Waiting). PendsAt F g.end.streams w.frames) (sym (ready_still e now none)) (subst (λ (s : StreamsState). PendsAt F s e.waiting.frames) (sym (ready_state e now)) i)
-      go (suc n) some = by_ready (Pends F) e now i i (λ q among. moved (omega (arith, some)) q among) (λ moment pacing discovery x j. j)
+      go zero none = subst (λ (w : Waiting). PendsAt F g.end.streams w.frames) (sym (ready_still e now none)) (subst (λ (s : StreamsState). PendsAt F s (request_queued (begun e now)).waiting.frames) (sym (ready_state e now)) (asked_pend F e.streams e.waiting.frames (request_queued (begun e now)).waiting.frames.ack_frequency asked i))
+      go (suc n) some = by_ready (Pends F) e now i (λ ping immediate x j. j) (λ waits x j. asked_pend F x.streams x.waiting.frames waits asked j) (λ q among. moved (omega (arith, some)) q among) (λ moment pacing discovery x j. j)
 
   pub polled_left : (polled p e now).end.closing.state ≡ states.Open → Left F (polled p e now).end
   polled_left = by_poll_to p e now (λ (q : Polled). q.end.closing.state ≡ states.Open → Left F q.end) (record {

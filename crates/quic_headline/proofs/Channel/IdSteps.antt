@@ -7,7 +7,7 @@ use Rattle.std.specs.List.{list_any, range_with_len}
 use Rattle.std.specs.declared.ops.Range.{Range}
 use Rattle.quic_wire_core.specs.TransportError.{ErrorValue, plain_error, protocol_violation}
 use Rattle.quic_wire_core.specs.declared.shared.IssuedCid.{IssuedCid}
-use Rattle.quic_wire.specs.Value.{FrameValue, AckValue, NewConnectionIdValue, ack, stream, reset_stream, stop_sending, max_data, max_stream_data, max_streams, datagram, path_response, new_connection_id, retire_connection_id}
+use Rattle.quic_wire.specs.Value.{FrameValue, AckValue, NewConnectionIdValue, ack, stream, reset_stream, stop_sending, max_data, max_stream_data, max_streams, datagram, path_response, new_connection_id, retire_connection_id, ack_frequency}
 use Rattle.quic_ids.specs.CidState.{is_wrong, without, retirement_answer}
 use Rattle.quic_ids.specs.CidQueue.{kept_ids, insert_answer}
 use Rattle.quic_ids.specs.declared.cid_queue.InsertError.{InsertError}
@@ -36,7 +36,7 @@ use Rattle.quic_headline.specs.Runs.{In, Packet, Intake}
 use Rattle.quic_headline.specs.Observer.{Sent}
 use Rattle.quic_headline.proofs.Places.Told.{in_append}
 use Rattle.quic_headline.proofs.Packets.Invariant.{AreTracked}
-use Rattle.quic_headline.proofs.Packets.Apart.{by_waits}
+use Rattle.quic_headline.proofs.Packets.Apart.{by_waits, by_frequency}
 use Rattle.quic_headline.proofs.Packets.Delivered.{Arrivals, arrived}
 use Rattle.quic_headline.proofs.Packets.Named.{NamesTaken, Stands, SettlesOn, by_frame, frames_settle}
 use Rattle.quic_headline.proofs.Packets.Ids.{SaysIds, Waits, SentSayIds, steps_wait, on_streams_wait, call_waits, in_set}
@@ -169,6 +169,7 @@ module _ (used issued least low : ℕ) where
       go : (b : Bool) → GoAt (validated_if b e)
       go true = i
       go false = i
+  apart_go (ack_frequency r) e apart comes i = by_frequency GoAt r e (λ threshold reordering frequency. i)
   apart_go f e apart comes i = i
 
   -- any frame
@@ -245,6 +246,7 @@ module _ (used issued least low : ℕ) where
       go : (b : Bool) → (let x : End = validated_if b e in Waits (IsIssued x.ids.own.issued) (IsBelow x.ids.peer.active) x.waiting.frames)
       go true = i.waits
       go false = i.waits
+  apart_waits (ack_frequency r) e apart comes i = by_frequency (λ (x : End). Waits (IsIssued x.ids.own.issued) (IsBelow x.ids.peer.active) x.waiting.frames) r e (λ threshold reordering frequency. i.waits)
   apart_waits f e apart comes i = i.waits
 
   -- ids are drawn

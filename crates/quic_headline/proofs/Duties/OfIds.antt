@@ -13,7 +13,7 @@ use Rattle.std.proofs.lemmas.List.Folds.{list_any-append}
 use Rattle.std.proofs.lemmas.Option.{same_Some}
 use Rattle.quic_wire_core.specs.TransportError.{ErrorValue}
 use Rattle.quic_wire_core.specs.declared.shared.IssuedCid.{IssuedCid}
-use Rattle.quic_wire.specs.Value.{FrameValue, AckValue, NewConnectionIdValue, ack, stream, reset_stream, stop_sending, max_data, max_stream_data, max_streams, datagram, new_connection_id, retire_connection_id, path_response, padding}
+use Rattle.quic_wire.specs.Value.{FrameValue, AckValue, NewConnectionIdValue, ack, stream, reset_stream, stop_sending, max_data, max_stream_data, max_streams, datagram, new_connection_id, retire_connection_id, path_response, padding, ack_frequency}
 use Rattle.quic_wire.specs.declared.frame.NewConnectionId.{NewConnectionId}
 use Rattle.quic_ids.specs.CidState.{OwnIds, is_in, below, without, is_wrong, after_retirement, retirement_answer}
 use Rattle.quic_ids.specs.CidQueue.{PeerIds, insert_answer, after_insert, after_accepted, retires_active, exceeds, left_by, first_used, known_with, with_cid, brought}
@@ -55,7 +55,7 @@ use Rattle.quic_headline.proofs.Packets.Growth.{in_more}
 use Rattle.quic_headline.proofs.Packets.Invariant.{AreTracked}
 use Rattle.quic_headline.proofs.Packets.Closes.{by_closes}
 use Rattle.quic_headline.proofs.Packets.Owing.{Owes, sent_fine}
-use Rattle.quic_headline.proofs.Packets.Apart.{by_waits}
+use Rattle.quic_headline.proofs.Packets.Apart.{by_waits, by_frequency}
 use Rattle.quic_headline.proofs.Packets.Probes.{may_leave}
 use Rattle.quic_headline.proofs.Packets.Delivered.{Arrivals, arrived}
 use Rattle.quic_headline.proofs.Packets.Named.{NamesTaken, Stands, by_frame, frame_fewer}
@@ -298,6 +298,7 @@ module _ (took : List Packet) where
       go : (b : Bool) → IdOwed what (validated_if b e).ids → Or what e (validated_if b e)
       go true owes = inl owes
       go false owes = inl owes
+  apart_owed what (ack_frequency r) e apart none owed = by_frequency (λ (x : End). IdOwed what x.ids → Or what e x) r e (λ threshold reordering frequency owes. inl owes) owed
   apart_owed what f e apart none owed = inl owed
 
   -- any frame

@@ -7,7 +7,7 @@ use Rattle.std.specs.declared.ops.Range.{Range}
 use Rattle.std.proofs.lemmas.Bool.{and_parts, ltb-true}
 use Rattle.quic_wire_core.specs.TransportError.{ErrorValue}
 use Rattle.quic_wire_core.specs.declared.shared.IssuedCid.{IssuedCid}
-use Rattle.quic_wire.specs.Value.{FrameValue, ack, stream, reset_stream, stop_sending, max_data, max_stream_data, max_streams, datagram, new_connection_id, retire_connection_id, path_response}
+use Rattle.quic_wire.specs.Value.{FrameValue, ack, stream, reset_stream, stop_sending, max_data, max_stream_data, max_streams, datagram, new_connection_id, retire_connection_id, path_response, ack_frequency}
 use Rattle.quic_wire.specs.Writing.{Fits}
 use Rattle.quic_ids.specs.CidState.{OwnIds, is_wrong, without, after_retirement, retirement_answer}
 use Rattle.quic_ids.specs.CidQueue.{kept_ids, insert_answer}
@@ -31,6 +31,7 @@ use Rattle.quic_headline.proofs.Places.Told.{in_append}
 use Rattle.quic_headline.proofs.Halves.Small.{IsSmallNumber}
 use Rattle.quic_headline.proofs.Halves.KnownIds.{AreWritten, range_in, range_below, retires_written, next_retires_written}
 use Rattle.quic_headline.proofs.Halves.Pile.{NothingElse}
+use Rattle.quic_headline.proofs.Packets.Apart.{by_frequency}
 
 -- ---- lists
 
@@ -100,7 +101,6 @@ retire_else p r little n = record {
     | inl old ↦ n.retired m old
     | inr new ↦ (let below = range_below r m new in omega arith)
   ];
-  no_frequency = n.no_frequency;
 }
 
 -- one is once more
@@ -115,7 +115,6 @@ late_else p number small n = go (nat_le most_retirements (length p.retire_cids) 
         | inl old ↦ n.retired m old
         | inr new ↦ elim new [ inl same ↦ omega arith | inr none ↦ absurd none ]
       ];
-      no_frequency = n.no_frequency;
     }
 
 -- an id is issued
@@ -129,7 +128,6 @@ issued_else e small n = record {
     ]
   ];
   retired = n.retired;
-  no_frequency = n.no_frequency;
 }
 
 -- ids are drawn
@@ -137,7 +135,6 @@ pub drawn_else : (words : ℕ → ℕ) (e : End) → NothingElse e.waiting.frame
 drawn_else words e n = record {
   ids = places_told e.ids.undrawn (words_behind (words_drawn e) words) (record { living = e.ids.living; waiting = e.waiting.frames.new_cids }) n.ids;
   retired = n.retired;
-  no_frequency = n.no_frequency;
 }
 
 -- messages are dropped
@@ -200,6 +197,7 @@ apart_else (path_response token) e apart small w n = go (is_asked e.validation.c
     go : (b : Bool) → NothingElse (validated_if b e).waiting.frames
     go true = n
     go false = n
+apart_else (ack_frequency r) e apart small w n = by_frequency (λ (x : End). NothingElse x.waiting.frames) r e (λ threshold reordering frequency. n)
 apart_else f e apart small w n = n
 
 -- ---- a call

@@ -5,7 +5,7 @@ use Rattle.std.specs.Prelude.{nat_lt, if◌then◌else◌}
 use Rattle.std.specs.declared.ops.Range.{Range}
 use Rattle.quic_wire_core.specs.declared.shared.EcnCodepoint.{EcnCodepoint}
 use Rattle.quic_wire_core.specs.TransportError.{ErrorValue}
-use Rattle.quic_wire.specs.Value.{FrameValue, ack, datagram, path_response, new_connection_id, retire_connection_id}
+use Rattle.quic_wire.specs.Value.{FrameValue, ack, datagram, path_response, new_connection_id, retire_connection_id, ack_frequency}
 use Rattle.quic_ids.specs.CidState.{retirement_answer}
 use Rattle.quic_ids.specs.CidQueue.{insert_answer}
 use Rattle.quic_ids.specs.declared.cid_queue.InsertError.{InsertError}
@@ -35,7 +35,7 @@ use Rattle.quic_machine.specs.Steps as steps
 use Rattle.quic_machine.specs.CallCases.{is_delivery, is_poll, is_timeout, Plain, by_plain_call}
 use Rattle.quic_machine.specs.CallCases as cases
 use Rattle.quic_headline.specs.Waited.{is_path_response}
-use Rattle.quic_headline.proofs.Packets.Apart.{by_waits}
+use Rattle.quic_headline.proofs.Packets.Apart.{by_waits, by_frequency}
 
 -- whether the address of an end's peer is validated, what the peer is asked, and when it is asked
 -- anew
@@ -114,6 +114,7 @@ module _ (Q : Standing → Type 0) where
       go : (b : Bool) → Q (answered_if b (standing e)) → Of (validated_if b e)
       go true j = j
       go false j = j
+  frame_stands (ack_frequency r) e told other = by_frequency Of r e (λ threshold reordering frequency. other refl)
   frame_stands f e told other = other refl
 
   -- the next id of the peer is used, or it isn't
@@ -129,7 +130,7 @@ module _ (Q : Standing → Type 0) where
   pub taken_stands : (n : ℕ) (asking : Bool) (mark : Option EcnCodepoint) (e : End) → Of e → Of (after_taken n asking mark e)
   taken_stands n asking mark e i = go (packet_starts_wait (with_due (is_congested mark) (after_insert e.acknowledging n e.closing.clock)) n asking e.numbers.opened)
     where
-      go : (b : Bool) → Q (record (standing e) { due = (if b then with_ack_timer e.timers (Some (ack_due e.closing.clock)) else e.timers).path_validation })
+      go : (b : Bool) → Q (record (standing e) { due = (if b then with_ack_timer e.timers (Some (ack_due e.frequency.own_delay e.closing.clock)) else e.timers).path_validation })
       go true = i
       go false = i
 

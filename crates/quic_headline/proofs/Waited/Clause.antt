@@ -5,7 +5,7 @@ use Rattle.std.specs.List.{list_any}
 use Rattle.std.proofs.lemmas.Bool.{or_left, or_right, both_ways, lt-ltb}
 use Rattle.quic_wire_core.specs.declared.stream_id.Side.{Side}
 use Rattle.quic_wire_core.specs.StreamId.{other_side}
-use Rattle.quic_wire.specs.Value.{FrameValue, padding, ping, stream, max_data, max_streams, data_blocked, path_challenge, path_response}
+use Rattle.quic_wire.specs.Value.{FrameValue, padding, ping, stream, max_data, max_streams, data_blocked, path_challenge, path_response, immediate_ack}
 use Rattle.quic_streams_state.specs.declared.state.StreamsState.{StreamsState}
 use Rattle.quic_machine.specs.declared.run.Call.TheVariants as calls
 use Rattle.quic_machine.specs.declared.run.Answer.{Answer}
@@ -13,7 +13,7 @@ use Rattle.quic_machine.specs.declared.run.Answer.TheVariants as answers
 use Rattle.quic_machine.specs.Ids.{Ids}
 use Rattle.quic_machine.specs.Parts.{Waiting, current_mtu}
 use Rattle.quic_machine.specs.End.{End, streams_at}
-use Rattle.quic_machine.specs.Poll.{asking, zeros_behind, whole, alone, probe, nothing, Leaving, goes_as, goes, draft_as, polled, closing}
+use Rattle.quic_machine.specs.Poll.{asking, zeros_behind, whole, alone, probe, nothing, Leaving, goes_as, goes, draft_as, polled, closing, request_queued}
 use Rattle.quic_machine.specs.DraftLaws.{HasRoom}
 use Rattle.quic_machine.specs.PollCases.{ready_at, ready_leaves, draft_at, frames_at, may_leave_at, ready_closes_not}
 use Rattle.quic_machine.specs.Machine.{World, policy_at, end_at}
@@ -46,10 +46,11 @@ use Rattle.quic_headline.proofs.Settled.Words.{Settling}
 use Rattle.quic_headline.proofs.Settled.Carried.{known_of}
 use Rattle.quic_headline.proofs.Settled.Group.{Open, acks, told_so}
 use Rattle.quic_headline.proofs.Settled.Clause.{Held, held}
-use Rattle.quic_headline.proofs.Waited.Flags.{Flag, all, counts, blocked, challenge, response, says, flag, draft_said}
+use Rattle.quic_headline.proofs.Waited.Flags.{Flag, all, counts, blocked, challenge, response, says, flag, draft_said, asked_flag}
 use Rattle.quic_headline.proofs.Waited.Pings.{ready_still}
 use Rattle.quic_headline.proofs.Waited.Drafts.{IsUrged, silent_acks, Brings, whole_brings}
 use Rattle.quic_headline.proofs.Waited.Group.{IsWanted, wants_of, wants_watch, Wanting, wanting_group}
+use Rattle.quic_headline.proofs.Steps.Probes.{begun}
 
 -- ---- frames
 
@@ -77,6 +78,7 @@ module _ (w : Wants) (e : End) (i : IsWanted w e) where
   -- so a frame waited that brings something, and says what waits
   frame_waited : (f : FrameValue) → Brings w.watch.flight.acked e f → ((k : Flag) → says k f ≡ true → flag k e.waiting ≡ true) → FrameWaited w f
   frame_waited ping brings waits = i.pinged brings
+  frame_waited immediate_ack brings waits = i.hastened brings
   frame_waited (stream f) brings waits = brings
   frame_waited (max_data limit) brings waits = unsaid all (waits all refl)
   frame_waited (max_streams f) brings waits = unsaid (counts f.one_way) (waits (counts f.one_way) (same f.one_way))
@@ -181,23 +183,24 @@ module _ (r : Run) (end : World) (honest : IsHonest r) (run : IsRun r end) (side
     -- where no probe of losses waits, each of its frames waited
     frames_waited : e.tracking.probes ≡ 0 → (ready_at e now).leaving ≡ whole → (f : FrameValue) → In f gave.sent.frames → FrameWaited (wants r side i) f
     frames_waited none is f among = elim (in_append f (draft_at e now).frames (replicate (zeros_behind (draft_at e now)) padding) (subst (λ (s : Sent). In f s.frames) (sym same) among)) [
-      | inl here ↦ frame_waited (wants r side i) e wanted f (brings (ap (λ (v : Waiting). v.signals.ping) still) here) (λ k said. (
+      | inl here ↦ frame_waited (wants r side i) e wanted f (brings (ap (λ (v : Waiting). v.signals.ping) still) (ap (λ (v : Waiting). v.signals.immediate) still) here) (λ k said. (
           let waited : flag k z.waiting ≡ true = (draft_said z.waiting k (ready_at e now).leaving z (may_leave_at e now) refl).waited (says_in k f (draft_at e now).frames here said) in
-          ap (flag k) (sym still) ∙ waited))
+          sym (asked_flag k e.waiting _) ∙ ap (flag k) (sym still) ∙ waited))
       | inr behind ↦ subst (FrameWaited (wants r side i)) (sym (in_padding f (zeros_behind (draft_at e now)) behind)) tt
     ]
       where
-        still : z.waiting ≡ e.waiting
+        still : z.waiting ≡ (request_queued (begun e now)).waiting
         still = ready_still e now none
 
         settled : Open x.sents (wrote x.told) (told_so x) (acks x y) z
         settled = subst (λ (s : StreamsState). Settling (λ id o. HoldsOffset (acks x y) id o) (λ id. HoldsEnd (acks x y) id) (known_of x.sents (acks x y)) (told_so x) (wrote x.told) s) (sym (ready_state e now)) (h.gives.0.1.still gives.opened)
 
-        brings : z.waiting.signals.ping ≡ e.waiting.signals.ping → In f (draft_at e now).frames → Brings (wants r side i).watch.flight.acked e f
-        brings ping_same here = pass f (subst (λ (ss : List Sent). Brings ss z f) (sym acks_are) (whole_brings spells.known spells.spelling x.sents (acks x y) (told_so x) (wrote x.told) z streams_known settled f (subst (λ (l : Leaving). In f (draft_as l z).frames) is here)))
+        brings : z.waiting.signals.ping ≡ e.waiting.signals.ping → z.waiting.signals.immediate ≡ e.waiting.signals.immediate → In f (draft_at e now).frames → Brings (wants r side i).watch.flight.acked e f
+        brings ping_same immediate_same here = pass f (subst (λ (ss : List Sent). Brings ss z f) (sym acks_are) (whole_brings spells.known spells.spelling x.sents (acks x y) (told_so x) (wrote x.told) z streams_known settled f (subst (λ (l : Leaving). In f (draft_as l z).frames) is here)))
           where
             pass : (g : FrameValue) → Brings (wants r side i).watch.flight.acked z g → Brings (wants r side i).watch.flight.acked e g
             pass ping b = sym ping_same ∙ b
+            pass immediate_ack b = sym immediate_same ∙ b
             pass (stream g) b = b
             pass g b = tt
 

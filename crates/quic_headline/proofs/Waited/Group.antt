@@ -24,10 +24,11 @@ use Rattle.quic_machine.specs.declared.run.Answer.TheVariants as answers
 use Rattle.quic_machine.specs.Policy.{Policy}
 use Rattle.quic_machine.specs.Parts.{Waiting}
 use Rattle.quic_machine.specs.End.{End}
-use Rattle.quic_machine.specs.Receive.{asks_in, after_taken, Outcome}
+use Rattle.quic_machine.specs.Receive.{asks_in, after_taken, Outcome, take_frame}
 use Rattle.quic_machine.specs.Poll.{Polled, zeros_behind, polled}
 use Rattle.quic_machine.specs.PollCases.{ready_at, draft_at, frames_at, may_leave_at}
-use Rattle.quic_machine.specs.FrameCases.{begun}
+use Rattle.quic_machine.specs.Steps as steps
+use Rattle.quic_machine.specs.FrameCases.{begun, Settling, named, acked_keeps, frame_keeps, frame_leaves, frames_keep}
 use Rattle.quic_machine.specs.CallCases.{is_delivery, is_poll, is_timeout}
 use Rattle.quic_machine.specs.Machine.{after_call, gave}
 use Rattle.quic_headline.specs.Runs.{Told, Packet, Intake, folded}
@@ -49,12 +50,13 @@ use Rattle.quic_headline.proofs.Places.Steps.{poll_answer}
 use Rattle.quic_headline.proofs.Timers.Still.{was_open}
 use Rattle.quic_headline.proofs.Timers.Watched.{Observed, watch_behind, went_behind, came_before, came_behind, watched_behind}
 use Rattle.quic_headline.proofs.Timers.AckMoments.{asks_same, call_answered}
-use Rattle.quic_headline.proofs.Rest.Standing.{frames_acks, call_leaves}
+use Rattle.quic_headline.proofs.Rest.Standing.{call_leaves}
 use Rattle.quic_headline.proofs.Waited.Marks.{call_due}
-use Rattle.quic_headline.proofs.Waited.Flags.{Flag, says, flag, IsSaid, draft_said, said_padded}
+use Rattle.quic_headline.proofs.Waited.Flags.{Flag, says, flag, IsSaid, draft_said, said_padded, asked_flag}
 use Rattle.quic_headline.proofs.Waited.Alive.{alive_again, again_is, again_none, polled_alive, Timed, timed, wakes_at, past_is, SetBy, none_set, arrivals_set, quiet_alive}
-use Rattle.quic_headline.proofs.Waited.Pings.{ready_still, WaitsStill, polled_pinged, call_pinged}
+use Rattle.quic_headline.proofs.Waited.Pings.{ready_still, WaitsStill, polled_pinged, call_pinged, of_ping, of_immediate, call_hastened}
 use Rattle.quic_headline.proofs.Packets.Sends.{by_sends}
+use Rattle.quic_headline.proofs.Packets.Apart.{apart_acks}
 
 -- ---- what is to be acknowledged
 
@@ -134,6 +136,22 @@ packet_counts false p now n s packets q is asking silent = (
   (let one : count_silent (q ∷ packets) ≡ 1 + count_silent packets = sum_by-cons (λ (p : Packet). cond (not (list_any asks p.frames)) 1 0) q packets ∙ ap (λ (b : Bool). cond (not b) 1 0 + count_silent packets) is in omega arith),
 )
 
+-- frames leave how many are counted
+abbrev SameCounts : End → End → Type 0
+SameCounts e x = (x.acknowledging.asking ≡ e.acknowledging.asking) × (x.acknowledging.silent ≡ e.acknowledging.silent)
+
+settling : (e : End) → Settling (SameCounts e)
+settling e (steps.known n) x i = i
+settling e s x i = i
+
+frame_counts : (e : End) (f : FrameValue) (x : End) → SameCounts e x → SameCounts e (take_frame f x).end
+frame_counts e = frame_keeps (SameCounts e) (record {
+  ack = λ rises a x i. acked_keeps (SameCounts e) (settling e) rises a (named a x) i;
+  on_streams = λ f x on i. frame_leaves (SameCounts e) f x on (λ t. i);
+  apart = λ f x is i. (ap (λ (p : Pending). p.asking) (apart_acks f x is).others ∙ i.0, ap (λ (p : Pending). p.silent) (apart_acks f x is).others ∙ i.1);
+  message = λ m x i. i;
+})
+
 -- each case of it
 arrivals_count : (e : End) (now n : ℕ) (frames : List FrameValue) (i : Intake) (packets : List Packet) → (e.closing.state ≡ states.Open → (0 < e.acknowledging.asking → one_asks packets ≡ true) × (e.acknowledging.silent ≤ count_silent packets))
     → Arrivals e now n frames i (λ (o : Outcome) (j : Intake). Counts packets i o.end j)
@@ -149,8 +167,8 @@ arrivals_count e now n frames i packets was = record {
     left : End
     left = (arrived e now n frames).end
 
-    left_acks : left.acknowledging ≡ record e.acknowledging { runs = left.acknowledging.runs }
-    left_acks = frames_acks frames (begun e now n)
+    left_counts : SameCounts e left
+    left_counts = frames_keep (SameCounts e) (frame_counts e) frames (begun e now n) (refl, refl)
 
     after : Option EcnCodepoint → Pending
     after mark = (after_taken n (asks_in (map Ok frames)) mark left).acknowledging
@@ -160,7 +178,7 @@ arrivals_count e now n frames i packets was = record {
     takes mark old =
         subst (λ (qs : List Packet). (0 < (after mark).asking → one_asks (qs ++ packets) ≡ true) × ((after mark).silent ≤ count_silent (qs ++ packets))) (sym (one_new i n frames))
         (packet_counts (asks_in (map Ok frames)) (with_due (is_congested mark) (after_insert left.acknowledging n left.closing.clock)) left.closing.clock n left.numbers.opened packets (record { number = n; frames = frames }) (sym (asks_same frames))
-        (λ some. old.0 (subst (λ (k : ℕ). 0 < k) (ap (λ (p : Pending). p.asking) left_acks) some)) (subst (λ (k : ℕ). k ≤ count_silent packets) (sym (ap (λ (p : Pending). p.silent) left_acks)) old.1))
+        (λ some. old.0 (subst (λ (k : ℕ). 0 < k) left_counts.0 some)) (subst (λ (k : ℕ). k ≤ count_silent packets) (sym left_counts.1) old.1))
 
 -- ---- a poll
 
@@ -193,7 +211,7 @@ module _ (p : Policy) (e : End) (now : ℕ) (k : Flag) where
 
 -- what the observer of x knows to be wanted
 abbrev pub wants_of : Party → Party → Wants
-wants_of x y = folded (wants_told (lens x y)) x.told (no_wants (first_watch x.final x.began x.initial_rtt))
+wants_of x y = folded (wants_told (lens x y)) x.told (no_wants (first_watch x.final x.began x.initial_rtt x.initial_delay))
 
 -- the watch within it is the observer's
 same_watch : (l : Lens) (told : List Told) (w : Wants) → (folded (wants_told l) told w).watch ≡ folded (watch_told l) told w.watch
@@ -201,12 +219,13 @@ same_watch l [] w = refl
 same_watch l (t ∷ told) w = same_watch l told (wants_told l t w)
 
 pub wants_watch : (x y : Party) → (wants_of x y).watch ≡ watch_of x y
-wants_watch x y = same_watch (lens x y) x.told (no_wants (first_watch x.final x.began x.initial_rtt))
+wants_watch x y = same_watch (lens x y) x.told (no_wants (first_watch x.final x.began x.initial_rtt x.initial_delay))
 
 -- what an open end wants, by what is known to be wanted
 pub record IsWanted (w : Wants) (e : End) : Type 0 where
   pub acks : IsCounted w.packets w.marked e.acknowledging
   pub pinged : e.waiting.signals.ping ≡ true → (w.pinged || w.probed) ≡ true
+  pub hastened : e.waiting.signals.immediate ≡ true → w.probed ≡ true
   -- when it is to be kept alive; never, where none is configured
   pub alive : w.alive ≡ e.timers.keep_alive
   pub untimed : e.transport.keep_alive_interval ≡ None → e.timers.keep_alive ≡ None
@@ -244,7 +263,7 @@ module _ (x y : Party) (call : Call) (a : Answer) (c : Calls Observed x y call a
   -- what is wanted behind the call
   pub wants_next : wants_of next y ≡ wants_behind x.terms.keep_alive t sents came after w
   wants_next =
-      folded_more (wants_told (lens x y)) x.told t (no_wants (first_watch x.final x.began x.initial_rtt))
+      folded_more (wants_told (lens x y)) x.told t (no_wants (first_watch x.final x.began x.initial_rtt x.initial_delay))
       ∙ ap (λ (ss : List Sent). wants_behind x.terms.keep_alive t ss (news w.watch.intake after.intake) after w) (went_behind x y call a c w.watch watched)
       ∙ ap (λ (j : Intake). wants_behind x.terms.keep_alive t sents (news j after.intake) after w) (came_before x y call a c w.watch watched)
       ∙ ap (λ (j : Intake). wants_behind x.terms.keep_alive t sents (news (came_to x y) j) after w) (came_behind x y call a c w.watch watched)
@@ -458,8 +477,8 @@ module _ (x y : Party) (a : Answer) where
       vain : Bool
       vain = probes_in_vain (calls.Poll now) ss w.watch
 
-      left : WaitsStill x.policy x.end now ss
-      left = subst (λ (b : Answer). WaitsStill x.policy x.end now (sent_if (gave b) (sent_by x.policy x.end now))) (sym (poll_answer x.policy x.end now a c.answer c.served)) (polled_pinged x.policy x.end now still set)
+      left : WaitsStill of_ping x.policy x.end now ss
+      left = subst (λ (b : Answer). WaitsStill of_ping x.policy x.end now (sent_if (gave b) (sent_by x.policy x.end now))) (sym (poll_answer x.policy x.end now a c.answer c.served)) (polled_pinged of_ping x.policy x.end now still set)
 
       both : (b : Bool) → b ≡ false → (d : Bool) → d ≡ false → ((wakes_now || w.pinged) || (vain || w.probed)) ≡ true → ((if b then false else (wakes_now || w.pinged)) || (if d then false else (vain || w.probed))) ≡ true
       both true off d is all = cc
@@ -473,6 +492,44 @@ module _ (x y : Party) (a : Answer) where
       (probes_in_vain (calls.Timeout now) [] (wants_of x y).watch) refl still i (woken now c still i) set
   pinged_next call c still i set = other_pinged call (wakes (told_of call a x.end.closing.state) (watch_behind x y call a c (wants_of x y).watch (wants_watch x y)).clock (wants_of x y).alive) (probes_in_vain call [] (wants_of x y).watch) refl still i
       (calm x y call a c still i refl) set
+
+  -- ---- IMMEDIATE_ACK
+
+  -- what is wanted of it behind a poll
+  poll_hastened : (now : ℕ) → (called x y.given (calls.Poll now) a).end.closing.state ≡ states.Open → Calls Observed x y (calls.Poll now) a → IsWanted (wants_of x y) x.end → (called x y.given (calls.Poll now) a).end.waiting.signals.immediate ≡ true
+      → (let ss : List Sent = sent_if (gave a) (sent_by x.policy x.end now) in
+      (if list_any asks_of ss then false else (probes_in_vain (calls.Poll now) ss (wants_of x y).watch || (wants_of x y).probed)) ≡ true)
+  poll_hastened now still c i set = quiet (list_any asks_of ss) left.quiet (elim left.before [
+    | inl was ↦ or_right vain w.probed (i.hastened was)
+    | inr waited ↦ or_left vain w.probed
+        (and_from (nat_lt 0 w.watch.flight.probes) (not (nat_lt 0 (length ss))) (let same = probes x y (calls.Poll now) a c still i in let some = waited.0 in lt-ltb 0 w.watch.flight.probes (omega arith)) (ap (λ (rs : List Sent). not (nat_lt 0 (length rs))) waited.1))
+  ])
+    where
+      w : Wants
+      w = wants_of x y
+
+      ss : List Sent
+      ss = sent_if (gave a) (sent_by x.policy x.end now)
+
+      vain : Bool
+      vain = probes_in_vain (calls.Poll now) ss w.watch
+
+      left : WaitsStill of_immediate x.policy x.end now ss
+      left = subst (λ (b : Answer). WaitsStill of_immediate x.policy x.end now (sent_if (gave b) (sent_by x.policy x.end now))) (sym (poll_answer x.policy x.end now a c.answer c.served)) (polled_pinged of_immediate x.policy x.end now still set)
+
+      quiet : (b : Bool) → b ≡ false → (vain || w.probed) ≡ true → (if b then false else (vain || w.probed)) ≡ true
+      quiet true off all = cc
+      quiet false off all = all
+
+  -- and behind any other call: it waited before
+  other_hastened : (call : Call) → is_poll call ≡ false → (called x y.given call a).end.closing.state ≡ states.Open → IsWanted (wants_of x y) x.end → (called x y.given call a).end.waiting.signals.immediate ≡ true
+      → (probes_in_vain call [] (wants_of x y).watch || (wants_of x y).probed) ≡ true
+  other_hastened call silent still i set = or_right (probes_in_vain call [] (wants_of x y).watch) (wants_of x y).probed (i.hastened (sym (call_hastened x.policy x.end y.given call a silent still) ∙ set))
+
+  hastened_next : (call : Call) (c : Calls Observed x y call a) → (called x y.given call a).end.closing.state ≡ states.Open → IsWanted (wants_of x y) x.end → (called x y.given call a).end.waiting.signals.immediate ≡ true
+      → (let n : Wants = wants_behind x.terms.keep_alive (told_of call a x.end.closing.state) (sents_by x.policy x.end call a) (news (came_to x y) (came_to (called x y.given call a) y)) (watch_behind x y call a c (wants_of x y).watch (wants_watch x y)) (wants_of x y) in n.probed ≡ true)
+  hastened_next (calls.Poll now) c still i set = poll_hastened now still c i set
+  hastened_next call c still i set = other_hastened call refl still i set
 
   gone_next : (call : Call) (c : Calls Observed x y call a) → (called x y.given call a).end.closing.state ≡ states.Open → IsWanted (wants_of x y) x.end → (k : Flag) → stands (says k) (since_behind call (wants_of x y) (sents_by x.policy x.end call a)) ≡ true → flag k (called x y.given call a).end.waiting ≡ false
   gone_next (calls.Poll now) c still i k some = go (nat_lt 0 (wants_of x y).watch.flight.probes) refl some
@@ -498,7 +555,7 @@ module _ (x y : Party) (a : Answer) where
           flips : (b : Bool) → flag k (polled x.policy x.end now).end.waiting ≡ b → b ≡ false
           flips false is = refl
           flips true is = absurd (elim (left.0 is) [
-            | inl ready ↦ both_ways (flag k x.end.waiting) before (sym (ap (flag k) (ready_still x.end now none)) ∙ ready)
+            | inl ready ↦ both_ways (flag k x.end.waiting) before (sym (asked_flag k x.end.waiting _) ∙ sym (ap (flag k) (ready_still x.end now none)) ∙ ready)
             | inr was ↦ both_ways (flag k x.end.waiting) before was
           ])
 
@@ -517,6 +574,7 @@ wanting_step x y call a c i = record { wanted = λ still. kept still (i.wanted (
     kept still j = subst (λ (w : Wants). IsWanted w (called x y.given call a).end) (sym (wants_next x y call a c still j)) (record {
       acks = acks_next x y call a c still j (acknowledges (sents_by x.policy x.end call a)) refl;
       pinged = pinged_next x y a call c still j;
+      hastened = hastened_next x y a call c still j;
       alive = (living_next x y a call c still j).0;
       untimed = (living_next x y a call c still j).1;
       gone = gone_next x y a call c still j;
@@ -525,8 +583,8 @@ wanting_step x y call a c i = record { wanted = λ still. kept still (i.wanted (
 -- over the packets and what observers know of them
 pub wanting_group : Group Observed Wanting
 wanting_group = record {
-  first = λ x y m there here. record { wanted = λ opened. record { acks = record { due = λ due. cc; asking = λ asks. absurd (omega arith); silent = omega arith }; pinged = λ set. cc; alive = refl; untimed = λ none. refl; gone = λ k some. cc } };
+  first = λ x y m there here. record { wanted = λ opened. record { acks = record { due = λ due. cc; asking = λ asks. absurd (omega arith); silent = omega arith }; pinged = λ set. cc; hastened = λ set. cc; alive = refl; untimed = λ none. refl; gone = λ k some. cc } };
   writer = λ x y call a c i back. wanting_step x y call a c i;
   reader = λ x y call a c i back. record { wanted = back.wanted };
-  shows = λ x y here there b back i j. record { wanted = λ opened. (let w = i.wanted opened in record { acks = record { due = w.acks.due; asking = w.acks.asking; silent = w.acks.silent }; pinged = w.pinged; alive = w.alive; untimed = w.untimed; gone = w.gone }) };
+  shows = λ x y here there b back i j. record { wanted = λ opened. (let w = i.wanted opened in record { acks = record { due = w.acks.due; asking = w.acks.asking; silent = w.acks.silent }; pinged = w.pinged; hastened = w.hastened; alive = w.alive; untimed = w.untimed; gone = w.gone }) };
 }
