@@ -123,6 +123,7 @@ waiting_bytes (p ∷ ps) = length p.1 + waiting_bytes ps
 abbrev pub most_parts : ℕ
 most_parts = 2048
 
+-- parts are short that have so many bytes each at most, one with another
 abbrev pub short_part : ℕ
 short_part = 64
 

@@ -30,12 +30,14 @@
 //! - `floor count=`: so many datagrams through a lane alone, in whole hundreds.
 //!
 //! All take `loss=` and `reorder=` (how many of 1000 datagrams are lost, or come late), `seed=`,
-//! `batch=`, how many datagrams an end takes before it may send, and `window=`, how many bytes may
-//! come of a stream before any is read; `hostile`, `floor` and `connections` do nothing with most
-//! of these. A datagram counts as lost that comes too late for its end to tell whether it came
-//! before. A workload, attack or name that it doesn't know ends it with status 2, and so does work
-//! that can't be done: that loses messages or each datagram, takes none at once, writes or reads no
-//! byte at a time, has pieces of more than 65,536 bytes, or leaves more unread than the window.
+//! `batch=`, how many datagrams an end takes before it may send, `window=`, how many bytes may come
+//! of a stream before any is read, and `threshold=`, after how many packets more than that an end
+//! asks the other for an acknowledgement at once, which is 1 where it doesn't ask; `hostile`,
+//! `floor` and `connections` do nothing with most of these. A datagram counts as lost that comes
+//! too late for its end to tell whether it came before. A workload, attack or name that it doesn't
+//! know ends it with status 2, and so does work that can't be done: that loses messages or each
+//! datagram, takes none at once, writes or reads no byte at a time, has pieces of more than 65,536
+//! bytes, or leaves more unread than the window.
 //!
 //! `quic_bench check` does a little of each, and prints counts and a checksum that don't vary.
 #![tactic(auto)]
@@ -71,9 +73,10 @@ use std::time::CpuClock;
 
 /// What `check` does: each line is a task. With 17,000 streams beside an idle one, its id falls out
 /// of the ring in which the others stand.
-const CHECKS: [&str; 39] = [
+const CHECKS: [&str; 40] = [
     "bulk bytes=300001 verify=1",
     "bulk bytes=300001 verify=1 loss=50 reorder=50 seed=7",
+    "bulk bytes=300001 verify=1 threshold=9",
     "bulk bytes=20001 verify=1 write=50 read=50 idle=3",
     "unread bytes=100000 window=100000",
     "duplex bytes=100000",

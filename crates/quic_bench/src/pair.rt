@@ -6,8 +6,8 @@ use crate::fault::Fault;
 use crate::figures::{Figures, Watch};
 use crate::lane::{Datagram, LANE_MTU, Lane, ONE_WAY, earlier};
 use quic_connection::{
-    Config, ConfigError, Connection, DropReason, EcnCodepoint, Ends, Instant, Making, NewReno,
-    NewRenoConfig, Received, TransportConfig,
+    AckFrequencyConfig, Config, ConfigError, Connection, DropReason, EcnCodepoint, Ends, Instant,
+    Making, NewReno, NewRenoConfig, Received, TransportConfig,
 };
 use quic_keys::{PlainHeaderKey, PlainKey, Words, keys_for};
 use quic_wire_core::{ConnectionId, Side, VarInt};
@@ -37,7 +37,7 @@ pub struct Network {
     pub batch: u64,
 }
 
-/// What each end lets the other do.
+/// What each end lets the other do, and asks it to.
 #[derive(Drop)]
 pub struct Limits {
     /// How many streams of each kind the peer may have open at once.
@@ -45,6 +45,9 @@ pub struct Limits {
     /// How many bytes the peer may send on a stream before any is read. Eight times as many may be
     /// written that aren't acknowledged.
     pub window: VarInt,
+    /// How many packets that ask for an acknowledgement the peer is asked to take without one; none
+    /// where it isn't asked.
+    pub threshold: Option<VarInt>,
 }
 
 impl Limits {
@@ -53,6 +56,7 @@ impl Limits {
         Limits {
             streams: self.streams,
             window: self.window,
+            threshold: self.threshold,
         }
     }
 }
@@ -140,6 +144,11 @@ fn transport(limits: &Limits) -> TransportConfig {
     transport.max_concurrent_bidi_streams(limits.streams);
     transport.stream_receive_window(limits.window);
     transport.send_window(limits.window.into_inner().saturating_mul(8));
+    if let Some(threshold) = limits.threshold {
+        let mut frequency = AckFrequencyConfig::default();
+        frequency.ack_eliciting_threshold(threshold);
+        transport.ack_frequency_config(Some(frequency));
+    }
     transport
 }
 

@@ -76,6 +76,9 @@ pub struct Task {
     pub network: Network,
     /// How many bytes may come of a stream before any is read.
     window: u64,
+    /// How many packets that ask for an acknowledgement each end asks the other to take without
+    /// one, if it asks.
+    threshold: Option<u64>,
 }
 
 /// Values by their names, as far as they weren't taken yet.
@@ -230,6 +233,7 @@ impl Task {
             workload,
             network: values.network(),
             window: values.take("window", DEFAULT_WINDOW),
+            threshold: values.given.remove("threshold"),
         };
         if values.given.is_empty() && task.can_be_done() {
             Ok(Some(task))
@@ -256,7 +260,7 @@ impl Task {
         }
     }
 
-    /// What each end lets the other do.
+    /// What each end lets the other do, and asks it to.
     ///
     /// # Errors
     ///
@@ -266,6 +270,10 @@ impl Task {
         Ok(Limits {
             streams: VarInt::from_u64(self.streams())?,
             window: VarInt::from_u64(self.window)?,
+            threshold: match self.threshold {
+                Some(threshold) => Some(VarInt::from_u64(threshold)?),
+                None => None,
+            },
         })
     }
 

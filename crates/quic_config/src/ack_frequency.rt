@@ -6,7 +6,7 @@ use quic_time::Duration;
 use quic_wire_core::VarInt;
 use std::marker::Model;
 
-/// How an end asks its peer to acknowledge (the ACK frequency extension; quinn-proto's
+/// How an end asks its peer to acknowledge (QUIC Acknowledgement Frequency; quinn-proto's
 /// `AckFrequencyConfig`).
 #[derive(Clone, Copy, Debug)]
 pub struct AckFrequencyConfig {
@@ -34,8 +34,9 @@ impl Model for AckFrequencyConfig {
 }
 
 impl AckFrequencyConfig {
-    /// How many ack-eliciting packets the peer may take before it sends an acknowledgement. The
-    /// default is 1 packet.
+    /// How many ack-eliciting packets the peer may take before it sends an acknowledgement: with
+    /// one more it sends one at once, and with 0 for each (QUIC Acknowledgement Frequency, section
+    /// 4). The default is 1 packet.
     pub fn ack_eliciting_threshold(&mut self, value: VarInt) -> &mut Self
         ensures same_reference { result.ghost_name ≡ self.entry.ghost_name }
         ensures value { result.now ≡ record self.old { threshold = value } }
@@ -44,8 +45,9 @@ impl AckFrequencyConfig {
         self
     }
 
-    /// How long the peer may hold an acknowledgement back, a [`Duration`]; `None` leaves it its own
-    /// delay. The default is `None`.
+    /// How long the peer may hold an acknowledgement back, a [`Duration`], of which whole
+    /// microseconds count; `None` leaves it its own delay. Either is cut to the round-trip time, or
+    /// to 25 ms where that is less, and raised to the peer's min_ack_delay. The default is `None`.
     pub fn max_ack_delay(&mut self, value: Option<Duration>) -> &mut Self
         ensures same_reference { result.ghost_name ≡ self.entry.ghost_name }
         ensures value { result.now ≡ record self.old { max_delay = value } }
@@ -54,8 +56,9 @@ impl AckFrequencyConfig {
         self
     }
 
-    /// How far out of order a packet may come before the peer acknowledges at once, in packets. The
-    /// default is 2 packets.
+    /// How far out of order a packet may come before the peer acknowledges at once, in packets:
+    /// with 0 as far as it likes, with 1 not at all (QUIC Acknowledgement Frequency, section 6.2).
+    /// The default is 2 packets.
     pub fn reordering_threshold(&mut self, value: VarInt) -> &mut Self
         ensures same_reference { result.ghost_name ≡ self.entry.ghost_name }
         ensures value { result.now ≡ record self.old { reordering = value } }

@@ -1,8 +1,10 @@
 //! Calls at one end, one behind another, whatever datagrams its peer hands to it.
 ghost use Rattle.std.specs.Prelude.{◌≡◌, ◌++◌, ◌<◌, take, length, vec_len, vec_capacity, IfOk, OnOk, OnErr, true, false};
 ghost use Rattle.quic_machine.specs.End.{policy_of};
-ghost use Rattle.quic_machine.specs.Machine.{gives, reads_window};
+ghost use Rattle.std.specs.List.{list_any};
+ghost use Rattle.quic_machine.specs.Machine.{gives, reads_window, fails};
 ghost use Rattle.quic_headline.specs.Alone.{IsLoneStep, IsNew, FollowsAlone, BytesCame, MessagesCame};
+ghost use Rattle.quic_headline.specs.Keeping.{KeepsWithin};
 ghost use Rattle.quic_connection_parts.specs.Telling.{windows_of};
 ghost use Rattle.quic_connection_parts.specs.Drawn.{words_of};
 ghost use Rattle.quic_connection.specs.Ends.{GoesOn};
@@ -34,7 +36,10 @@ pub struct Alone {
 /// Whatever that peer sent, each byte that a read gives stood at its offset in a STREAM frame of a
 /// datagram that was handed in before and opened, and each message that is received in a DATAGRAM
 /// frame of one: at an end as [`Connection::new`] makes it, as long as it hasn't failed for want
-/// of memory.
+/// of memory. And such an end keeps no more of it than its settings let come: bytes within the
+/// windows, streams within their counts, messages within the receive buffer, 64 ranges of numbers
+/// to acknowledge, and five connection IDs of the peer (RFC 9000, sections 4.1, 4.6, 5.1.1 and
+/// 13.2.3; RFC 9221, section 3).
 pub fn run_alone<H: HeaderKey + Drop, K: PacketKey + Drop, R: Rng + Drop, C: Controller>(
     alloc: Global,
     end: &mut Connection<H, K, R, C>,
@@ -57,10 +62,12 @@ pub fn run_alone<H: HeaderKey + Drop, K: PacketKey + Drop, R: Rng + Drop, C: Con
     ensures messages_come { IsNew end.old.end
         → MessagesCame (policy_of H.protection K.aead K.seal_limit K.refusal_limit (words_of R.stream) end.old) theirs.now
         (take (length result.answers.items) calls.now) result.answers.items }
+    ensures bounded { (new : IsNew end.old.end) → list_any fails result.answers.items ≡ false → KeepsWithin new.settings end.new.end }
 {
     // What the machine keeps at one end alone: laws, which do nothing.
     headline::bytes_come();
     headline::messages_come();
+    headline::keeps_within();
     make_calls(alloc, end, given, theirs, calls)
 }
 

@@ -653,6 +653,7 @@ pub fn run<H: HeaderKey + Drop, K: PacketKey + Drop, R: Rng + Drop, C: Controlle
     headline::asking_goes_where_let();
     headline::datagrams_are_sized();
     headline::probes_pass();
+    headline::probes_hasten();
     headline::window_is_of_history();
     headline::size_is_of_history();
     headline::sizes_move();
@@ -664,6 +665,8 @@ pub fn run<H: HeaderKey + Drop, K: PacketKey + Drop, R: Rng + Drop, C: Controlle
     headline::names_were_taken();
     headline::acks_name_all();
     headline::acks_count_marks();
+    headline::requests_say();
+    headline::requests_go();
     headline::opens_exactly();
     headline::newest_opens();
     headline::loss_timer_quiet();

@@ -1,9 +1,9 @@
 -- How what asks for an acknowledgement goes behind the frames of a payload.
-use Rattle.std.proofs.Common.{◌≡◌, ℕ, ◌+◌, ◌-◌, Bool, true, false, List, [], ◌∷◌, ◌++◌, ◌||◌, length, Option, Some, None, max, refl, sym, ap, inl, inr, ◌∙◌, arith}
+use Rattle.std.proofs.Common.{◌≡◌, ℕ, ◌+◌, ◌-◌, ◌≤◌, Bool, true, false, List, [], ◌∷◌, ◌++◌, ◌||◌, length, Option, Some, None, max, refl, sym, ap, inl, inr, ◌∙◌, arith}
 use Rattle.std.specs.Prelude.{map, nat_lt, if◌then◌else◌}
 use Rattle.std.specs.Option.{is_some}
 use Rattle.std.proofs.lemmas.List.{append_assoc, append-nil, length-append}
-use Rattle.quic_wire.specs.Value.{FrameValue, stream, datagram}
+use Rattle.quic_wire.specs.Value.{FrameValue, ping, immediate_ack, stream, datagram}
 use Rattle.quic_wire.specs.Writing.{spelling, spelled_all}
 use Rattle.quic_retransmits.specs.Retransmits.{nothing_waits}
 use Rattle.quic_streams_state.specs.State.{streams_of}
@@ -11,12 +11,13 @@ use Rattle.quic_streams_state.specs.Control as control
 use Rattle.quic_streams_state.specs.Frames as of_streams
 use Rattle.quic_messages.specs.Messages.{frame_bytes}
 use Rattle.quic_machine.specs.Tracking.{Carried, acked_in, carried_in}
+use Rattle.quic_machine.specs.Parts.{Signals}
 use Rattle.quic_machine.specs.End.{End, with_streams, with_queued}
 use Rattle.quic_paths.specs.Responses.{Response}
 use Rattle.quic_machine.specs.Validation.{path_waits, challenge_frame, response_frame}
-use Rattle.quic_machine.specs.Poll.{Draft, whole, least_by, frame_room, fits, challenge_if, response_if, ping_if, with_challenge_frame, with_response_frame, with_ping_frame, behind_control, with_control_frames, with_message, with_messages_of, with_message_frames, behind_stream, with_stream_frames, with_asking, asking}
-use Rattle.quic_connection_parts.specs.Frames.{control_part, message_part, messages_left, message_frames, stream_part, Content, content, content_at, with_content, challenge_list, response_list, path_frames, path_bytes, challenge_gone, response_gone, paths_sent, ping_list, ping_bytes, end_after_ping_if, pinged, asked_behind_paths, asked}
-use Rattle.quic_connection_parts.proofs.Content.{Marked, marked_both, marked_asks, message_long, content_marked, content_carried}
+use Rattle.quic_machine.specs.Poll.{Draft, whole, least_by, frame_room, fits, challenge_if, response_if, ping_if, immediate_if, request_if, with_challenge_frame, with_response_frame, with_ping_frame, with_immediate_frame, with_frequency_frame, behind_control, with_control_frames, with_message, with_messages_of, with_message_frames, behind_stream, with_stream_frames, request_of, with_asking, asking}
+use Rattle.quic_connection_parts.specs.Frames.{control_part, message_part, messages_left, message_frames, stream_part, Content, content, content_at, with_content, challenge_list, response_list, path_frames, path_bytes, challenge_gone, response_gone, paths_sent, ping_list, ping_bytes, end_after_ping_if, pinged, immediate_list, immediate_bytes, end_after_immediate_if, bare_list, bare_bytes, bare_sent, request_list, request_bytes, end_after_request_if, request_gone, with_request, asked_behind_signals, asked_behind_paths, asked}
+use Rattle.quic_connection_parts.proofs.Content.{Marked, marked_both, marked_asks, message_long, content_marked, content_carried, content_unasked, request_carried}
 
 -- what goes behind the frames of a draft that let its datagram have any size
 abbrev pub behind : Draft → Draft → Draft
@@ -108,32 +109,86 @@ content_goes : (d : Draft) → with_stream_frames (with_message_frames (with_con
 unfolding content_behind content stream_part message_frames control_part
 content_goes d = all_go d (control.control_frames (frame_room d.end) (length d.bytes) d.end.streams d.end.waiting.frames nothing_waits)
 
--- ---- PING, and the others behind it
+-- ---- PING and IMMEDIATE_ACK, and the others behind them
 
-unfoldable pinged_draft : Bool → Draft → Draft
-pinged_draft b d = record { frames = d.frames ++ ping_list b; bytes = d.bytes ++ ping_bytes b; least = d.least; end = end_after_ping_if b d.end }
+-- a draft behind which each goes that waits
+abbrev with_bare : Bool → Bool → Draft → Draft
+with_bare a b d = record {
+  frames = d.frames ++ (ping_list a ++ immediate_list b);
+  bytes = d.bytes ++ (ping_bytes a ++ immediate_bytes b);
+  least = d.least;
+  end = end_after_immediate_if b (end_after_ping_if a d.end);
+}
 
-ping_goes : (b : Bool) (d : Draft) → ping_if b d ≡ pinged_draft b d
-unfolding pinged_draft
-ping_goes true d = refl
-ping_goes false d = rw (append-nil d.frames, append-nil d.bytes) refl
+bare_both : (a b : Bool) (d : Draft) → immediate_if b (ping_if a d) ≡ with_bare a b d
+bare_both true true d =
+    let x : Draft = immediate_if true (ping_if true d) in
+    let fs : (d.frames ++ ping ∷ []) ++ immediate_ack ∷ [] ≡ d.frames ++ (ping ∷ immediate_ack ∷ []) = append_assoc d.frames (ping ∷ []) (immediate_ack ∷ []) in
+    let bs : (d.bytes ++ spelling ping) ++ spelling immediate_ack ≡ d.bytes ++ (spelling ping ++ spelling immediate_ack) = append_assoc d.bytes (spelling ping) (spelling immediate_ack) in
+    ap (λ (z : List FrameValue). record x { frames = z }) fs ∙ ap (λ (z : List ℕ). record x { frames = d.frames ++ (ping ∷ immediate_ack ∷ []); bytes = z }) bs
+bare_both true false d = ap (λ (z : List ℕ). record (ping_if true d) { bytes = d.bytes ++ z }) (sym (append-nil (spelling ping)))
+bare_both false true d = refl
+bare_both false false d = rw (append-nil d.frames, append-nil d.bytes) refl
+
+-- PING leaves IMMEDIATE_ACK waiting
+ping_stays : (a : Bool) (d : Draft) → (ping_if a d).end.waiting.signals.immediate ≡ d.end.waiting.signals.immediate
+ping_stays true d = refl
+ping_stays false d = refl
+
+unfoldable bare_draft : Draft → Draft
+bare_draft d = with_bare d.end.waiting.signals.ping d.end.waiting.signals.immediate d
+
+bare_goes : (d : Draft) → with_immediate_frame (with_ping_frame d) ≡ bare_draft d
+unfolding bare_draft
+bare_goes d =
+    let a : Bool = d.end.waiting.signals.ping in
+    ap (λ (b : Bool). immediate_if b (ping_if a d)) (ping_stays a d) ∙ bare_both a d.end.waiting.signals.immediate d
+
+-- ---- ACK_FREQUENCY, and the others behind it
+
+-- a draft behind which it goes, if it waits
+abbrev with_requested : Bool → Draft → Draft
+with_requested b d = record { frames = d.frames ++ request_list b d.end; bytes = d.bytes ++ request_bytes b d.end; least = d.least; end = end_after_request_if b d.end }
+
+unfoldable request_draft : Draft → Draft
+request_draft d = with_requested d.end.waiting.frames.ack_frequency d
+
+request_goes : (b : Bool) (d : Draft) → request_if b d ≡ with_requested b d
+request_goes true d = refl
+request_goes false d = rw (append-nil d.frames, append-nil d.bytes) refl
+
+-- it goes behind signals
+behind_signals : (d : Draft) → with_stream_frames (with_message_frames (with_control_frames (with_frequency_frame d))) ≡ behind_freely d (asked_behind_signals d.end (length d.bytes))
+unfolding asked_behind_signals content_behind request_draft
+behind_signals d =
+    let b : Bool = d.end.waiting.frames.ack_frequency in
+    let bs : List ℕ = request_bytes b d.end in
+    ap (λ (x : Draft). with_stream_frames (with_message_frames (with_control_frames x))) (request_goes b d)
+    ∙ content_goes (request_draft d)
+    ∙ ap (λ (k : ℕ). content_behind (request_draft d) (content_at (request_gone d.end) k)) (length-append d.bytes bs)
+    ∙ together (content_at (request_gone d.end) (length d.bytes + length bs))
+  where
+    together : (a : Content) → content_behind (request_draft d) a
+        ≡ behind_freely d (record { frames = request_list d.end.waiting.frames.ack_frequency d.end ++ a.frames; bytes = request_bytes d.end.waiting.frames.ack_frequency d.end ++ a.bytes; least = 0; end = with_content (request_gone d.end) a })
+    together a =
+        let fs = append_assoc d.frames (request_list d.end.waiting.frames.ack_frequency d.end) a.frames in
+        let bs = append_assoc d.bytes (request_bytes d.end.waiting.frames.ack_frequency d.end) a.bytes in
+        rw (fs, bs) refl
 
 -- they go behind frames of path validation
-behind_paths : (d : Draft) → with_stream_frames (with_message_frames (with_control_frames (with_ping_frame d))) ≡ behind_freely d (asked_behind_paths d.end (length d.bytes))
-unfolding asked_behind_paths content_behind pinged_draft
+behind_paths : (d : Draft) → with_stream_frames (with_message_frames (with_control_frames (with_frequency_frame (with_immediate_frame (with_ping_frame d))))) ≡ behind_freely d (asked_behind_paths d.end (length d.bytes))
+unfolding asked_behind_paths bare_draft
 behind_paths d =
-    let b : Bool = d.end.waiting.signals.ping in
-    let long : length (d.bytes ++ ping_bytes b) ≡ length d.bytes + length (ping_bytes b) = length-append d.bytes (ping_bytes b) in
-    ap (λ (x : Draft). with_stream_frames (with_message_frames (with_control_frames x))) (ping_goes b d)
-    ∙ content_goes (pinged_draft b d)
-    ∙ ap (λ (k : ℕ). content_behind (pinged_draft b d) (content_at (end_after_ping_if b d.end) k)) long
-    ∙ together (content_at (end_after_ping_if b d.end) (length d.bytes + length (ping_bytes b)))
+    let bs : List ℕ = bare_bytes d.end.waiting.signals in
+    ap (λ (x : Draft). with_stream_frames (with_message_frames (with_control_frames (with_frequency_frame x)))) (bare_goes d)
+    ∙ behind_signals (bare_draft d)
+    ∙ ap (λ (k : ℕ). behind_freely (bare_draft d) (asked_behind_signals (bare_sent d.end) k)) (length-append d.bytes bs)
+    ∙ together (asked_behind_signals (bare_sent d.end) (length d.bytes + length bs))
   where
-    together : (a : Content) → content_behind (pinged_draft d.end.waiting.signals.ping d) a
-        ≡ behind_freely d (record { frames = ping_list d.end.waiting.signals.ping ++ a.frames; bytes = ping_bytes d.end.waiting.signals.ping ++ a.bytes; least = 0; end = with_content (end_after_ping_if d.end.waiting.signals.ping d.end) a })
+    together : (a : Draft) → behind_freely (bare_draft d) a ≡ behind_freely d (record { frames = bare_list d.end.waiting.signals ++ a.frames; bytes = bare_bytes d.end.waiting.signals ++ a.bytes; least = 0; end = a.end })
     together a =
-        let fs = append_assoc d.frames (ping_list d.end.waiting.signals.ping) a.frames in
-        let bs = append_assoc d.bytes (ping_bytes d.end.waiting.signals.ping) a.bytes in
+        let fs = append_assoc d.frames (bare_list d.end.waiting.signals) a.frames in
+        let bs = append_assoc d.bytes (bare_bytes d.end.waiting.signals) a.bytes in
         rw (fs, bs) refl
 
 -- ---- frames of path validation, and the others behind them
@@ -182,7 +237,7 @@ paths_go d none = answered d.end.waiting.signals.challenge ∙ both_go d.end.wai
 pub asked_behind : (d : Draft) → d.least ≡ 0 → with_asking d ≡ behind d (asked d.end (length d.bytes))
 unfolding asked paths_draft
 asked_behind d none =
-    ap (λ (x : Draft). with_stream_frames (with_message_frames (with_control_frames (with_ping_frame x)))) (paths_go d none)
+    ap (λ (x : Draft). with_stream_frames (with_message_frames (with_control_frames (with_frequency_frame (with_immediate_frame (with_ping_frame x)))))) (paths_go d none)
     ∙ behind_paths (paths_draft d)
     ∙ ap (λ (k : ℕ). behind_freely (paths_draft d) (asked_behind_paths (paths_sent d.end) k)) (length-append d.bytes (path_bytes d.end))
     ∙ together (asked_behind_paths (paths_sent d.end) (length d.bytes + length (path_bytes d.end)))
@@ -217,25 +272,72 @@ paths_written e y old mid new left first second =
 pub paths_gone : (e y : End) → y ≡ challenge_gone e.waiting.signals.challenge e → response_gone y.waiting.signals.response y ≡ paths_sent e
 paths_gone e y left = ap (λ (z : End). response_gone z.waiting.signals.response z) left ∙ ap (λ (r : Option Response). response_gone r (challenge_gone e.waiting.signals.challenge e)) (response_stays e.waiting.signals.challenge e)
 
+-- ---- how PING and IMMEDIATE_ACK are written
+
+-- PING leaves IMMEDIATE_ACK waiting
+immediate_stays : (b : Bool) (e : End) → (end_after_ping_if b e).waiting.signals.immediate ≡ e.waiting.signals.immediate
+immediate_stays true e = refl
+immediate_stays false e = refl
+
+pub bare_written : (e y : End) (old mid new : List ℕ) → y ≡ pinged e → mid ≡ old ++ ping_bytes e.waiting.signals.ping → new ≡ mid ++ immediate_bytes y.waiting.signals.immediate → new ≡ old ++ bare_bytes e.waiting.signals
+bare_written e y old mid new left first second =
+    let same : y.waiting.signals.immediate ≡ e.waiting.signals.immediate = ap (λ (z : End). z.waiting.signals.immediate) left ∙ immediate_stays e.waiting.signals.ping e in
+    second
+    ∙ ap (λ (b : Bool). mid ++ immediate_bytes b) same
+    ∙ ap (λ (z : List ℕ). z ++ immediate_bytes e.waiting.signals.immediate) first
+    ∙ append_assoc old (ping_bytes e.waiting.signals.ping) (immediate_bytes e.waiting.signals.immediate)
+
+pub bare_gone : (e y : End) → y ≡ pinged e → end_after_immediate_if y.waiting.signals.immediate y ≡ bare_sent e
+bare_gone e y left = ap (λ (z : End). end_after_immediate_if z.waiting.signals.immediate z) left ∙ ap (λ (b : Bool). end_after_immediate_if b (pinged e)) (immediate_stays e.waiting.signals.ping e)
+
+-- each has one byte
+pub bare_short : (s : Signals) → length (bare_bytes s) ≤ 2
+bare_short s = go s.ping s.immediate
+  where
+    go : (a b : Bool) → length (ping_bytes a ++ immediate_bytes b) ≤ 2
+    go true true = omega arith
+    go true false = omega arith
+    go false true = omega arith
+    go false false = omega arith
+
 -- ---- what it says
 
--- PING leaves as much room in all
-pub pinged_room : (e : End) → frame_room (pinged e) ≡ frame_room e
-pinged_room e = go e.waiting.signals.ping
+-- PING and IMMEDIATE_ACK leave as much room in all
+pub bare_room : (e : End) → frame_room (bare_sent e) ≡ frame_room e
+bare_room e = go e.waiting.signals.ping e.waiting.signals.immediate
   where
-    go : (b : Bool) → frame_room (end_after_ping_if b e) ≡ frame_room e
-    go true = refl
-    go false = refl
+    go : (a b : Bool) → frame_room (end_after_immediate_if b (end_after_ping_if a e)) ≡ frame_room e
+    go true true = refl
+    go true false = refl
+    go false true = refl
+    go false false = refl
 
 -- and as many numbers are given
-pub pinged_numbers : (e : End) → (pinged e).numbers ≡ e.numbers
-pinged_numbers e = go e.waiting.signals.ping
+pub bare_numbers : (e : End) → (bare_sent e).numbers ≡ e.numbers
+bare_numbers e = go e.waiting.signals.ping e.waiting.signals.immediate
   where
-    go : (b : Bool) → (end_after_ping_if b e).numbers ≡ e.numbers
+    go : (a b : Bool) → (end_after_immediate_if b (end_after_ping_if a e)).numbers ≡ e.numbers
+    go true true = refl
+    go true false = refl
+    go false true = refl
+    go false false = refl
+
+-- so it is of ACK_FREQUENCY
+pub request_room : (e : End) → frame_room (request_gone e) ≡ frame_room e
+request_room e = go e.waiting.frames.ack_frequency
+  where
+    go : (b : Bool) → frame_room (end_after_request_if b e) ≡ frame_room e
     go true = refl
     go false = refl
 
--- so it is of frames of path validation
+pub request_numbers : (e : End) → (request_gone e).numbers ≡ e.numbers
+request_numbers e = go e.waiting.frames.ack_frequency
+  where
+    go : (b : Bool) → (end_after_request_if b e).numbers ≡ e.numbers
+    go true = refl
+    go false = refl
+
+-- and of frames of path validation
 pub paths_room : (e : End) → frame_room (paths_sent e) ≡ frame_room e
 paths_room e = go e.waiting.signals.challenge e.waiting.signals.response
   where
@@ -254,25 +356,50 @@ paths_numbers e = go e.waiting.signals.challenge e.waiting.signals.response
     go (Some word) None = refl
     go (Some word) (Some r) = refl
 
+-- and of all of these, one behind another
+pub behind_room : (e y x z : End) → y ≡ paths_sent e → x ≡ bare_sent y → z ≡ request_gone x → frame_room z ≡ frame_room e
+behind_room e y x z paths bare request = ap frame_room request ∙ request_room x ∙ ap frame_room bare ∙ bare_room y ∙ ap frame_room paths ∙ paths_room e
+
+pub behind_numbers : (e y x z : End) → y ≡ paths_sent e → x ≡ bare_sent y → z ≡ request_gone x → z.numbers ≡ e.numbers
+behind_numbers e y x z paths bare request =
+    ap (λ (v : End). v.numbers) request ∙ request_numbers x ∙ ap (λ (v : End). v.numbers) bare ∙ bare_numbers y ∙ ap (λ (v : End). v.numbers) paths ∙ paths_numbers e
+
 -- and of what asks
 pub asked_room : (e : End) (used : ℕ) → frame_room (asked e used).end ≡ frame_room e
-unfolding asked asked_behind_paths
-asked_room e used = pinged_room (paths_sent e) ∙ paths_room e
+unfolding asked asked_behind_paths asked_behind_signals
+asked_room e used = request_room (bare_sent (paths_sent e)) ∙ bare_room (paths_sent e) ∙ paths_room e
 
 pub asked_numbers : (e : End) (used : ℕ) → (asked e used).end.numbers ≡ e.numbers
-unfolding asked asked_behind_paths
-asked_numbers e used = pinged_numbers (paths_sent e) ∙ paths_numbers e
+unfolding asked asked_behind_paths asked_behind_signals
+asked_numbers e used = request_numbers (bare_sent (paths_sent e)) ∙ bare_numbers (paths_sent e) ∙ paths_numbers e
 
-ping_marked : (b : Bool) → Marked (ping_list b) (ping_bytes b)
-ping_marked true = inl (refl, omega arith)
-ping_marked false = inr (refl, refl)
+bare_marked : (a b : Bool) → Marked (ping_list a ++ immediate_list b) (ping_bytes a ++ immediate_bytes b)
+bare_marked true b = inl (refl, long b)
+  where
+    long : (b : Bool) → 1 ≤ length (ping_bytes true ++ immediate_bytes b)
+    long true = omega arith
+    long false = omega arith
+bare_marked false true = inl (refl, omega arith)
+bare_marked false false = inr (refl, refl)
+
+request_marked : (b : Bool) (e : End) → Marked (request_list b e) (request_bytes b e)
+request_marked true e = inl (refl, omega arith)
+request_marked false e = inr (refl, refl)
+
+signals_marked : (e : End) (used : ℕ) → Marked (asked_behind_signals e used).frames (asked_behind_signals e used).bytes
+unfolding asked_behind_signals
+signals_marked e used =
+    let b : Bool = e.waiting.frames.ack_frequency in
+    let x : End = request_gone e in
+    let more : ℕ = used + length (request_bytes b e) in
+    let a : Content = content_at x more in
+    marked_both (request_list b e) a.frames (request_bytes b e) a.bytes (request_marked b e) (content_marked x.transport.send_fairness (frame_room x) more x.streams x.waiting.frames x.messages.queues.outgoing)
 
 rest_marked : (e : End) (used : ℕ) → Marked (asked_behind_paths e used).frames (asked_behind_paths e used).bytes
 unfolding asked_behind_paths
 rest_marked e used =
-    let a : Content = content_at (pinged e) (used + length (ping_bytes e.waiting.signals.ping)) in
-    marked_both (ping_list e.waiting.signals.ping) a.frames (ping_bytes e.waiting.signals.ping) a.bytes (ping_marked e.waiting.signals.ping)
-    (content_marked (pinged e).transport.send_fairness (frame_room (pinged e)) (used + length (ping_bytes e.waiting.signals.ping)) (pinged e).streams (pinged e).waiting.frames (pinged e).messages.queues.outgoing)
+    let a : Draft = asked_behind_signals (bare_sent e) (used + length (bare_bytes e.waiting.signals)) in
+    marked_both (bare_list e.waiting.signals) a.frames (bare_bytes e.waiting.signals) a.bytes (bare_marked e.waiting.signals.ping e.waiting.signals.immediate) (signals_marked (bare_sent e) (used + length (bare_bytes e.waiting.signals)))
 
 paths_marked : (o : Option ℕ) (r : Option Response) → Marked (challenge_list o ++ response_list r) (spelled_all (challenge_list o ++ response_list r))
 paths_marked None None = inr (refl, refl)
@@ -285,14 +412,29 @@ asked_marked e used =
     let rest : Draft = asked_behind_paths (paths_sent e) (used + length (path_bytes e)) in
     marked_both (path_frames e) rest.frames (path_bytes e) rest.bytes (paths_marked e.waiting.signals.challenge e.waiting.signals.response) (rest_marked (paths_sent e) (used + length (path_bytes e)))
 
--- PING carries nothing
-ping_carried : (b : Bool) (fs : List FrameValue) → carried_in (ping_list b ++ fs) ≡ carried_in fs
-ping_carried true fs = refl
-ping_carried false fs = refl
+-- PING and IMMEDIATE_ACK carry nothing
+bare_carried : (a b : Bool) (fs : List FrameValue) → carried_in ((ping_list a ++ immediate_list b) ++ fs) ≡ carried_in fs
+bare_carried true true fs = refl
+bare_carried true false fs = refl
+bare_carried false true fs = refl
+bare_carried false false fs = refl
 
-rest_carried : (e : End) (used : ℕ) → carried_in (asked_behind_paths e used).frames ≡ carried_in (content_at (pinged e) (used + length (ping_bytes e.waiting.signals.ping))).frames
+rest_carried : (e : End) (used : ℕ) → carried_in (asked_behind_paths e used).frames ≡ carried_in (asked_behind_signals (bare_sent e) (used + length (bare_bytes e.waiting.signals))).frames
 unfolding asked_behind_paths
-rest_carried e used = ping_carried e.waiting.signals.ping (content_at (pinged e) (used + length (ping_bytes e.waiting.signals.ping))).frames
+rest_carried e used = bare_carried e.waiting.signals.ping e.waiting.signals.immediate (asked_behind_signals (bare_sent e) (used + length (bare_bytes e.waiting.signals))).frames
+
+-- ACK_FREQUENCY is to be sent again, where it goes
+requested : (b : Bool) (e : End) (fs : List FrameValue) → (carried_in fs).retransmits.ack_frequency ≡ false → carried_in (request_list b e ++ fs) ≡ with_request b (carried_in fs)
+requested true e fs none = request_carried (request_of e) fs
+requested false e fs none = ap (λ (b : Bool). with_request b (carried_in fs)) none
+
+signals_carried : (e : End) (used : ℕ) → carried_in (asked_behind_signals e used).frames ≡ with_request e.waiting.frames.ack_frequency (carried_in (content_at (request_gone e) (used + length (request_bytes e.waiting.frames.ack_frequency e))).frames)
+unfolding asked_behind_signals
+signals_carried e used =
+    let b : Bool = e.waiting.frames.ack_frequency in
+    let x : End = request_gone e in
+    let more : ℕ = used + length (request_bytes b e) in
+    requested b e (content_at x more).frames (content_unasked x.transport.send_fairness (frame_room x) more x.streams x.waiting.frames x.messages.queues.outgoing)
 
 -- nor do frames of path validation
 paths_carried : (o : Option ℕ) (r : Option Response) (fs : List FrameValue) → carried_in ((challenge_list o ++ response_list r) ++ fs) ≡ carried_in fs
@@ -310,52 +452,83 @@ pub asked_names_none : (e : End) (used : ℕ) → acked_in (asked e used).frames
 asked_names_none e used =
     let x : End = paths_sent e in
     let some : ℕ = used + length (path_bytes e) in
-    ap (λ (c : Carried). c.largest_acked) (asked_carried e used ∙ rest_carried x some ∙ content_carried (pinged x).transport.send_fairness (frame_room (pinged x)) (some + length (ping_bytes x.waiting.signals.ping)) (pinged x).streams (pinged x).waiting.frames (pinged x).messages.queues.outgoing)
+    let y : End = bare_sent x in
+    let more : ℕ = some + length (bare_bytes x.waiting.signals) in
+    let b : Bool = y.waiting.frames.ack_frequency in
+    let z : End = request_gone y in
+    let all : ℕ = more + length (request_bytes b y) in
+    ap (λ (c : Carried). c.largest_acked) (asked_carried e used ∙ rest_carried x some ∙ signals_carried y more)
+    ∙ ap (λ (c : Carried). c.largest_acked) (content_carried z.transport.send_fairness (frame_room z) all z.streams z.waiting.frames z.messages.queues.outgoing)
 
--- ---- PING went, and the others go behind it
+-- ---- ACK_FREQUENCY went, and the others go behind it
 
-module _ (e x : End) (used behind_ping : ℕ) (left : x ≡ pinged e) (grown : behind_ping ≡ used + length (ping_bytes e.waiting.signals.ping)) where
-  content_same : content_at x behind_ping ≡ content_at (pinged e) (used + length (ping_bytes e.waiting.signals.ping))
-  content_same = ap (λ (y : End). content_at y behind_ping) left ∙ ap (λ (k : ℕ). content_at (pinged e) k) grown
+module _ (e x : End) (used behind_request : ℕ) (left : x ≡ request_gone e) (grown : behind_request ≡ used + length (request_bytes e.waiting.frames.ack_frequency e)) where
+  abbrev flag : Bool
+  flag = e.waiting.frames.ack_frequency
 
-  rest_written : (old mid new : List ℕ) → mid ≡ old ++ ping_bytes e.waiting.signals.ping → new ≡ mid ++ (content_at x behind_ping).bytes → new ≡ old ++ (asked_behind_paths e used).bytes
-  unfolding asked_behind_paths
-  rest_written old mid new first second =
-      let a : Content = content_at (pinged e) (used + length (ping_bytes e.waiting.signals.ping)) in
-      second ∙ ap (λ (b : Content). mid ++ b.bytes) content_same ∙ ap (λ (z : List ℕ). z ++ a.bytes) first ∙ append_assoc old (ping_bytes e.waiting.signals.ping) a.bytes
+  content_same : content_at x behind_request ≡ content_at (request_gone e) (used + length (request_bytes flag e))
+  content_same = ap (λ (y : End). content_at y behind_request) left ∙ ap (λ (k : ℕ). content_at (request_gone e) k) grown
 
-  rest_left : with_content x (content_at x behind_ping) ≡ (asked_behind_paths e used).end
-  unfolding asked_behind_paths
-  rest_left =
-      let a : Content = content_at (pinged e) (used + length (ping_bytes e.waiting.signals.ping)) in
+  signals_written : (old mid new : List ℕ) → mid ≡ old ++ request_bytes flag e → new ≡ mid ++ (content_at x behind_request).bytes → new ≡ old ++ (asked_behind_signals e used).bytes
+  unfolding asked_behind_signals
+  signals_written old mid new first second =
+      let a : Content = content_at (request_gone e) (used + length (request_bytes flag e)) in
+      second ∙ ap (λ (b : Content). mid ++ b.bytes) content_same ∙ ap (λ (z : List ℕ). z ++ a.bytes) first ∙ append_assoc old (request_bytes flag e) a.bytes
+
+  signals_left : with_content x (content_at x behind_request) ≡ (asked_behind_signals e used).end
+  unfolding asked_behind_signals
+  signals_left =
+      let a : Content = content_at (request_gone e) (used + length (request_bytes flag e)) in
       ap (λ (b : Content). with_content x b) content_same ∙ ap (λ (y : End). with_content y a) left
 
-  rest_kept : (carried : Carried) → carried ≡ carried_in (content_at x behind_ping).frames → carried ≡ carried_in (asked_behind_paths e used).frames
-  rest_kept carried is = is ∙ ap (λ (b : Content). carried_in b.frames) content_same ∙ sym (rest_carried e used)
+  signals_kept : (carried : Carried) → carried ≡ with_request flag (carried_in (content_at x behind_request).frames) → carried ≡ carried_in (asked_behind_signals e used).frames
+  signals_kept carried is = is ∙ ap (λ (b : Content). with_request flag (carried_in b.frames)) content_same ∙ sym (signals_carried e used)
 
--- frames of path validation went, and they go behind these
+-- frames of path validation, PING and IMMEDIATE_ACK went, and they go behind these
 
-module _ (e y x : End) (used behind_path behind_ping : ℕ) (first : y ≡ paths_sent e) (some : behind_path ≡ used + length (path_bytes e)) (left : x ≡ pinged y) (grown : behind_ping ≡ behind_path + length (ping_bytes y.waiting.signals.ping)) where
+module _ (e y x z : End) (used behind_path behind_bare behind_request : ℕ) (first : y ≡ paths_sent e) (some : behind_path ≡ used + length (path_bytes e)) (left : x ≡ bare_sent y) (grown : behind_bare ≡ behind_path + length (bare_bytes y.waiting.signals))
+    (asks : z ≡ request_gone x) (more : behind_request ≡ behind_bare + length (request_bytes x.waiting.frames.ack_frequency x)) where
   abbrev rest : Draft
   rest = asked_behind_paths (paths_sent e) (used + length (path_bytes e))
 
-  rest_same : asked_behind_paths y behind_path ≡ rest
-  rest_same = ap (λ (z : End). asked_behind_paths z behind_path) first ∙ ap (λ (k : ℕ). asked_behind_paths (paths_sent e) k) some
+  abbrev behind_both : Draft
+  behind_both = asked_behind_signals (bare_sent y) (behind_path + length (bare_bytes y.waiting.signals))
 
-  pub asked_written : (old paths mid new : List ℕ) → paths ≡ old ++ path_bytes e → mid ≡ paths ++ ping_bytes y.waiting.signals.ping → new ≡ mid ++ (content_at x behind_ping).bytes → new ≡ old ++ (asked e used).bytes
+  rest_same : asked_behind_paths y behind_path ≡ rest
+  rest_same = ap (λ (v : End). asked_behind_paths v behind_path) first ∙ ap (λ (k : ℕ). asked_behind_paths (paths_sent e) k) some
+
+  signals_same : asked_behind_signals x behind_bare ≡ behind_both
+  signals_same = ap (λ (v : End). asked_behind_signals v behind_bare) left ∙ ap (λ (k : ℕ). asked_behind_signals (bare_sent y) k) grown
+
+  rest_written : (paths mid new : List ℕ) → mid ≡ paths ++ bare_bytes y.waiting.signals → new ≡ mid ++ (asked_behind_signals x behind_bare).bytes → new ≡ paths ++ (asked_behind_paths y behind_path).bytes
+  unfolding asked_behind_paths
+  rest_written paths mid new second third =
+      third ∙ ap (λ (d : Draft). mid ++ d.bytes) signals_same ∙ ap (λ (v : List ℕ). v ++ behind_both.bytes) second ∙ append_assoc paths (bare_bytes y.waiting.signals) behind_both.bytes
+
+  rest_left : (asked_behind_signals x behind_bare).end ≡ (asked_behind_paths y behind_path).end
+  unfolding asked_behind_paths
+  rest_left = ap (λ (d : Draft). d.end) signals_same
+
+  pub asked_written : (old paths mid last new : List ℕ) → paths ≡ old ++ path_bytes e → mid ≡ paths ++ bare_bytes y.waiting.signals → last ≡ mid ++ request_bytes x.waiting.frames.ack_frequency x → new ≡ last ++ (content_at z behind_request).bytes
+      → new ≡ old ++ (asked e used).bytes
   unfolding asked
-  asked_written old paths mid new zeroth second third =
-      rest_written y x behind_path behind_ping left grown paths mid new second third
+  asked_written old paths mid last new zeroth second third fourth =
+      rest_written paths mid new second (signals_written x z behind_bare behind_request asks more mid last new third fourth)
       ∙ ap (λ (d : Draft). paths ++ d.bytes) rest_same
-      ∙ ap (λ (z : List ℕ). z ++ rest.bytes) zeroth
+      ∙ ap (λ (v : List ℕ). v ++ rest.bytes) zeroth
       ∙ append_assoc old (path_bytes e) rest.bytes
 
-  pub asked_left : with_content x (content_at x behind_ping) ≡ (asked e used).end
+  pub asked_left : with_content z (content_at z behind_request) ≡ (asked e used).end
   unfolding asked
-  asked_left = rest_left y x behind_path behind_ping left grown ∙ ap (λ (d : Draft). d.end) rest_same
+  asked_left = signals_left x z behind_bare behind_request asks more ∙ rest_left ∙ ap (λ (d : Draft). d.end) rest_same
 
-  pub asked_kept : (carried : Carried) → carried ≡ carried_in (content_at x behind_ping).frames → carried ≡ carried_in (asked e used).frames
-  asked_kept carried is = rest_kept y x behind_path behind_ping left grown carried is ∙ ap (λ (d : Draft). carried_in d.frames) rest_same ∙ sym (asked_carried e used)
+  pub asked_kept : (carried : Carried) → carried ≡ with_request x.waiting.frames.ack_frequency (carried_in (content_at z behind_request).frames) → carried ≡ carried_in (asked e used).frames
+  asked_kept carried is =
+      signals_kept x z behind_bare behind_request asks more carried is
+      ∙ ap (λ (d : Draft). carried_in d.frames) signals_same
+      ∙ sym (rest_carried y behind_path)
+      ∙ ap (λ (d : Draft). carried_in d.frames) rest_same
+      ∙ sym (asked_carried e used)
 
 -- something asks where something is written
 pub asked_asks : (e : End) (used before after : ℕ) (old new : List ℕ) → before ≡ length old → after ≡ length new → new ≡ old ++ (asked e used).bytes → nat_lt before after ≡ asking (asked e used).frames

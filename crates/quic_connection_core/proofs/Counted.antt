@@ -8,7 +8,7 @@ use Rattle.quic_wire_core.specs.declared.stream_id.Side.{Side}
 use Rattle.quic_wire_core.specs.declared.stream_id.Side.TheVariants.{Client, Server}
 use Rattle.quic_wire_core.specs.TransportError.{plain_error, protocol_violation}
 use Rattle.quic_wire.specs.declared.frame.InvalidFrame.{InvalidFrame}
-use Rattle.quic_wire.specs.Value.{FrameValue, ack, stream, reset_stream, stop_sending, max_data, max_stream_data, max_streams, datagram, new_token, handshake_done, new_connection_id, retire_connection_id, path_challenge, path_response, connection_close, application_close}
+use Rattle.quic_wire.specs.Value.{FrameValue, ack, stream, reset_stream, stop_sending, max_data, max_stream_data, max_streams, datagram, new_token, handshake_done, new_connection_id, retire_connection_id, path_challenge, path_response, connection_close, application_close, immediate_ack, ack_frequency}
 use Rattle.quic_wire.specs.Items.{items}
 use Rattle.quic_packet.specs.Header.{key_phase, reserved_bits}
 use Rattle.quic_packet.specs.Datagram.{Opening}
@@ -36,8 +36,9 @@ use Rattle.quic_machine.specs.Heard.{Heard, is_key_limit, heard_failure, heard_a
 use Rattle.quic_machine.specs.Closing.{ticked}
 use Rattle.quic_machine.specs.Ids.{frame_of, retires_for}
 use Rattle.quic_machine.specs.End.{End, side_of, with_closing, with_numbers}
+use Rattle.quic_recovery_core.specs.AckFrequency.{is_stale}
 use Rattle.quic_machine.specs.FrameCases.{ack_taken}
-use Rattle.quic_machine.specs.Receive.{Fault, broke, too_many_pieces, closed_by_peer, violation, error_of, fault_of, fault_at, names_ungiven, message_judged, retired_for, id_judged, retirement_judged, take_frame, take_item, take_items, take_payload, unless_fault, is_empty, asks_in, ends_as, dropped, drop_of, by_state, opened_to}
+use Rattle.quic_machine.specs.Receive.{Fault, broke, too_many_pieces, closed_by_peer, violation, error_of, fault_of, fault_at, names_ungiven, message_judged, retired_for, id_judged, retirement_judged, asks_too_soon, frequency_judged, take_frame, take_item, take_items, take_payload, unless_fault, is_empty, asks_in, ends_as, dropped, drop_of, by_state, opened_to}
 
 -- a header that can't be read is none
 pub header_kept : (error : HeaderError) (h : Heard) → heard_answer (receives.Dropped (drop_of error)) h ≡ h
@@ -105,6 +106,13 @@ frame_apart (retire_connection_id n) e = go (is_wrong e.ids.own n)
     go : (b : Bool) → Apart (retirement_judged (cond b (Err (plain_error protocol_violation)) (Ok (nat_lt (length (without n e.ids.own.living)) e.ids.limit))) n e).fault
     go true = refl
     go false = tt
+frame_apart immediate_ack e = tt
+frame_apart (ack_frequency f) e = go (is_stale e.frequency.last f.sequence) (asks_too_soon f)
+  where
+    go : (stale soon : Bool) → Apart (frequency_judged stale soon f e).fault
+    go true soon = tt
+    go false true = refl
+    go false false = tt
 frame_apart f e = rule_apart (broken e.streams (id_rule f))
 
 item_apart : (i : Result FrameValue InvalidFrame) (e : End) → Apart (take_item i e).fault

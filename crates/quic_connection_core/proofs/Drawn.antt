@@ -6,7 +6,7 @@ use Rattle.std.proofs.lemmas.Bool.{and_parts, ltb-true}
 use Rattle.std.proofs.lemmas.List.{length-append}
 use Rattle.quic_wire_core.specs.declared.shared.EcnCodepoint.{EcnCodepoint}
 use Rattle.quic_wire_core.specs.TransportError.{ErrorValue}
-use Rattle.quic_wire.specs.Value.{FrameValue, NewConnectionIdValue, ack, datagram, new_connection_id, retire_connection_id, path_challenge, path_response}
+use Rattle.quic_wire.specs.Value.{FrameValue, NewConnectionIdValue, ack, datagram, new_connection_id, retire_connection_id, path_challenge, path_response, ack_frequency}
 use Rattle.quic_wire.specs.Items.{items}
 use Rattle.quic_wire.specs.declared.frame.InvalidFrame.{InvalidFrame}
 use Rattle.quic_packet.specs.Header.{key_phase, reserved_bits}
@@ -26,16 +26,17 @@ use Rattle.quic_machine.specs.declared.answers.State.TheVariants as states
 use Rattle.quic_machine.specs.declared.answers.DropReason.TheVariants as drops
 use Rattle.quic_machine.specs.Arrival.{Arrival}
 use Rattle.quic_machine.specs.Policy.{Policy}
-use Rattle.quic_machine.specs.Ids.{known, destination, frame_of, retires_for, retired, is_more, may_issue}
-use Rattle.quic_machine.specs.IdFrames.{retiring, with_taken_up, issued_if, drawn}
+use Rattle.quic_machine.specs.Ids.{known, destination, frame_of, retires_for, retired, is_more}
+use Rattle.quic_machine.specs.IdFrames.{retiring, with_taken_up, issued_if, issues_for, drawn}
 use Rattle.quic_machine.specs.Opens.{own_id_length}
 use Rattle.quic_machine.specs.End.{End, with_numbers, with_ids, words_drawn}
 use Rattle.quic_machine.specs.MessageCalls.{most_message}
 use Rattle.quic_machine.specs.Sizes.{without_longer_if, shortened}
 use Rattle.quic_machine.specs.Validation.{word_of, validated_if}
 use Rattle.quic_machine.specs.Steps as steps
-use Rattle.quic_machine.specs.Receive.{Fault, closed_by_peer, violation, is_empty, dropped, Outcome, retired_for, id_judged, retirement_judged, take_frame, is_read, take_payload, take_items, ends_as, processed, by_state, opened_to, unopened_in, drawn_if, with_ids_drawn, opened_as, opening, headed, received_in, received}
-use Rattle.quic_machine.specs.FrameCases.{Settling, IsApart, acked_keeps, frame_keeps, frame_leaves, items_keep}
+use Rattle.quic_machine.specs.Receive.{Fault, closed_by_peer, violation, is_empty, dropped, Outcome, retired_for, id_judged, retirement_judged, asks_too_soon, frequency_judged, take_frame, is_read, take_payload, take_items, ends_as, processed, by_state, opened_to, unopened_in, drawn_if, with_ids_drawn, opened_as, opening, headed, received_in, received}
+use Rattle.quic_recovery_core.specs.AckFrequency.{is_stale}
+use Rattle.quic_machine.specs.FrameCases.{Settling, IsApart, acked_keeps, frame_keeps, frame_leaves, items_keep, issues_may}
 
 -- messages that are too long draw none
 shortened_words : (b : Bool) (e : End) → words_drawn (shortened b e) ≡ words_drawn e
@@ -81,17 +82,17 @@ module _ (e : End) where
   own_kept : (n : ℕ) (x : End) → Same x → Same (with_ids x (retired n x.ids))
   own_kept n x i = ap (λ (k : ℕ). x.filter.drawn + 3 * (k - 1 - length x.ids.undrawn) + x.validation.drawn) (own_issued n x) ∙ i
 
-  issues : (n : ℕ) (x : End) (b : Bool) → may_issue x.ids n ≡ b → Same (with_ids x (retired n x.ids)) → (with_ids x (retired n x.ids)).ids.own.issued ≡ x.ids.own.issued → Same (issued_if b (with_ids x (retired n x.ids)))
+  issues : (n : ℕ) (x : End) (b : Bool) → issues_for n x ≡ b → Same (with_ids x (retired n x.ids)) → (with_ids x (retired n x.ids)).ids.own.issued ≡ x.ids.own.issued → Same (issued_if b (with_ids x (retired n x.ids)))
   issues n x false is i same = i
   issues n x true is i same =
       let y : End = with_ids x (retired n x.ids) in
-      let lt : x.ids.own.issued < 2 ^ 62 = ltb-true x.ids.own.issued (2 ^ 62) (and_parts (is_more (retirement_answer x.ids.own n x.ids.limit)) (nat_lt x.ids.own.issued (2 ^ 62)) is).1 in
+      let lt : x.ids.own.issued < 2 ^ 62 = ltb-true x.ids.own.issued (2 ^ 62) (and_parts (is_more (retirement_answer x.ids.own n x.ids.limit)) (nat_lt x.ids.own.issued (2 ^ 62)) (issues_may n x is)).1 in
       ap (λ (k : ℕ). y.filter.drawn + 3 * (min (y.ids.own.issued + 1) (2 ^ 64 - 1) - 1 - k) + y.validation.drawn) (length-append y.ids.undrawn (length y.waiting.frames.new_cids ∷ []))
       ∙ issued_words y.filter.drawn y.validation.drawn y.ids.own.issued (length y.ids.undrawn) (omega (arith, lt, same))
       ∙ i
 
   retirement : (r : Result Bool ErrorValue) (n : ℕ) (x : End) → Same x → Same (retirement_judged r n x).end
-  retirement (Ok more) n x i = issues n x (may_issue x.ids n) refl (own_kept n x i) (own_issued n x)
+  retirement (Ok more) n x i = issues n x (issues_for n x) refl (own_kept n x i) (own_issued n x)
   retirement (Err error) n x i = i
 
   apart : (f : FrameValue) (x : End) → IsApart f → Same x → Same (take_frame f x).end
@@ -104,6 +105,12 @@ module _ (e : End) where
       go : (b : Bool) → Same (validated_if b x)
       go true = i
       go false = i
+  apart (ack_frequency f) x may i = go (is_stale x.frequency.last f.sequence) (asks_too_soon f)
+    where
+      go : (stale soon : Bool) → Same (frequency_judged stale soon f x).end
+      go true soon = i
+      go false true = i
+      go false false = i
   apart f x may i = i
 
   frame : (f : FrameValue) (x : End) → Same x → Same (take_frame f x).end

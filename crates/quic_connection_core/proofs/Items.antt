@@ -1,14 +1,14 @@
 -- The items of a payload, one after another.
-use Rattle.std.proofs.Common.{◌≡◌, ℕ, Bool, true, false, ◌||◌, List, [], ◌∷◌, ◌++◌, length, Option, Some, None, IfSome, Result, Ok, Err, refl, sym, ap, subst, ◌∙◌, append-nil, arith}
-use Rattle.quic_wire.specs.Value.{FrameValue, ack}
-use Rattle.quic_wire.specs.Items.{items}
+use Rattle.std.proofs.Common.{◌≡◌, ℕ, Bool, true, false, not, cond, ◌||◌, List, [], ◌∷◌, ◌++◌, length, Option, Some, None, IfSome, Result, Ok, Err, refl, sym, ap, subst, ◌∙◌, append-nil, arith}
+use Rattle.quic_wire.specs.Value.{FrameValue, padding, ack}
+use Rattle.quic_wire.specs.Items.{items, pads, without_padding}
 use Rattle.quic_wire.specs.declared.frame.InvalidFrame.{InvalidFrame}
 use Rattle.quic_packet.specs.Header.{reserved_bits}
 use Rattle.quic_congestion.specs.Congestion.{Told, Steps, after_calls}
 use Rattle.quic_machine.specs.End.{End, ConnectionValue}
 use Rattle.quic_machine.specs.Receive.{Fault, Progress, take_item, take_items, behind, told_item, told_items, told_behind, item_asks, asks_in, told_payload}
 use Rattle.quic_connection_parts.specs.declared.receiving.Trouble.{Trouble}
-use Rattle.quic_connection_parts.specs.Faults.{fault_view, AllHaveForm, IsOther, TellsAs}
+use Rattle.quic_connection_parts.specs.Faults.{fault_view, ItemHasForm, AllHaveForm, IsOther, TellsAs}
 use Rattle.quic_connection_parts.proofs.Told.{told_parts}
 use Rattle.quic_connection_core.proofs.Payloads.{no_items}
 
@@ -68,3 +68,45 @@ tells_nothing {A} {H} {K} {R} {C} (Err trouble) steps old new told none same = i
 pub empty_tells : (first : ℕ) (bytes : List ℕ) (e : End) → length bytes ≡ 0 → reserved_bits first ≡ 0 → told_payload first (items bytes) e ≡ []
 empty_tells first [] e none clear = rw (clear, no_items) refl
 empty_tells first (b ∷ bytes) e none clear = absurd (omega arith)
+
+-- ---- PADDING does nothing: what is taken, told and asked is that of the other items
+
+pads_is : (i : Item) → pads i ≡ true → i ≡ Ok padding
+pads_is (Ok padding) is = refl
+pads_is i is = absurd cc
+
+takes_but : (i : Item) (is others : List Item) (b : Bool) → pads i ≡ b → ((e : End) → take_items others e ≡ take_items is e) → (e : End) → take_items (cond (not b) (i ∷ others) others) e ≡ take_items (i ∷ is) e
+takes_but i is others true so same e = same e ∙ ap (λ (j : Item). take_items (j ∷ is) e) (sym (pads_is i so))
+takes_but i is others false so same e = ap (λ (next : End → Progress). behind (take_item i e) next) (λ k x. same x k)
+
+pub takes_unpadded : (is : List Item) (e : End) → take_items (without_padding is) e ≡ take_items is e
+unfolding without_padding
+takes_unpadded [] e = refl
+takes_unpadded (i ∷ is) e = takes_but i is (without_padding is) (pads i) refl (λ x. takes_unpadded is x) e
+
+told_but : (i : Item) (is others : List Item) (b : Bool) → pads i ≡ b → ((e : End) → told_items others e ≡ told_items is e) → (e : End) → told_items (cond (not b) (i ∷ others) others) e ≡ told_items (i ∷ is) e
+told_but i is others true so same e = same e ∙ ap (λ (j : Item). told_items (j ∷ is) e) (sym (pads_is i so))
+told_but i is others false so same e = ap (λ (next : End → List Told). told_item i e ++ told_behind (take_item i e) next) (λ k x. same x k)
+
+pub told_unpadded : (is : List Item) (e : End) → told_items (without_padding is) e ≡ told_items is e
+unfolding without_padding
+told_unpadded [] e = refl
+told_unpadded (i ∷ is) e = told_but i is (without_padding is) (pads i) refl (λ x. told_unpadded is x) e
+
+asks_but : (i : Item) (is others : List Item) (b : Bool) → pads i ≡ b → asks_in others ≡ asks_in is → asks_in (cond (not b) (i ∷ others) others) ≡ asks_in (i ∷ is)
+asks_but i is others true so same = same ∙ ap (λ (j : Item). asks_in (j ∷ is)) (sym (pads_is i so))
+asks_but i is others false so same = ap (λ (b : Bool). item_asks i || b) same
+
+pub asks_unpadded : (is : List Item) → asks_in (without_padding is) ≡ asks_in is
+unfolding without_padding
+asks_unpadded [] = refl
+asks_unpadded (i ∷ is) = asks_but i is (without_padding is) (pads i) refl (asks_unpadded is)
+
+form_but : (i : Item) (others : List Item) (b : Bool) → ItemHasForm i → AllHaveForm others → AllHaveForm (cond b (i ∷ others) others)
+form_but i others true first all = (first, all)
+form_but i others false first all = all
+
+pub form_unpadded : (is : List Item) → AllHaveForm is → AllHaveForm (without_padding is)
+unfolding without_padding
+form_unpadded [] all = all
+form_unpadded (i ∷ is) all = form_but i (without_padding is) (not (pads i)) all.0 (form_unpadded is all.1)

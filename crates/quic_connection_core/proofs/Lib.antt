@@ -1,5 +1,6 @@
 pub mod Payloads
 pub mod Plain
+pub mod Asked
 pub mod Asking
 pub mod Composed
 pub mod Polls

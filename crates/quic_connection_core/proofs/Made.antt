@@ -11,6 +11,7 @@ use Rattle.quic_time.specs.Timers.{Timers, no_timers}
 use Rattle.quic_spaces.specs.declared.space.PacketSpace.{PacketSpace}
 use Rattle.quic_spaces.specs.Space.{new_space}
 use Rattle.quic_spaces.specs.Filter.{Filter, first_filter}
+use Rattle.quic_recovery_core.specs.AckFrequency.{Frequency, initial_frequency}
 use Rattle.quic_streams_state.specs.declared.state.StreamsState.{StreamsState}
 use Rattle.quic_retransmits.specs.Retransmits.{Retransmits, nothing_waits}
 use Rattle.quic_messages.specs.Messages.{Messages, no_messages}
@@ -33,13 +34,14 @@ more_drawn true words e = omega arith
 more_drawn false words e = omega arith
 
 -- an end of parts
-abbrev of_parts : {C : Type 0} → Closing → Ids → PacketSpace → Filter → Timers → Bool → PathValue C → ℕ → TransportSettings → ParameterValues → StreamsState → Retransmits → Option Response → Messages → End
-of_parts closing ids space filter timers validated path window transport theirs streams frames response queues = record {
+abbrev of_parts : {C : Type 0} → Closing → Ids → PacketSpace → Filter → Frequency → Timers → Bool → PathValue C → ℕ → TransportSettings → ParameterValues → StreamsState → Retransmits → Option Response → Messages → End
+of_parts closing ids space filter frequency timers validated path window transport theirs streams frames response queues = record {
   closing = closing;
   ids = ids;
   numbers = space.numbers;
   filter = filter;
   acknowledging = space.acknowledging;
+  frequency = frequency;
   marks = record { came = counts_view space.ecn_counters; told = counts_view space.ecn_feedback };
   timers = timers;
   tracking = space.tracking;
@@ -61,16 +63,17 @@ of_parts closing ids space filter timers validated path window transport theirs 
   peer_params = theirs;
   streams = streams;
   messages = record { queues = queues; to_tell = 0 };
-  waiting = record { signals = record { challenge = challenge_to_send path; response = response; ping = space.ping_pending }; frames = frames };
+  waiting = record { signals = record { challenge = challenge_to_send path; response = response; ping = space.ping_pending; immediate = space.immediate_ack_pending }; frames = frames };
 }
 
 -- of those with which it is made, it is as it is before it asks its peer for anything
 pub of_first_parts : {C : Type 0} (initial window_of : C → ℕ) (controller : C) (side : Side) (settings : Settings) (theirs : ParameterValues) (own peer : List ℕ) (now : ℕ) (validated : Bool) (words : ℕ → ℕ)
-    (closing : Closing) (ids : Ids) (space : PacketSpace) (filter : Filter) (timers : Timers) (path : PathValue C) (window : ℕ) (transport : TransportSettings) (streams : StreamsState) (frames : Retransmits) (response : Option Response) (queues : Messages)
+    (closing : Closing) (ids : Ids) (space : PacketSpace) (filter : Filter) (frequency : Frequency) (timers : Timers) (path : PathValue C) (window : ℕ) (transport : TransportSettings) (streams : StreamsState) (frames : Retransmits) (response : Option Response) (queues : Messages)
     → closing ≡ record { clock = now; state = states.Open; reason = None; told = false; close = None; owed = false }
     → ids ≡ first_ids own peer (most_ids theirs.active_connection_id_limit) now (words_behind 1 words)
     → space ≡ new_space now
     → filter ≡ first_filter (words 0)
+    → frequency ≡ initial_frequency (theirs.max_ack_delay * 1000000)
     → timers ≡ no_timers
     → window ≡ window_of path.congestion
     → path ≡ path_limited theirs.max_udp_payload_size (new_path true None 0 now transport controller (initial controller))
@@ -79,26 +82,30 @@ pub of_first_parts : {C : Type 0} (initial window_of : C → ℕ) (controller : 
     → frames ≡ record nothing_waits { new_cids = drawn_ids (words_behind 1 words) (later_numbers (most_ids theirs.active_connection_id_limit)) }
     → response ≡ None
     → queues ≡ no_messages
-    → of_parts closing ids space filter timers validated path window transport theirs streams frames response queues ≡ silent_end side settings (windows_at initial window_of controller) theirs own peer now validated words
-of_first_parts {C} initial window_of controller side settings theirs own peer now validated words closing ids space filter timers path window transport streams frames response queues c i s f t w p m r d a q =
-    ap (λ (x : Closing). of_parts x ids space filter timers validated path window transport theirs streams frames response queues) c
-    ∙ ap (λ (x : Ids). of_parts c1 x space filter timers validated path window transport theirs streams frames response queues) i
-    ∙ ap (λ (x : PacketSpace). of_parts c1 i1 x filter timers validated path window transport theirs streams frames response queues) s
-    ∙ ap (λ (x : Filter). of_parts c1 i1 (new_space now) x timers validated path window transport theirs streams frames response queues) f
-    ∙ ap (λ (x : Timers). of_parts c1 i1 (new_space now) (first_filter (words 0)) x validated path window transport theirs streams frames response queues) t
-    ∙ ap (λ (x : ℕ). of_parts c1 i1 (new_space now) (first_filter (words 0)) no_timers validated path x transport theirs streams frames response queues) w
-    ∙ ap (λ (x : PathValue C). of_parts c1 i1 (new_space now) (first_filter (words 0)) no_timers validated x (window_of x.congestion) transport theirs streams frames response queues) p
-    ∙ ap (λ (x : TransportSettings). of_parts c1 i1 (new_space now) (first_filter (words 0)) no_timers validated (p1 x) (window_of controller) x theirs streams frames response queues) m
-    ∙ ap (λ (x : StreamsState). of_parts c1 i1 (new_space now) (first_filter (words 0)) no_timers validated (p1 (transport_of settings)) (window_of controller) (transport_of settings) theirs x frames response queues) r
-    ∙ ap (λ (x : Retransmits). of_parts c1 i1 (new_space now) (first_filter (words 0)) no_timers validated (p1 (transport_of settings)) (window_of controller) (transport_of settings) theirs (first_streams side settings theirs) x response queues) d
-    ∙ ap (λ (x : Option Response). of_parts c1 i1 (new_space now) (first_filter (words 0)) no_timers validated (p1 (transport_of settings)) (window_of controller) (transport_of settings) theirs (first_streams side settings theirs) d1 x queues) a
-    ∙ ap (λ (x : Messages). of_parts c1 i1 (new_space now) (first_filter (words 0)) no_timers validated (p1 (transport_of settings)) (window_of controller) (transport_of settings) theirs (first_streams side settings theirs) d1 None x) q
+    → of_parts closing ids space filter frequency timers validated path window transport theirs streams frames response queues ≡ silent_end side settings (windows_at initial window_of controller) theirs own peer now validated words
+of_first_parts {C} initial window_of controller side settings theirs own peer now validated words closing ids space filter frequency timers path window transport streams frames response queues c i s f y t w p m r d a q =
+    ap (λ (x : Closing). of_parts x ids space filter frequency timers validated path window transport theirs streams frames response queues) c
+    ∙ ap (λ (x : Ids). of_parts c1 x space filter frequency timers validated path window transport theirs streams frames response queues) i
+    ∙ ap (λ (x : PacketSpace). of_parts c1 i1 x filter frequency timers validated path window transport theirs streams frames response queues) s
+    ∙ ap (λ (x : Filter). of_parts c1 i1 (new_space now) x frequency timers validated path window transport theirs streams frames response queues) f
+    ∙ ap (λ (x : Frequency). of_parts c1 i1 (new_space now) (first_filter (words 0)) x timers validated path window transport theirs streams frames response queues) y
+    ∙ ap (λ (x : Timers). of_parts c1 i1 (new_space now) (first_filter (words 0)) y1 x validated path window transport theirs streams frames response queues) t
+    ∙ ap (λ (x : ℕ). of_parts c1 i1 (new_space now) (first_filter (words 0)) y1 no_timers validated path x transport theirs streams frames response queues) w
+    ∙ ap (λ (x : PathValue C). of_parts c1 i1 (new_space now) (first_filter (words 0)) y1 no_timers validated x (window_of x.congestion) transport theirs streams frames response queues) p
+    ∙ ap (λ (x : TransportSettings). of_parts c1 i1 (new_space now) (first_filter (words 0)) y1 no_timers validated (p1 x) (window_of controller) x theirs streams frames response queues) m
+    ∙ ap (λ (x : StreamsState). of_parts c1 i1 (new_space now) (first_filter (words 0)) y1 no_timers validated (p1 (transport_of settings)) (window_of controller) (transport_of settings) theirs x frames response queues) r
+    ∙ ap (λ (x : Retransmits). of_parts c1 i1 (new_space now) (first_filter (words 0)) y1 no_timers validated (p1 (transport_of settings)) (window_of controller) (transport_of settings) theirs (first_streams side settings theirs) x response queues) d
+    ∙ ap (λ (x : Option Response). of_parts c1 i1 (new_space now) (first_filter (words 0)) y1 no_timers validated (p1 (transport_of settings)) (window_of controller) (transport_of settings) theirs (first_streams side settings theirs) d1 x queues) a
+    ∙ ap (λ (x : Messages). of_parts c1 i1 (new_space now) (first_filter (words 0)) y1 no_timers validated (p1 (transport_of settings)) (window_of controller) (transport_of settings) theirs (first_streams side settings theirs) d1 None x) q
   where
     c1 : Closing
     c1 = record { clock = now; state = states.Open; reason = None; told = false; close = None; owed = false }
 
     i1 : Ids
     i1 = first_ids own peer (most_ids theirs.active_connection_id_limit) now (words_behind 1 words)
+
+    y1 : Frequency
+    y1 = initial_frequency (theirs.max_ack_delay * 1000000)
 
     p1 : TransportSettings → PathValue C
     p1 x = path_limited theirs.max_udp_payload_size (new_path true None 0 now x controller (initial controller))

@@ -19,7 +19,7 @@ use Rattle.quic_machine.specs.Tracking.{Tracking}
 use Rattle.quic_machine.specs.Closing.{ticked}
 use Rattle.quic_machine.specs.End.{End, ConnectionValue, with_end, with_closing, most_payload, policy_of, closed_by, words_drawn}
 use Rattle.quic_machine.specs.Control.{is_window_full, pacer_asked, Gated, lets, holds, with_pacing_timer}
-use Rattle.quic_machine.specs.Poll.{Polled, gives_nothing, gives_datagram, datagram_of, after_given, bounds, may_seal, close_to_go, closes_if, closes, probed, asks_to_go, is_gated, gated, probe, most_of, Ready, leaves, leaves_unless, ready, goes, goes_as, draft_left, draft_of, rests, sends, polled_if, polled_in, polled, told_polled_in, told_polled, told_if, told_draft, waits, IsSilent}
+use Rattle.quic_machine.specs.Poll.{Polled, gives_nothing, gives_datagram, datagram_of, after_given, bounds, may_seal, close_to_go, closes_if, closes, probed, request_queued, asks_to_go, is_gated, gated, probe, most_of, Ready, leaves, leaves_unless, ready, goes, goes_as, draft_left, draft_of, rests, sends, polled_if, polled_in, polled, told_polled_in, told_polled, told_if, told_draft, waits, IsSilent}
 use Rattle.quic_machine.specs.Poll as poll
 use Rattle.quic_machine.specs.DraftLaws.{MayGo, MayLeave}
 use Rattle.quic_connection_parts.specs.declared.leaving.Leaving.{Leaving}
@@ -28,10 +28,10 @@ use Rattle.quic_connection_parts.specs.Leaving.{leaving_of, Leaves, rested_if, r
 use Rattle.quic_congestion.specs.Search.{Discovery}
 use Rattle.quic_congestion.specs.SearchBounds.{IsSized}
 use Rattle.quic_congestion.proofs.SizedSearch.{named_sized}
-use Rattle.quic_machine.specs.PollCases.{ready_at, draft_at, ready_leaves, may_leave_at, probe_leaves, gate_leaves, by_gate, by_leaves, by_ready}
+use Rattle.quic_machine.specs.PollCases.{ready_at, draft_at, ready_leaves, may_leave_at, request_leaves, gate_leaves, by_gate, by_leaves, by_ready}
 use Rattle.quic_machine.specs.Lacking.{GivesOrHasFailed, PollTakes}
 use Rattle.quic_connection_core.proofs.Plain.{same_words}
-use Rattle.quic_connection_core.proofs.Moved.{silent_probes}
+use Rattle.quic_connection_core.proofs.Moved.{readied_probes}
 
 -- ---- closes
 
@@ -113,7 +113,7 @@ goes_on (Probe size) = refl
 
 -- a probe that goes has no less than the size of the path, and no more than a bound of the search
 ready_looked : (least most : ℕ) (e : End) (now size : ℕ) → IsSized least most e.path.discovery → (ready_at e now).leaving ≡ probe size → (current_mtu (ready_at e now).end.path ≤ size) × (size ≤ most)
-ready_looked least most e now size sized = by_ready (probed x) (λ (r : Ready). r.leaving ≡ probe size → (current_mtu r.end.path ≤ size) × (size ≤ most)) (λ blocked is. cc) (λ unblocked. record {
+ready_looked least most e now size sized = by_ready (request_queued (probed x)) (λ (r : Ready). r.leaving ≡ probe size → (current_mtu r.end.path ≤ size) × (size ≤ most)) (λ blocked is. cc) (λ unblocked. record {
   acks = λ held due is. cc;
   held = λ held none is. cc;
   all = λ free some is. cc;
@@ -126,14 +126,14 @@ ready_looked least most e now size sized = by_ready (probed x) (λ (r : Ready). 
     x = with_pacing_timer (with_closing e (ticked e.closing now)) None
 
     g : Gated
-    g = gated (probed x)
+    g = gated (request_queued (probed x))
 
     stays : IsSized least most g.end.path.discovery
-    stays = subst (λ (d : Discovery). IsSized least most d) (sym (ap (λ (y : End). y.path.discovery) (gate_leaves (probed x)) ∙ ap (λ (y : End). y.path.discovery) (probe_leaves x))) sized
+    stays = subst (λ (d : Discovery). IsSized least most d) (sym (ap (λ (y : End). y.path.discovery) (gate_leaves (request_queued (probed x))) ∙ ap (λ (y : End). y.path.discovery) (request_leaves x))) sized
 
 -- an end that is made ready has the size of its path
 ready_sized : (least most : ℕ) (e : End) (now : ℕ) → IsSized least most e.path.discovery → current_mtu (ready_at e now).end.path ≤ most
-ready_sized least most e now sized = by_ready (probed x) (λ (r : Ready). current_mtu r.end.path ≤ most) (λ blocked. subst (λ (d : Discovery). d.size ≤ most) (sym (ap (λ (y : End). y.path.discovery) (probe_leaves x))) sized.size) (λ unblocked. record {
+ready_sized least most e now sized = by_ready (request_queued (probed x)) (λ (r : Ready). current_mtu r.end.path ≤ most) (λ blocked. subst (λ (d : Discovery). d.size ≤ most) (sym (ap (λ (y : End). y.path.discovery) (request_leaves x))) sized.size) (λ unblocked. record {
   acks = λ held due. stays;
   held = λ held none. stays;
   all = λ free some. stays;
@@ -145,8 +145,8 @@ ready_sized least most e now sized = by_ready (probed x) (λ (r : Ready). curren
     x : End
     x = with_pacing_timer (with_closing e (ticked e.closing now)) None
 
-    stays : current_mtu (gated (probed x)).end.path ≤ most
-    stays = subst (λ (d : Discovery). d.size ≤ most) (sym (ap (λ (y : End). y.path.discovery) (gate_leaves (probed x)) ∙ ap (λ (y : End). y.path.discovery) (probe_leaves x))) sized.size
+    stays : current_mtu (gated (request_queued (probed x))).end.path ≤ most
+    stays = subst (λ (d : Discovery). d.size ≤ most) (sym (ap (λ (y : End). y.path.discovery) (gate_leaves (request_queued (probed x))) ∙ ap (λ (y : End). y.path.discovery) (request_leaves x))) sized.size
 
 -- a datagram has fewer bytes than 16 bits count
 pub few_bytes : (l : Leaving) (e : End) → current_mtu e.path < 2 ^ 16 → IsLooked l e → most_of (leaving_of l) e < 2 ^ 16
@@ -207,7 +207,7 @@ silent_rests e now = go y.path.blocked refl
     x = with_pacing_timer (with_closing e (ticked e.closing now)) None
 
     y : End
-    y = probed x
+    y = request_queued (probed x)
 
     Rests : Ready → Type 0
     Rests r = goes r ≡ false → IsSilent (rests r)
@@ -243,7 +243,7 @@ silent_rests e now = go y.path.blocked refl
 
     gates : Rests (leaves (gated y))
     gates = by_gate y (λ (g : Gated). Rests (leaves g)) (record {
-      free = λ is. free_rests y (λ none. silent_probes x none);
+      free = λ is. free_rests y (λ none. readied_probes x none);
       full = λ gate is. held_rests y gate y refl refl (λ asks. inl is);
       lets = λ gate room until. free_rests (pacer_asked y) (λ none. no_probe gate);
       holds = λ moment gate room until. held_rests y gate (with_pacing_timer (pacer_asked y) (Some moment)) refl refl (λ asks. inr refl);

@@ -1,6 +1,7 @@
 -- What a probe makes of the only packet number space is what it makes of the end.
-use Rattle.std.proofs.Common.{◌≡◌, ℕ, Bool, true, false, [], ◌∷◌, Option, Some, None, Result, Ok, Err, OnOk, OnErr, refl, ap, subst}
+use Rattle.std.proofs.Common.{◌≡◌, ℕ, Bool, true, false, [], ◌∷◌, Option, Some, None, Result, Ok, Err, OnOk, OnErr, refl, sym, ap, ◌∙◌, subst}
 use Rattle.std.specs.Prelude.{not, ◌||◌, nat_lt, if◌then◌else◌}
+use Rattle.std.specs.Option.{is_some}
 use Rattle.std.specs.Map.{keys_of}
 use Rattle.std.specs.BTreeMap.{is_at}
 use Rattle.std.specs.Ordering.{nat_cmp}
@@ -22,7 +23,7 @@ use Rattle.quic_wire.specs.AckView.{counts_view}
 use Rattle.quic_machine.specs.Parts.{Marks}
 use Rattle.quic_machine.specs.Tracking.{TrackedPacket}
 use Rattle.quic_machine.specs.End.{End}
-use Rattle.quic_machine.specs.Poll.{record_moved, probe_filled, probe_if, probed}
+use Rattle.quic_machine.specs.Poll.{hastened, ping_unless, record_moved, probe_filled, probe_if, probed}
 
 -- the counts of marks of a space
 abbrev pub marks_of : PacketSpace → Marks
@@ -30,60 +31,58 @@ marks_of s = record { came = counts_view s.ecn_counters; told = counts_view s.ec
 
 -- the end whose space this is, and beside whose bytes of streams this waits
 abbrev pub with_space : End → Probed → End
-with_space e q = record e { numbers = q.space.numbers; acknowledging = q.space.acknowledging; marks = marks_of q.space; tracking = q.space.tracking; waiting = record { signals = record e.waiting.signals { ping = q.space.ping_pending }; frames = q.pending } }
+with_space e q = record e { numbers = q.space.numbers; acknowledging = q.space.acknowledging; marks = marks_of q.space; tracking = q.space.tracking; waiting = record { signals = record e.waiting.signals { ping = q.space.ping_pending; immediate = q.space.immediate_ack_pending }; frames = q.pending } }
 
 -- both as they are
 abbrev pub as_is : PacketSpace → Retransmits → Probed
 as_is s p = record { space = s; pending = p }
 
--- what a probe makes of an end, and that IMMEDIATE_ACK isn't asked for
-pub record Fills (e : End) (s : PacketSpace) (p : Retransmits) (q : Probed) : Type 0 where
-  pub end : with_space e q ≡ probed (with_space e (as_is s p))
-  pub plain : q.space.immediate_ack_pending ≡ false
+or_turned : (a b : Bool) → a || b ≡ b || a
+or_turned true true = refl
+or_turned true false = refl
+or_turned false true = refl
+or_turned false false = refl
 
-fills : (e : End) (s : PacketSpace) (p : Retransmits) → s.immediate_ack_pending ≡ false → Fills e s p (after_probe_queued false s p e.streams)
-fills e s p plain = record { end = go (nat_lt 0 s.tracking.probes); plain = none (nat_lt 0 s.tracking.probes) }
+-- PING waits unless IMMEDIATE_ACK does
+unless_true : (a b : Bool) → b ≡ true → a || not b ≡ a
+unless_true true b is = refl
+unless_true false true is = refl
+unless_true false false is = sym is
+
+unless_false : (a b : Bool) → b ≡ false → a || not b ≡ true
+unless_false true b is = refl
+unless_false false false is = refl
+unless_false false true is = sym is
+
+-- what a probe makes of an end, where IMMEDIATE_ACK is asked for as its peer takes it
+fills : (e : End) (s : PacketSpace) (p : Retransmits) → with_space e (after_probe_queued (is_some e.peer_params.min_ack_delay) s p e.streams) ≡ probed (with_space e (as_is s p))
+fills e s p = go (nat_lt 0 s.tracking.probes)
   where
-    -- PING waits, since nothing asks for IMMEDIATE_ACK
-    waits : (a b : Bool) → b ≡ false → a || not (b || false) ≡ true
-    waits true b is = refl
-    waits false false is = refl
-    waits false true is = absurd cc
-
-    asks : (b : Bool) → b ≡ false → b || false ≡ false
-    asks false is = refl
-    asks true is = is
-
     marked : PacketSpace
-    marked = record s { immediate_ack_pending = s.immediate_ack_pending || false }
+    marked = record s { immediate_ack_pending = s.immediate_ack_pending || is_some e.peer_params.min_ack_delay }
 
-    record_case : (o : Option (ℕ × TrackedPacket)) → with_space e (space.record_moved o marked p) ≡ record_moved o (with_space e (as_is s p))
-    record_case None = ap (λ (ping : Bool). record e { numbers = s.numbers; acknowledging = s.acknowledging; marks = marks_of s; tracking = s.tracking; waiting = record { signals = record e.waiting.signals { ping = ping }; frames = p } }) (waits s.ping_pending s.immediate_ack_pending plain)
+    hastens : with_space e (as_is marked p) ≡ hastened (with_space e (as_is s p))
+    hastens = ap (λ (b : Bool). with_space e (as_is (record s { immediate_ack_pending = b }) p)) (or_turned s.immediate_ack_pending (is_some e.peer_params.min_ack_delay))
+
+    ping_case : (b : Bool) → marked.immediate_ack_pending ≡ b → with_space e (space.record_moved None marked p) ≡ ping_unless b (with_space e (as_is marked p))
+    ping_case true is = ap (λ (ping : Bool). with_space e (as_is (record marked { ping_pending = ping }) p)) (unless_true s.ping_pending marked.immediate_ack_pending is)
+    ping_case false is = ap (λ (ping : Bool). with_space e (as_is (record marked { ping_pending = ping }) p)) (unless_false s.ping_pending marked.immediate_ack_pending is)
+
+    record_case : (o : Option (ℕ × TrackedPacket)) → with_space e (space.record_moved o marked p) ≡ record_moved o (with_space e (as_is marked p))
+    record_case None = ping_case marked.immediate_ack_pending refl
     record_case (Some r) = refl
 
-    empty_case : (b : Bool) → with_space e (space.probe_filled b marked p e.streams) ≡ probe_filled b (with_space e (as_is s p))
+    empty_case : (b : Bool) → with_space e (space.probe_filled b marked p e.streams) ≡ probe_filled b (with_space e (as_is marked p))
     empty_case true = record_case (first_record e.streams s.tracking.packets)
     empty_case false = refl
 
-    go : (b : Bool) → with_space e (probe_queued b false s p e.streams) ≡ probe_if b (with_space e (as_is s p))
-    go true = empty_case (is_empty p e.streams)
+    go : (b : Bool) → with_space e (probe_queued b (is_some e.peer_params.min_ack_delay) s p e.streams) ≡ probe_if b (with_space e (as_is s p))
+    go true = empty_case (is_empty p e.streams) ∙ ap (probe_filled (is_empty p e.streams)) hastens
     go false = refl
 
-    none_moved : (o : Option (ℕ × TrackedPacket)) → (space.record_moved o marked p).space.immediate_ack_pending ≡ false
-    none_moved None = asks s.immediate_ack_pending plain
-    none_moved (Some r) = asks s.immediate_ack_pending plain
-
-    none_filled : (b : Bool) → (space.probe_filled b marked p e.streams).space.immediate_ack_pending ≡ false
-    none_filled true = none_moved (first_record e.streams s.tracking.packets)
-    none_filled false = asks s.immediate_ack_pending plain
-
-    none : (b : Bool) → (probe_queued b false s p e.streams).space.immediate_ack_pending ≡ false
-    none true = none_filled (is_empty p e.streams)
-    none false = plain
-
--- the same of streams that are the end's
-pub probe_fills : (e : End) (s : PacketSpace) (p : Retransmits) (t : StreamsState) → t ≡ e.streams → s.immediate_ack_pending ≡ false → Fills e s p (after_probe_queued false s p t)
-probe_fills e s p t same plain = rw same (fills e s p plain)
+-- the same of streams that are the end's, where this is asked for
+pub probe_fills : (e : End) (s : PacketSpace) (p : Retransmits) (t : StreamsState) (immediate : Bool) → t ≡ e.streams → immediate ≡ is_some e.peer_params.min_ack_delay → with_space e (after_probe_queued immediate s p t) ≡ probed (with_space e (as_is s p))
+probe_fills e s p t immediate same asked = ap (λ (b : Bool). with_space e (after_probe_queued b s p t)) asked ∙ ap (λ (x : StreamsState). with_space e (after_probe_queued (is_some e.peer_params.min_ack_delay) s p x)) same ∙ fills e s p
 
 -- what follows where a call was served
 pub where_ok : {A E : Type 0} (r : Result A E) (P Q : Type 0) → (P → Q) → OnOk r P → OnOk r Q
@@ -116,12 +115,12 @@ record_there t (x ∷ es) r up is = go (is_empty x.1.carried.retransmits t) is (
         let same : x ≡ r = cc in
         subst (λ (y : ℕ × TrackedPacket). at (x ∷ es) y.0 ≡ Some y.1) same (rw (same_place x.0) refl)
 
-pub probe_flies : (g : ℕ) (f : Flight) (s : PacketSpace) (p : Retransmits) (t : StreamsState) → Ascends s.tracking.packets → IsInFlight g s.numbers.next s.tracking.packets f
-    → IsInFlight g (after_probe_queued false s p t).space.numbers.next (after_probe_queued false s p t).space.tracking.packets f
-probe_flies g f s p t up i = go (nat_lt 0 s.tracking.probes)
+pub probe_flies : (g : ℕ) (f : Flight) (immediate : Bool) (s : PacketSpace) (p : Retransmits) (t : StreamsState) → Ascends s.tracking.packets → IsInFlight g s.numbers.next s.tracking.packets f
+    → IsInFlight g (after_probe_queued immediate s p t).space.numbers.next (after_probe_queued immediate s p t).space.tracking.packets f
+probe_flies g f immediate s p t up i = go (nat_lt 0 s.tracking.probes)
   where
     marked : PacketSpace
-    marked = record s { immediate_ack_pending = s.immediate_ack_pending || false }
+    marked = record s { immediate_ack_pending = s.immediate_ack_pending || immediate }
 
     record_case : (o : Option (ℕ × TrackedPacket)) → first_record t s.tracking.packets ≡ o → IsInFlight g (space.record_moved o marked p).space.numbers.next (space.record_moved o marked p).space.tracking.packets f
     record_case None is = i
@@ -131,6 +130,6 @@ probe_flies g f s p t up i = go (nat_lt 0 s.tracking.probes)
     empty_case true = record_case (first_record t s.tracking.packets) refl
     empty_case false = i
 
-    go : (b : Bool) → IsInFlight g (probe_queued b false s p t).space.numbers.next (probe_queued b false s p t).space.tracking.packets f
+    go : (b : Bool) → IsInFlight g (probe_queued b immediate s p t).space.numbers.next (probe_queued b immediate s p t).space.tracking.packets f
     go true = empty_case (is_empty p t)
     go false = i

@@ -5,10 +5,10 @@ ghost use Rattle.quic_parameters.specs.ParametersRead.{parameters_at};
 ghost use Rattle.quic_config.specs.Transport.{transport_of, first_mtu};
 ghost use Rattle.quic_machine.specs.declared.answers.ConfigError.TheVariants as config_errors;
 ghost use Rattle.quic_machine.specs.declared.answers.State.TheVariants as states;
-ghost use Rattle.quic_machine.specs.End.{MadeFrom, refusal_of, limits_of, with_end, with_closing, with_numbers, with_loss_timer, with_ping, with_window, side_of, peer_delay, probe_timeout, HasFailed, words_drawn};
+ghost use Rattle.quic_machine.specs.End.{MadeFrom, refusal_of, limits_of, with_end, with_closing, with_numbers, with_loss_timer, with_ping, with_immediate, with_window, side_of, peer_delay, probe_timeout, HasFailed, words_drawn};
 ghost use Rattle.quic_connection_parts.specs.Drawn.{words_of, after_words};
 ghost use Rattle.quic_connection_parts.specs.Telling.{IsRoomy, windows_at};
-ghost use Rattle.quic_machine.specs.Parts.{current_mtu};
+ghost use Rattle.quic_machine.specs.Parts.{current_mtu, signals_wait};
 ghost use Rattle.quic_machine.specs.Closing.{ticked};
 ghost use Rattle.quic_machine.specs.Heard.{nothing_heard};
 ghost use Rattle.quic_machine.specs.Poll.{asks_to_go, message_waits};
@@ -20,6 +20,7 @@ ghost use Rattle.quic_recovery_core.specs.Duplicates.{is_duplicate};
 ghost use Rattle.quic_time.specs.Rtt.{best_rtt};
 ghost use Rattle.quic_time.specs.Timers.{no_timers};
 
+mod ack_frequency;
 mod acked;
 mod closes;
 mod id_frames;
@@ -49,6 +50,7 @@ use quic_messages::DatagramState;
 use quic_packet::crypto::{HeaderKey, Keys, PacketKey};
 use quic_parameters::TransportParameters;
 use quic_paths::{PathData, PathResponses};
+use quic_recovery_core::AckFrequencyState;
 use quic_spaces::{PacketNumberFilter, PacketSpace, ack_due};
 use quic_stats::ConnectionStats;
 use quic_streams_handles::{EndStreams, RecvStream, SendStream, Streams};
@@ -71,6 +73,10 @@ pub struct Connection<H, K, R, C: Controller> {
     space: PacketSpace,
     // Which packet numbers are left out.
     filter: PacketNumberFilter,
+    // How often acknowledgements were asked for.
+    ack_frequency: AckFrequencyState,
+    // How many ACK_FREQUENCY frames went.
+    requests: u64,
     timers: TimerTable,
     // How long the connection may be without a packet, if both ends don't let it be so without end;
     // and whether the next packet that is given and asks lets that time begin anew.
@@ -107,7 +113,7 @@ pub struct Connection<H, K, R, C: Controller> {
 }
 
 impl<H, K, R, C: Controller> Model for Connection<H, K, R, C> {
-    ghost use Rattle.std.specs.Prelude.{◌≡◌, ◌≤◌, false};
+    ghost use Rattle.std.specs.Prelude.{◌≡◌, ◌≤◌, ◌^◌};
     ghost use Rattle.quic_parameters.specs.Parameters.{AreInRange};
     ghost use Rattle.quic_wire.specs.AckView.{counts_view};
     ghost use Rattle.quic_machine.specs.End.{ConnectionValue};
@@ -129,6 +135,7 @@ impl<H, K, R, C: Controller> Model for Connection<H, K, R, C> {
         numbers = c.space.numbers;
         filter = c.filter;
         acknowledging = c.space.acknowledging;
+        frequency = c.ack_frequency;
         marks = record { came = counts_view c.space.ecn_counters; told = counts_view c.space.ecn_feedback };
         timers = c.timers;
         tracking = c.space.tracking;
@@ -151,21 +158,22 @@ impl<H, K, R, C: Controller> Model for Connection<H, K, R, C> {
         streams = c.streams.state;
         messages = record { queues = c.datagrams; to_tell = c.messages_to_tell };
         waiting = record {
-          signals = record { challenge = challenge_to_send c.path; response = c.path_responses; ping = c.space.ping_pending };
+          signals = record { challenge = challenge_to_send c.path; response = c.path_responses; ping = c.space.ping_pending; immediate = c.space.immediate_ack_pending };
           frames = c.streams.pending;
         };
       };
     } };
 
-    // Nothing asks for IMMEDIATE_ACK yet. The idle timeout is that of both ends' settings. The size
-    // of datagrams lies between 1200 bytes and what the peer takes, the controller was told no
-    // less, and two datagrams fit the window. In flight is what is tracked, asks, and went on the
-    // path.
-    ghost invariant = { λ c. (c.space.immediate_ack_pending ≡ false)
-        × (c.idle_timeout ≡ agreed_timeout c.transport c.peer_params)
+    // The idle timeout is that of both ends' settings. The size of datagrams lies between 1200
+    // bytes and what the peer takes, the controller was told no less, and two datagrams fit the
+    // window. In flight is what is tracked, asks, and went on the path. ACK_FREQUENCY frames are
+    // numbered one after another.
+    ghost invariant = { λ c. (c.idle_timeout ≡ agreed_timeout c.transport c.peer_params)
         × AreInRange c.peer_params
         × AreSizes C.size_of C.window_of c.peer_params.max_udp_payload_size c.path.discovery c.path.congestion c.window
-        × IsInFlight c.path.generation c.space.numbers.next c.space.tracking.packets c.path.in_flight };
+        × IsInFlight c.path.generation c.space.numbers.next c.space.tracking.packets c.path.in_flight
+        × (c.ack_frequency.next ≡ c.requests)
+        × (c.requests ≤ 2 ^ 62) };
 }
 
 impl<H: HeaderKey + Drop, K: PacketKey + Drop, R: Rng + Drop, C: Controller> Connection<
@@ -267,6 +275,8 @@ impl<H: HeaderKey + Drop, K: PacketKey + Drop, R: Rng + Drop, C: Controller> Con
             ids,
             space: PacketSpace::new(alloc, now),
             filter,
+            ack_frequency: AckFrequencyState::new(told_ack_delay(&theirs)),
+            requests: 0,
             timers: TimerTable::default(),
             idle_timeout: negotiate_max_idle_timeout(&transport, &theirs),
             permit_idle_reset: true,
@@ -416,25 +426,29 @@ impl<H: HeaderKey + Drop, K: PacketKey + Drop, R: Rng + Drop, C: Controller> Con
         space.numbers.take(number);
         space.on_mark(ecn);
         if waits {
-            self.timers.set(Timer::MaxAckDelay, ack_due(now));
+            self.timers.set(
+                Timer::MaxAckDelay,
+                ack_due(self.ack_frequency.max_ack_delay(), now),
+            );
         }
         self.on_packet_taken();
         self.set_loss_timer();
         Ok(())
     }
 
-    /// How long the peer may hold an acknowledgement back, as it told (RFC 9000, section 18.2).
+    /// How long the peer holds an acknowledgement back: as it told (RFC 9000, section 18.2), or was
+    /// asked, and acknowledged that.
     fn peer_delay(&self) -> Duration
         ensures { result ≡ peer_delay self.now.end }
     {
-        told_ack_delay(&self.peer_params)
+        self.ack_frequency.peer_max_ack_delay()
     }
 
     /// How long an acknowledgement is waited for before a probe goes (RFC 9002, section 6.2.1).
     fn probe_timeout(&self) -> Duration
         ensures { result ≡ probe_timeout self.now.end }
     {
-        self.path.rtt.pto_base() + self.peer_delay()
+        self.path.rtt.pto_base() + self.ack_frequency.max_ack_delay_for_pto()
     }
 
     /// Sets the loss timer to where what is tracked puts it, or stops it.
@@ -497,10 +511,17 @@ impl<H: HeaderKey + Drop, K: PacketKey + Drop, R: Rng + Drop, C: Controller> Con
     fn asks_to_go(&self) -> bool
         ensures { result ≡ asks_to_go self.now.end }
     {
-        self.path_frames_wait() || self.space.ping_pending || self.frames_wait()
+        self.signals_wait() || self.frames_wait()
     }
 
-    /// The same beside PATH_CHALLENGE, PATH_RESPONSE and PING.
+    /// Whether PATH_CHALLENGE, PATH_RESPONSE, PING or IMMEDIATE_ACK waits.
+    fn signals_wait(&self) -> bool
+        ensures { result ≡ signals_wait self.now.end.waiting.signals }
+    {
+        self.path_frames_wait() || self.space.ping_pending || self.space.immediate_ack_pending
+    }
+
+    /// The same beside PATH_CHALLENGE, PATH_RESPONSE, PING and IMMEDIATE_ACK.
     fn frames_wait(&self) -> bool
         ensures { result ≡ (not (is_empty self.now.end.waiting.frames self.now.end.streams) || (message_waits self.now.end || can_send_stream_data self.now.end.streams)) }
     {
@@ -521,6 +542,16 @@ impl<H: HeaderKey + Drop, K: PacketKey + Drop, R: Rng + Drop, C: Controller> Con
     {
         let waited = self.space.ping_pending;
         self.space.ping_pending = false;
+        waited
+    }
+
+    /// An IMMEDIATE_ACK that waits is taken: whether one did.
+    fn take_immediate_ack(&mut self) -> bool
+        ensures waited { result ≡ self.old.end.waiting.signals.immediate }
+        ensures end { self.new ≡ with_end self.old (with_immediate self.old.end false) }
+    {
+        let waited = self.space.immediate_ack_pending;
+        self.space.immediate_ack_pending = false;
         waited
     }
 }

@@ -1,6 +1,6 @@
 -- What messages and frames about streams say: that they ask for an acknowledgement, and what they
 -- carry.
-use Rattle.std.proofs.Common.{◌≡◌, ℕ, ◌+◌, ◌-◌, ◌≤◌, Bool, true, List, [], ◌∷◌, ◌++◌, length, Option, Some, None, ◌⊎◌, inl, inr, refl, sym, ap, subst, ◌∙◌, arith}
+use Rattle.std.proofs.Common.{◌≡◌, ℕ, ◌+◌, ◌-◌, ◌≤◌, Bool, true, false, List, [], ◌∷◌, ◌++◌, length, Option, Some, None, ◌⊎◌, inl, inr, refl, sym, ap, subst, ◌∙◌, arith}
 use Rattle.std.specs.Prelude.{map, nat_lt, Result, Ok, Err, IfOk, OnOk}
 use Rattle.std.specs.List.{fold}
 use Rattle.std.proofs.Math.Bool.{or-true}
@@ -8,7 +8,7 @@ use Rattle.std.proofs.lemmas.Bool.{lt-ltb, le-ltb}
 use Rattle.std.proofs.lemmas.List.{append_assoc, append-nil, length-append, map-append}
 use Rattle.std.proofs.lemmas.List.Folds.{list_any-append}
 use Rattle.std.proofs.lemmas.List.Sums.{fold-append}
-use Rattle.quic_wire.specs.Value.{FrameValue, StreamValue, padding, ping, ack, stream, connection_close, application_close, datagram, asks}
+use Rattle.quic_wire.specs.Value.{FrameValue, StreamValue, padding, ping, ack, stream, connection_close, application_close, datagram, ack_frequency, AckFrequencyValue, asks}
 use Rattle.quic_wire.specs.Writing.{spelling, spelled_all, stream_spelling, written, widths, width_of, numbers_of, fields_of, text_of, kind_as}
 use Rattle.quic_wire.specs.FrameTypes.{type_of}
 use Rattle.quic_wire_core.specs.Varint.{shortest}
@@ -22,13 +22,14 @@ use Rattle.quic_streams_parts.specs.SendHalf.{SendHalf, frame_of, meta_of}
 use Rattle.quic_retransmits.specs.declared.retransmits.ControlKind.{ControlKind}
 use Rattle.quic_streams_state.specs.declared.state.StreamsState.{StreamsState}
 use Rattle.quic_streams_state.specs.Control.{Draft, first_sent, no_frames, kind_of}
+use Rattle.quic_streams_state.specs.Control as control
 use Rattle.quic_streams_state.specs.State.{streams_of}
 use Rattle.quic_streams_state.specs.Frames.{Sent, stream_room, frame_sent, no_stream_frames, stream_frames_in}
 use Rattle.quic_streams_laws.specs.ControlWalk.{by_control, by_stream_frames}
 use Rattle.quic_machine.specs.Tracking.{Carried, acked_in, streams_in, and_again, retransmits_in, carried_in}
 use Rattle.quic_machine.specs.Poll.{asking}
 use Rattle.quic_messages.specs.Messages.{frame_bytes}
-use Rattle.quic_connection_parts.specs.Frames.{control_part, message_part, messages_left, behind_control, message_frames, stream_part, content}
+use Rattle.quic_connection_parts.specs.Frames.{control_part, message_part, messages_left, behind_control, message_frames, stream_part, content, with_request}
 
 -- ---- frames that ask have bytes
 
@@ -87,6 +88,9 @@ record Says (f : FrameValue) : Type 0 where
   names_none : acked_in (f ∷ []) ≡ None
   no_bytes : streams_in (f ∷ []) ≡ []
   some : 1 ≤ length (spelling f)
+  -- and is no ACK_FREQUENCY
+  again : (r : Retransmits) → control.and_again r f ≡ and_again r f
+  unasked : (r : Retransmits) → (and_again r f).ack_frequency ≡ r.ack_frequency
 
 control_says : (f : FrameValue) (kind : ControlKind) → kind_of f ≡ Some kind → Says f
 control_says padding kind is = cc
@@ -95,7 +99,8 @@ control_says (ack a) kind is = cc
 control_says (stream s) kind is = cc
 control_says (connection_close c) kind is = cc
 control_says (application_close c) kind is = cc
-control_says f kind is = record { asks_for = refl; names_none = refl; no_bytes = refl; some = numbered_some (type_of (kind_as f)) (fields_of f) (text_of f) }
+control_says (ack_frequency f) kind is = cc
+control_says f kind is = record { asks_for = refl; names_none = refl; no_bytes = refl; some = numbered_some (type_of (kind_as f)) (fields_of f) (text_of f); again = λ r. refl; unasked = λ r. refl }
 
 -- ---- what frames of control say
 
@@ -108,13 +113,15 @@ spelled_more (g ∷ fs) f = ap (λ (bs : List ℕ). spelling g ++ bs) (spelled_m
 -- streams
 record Told (d : Draft) : Type 0 where
   carried : d.sent ≡ retransmits_in d.frames
+  unasked : (retransmits_in d.frames).ack_frequency ≡ false
   marked : Marked d.frames (spelled_all d.frames)
   names_none : acked_in d.frames ≡ None
   no_bytes : streams_in d.frames ≡ []
 
 told_more : (d : Draft) (kind : ControlKind) (f : FrameValue) → Says f → Told d → Told (first_sent kind f d)
 told_more d kind f says t = record {
-  carried = ap (λ (r : Retransmits). and_again r f) t.carried ∙ sym (fold-append and_again nothing_waits d.frames (f ∷ []));
+  carried = says.again d.sent ∙ ap (λ (r : Retransmits). and_again r f) t.carried ∙ sym (fold-append and_again nothing_waits d.frames (f ∷ []));
+  unasked = ap (λ (r : Retransmits). r.ack_frequency) (fold-append and_again nothing_waits d.frames (f ∷ [])) ∙ says.unasked (retransmits_in d.frames) ∙ t.unasked;
   marked = subst (Marked (d.frames ++ f ∷ [])) (sym (spelled_more d.frames f)) (marked_last d.frames f (spelled_all d.frames) (spelling f) says.asks_for says.some);
   names_none = acked_more d.frames (f ∷ []) t.names_none ∙ says.names_none;
   no_bytes = streams_more d.frames (f ∷ []) t.no_bytes ∙ says.no_bytes;
@@ -123,13 +130,17 @@ told_more d kind f says t = record {
 control_told : (most used : ℕ) (s : StreamsState) (p : Retransmits) → Told (control_part most used s p)
 unfolding control_part
 control_told most used s p = by_control most Told (record {
-  drops = λ d kind e es is due t. record { carried = t.carried; marked = t.marked; names_none = t.names_none; no_bytes = t.no_bytes };
+  drops = λ d kind e es is due t. record { carried = t.carried; unasked = t.unasked; marked = t.marked; names_none = t.names_none; no_bytes = t.no_bytes };
   sends = λ d kind f is fits t. told_more d kind f (control_says f kind is.of_kind) t;
-}) (no_frames used s p nothing_waits) (record { carried = refl; marked = inr (refl, refl); names_none = refl; no_bytes = refl })
+}) (no_frames used s p nothing_waits) (record { carried = refl; unasked = refl; marked = inr (refl, refl); names_none = refl; no_bytes = refl })
 
 -- what is kept of frames of control to be sent again is what they carry
 pub control_carried : (most used : ℕ) (s : StreamsState) (p : Retransmits) → (control_part most used s p).sent ≡ retransmits_in (control_part most used s p).frames
 control_carried most used s p = (control_told most used s p).carried
+
+-- no ACK_FREQUENCY is among them
+pub control_unasked : (most used : ℕ) (s : StreamsState) (p : Retransmits) → (retransmits_in (control_part most used s p).frames).ack_frequency ≡ false
+control_unasked most used s p = (control_told most used s p).unasked
 
 pub control_marked : (most used : ℕ) (s : StreamsState) (p : Retransmits) → Marked (control_part most used s p).frames (spelled_all (control_part most used s p).frames)
 control_marked most used s p = (control_told most used s p).marked
@@ -138,6 +149,15 @@ control_marked most used s p = (control_told most used s p).marked
 pub kept_carried : {E : Type 0} (r : Result (Option Retransmits) E) (sent carried : Retransmits) → IfOk r (λ kept. kept ≡ Some sent) → sent ≡ carried → IfOk r (λ kept. made kept ≡ carried)
 kept_carried (Ok kept) sent carried is same = ap made is ∙ same
 kept_carried (Err e) sent carried is same = tt
+
+-- what carries this carries that, which is the same
+pub kept_as : {E : Type 0} (r : Result (Option Retransmits) E) (sent carried : Retransmits) → IfOk r (λ kept. made kept ≡ sent) → sent ≡ carried → IfOk r (λ kept. made kept ≡ carried)
+kept_as (Ok kept) sent carried is same = is ∙ same
+kept_as (Err e) sent carried is same = tt
+
+-- what carries ACK_FREQUENCY besides, or doesn't
+abbrev pub with_flag : Bool → Retransmits → Retransmits
+with_flag b r = record r { ack_frequency = b }
 
 -- what is said where there is an answer
 pub on_ok : {A E P : Type 0} (r : Result A E) → P → OnOk r P
@@ -149,9 +169,9 @@ pub on_ok_so : {A E P Q : Type 0} (r : Result A E) → OnOk r P → (P → Q) �
 on_ok_so (Ok x) p f = f p
 on_ok_so (Err e) p f = tt
 
--- nothing is kept where no frame is written
-pub none_carried : (most used : ℕ) (s : StreamsState) (p : Retransmits) (kept : Option Retransmits) → kept ≡ None → length (spelled_all (control_part most used s p).frames) ≡ 0 → made kept ≡ retransmits_in (control_part most used s p).frames
-none_carried most used s p kept is none = ap made is ∙ ap retransmits_in (sym (marked_none (control_part most used s p).frames (spelled_all (control_part most used s p).frames) (control_marked most used s p) none))
+-- no frame carries anything where none is written
+pub none_carried : (most used : ℕ) (s : StreamsState) (p : Retransmits) → length (spelled_all (control_part most used s p).frames) ≡ 0 → nothing_waits ≡ retransmits_in (control_part most used s p).frames
+none_carried most used s p none = ap retransmits_in (sym (marked_none (control_part most used s p).frames (spelled_all (control_part most used s p).frames) (control_marked most used s p) none))
 
 -- ---- what DATAGRAM frames say
 
@@ -306,11 +326,28 @@ module _ (fair : Bool) (most used : ℕ) (s : StreamsState) (p : Retransmits) (m
   unfolding content
   content_left x q state pending = ap (λ (y : StreamsState). streams_of y q) state ∙ ap (λ (r : Retransmits). streams_of (stream_part fair most used s p ms).state r) pending
 
-  -- what is kept of what they carry
-  pub content_kept : (metas : List StreamMeta) (kept : Option Retransmits) → metas ≡ map meta_of (stream_part fair most used s p ms).frames → made kept ≡ retransmits_in (control_part most used s p).frames
-      → ◌≡◌ {A = Carried} (record { largest_acked = None; stream_frames = metas; retransmits = made kept }) (carried_in (content fair most used s p ms).frames)
-  content_kept metas kept noted again =
-      let all : Retransmits = retransmits_in (control_part most used s p).frames in
+  -- what is kept of what they carry, and of ACK_FREQUENCY
+  pub content_kept : (requests : Bool) (metas : List StreamMeta) (kept : Option Retransmits) → metas ≡ map meta_of (stream_part fair most used s p ms).frames → made kept ≡ with_flag requests (retransmits_in (control_part most used s p).frames)
+      → ◌≡◌ {A = Carried} (record { largest_acked = None; stream_frames = metas; retransmits = made kept }) (with_request requests (carried_in (content fair most used s p ms).frames))
+  content_kept requests metas kept noted again =
       ap (λ (xs : List StreamMeta). record { largest_acked = None; stream_frames = xs; retransmits = made kept }) noted
       ∙ ap (λ (r : Retransmits). record { largest_acked = None; stream_frames = map meta_of (stream_part fair most used s p ms).frames; retransmits = r }) again
-      ∙ sym (content_carried fair most used s p ms)
+      ∙ sym (ap (λ (c : Carried). with_request requests c) (content_carried fair most used s p ms))
+
+  -- they have no ACK_FREQUENCY
+  pub content_unasked : (carried_in (content fair most used s p ms).frames).retransmits.ack_frequency ≡ false
+  content_unasked = ap (λ (c : Carried). c.retransmits.ack_frequency) (content_carried fair most used s p ms) ∙ control_unasked most used s p
+
+-- behind ACK_FREQUENCY others are to be sent again as without it, and it besides
+again_behind : (r : Retransmits) (f : FrameValue) → and_again (with_flag true r) f ≡ with_flag true (and_again r f)
+again_behind r (stream f) = refl
+again_behind r (ack_frequency f) = refl
+again_behind r f = refl
+
+all_behind : (r : Retransmits) (fs : List FrameValue) → fold and_again (with_flag true r) fs ≡ with_flag true (fold and_again r fs)
+all_behind r [] = refl
+all_behind r (f ∷ fs) = ap (λ (x : Retransmits). fold and_again x fs) (again_behind r f) ∙ all_behind (and_again r f) fs
+
+-- so it is of what a datagram carried
+pub request_carried : (f : AckFrequencyValue) (fs : List FrameValue) → carried_in (ack_frequency f ∷ fs) ≡ with_request true (carried_in fs)
+request_carried f fs = ap (λ (r : Retransmits). record { largest_acked = acked_in fs; stream_frames = streams_in fs; retransmits = r }) (all_behind nothing_waits fs)

@@ -12,7 +12,7 @@ use Rattle.quic_congestion.specs.Search.{Discovery, is_number}
 use Rattle.quic_machine.specs.End.{End, with_tracking, with_discovery, words_drawn}
 use Rattle.quic_machine.specs.Sizes.{search_acked, with_one_lost, with_all_lost, after_lost}
 use Rattle.quic_machine.specs.FrameCases.{by_searched}
-use Rattle.quic_machine.specs.Acked.{without_known, reset_acked, resets_acked, streams_acked, stream_acked, carried_acked, packet_acked, packets_acked, stream_lost, streams_lost, again, carried_lost, packets_lost, verdict, losses_detected, measured, sampled, answered, without_acked}
+use Rattle.quic_machine.specs.Acked.{request_acked, without_known, reset_acked, resets_acked, streams_acked, stream_acked, carried_acked, packet_acked, packets_acked, stream_lost, streams_lost, again, carried_lost, packets_lost, verdict, losses_detected, measured, sampled, answered, without_acked}
 use Rattle.quic_machine.specs.Timeouts.{loss_judged, loss_expired}
 use Rattle.quic_connection_parts.specs.Losses.{Lost, one_lost, all_lost}
 use Rattle.quic_connection_parts.specs.Tracked.{TakesLost, after_losses, acked_taken, sampled_at}
@@ -55,7 +55,7 @@ carried_acked_beside c e t =
 
 pub packets_acked_beside : (ps : Table TrackedPacket) (e : End) (t : Tracking) → packets_acked ps (with_tracking e t) ≡ with_tracking (packets_acked ps e) t
 packets_acked_beside [] e t = refl
-packets_acked_beside (p ∷ ps) e t = ap (packets_acked ps) (carried_acked_beside p.1.carried (search_acked p e) t) ∙ packets_acked_beside ps (packet_acked p e) t
+packets_acked_beside (p ∷ ps) e t = ap (packets_acked ps) (carried_acked_beside p.1.carried (request_acked p.0 (search_acked p e)) t) ∙ packets_acked_beside ps (packet_acked p e) t
 
 -- ---- nor does what is lost look at the search for a size
 

@@ -15,7 +15,7 @@ use Rattle.quic_machine.specs.End.{End, ConnectionValue, with_end, with_tracking
 use Rattle.quic_machine.specs.Poll.{Draft, asking, datagram_size, told_draft}
 use Rattle.quic_machine.specs.Control.{last_sent, told_sent, told_packet, told_acks_ended}
 use Rattle.quic_machine.specs.Sizes.{search_acked, told_probe, told_packets}
-use Rattle.quic_machine.specs.Acked.{without_known, reset_acked, resets_acked, stream_acked, streams_acked, carried_acked, packet_acked, packets_acked, stream_lost, streams_lost, carried_lost, packets_lost, measured, sampled, without_acked, told_detected, told_of_losses, told_named, told_seen, told_marks, losses_taken, marks_seen, after_named}
+use Rattle.quic_machine.specs.Acked.{request_acked, without_known, reset_acked, resets_acked, stream_acked, streams_acked, carried_acked, packet_acked, packets_acked, stream_lost, streams_lost, carried_lost, packets_lost, measured, sampled, without_acked, told_detected, told_of_losses, told_named, told_seen, told_marks, losses_taken, marks_seen, after_named}
 use Rattle.quic_connection_parts.specs.Telling.{telling, KeepsRest}
 use Rattle.quic_connection_parts.specs.Tracked.{sampled_at, acked_taken, acked_told, acked_count}
 use Rattle.quic_connection_parts.proofs.Tracked.{moment_measured}
@@ -135,8 +135,9 @@ acks_go_on {H} {K} {R} {C} steps first w next all left rest x a is goes =
     let size : List Told = told_probe x w.end.path.discovery in
     let others : List Told = told_packets (search_acked x w.end) (reverse rest) in
     let control : next.control ≡ after_calls steps (after_calls steps w.control one) size = ap (λ (z : ConnectionValue H K R C). z.control) goes in
+    let k = acked_keep x.1.carried (request_acked x.0 (search_acked x w.end)) in
     let same : told_packets next.end (reverse rest) ≡ others =
-    ap (λ (z : End). told_packets z (reverse rest)) end ∙ told_all_same (reverse rest) (search_acked x w.end) (packet_acked x w.end) (acked_keep x.1.carried (search_acked x w.end)) in
+    ap (λ (z : End). told_packets z (reverse rest)) end ∙ told_all_same (reverse rest) (search_acked x w.end) (packet_acked x w.end) (record { closing = k.closing; path = k.path; validation = k.validation }) in
     record {
       takes = ap (packets_acked (reverse rest)) end ∙ ap (λ (ps : Packets). packets_acked ps w.end) (sym turned) ∙ a.takes;
       told = ap (λ (t : List Told). after_calls steps next.control t) same

@@ -1,6 +1,6 @@
 -- What was wrong with a packet, where memory may lack.
 use Rattle.std.specs.Prelude.{◌≡◌, ◌<◌, ◌≤◌, ◌^◌, ℕ, Bool, List, [], ◌∷◌, Option, Some, None, IfSome, Result, Ok, Err}
-use Rattle.quic_wire.specs.Value.{FrameValue, ack, datagram, path_challenge, path_response, max_stream_data, connection_close, application_close, new_connection_id, retire_connection_id}
+use Rattle.quic_wire.specs.Value.{FrameValue, ack, datagram, path_challenge, path_response, max_stream_data, connection_close, application_close, new_connection_id, retire_connection_id, immediate_ack, ack_frequency}
 use Rattle.quic_wire.specs.declared.frame.InvalidFrame.{InvalidFrame}
 use Rattle.quic_streams_parts.specs.declared.answers.ReceivedError.{ReceivedError}
 use Rattle.quic_streams_parts.specs.declared.answers.ReceivedError.TheVariants as errors
@@ -61,8 +61,8 @@ holding s e = with_streams e (streams_of s.state s.pending)
 abbrev pub TakesOn : Result (Unit {0}) Trouble → FrameValue → EndStreams → EndStreams → Type 0
 TakesOn result f old new = (e : End) → TakesAs result (take_frame f (holding old e)) (holding new e)
 
--- a frame that is neither ACK nor DATAGRAM, nor a close, nor one of path validation, and speaks of
--- no connection id
+-- a frame that is neither ACK nor DATAGRAM, nor a close, nor one of path validation, nor one of ACK
+-- frequency, and speaks of no connection id
 abbrev pub IsOther : FrameValue → Type 0
 IsOther (ack a) = ⊥
 IsOther (datagram m) = ⊥
@@ -72,6 +72,8 @@ IsOther (new_connection_id f) = ⊥
 IsOther (retire_connection_id n) = ⊥
 IsOther (path_challenge token) = ⊥
 IsOther (path_response token) = ⊥
+IsOther immediate_ack = ⊥
+IsOther (ack_frequency f) = ⊥
 IsOther f = Unit {0}
 
 -- the numbers that a frame tells of a limit on a stream, or of a close, have a form as

@@ -1,6 +1,6 @@
 -- What the frames that are sent say, and which bytes stand behind so many others.
 use Rattle.std.specs.Prelude.{ℕ, ◌+◌, ◌-◌, Bool, true, false, ◌&&◌, nat_le, if◌then◌else◌, List, [], ◌∷◌, ◌++◌, map, length, Option, Some, None}
-use Rattle.quic_wire.specs.Value.{FrameValue, ack, ping, stream, datagram}
+use Rattle.quic_wire.specs.Value.{FrameValue, ack, ping, immediate_ack, ack_frequency, stream, datagram}
 use Rattle.quic_wire.specs.Writing.{spelling, spelled_all, frame_size}
 use Rattle.quic_recovery_core.specs.PendingAcks.{is_filled}
 use Rattle.quic_retransmits.specs.Retransmits.{Retransmits, nothing_waits}
@@ -12,8 +12,9 @@ use Rattle.quic_messages.specs.Messages.{frame_bytes}
 use Rattle.quic_machine.specs.Tracking.{Carried, TrackedPacket, after_sent}
 use Rattle.quic_paths.specs.Responses.{Response}
 use Rattle.quic_machine.specs.Validation.{path_waits, challenge_sent, response_sent, challenge_frame, response_frame}
-use Rattle.quic_machine.specs.Poll.{Draft, whole, least_by, frame_room, ack_of, after_ack}
-use Rattle.quic_machine.specs.End.{End, number_of, with_tracking, with_streams, with_queued, with_ping}
+use Rattle.quic_machine.specs.Parts.{Signals}
+use Rattle.quic_machine.specs.Poll.{Draft, whole, least_by, frame_room, ack_of, after_ack, request_of, after_request}
+use Rattle.quic_machine.specs.End.{End, number_of, with_tracking, with_streams, with_queued, with_ping, with_immediate}
 
 -- ---- messages, and frames about streams, behind so many bytes of a payload that may have so many in all
 
@@ -122,16 +123,79 @@ end_after_ping_if false e = e
 abbrev pub pinged : End → End
 pinged e = end_after_ping_if e.waiting.signals.ping e
 
+-- ---- PING and IMMEDIATE_ACK
+
+-- IMMEDIATE_ACK, where it waits
+abbrev pub immediate_list : Bool → List FrameValue
+immediate_list true = immediate_ack ∷ []
+immediate_list false = []
+
+-- how it is written
+abbrev pub immediate_bytes : Bool → List ℕ
+immediate_bytes true = spelling immediate_ack
+immediate_bytes false = []
+
+-- the end after IMMEDIATE_ACK went, where it waits
+abbrev pub end_after_immediate_if : Bool → End → End
+end_after_immediate_if true e = with_immediate e false
+end_after_immediate_if false e = e
+
+-- PING and IMMEDIATE_ACK, each where it waits
+abbrev pub bare_list : Signals → List FrameValue
+bare_list s = ping_list s.ping ++ immediate_list s.immediate
+
+-- how they are written
+abbrev pub bare_bytes : Signals → List ℕ
+bare_bytes s = ping_bytes s.ping ++ immediate_bytes s.immediate
+
+-- the end after both went, each where it waits
+abbrev pub bare_sent : End → End
+bare_sent e = end_after_immediate_if e.waiting.signals.immediate (pinged e)
+
+-- ---- ACK_FREQUENCY
+
+-- ACK_FREQUENCY of an end, where it waits
+abbrev pub request_list : Bool → End → List FrameValue
+request_list true e = ack_frequency (request_of e) ∷ []
+request_list false e = []
+
+-- how it is written
+abbrev pub request_bytes : Bool → End → List ℕ
+request_bytes true e = spelling (ack_frequency (request_of e))
+request_bytes false e = []
+
+-- the end after ACK_FREQUENCY went, where it waits
+abbrev pub end_after_request_if : Bool → End → End
+end_after_request_if true e = after_request e
+end_after_request_if false e = e
+
+-- the end after ACK_FREQUENCY went if it waits
+abbrev pub request_gone : End → End
+request_gone e = end_after_request_if e.waiting.frames.ack_frequency e
+
+-- what a datagram carried, where ACK_FREQUENCY went before the rest or didn't
+abbrev pub with_request : Bool → Carried → Carried
+with_request b c = record c { retransmits = record c.retransmits { ack_frequency = b } }
+
 -- ---- what asks
 
--- what asks for an acknowledgement behind so many bytes of a payload: PING, and the others behind
--- it; how they are written, and the end that they leave
+-- what asks for an acknowledgement behind so many bytes of a payload: ACK_FREQUENCY, and the others
+-- behind it; how they are written, and the end that they leave
+unfoldable pub asked_behind_signals : End → ℕ → Draft
+asked_behind_signals e used = record {
+  frames = request_list e.waiting.frames.ack_frequency e ++ (content_at (request_gone e) (used + length (request_bytes e.waiting.frames.ack_frequency e))).frames;
+  bytes = request_bytes e.waiting.frames.ack_frequency e ++ (content_at (request_gone e) (used + length (request_bytes e.waiting.frames.ack_frequency e))).bytes;
+  least = 0;
+  end = with_content (request_gone e) (content_at (request_gone e) (used + length (request_bytes e.waiting.frames.ack_frequency e)));
+}
+
+-- the same behind PING and IMMEDIATE_ACK, each of which goes where it waits
 unfoldable pub asked_behind_paths : End → ℕ → Draft
 asked_behind_paths e used = record {
-  frames = ping_list e.waiting.signals.ping ++ (content_at (pinged e) (used + length (ping_bytes e.waiting.signals.ping))).frames;
-  bytes = ping_bytes e.waiting.signals.ping ++ (content_at (pinged e) (used + length (ping_bytes e.waiting.signals.ping))).bytes;
+  frames = bare_list e.waiting.signals ++ (asked_behind_signals (bare_sent e) (used + length (bare_bytes e.waiting.signals))).frames;
+  bytes = bare_bytes e.waiting.signals ++ (asked_behind_signals (bare_sent e) (used + length (bare_bytes e.waiting.signals))).bytes;
   least = 0;
-  end = with_content (pinged e) (content_at (pinged e) (used + length (ping_bytes e.waiting.signals.ping)));
+  end = (asked_behind_signals (bare_sent e) (used + length (bare_bytes e.waiting.signals))).end;
 }
 
 -- the same behind frames of path validation, each of which goes where it waits

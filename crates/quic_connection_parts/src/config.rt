@@ -13,12 +13,13 @@ use std::marker::Model;
 /// The configuration of an endpoint. Contracts see its settings, and what makes its congestion
 /// controller.
 ///
-/// An endpoint acts on each setting but
-/// [`ack_frequency_config`](TransportConfig::ack_frequency_config): it doesn't ask its peer when to
-/// acknowledge, and an ACK_FREQUENCY frame changes nothing. Its datagrams have at most as many
-/// bytes as a path begins with, or as the peer takes where that is less, until a larger size is
-/// found where one is looked for; and those that are ack-eliciting are filled up to that size where
-/// `pad_to_mtu` says so. The peer is told of the settings that have a transport parameter.
+/// An endpoint acts on each setting. By
+/// [`ack_frequency_config`](TransportConfig::ack_frequency_config) it asks a peer how often to
+/// acknowledge that told its min_ack_delay; it obeys the peer's ACK_FREQUENCY frames, whatever
+/// `ack_frequency_support` says. Its datagrams have at most as many bytes as a path begins with, or
+/// as the peer takes where that is less, until a larger size is found where one is looked for; and
+/// those that are ack-eliciting are filled up to that size where `pad_to_mtu` says so. The peer is
+/// told of the settings that have a transport parameter.
 #[derive(Clone, Copy, Debug, Drop)]
 pub struct Config<F> {
     transport: TransportConfig,

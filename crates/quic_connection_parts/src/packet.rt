@@ -1,26 +1,29 @@
-//! What stands in a packet: messages, frames about streams, PING and PADDING.
+//! What stands in a packet: messages, frames about streams, PING, IMMEDIATE_ACK, ACK_FREQUENCY
+//! and PADDING.
 ghost use Rattle.std.specs.Prelude.{◌≡◌, ◌+◌, ◌-◌, ◌<◌, ◌≤◌, ◌^◌, ◌++◌, replicate, take, IfOk, OnOk, vec_len, vec_capacity, max};
-ghost use Rattle.quic_wire.specs.Value.{ping};
-ghost use Rattle.quic_wire.specs.Writing.{spelling, spelled_all};
+ghost use Rattle.quic_wire.specs.Value.{ping, immediate_ack, ack_frequency};
+ghost use Rattle.quic_wire.specs.FrameView.{ack_frequency_view};
+ghost use Rattle.quic_wire.specs.Writing.{spelling, spelled_all, frame_size, Fits};
 ghost use Rattle.quic_retransmits.specs.Kept.{made};
 ghost use Rattle.quic_streams_state.specs.State.{streams_of};
 ghost use Rattle.quic_machine.specs.Tracking.{carried_in, retransmits_in};
-ghost use Rattle.quic_connection_parts.specs.Frames.{control_part, content};
+ghost use Rattle.quic_connection_parts.specs.Frames.{control_part, content, with_request};
 
 use crate::messages::put_messages;
-use crate::sent::Carried;
+use crate::sent::{Carried, kept_request};
 use crate::statistics::{count_frames, count_streams};
 use quic_messages::DatagramState;
 use quic_retransmits::{Retransmits, ThinRetransmits};
 use quic_stats::FrameStats;
 use quic_streams_handles::EndStreams;
-use quic_wire::frame::{Ack, Frame, Stream, put_frame};
+use quic_wire::frame::{Ack, AckFrequency, Frame, Stream, put_frame};
 use quic_wire_core::reserved::append_zeros;
 use std::alloc::{AllocError, Global};
 
 /// Appends messages and frames about streams behind the frames of a packet whose payload begins at
 /// `body` and may have `most` bytes, for which there is room: frames of control, DATAGRAM frames
-/// behind them, and STREAM frames behind these. This answers what they carry.
+/// behind them, and STREAM frames behind these. This answers what they carry, with ACK_FREQUENCY
+/// where `requests` says that it went before them.
 ///
 /// # Errors
 ///
@@ -32,6 +35,7 @@ pub fn put_content(
     stats: &mut FrameStats,
     fair: bool,
     alloc: Global,
+    requests: bool,
     body: usize,
     most: usize,
     out: &mut Vec<u8>,
@@ -46,10 +50,10 @@ pub fn put_content(
     ensures capacity { vec_capacity out.old ≤ vec_capacity out.new }
     ensures streams { OnOk result (streams_of streams.new.state streams.new.pending ≡ (content fair most (vec_len out.old - body) streams.old.state streams.old.pending datagrams.old.outgoing).streams) }
     ensures messages { OnOk result (datagrams.new ≡ record datagrams.old { outgoing = (content fair most (vec_len out.old - body) streams.old.state streams.old.pending datagrams.old.outgoing).outgoing }) }
-    ensures carried { IfOk result (λ carried. carried ≡ carried_in (content fair most (vec_len out.old - body) streams.old.state streams.old.pending datagrams.old.outgoing).frames) }
+    ensures carried { IfOk result (λ carried. carried ≡ with_request requests (carried_in (content fair most (vec_len out.old - body) streams.old.state streams.old.pending datagrams.old.outgoing).frames)) }
     ensures front { take (vec_len out.old) out.new.items ≡ out.old.items }
 {
-    let retransmits = put_control_frames(streams, stats, alloc, body, most, out)?;
+    let retransmits = put_control_frames(streams, stats, alloc, requests, body, most, out)?;
     put_messages(datagrams, stats, body, most, out);
     let mut stream_frames = Vec::new(alloc);
     streams
@@ -65,11 +69,13 @@ pub fn put_content(
 
 /// Appends frames about streams but for STREAM behind the frames of a packet whose payload begins
 /// at `body` and may have `most` bytes, for which there is room. This answers what has to be sent
-/// again if the datagram is lost. An error is want of memory; the streams are of no more use then.
+/// again if the datagram is lost, with ACK_FREQUENCY where that went before them. An error is want
+/// of memory; the streams are of no more use then.
 fn put_control_frames(
     streams: &mut EndStreams,
     stats: &mut FrameStats,
     alloc: Global,
+    requests: bool,
     body: usize,
     most: usize,
     out: &mut Vec<u8>,
@@ -83,12 +89,12 @@ fn put_control_frames(
     ensures capacity { vec_capacity out.old ≤ vec_capacity out.new }
     ensures state { OnOk result (streams.new.state ≡ (control_part most (vec_len out.old - body) streams.old.state streams.old.pending).state) }
     ensures pending { OnOk result (streams.new.pending ≡ (control_part most (vec_len out.old - body) streams.old.state streams.old.pending).pending) }
-    ensures carried { IfOk result (λ kept. made kept ≡ retransmits_in (control_part most (vec_len out.old - body) streams.old.state streams.old.pending).frames) }
+    ensures carried { IfOk result (λ kept. made kept ≡ record (retransmits_in (control_part most (vec_len out.old - body) streams.old.state streams.old.pending).frames) { ack_frequency = requests }) }
     ensures front { take (vec_len out.old) out.new.items ≡ out.old.items }
 {
     // Mostly nothing waits, and the walk over the kinds is spared.
     if streams.pending.is_idle() {
-        return Ok(ThinRetransmits::new());
+        return kept_request(alloc, requests);
     }
     let before = out.len();
     let mut sent = Retransmits::new(alloc);
@@ -96,9 +102,10 @@ fn put_control_frames(
         .state
         .write_control_frames(out, body + most, &mut streams.pending, &mut sent)?;
     if out.len() == before {
-        return Ok(ThinRetransmits::new());
+        return kept_request(alloc, requests);
     }
     count_frames(stats, &out[before..]);
+    sent.set_ack_frequency(requests);
     ThinRetransmits::of(alloc, sent)
 }
 
@@ -111,6 +118,31 @@ pub fn put_ping(out: &mut Vec<u8>)
 {
     let _: Option<(Stream<'_>, Ack<'_>)> = None;
     put_frame(out, &Frame::Ping);
+}
+
+/// Appends an IMMEDIATE_ACK frame, for which there is room.
+pub fn put_immediate_ack(out: &mut Vec<u8>)
+    requires { vec_len out.old + 1 ≤ vec_capacity out.old }
+    ensures items { out.new.items ≡ out.old.items ++ spelling immediate_ack }
+    ensures len { vec_len out.new ≡ vec_len out.old + 1 }
+    ensures capacity { vec_capacity out.old ≤ vec_capacity out.new }
+{
+    let _: Option<(Stream<'_>, Ack<'_>)> = None;
+    put_frame(out, &Frame::ImmediateAck);
+}
+
+/// Appends an ACK_FREQUENCY frame, for which there is room: it has 34 bytes at most.
+#[tactic(auto, using(quic_wire::proofs::FrameRange::size_most))]
+pub fn put_ack_frequency(frame: AckFrequency, out: &mut Vec<u8>)
+    requires form { Fits (ack_frequency (ack_frequency_view frame)) }
+    requires room { vec_len out.old + 34 ≤ vec_capacity out.old }
+    ensures few { frame_size (ack_frequency (ack_frequency_view frame)) ≤ 34 }
+    ensures items { out.new.items ≡ out.old.items ++ spelling (ack_frequency (ack_frequency_view frame)) }
+    ensures len { vec_len out.new ≡ vec_len out.old + frame_size (ack_frequency (ack_frequency_view frame)) }
+    ensures capacity { vec_capacity out.old ≤ vec_capacity out.new }
+{
+    let _: Option<(Stream<'_>, Ack<'_>)> = None;
+    put_frame(out, &Frame::AckFrequency(frame));
 }
 
 /// Pads the payload that begins there, so that it has four bytes with its number (RFC 9001, section

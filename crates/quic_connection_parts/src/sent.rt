@@ -1,5 +1,5 @@
 //! What a datagram carried, and what it makes of its path.
-ghost use Rattle.std.specs.Prelude.{◌≡◌, ◌<◌, ◌^◌, IfSome, Some, None, true, false, []};
+ghost use Rattle.std.specs.Prelude.{◌≡◌, ◌<◌, ◌^◌, IfSome, IfOk, Some, None, true, false, []};
 ghost use Rattle.quic_retransmits.specs.Kept.{made};
 ghost use Rattle.quic_retransmits.specs.Retransmits.{nothing_waits};
 ghost use Rattle.quic_congestion.specs.Pacer.{after_datagram};
@@ -8,10 +8,10 @@ ghost use Rattle.quic_connection_parts.specs.Flying.{is_flying, flight_left_any,
 
 use crate::acked::leave_flight;
 use quic_paths::PathData;
-use quic_retransmits::ThinRetransmits;
+use quic_retransmits::{Retransmits, ThinRetransmits};
 use quic_send_buffer::StreamMeta;
 use quic_sent_packets::SentPacket;
-use std::alloc::Global;
+use std::alloc::{AllocError, Global};
 use std::marker::Model;
 
 /// What a datagram carried that matters once it is acknowledged or lost.
@@ -105,6 +105,19 @@ impl SentFrames {
             },
         }
     }
+}
+
+/// What has to be sent again of a datagram in which ACK_FREQUENCY went, or nothing did: where it is
+/// lost, another goes. An error is want of memory.
+pub(crate) fn kept_request(alloc: Global, requests: bool) -> Result<ThinRetransmits, AllocError>
+    ensures { IfOk result (λ kept. made kept ≡ record nothing_waits { ack_frequency = requests }) }
+{
+    if !requests {
+        return Ok(ThinRetransmits::new());
+    }
+    let mut sent = Retransmits::new(alloc);
+    sent.set_ack_frequency(true);
+    ThinRetransmits::of(alloc, sent)
 }
 
 /// A datagram of so many bytes takes tokens of the pacer of a path.

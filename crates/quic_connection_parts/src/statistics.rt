@@ -5,11 +5,11 @@ ghost use Rattle.quic_connection_parts.specs.Drops.{after_drop};
 
 use quic_machine::DropReason;
 use quic_stats::{DropStats, FrameStats};
-use quic_wire::frame::Iter;
+use quic_wire::frame::Unpadded;
 
 /// The frames in these bytes go: those of control, of which there are few.
 pub(crate) fn count_frames(stats: &mut FrameStats, bytes: &[u8]) {
-    for item in Iter::new(bytes) {
+    for item in Unpadded::new(bytes) {
         if let Ok(frame) = item {
             stats.record(&frame);
         }

@@ -14,9 +14,9 @@ use quic_streams_state::IdRule;
 use quic_wire::frame::{Frame, ResetStream, StopSending, Stream};
 use quic_wire_core::{Dir, Reason, Side, StreamId, VarInt};
 
-/// Takes a frame that is neither ACK nor DATAGRAM, nor one of path validation or about connection
-/// ids: one for streams changes these, one that only servers send is refused by a server, and one
-/// of another kind does nothing yet but that it may break a rule of ids and counts.
+/// Takes a frame that is neither ACK nor DATAGRAM, nor one of path validation, of ACK frequency or
+/// about connection IDs: one for streams changes these, one that only servers send is refused by a
+/// server, and one of another kind does nothing yet but that it may break a rule of ids and counts.
 ///
 /// # Errors
 ///

@@ -56,13 +56,18 @@ pub(crate) fn sealed_under(
     Ok(out)
 }
 
-/// An end of this side and this configuration, whose peer has the default parameters.
-fn end_of(alloc: Global, side: Side, config: &Config<NewRenoConfig>) -> Result<End, ConfigError> {
+/// An end of this side and this configuration, whose peer told these parameters.
+fn end_of(
+    alloc: Global,
+    side: Side,
+    config: &Config<NewRenoConfig>,
+    parameters: &[u8],
+) -> Result<End, ConfigError> {
     Connection::new(
         alloc,
         side,
         config,
-        &[],
+        parameters,
         ConnectionId::new(&id_of(side)),
         ConnectionId::new(&id_of(!side)),
         keys_for(side),
@@ -77,7 +82,23 @@ pub(crate) fn refusal_of_window(alloc: Global, window: u64) -> Option<ConfigErro
     let mut factory = NewRenoConfig::default();
     factory.initial_window(window);
     let config = Config::new(TransportConfig::default(), factory);
-    end_of(alloc, Side::Client, &config).err()
+    end_of(alloc, Side::Client, &config, &[]).err()
+}
+
+/// Whether a new client where this is set, whose peer told these parameters, gives a datagram at
+/// once, which goes into `out`. It doesn't where memory lacks, for the end or for the datagram.
+pub(crate) fn first_goes(
+    alloc: Global,
+    transport: TransportConfig,
+    parameters: &[u8],
+    out: &mut Vec<u8>,
+) -> bool {
+    let config = Config::new(transport, NewRenoConfig::default());
+    let Ok(mut end) = end_of(alloc, Side::Client, &config, parameters) else {
+        return false;
+    };
+    let given = end.poll_transmit(Instant::from_nanos(0), out);
+    matches!(given, Ok(Some(_))) && !end.is_failed()
 }
 
 /// An end on the heap. An `Err` is want of memory.
@@ -86,6 +107,34 @@ fn boxed(alloc: Global, end: End) -> Result<Box<End>, AllocError> {
 }
 
 /// What comes of an act with such an end: here alone it is let go.
+pub(crate) fn with_config<T, F: FnOnce(&mut End) -> Result<T, Fail>>(
+    alloc: Global,
+    side: Side,
+    config: &Config<NewRenoConfig>,
+    parameters: &[u8],
+    act: F,
+) -> Result<T, Fail>
+    requires { F.IsAlwaysCallable act }
+{
+    let mut end = boxed(alloc, end_of(alloc, side, config, parameters)?)?;
+    act(end.as_mut())
+}
+
+/// The same of an end where this is set.
+pub(crate) fn with_end_told<T, F: FnOnce(&mut End) -> Result<T, Fail>>(
+    alloc: Global,
+    side: Side,
+    transport: TransportConfig,
+    parameters: &[u8],
+    act: F,
+) -> Result<T, Fail>
+    requires { F.IsAlwaysCallable act }
+{
+    let config = Config::new(transport, NewRenoConfig::default());
+    with_config(alloc, side, &config, parameters, act)
+}
+
+/// The same where the peer has the default parameters.
 pub(crate) fn with_end<T, F: FnOnce(&mut End) -> Result<T, Fail>>(
     alloc: Global,
     side: Side,
@@ -94,9 +143,7 @@ pub(crate) fn with_end<T, F: FnOnce(&mut End) -> Result<T, Fail>>(
 ) -> Result<T, Fail>
     requires { F.IsAlwaysCallable act }
 {
-    let config = Config::new(transport, NewRenoConfig::default());
-    let mut end = boxed(alloc, end_of(alloc, side, &config)?)?;
-    act(end.as_mut())
+    with_end_told(alloc, side, transport, &[], act)
 }
 
 /// What an end answers to a datagram: none where it is taken, else the code and the reason that it

@@ -51,7 +51,7 @@ fn new_id(number: u8, least: u8) -> [u8; 28] {
 
 // Sections 19.3, 19.11 and 19.15: more than 2^60 streams, a range below 0, and an id that retires
 // itself. Section 5.1.1: a sixth id. Sections 13.1, 19.7 and 19.20: a number that was never given,
-// and what only servers send.
+// and what only servers send. QUIC Acknowledgement Frequency, section 4: no delay.
 #[test]
 fn frames_have_their_codes(rt: HostRuntime) -> Result<(), Fail> {
     let unset = TransportConfig::default();
@@ -63,12 +63,13 @@ fn frames_have_their_codes(rt: HostRuntime) -> Result<(), Fail> {
     assert_refused(&rt, unset, Code::FRAME_ENCODING_ERROR, &malformed)?;
     let sixth = new_id(5, 0);
     assert_refused(&rt, unset, Code::CONNECTION_ID_LIMIT_ERROR, &[&sixth])?;
-    let of_servers: [&[u8]; 3] = [
+    let forbidden: [&[u8]; 4] = [
         &[0x02, 0x00, 0x00, 0x00, 0x00],
         &[0x07, 0x01, 0x00],
         &[0x1e],
+        &[0x40, 0xaf, 0x00, 0x01, 0x00, 0x01],
     ];
-    assert_refused(&rt, unset, Code::PROTOCOL_VIOLATION, &of_servers)
+    assert_refused(&rt, unset, Code::PROTOCOL_VIOLATION, &forbidden)
 }
 
 // Section 4.1: nine bytes where eight may come. RFC 9221, section 3: a message where none may.

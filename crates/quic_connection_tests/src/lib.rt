@@ -3,6 +3,8 @@
 #![tactic(auto)]
 
 #[cfg(test)]
+mod ack_frequency;
+#[cfg(test)]
 mod closing;
 #[cfg(test)]
 mod config;
@@ -20,5 +22,7 @@ mod marks;
 mod messages;
 #[cfg(test)]
 mod numbers;
+#[cfg(test)]
+mod obeying;
 #[cfg(test)]
 mod views;

@@ -5,3 +5,8 @@ pub mod Calls
 pub mod Places
 pub mod Bytes
 pub mod Messages
+pub mod Streams
+pub mod Within
+pub mod Asked
+pub mod Kept
+pub mod Keeping

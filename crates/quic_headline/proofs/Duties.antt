@@ -9,6 +9,7 @@ pub mod OfIds
 pub mod Lasting
 pub mod Limits
 pub mod LimitsGo
+pub mod Requests
 pub mod Halts
 pub mod Stopped
 pub mod Group

@@ -29,3 +29,4 @@ pub mod AppLimited
 pub mod NextIds
 pub mod Validated
 pub mod Alone
+pub mod Requests

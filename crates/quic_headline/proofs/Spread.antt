@@ -1,6 +1,9 @@
+pub mod Along
 pub mod Pings
 pub mod Left
 pub mod Gates
 pub mod Polls
 pub mod Clause
 pub mod PingsGo
+pub mod Hastens
+pub mod RequestsGo

@@ -22,21 +22,22 @@ use Rattle.quic_machine.specs.CallCases.{is_poll, is_timeout}
 use Rattle.quic_machine.specs.End.{End}
 use Rattle.quic_machine.specs.Machine.{World, end_at}
 use Rattle.quic_headline.specs.Runs.{Run, Told, Packet, In, until, state_at, AreServed, LeadsTo, written, ended_by, reset_by}
-use Rattle.quic_headline.specs.Observer.{Sent, HoldsOffset, HoldsEnd, Terms, terms_of, Watch, watch, news, loss_due, is_past, is_timely}
+use Rattle.quic_headline.specs.Observer.{Sent, HoldsOffset, HoldsEnd, Watch, watch, news, loss_due, is_past, is_timely}
 use Rattle.quic_headline.specs.Headline.{IsAt}
-use Rattle.quic_headline.specs.InFlight.{is_max_data, is_max_streams, is_data_blocked}
+use Rattle.quic_headline.specs.InFlight.{is_max_data, is_max_streams, is_data_blocked, is_ack_frequency}
 use Rattle.quic_headline.specs.Duties.{Limited, AllData, StreamData, StreamCount, has_reset, has_stop, limit_waits, on_half}
-use Rattle.quic_headline.specs.Moments.{acknowledges, went, debt}
-use Rattle.quic_headline.specs.AcksDue.{takes_marked, are_some, waits_out}
+use Rattle.quic_headline.specs.Moments.{acknowledges, went}
+use Rattle.quic_headline.specs.AcksDue.{is_immediate_ack, is_due}
 use Rattle.quic_headline.specs.Unread.{stopped_by}
 use Rattle.quic_headline.specs.Messages.{sent_by}
-use Rattle.quic_headline.specs.Waited.{one_asks, count_silent, may_come, stands, is_ping, is_path_challenge, is_path_response, asks_ping, wakes, probes_in_vain, wants}
+use Rattle.quic_headline.specs.Requests.{Asking, asking_at, wants_anew}
+use Rattle.quic_headline.specs.Waited.{count_silent, may_come, stands, is_ping, is_path_challenge, is_path_response, asks_ping, wakes, probes_in_vain, wants}
 
 -- ---- what may wait
 
 -- a control frame: the reset of a stream, that the peer is to stop sending on one, a limit, that a
--- write found all data, or one stream, used up, an own id that the peer is told under a number, and
--- that the peer's id of a number is retired
+-- write found all data, or one stream, used up, an own id that the peer is told under a number,
+-- that the peer's id of a number is retired, and ACK_FREQUENCY
 pub data Control : Type 0 where
   ResetOf : (id : ℕ) → Control
   StopOf : (id : ℕ) → Control
@@ -45,12 +46,14 @@ pub data Control : Type 0 where
   BlockedOn : (id : ℕ) → Control
   NewId : (number : ℕ) → Control
   Retirement : (number : ℕ) → Control
+  Request : Control
 
--- an ACK frame that is due; PING; PATH_CHALLENGE and PATH_RESPONSE; a probe of losses; a message;
--- an offset of a stream, and its end; and a control frame
+-- an ACK frame that is due; PING; IMMEDIATE_ACK; PATH_CHALLENGE and PATH_RESPONSE; a probe of
+-- losses; a message; an offset of a stream, and its end; and a control frame
 pub data Thing : Type 0 where
   Ack : Thing
   Ping : Thing
+  Immediate : Thing
   Challenge : Thing
   Response : Thing
   Probe : Thing
@@ -68,6 +71,7 @@ control_waits p Blocked = p.data_blocked
 control_waits p (BlockedOn id) = has_id id p.stream_data_blocked
 control_waits p (NewId number) = list_any (λ c. c.sequence == number) p.new_cids
 control_waits p (Retirement number) = list_any (λ n. n == number) p.retire_cids
+control_waits p Request = p.ack_frequency
 
 -- whether an offset of a half that wasn't reset is to go: it is lost, or was never sent
 abbrev pub byte_waits : ℕ → SendHalf → Bool
@@ -81,6 +85,7 @@ fin_waits h = is_none h.reset && h.end_waits
 abbrev pub IsPending : End → Thing → Type 0
 IsPending e Ack = e.acknowledging.due ≡ true
 IsPending e Ping = e.waiting.signals.ping ≡ true
+IsPending e Immediate = e.waiting.signals.immediate ≡ true
 IsPending e Challenge = is_some e.waiting.signals.challenge ≡ true
 IsPending e Response = is_some e.waiting.signals.response ≡ true
 IsPending e Probe = 0 < e.tracking.probes
@@ -102,6 +107,7 @@ says Blocked f = is_data_blocked f
 says (BlockedOn id) (stream_data_blocked f) = f.id == id
 says (NewId number) (new_connection_id f) = f.sequence == number
 says (Retirement number) (retire_connection_id n) = n == number
+says Request f = is_ack_frequency f
 says control f = false
 
 -- A datagram bears it: a STREAM frame with the offset, or with the end, or the frame.
@@ -111,12 +117,13 @@ Bears s (Fin id) = HoldsEnd (s ∷ []) id
 Bears s (Frame control) = list_any (says control) s.frames ≡ true
 Bears s q = ⊥
 
--- It went with one of these datagrams: an ACK frame, PING, PATH_CHALLENGE, PATH_RESPONSE, an offset
--- or the end of a stream, or a frame that names no stream, as MAX_DATA, MAX_STREAMS and
--- DATA_BLOCKED. Of the others it isn't said.
+-- It went with one of these datagrams: an ACK frame, PING, IMMEDIATE_ACK, PATH_CHALLENGE,
+-- PATH_RESPONSE, an offset or the end of a stream, or a frame that names no stream, as MAX_DATA,
+-- MAX_STREAMS, DATA_BLOCKED and ACK_FREQUENCY. Of the others it isn't said.
 abbrev pub HasGone : List Sent → Thing → Type 0
 HasGone ss Ack = acknowledges ss ≡ true
 HasGone ss Ping = stands is_ping ss ≡ true
+HasGone ss Immediate = stands is_immediate_ack ss ≡ true
 HasGone ss Challenge = stands is_path_challenge ss ≡ true
 HasGone ss Response = stands is_path_response ss ≡ true
 HasGone ss (Byte id offset) = HoldsOffset ss id offset
@@ -124,24 +131,25 @@ HasGone ss (Fin id) = HoldsEnd ss id
 HasGone ss (Frame (LimitOf AllData)) = stands is_max_data ss ≡ true
 HasGone ss (Frame (LimitOf (StreamCount dir))) = stands (is_max_streams (is_one_way dir)) ss ≡ true
 HasGone ss (Frame Blocked) = stands is_data_blocked ss ≡ true
+HasGone ss (Frame Request) = stands is_ack_frequency ss ≡ true
 HasGone ss q = ⊥
 
 -- ---- what is seen of a call
 
 -- What an observer of an end knows of a call: what was told before, the call, what is known before
--- and behind it, the packets that came since the end gave an ACK frame, before it and behind it,
--- when those came before it that ask, when the time without a packet is over, if it is kept, and by
--- what losses are judged.
+-- and behind it, the packets that came before it since the end gave an ACK frame, whether one is due
+-- behind it for packets that ask, and whether one bore the mark of congestion since one went, when
+-- the time without a packet is over, if it is kept, and how the end asks its peer to acknowledge.
 pub record Seen : Type 0 where
   pub told : List Told
   pub now : Told
   pub before : Watch
   pub behind : Watch
   pub unanswered : List Packet
-  pub unanswered_behind : List Packet
-  pub arrivals : List ℕ
+  pub due : Bool
+  pub marked : Bool
   pub alive : Option ℕ
-  pub terms : Terms
+  pub asking : Asking
 
 -- the packets that came by it
 abbrev pub came : Seen → List Packet
@@ -176,12 +184,16 @@ pub record IsProbed (s : Seen) (q : Thing) : Type 0 where
 -- whether the timer of losses expires at it, and no datagram may be lost by time (RFC 9002, section
 -- 6.2.1)
 abbrev pub makes_probes : Seen → Bool
-makes_probes s = is_timely s.now.state s.now.call && (is_none s.before.flight.loss_time && is_past (loss_due s.terms s.before.flight) s.behind.clock)
+makes_probes s = is_timely s.now.state s.now.call && (is_none s.before.flight.loss_time && is_past (loss_due s.before.flight) s.behind.clock)
+
+-- whether it is a poll at which a probe of losses waits in vain
+abbrev pub fails_to_probe : Seen → Bool
+fails_to_probe s = probes_in_vain s.now.call (went s.before s.behind) s.before
 
 -- whether it asks for PING, or the time without a packet is over at it (RFC 9000, section 10.1.2),
 -- or it is a poll at which a probe of losses waits in vain (section 8.1)
 abbrev pub makes_ping : Seen → Bool
-makes_ping s = asks_ping s.now.call || (wakes s.now s.behind.clock s.alive || probes_in_vain s.now.call (went s.before s.behind) s.before)
+makes_ping s = asks_ping s.now.call || (wakes s.now s.behind.clock s.alive || fails_to_probe s)
 
 -- ---- calls of the application, and frames that come
 
@@ -237,7 +249,8 @@ may_end f = brings_data f
 -- MAX_STREAM_DATA where more of the stream was read, and MAX_STREAMS where a stream may be done
 -- (section 4.6); and the frames that say that a limit is used up where a write is blocked (sections
 -- 19.12 and 19.13). The peer is told of an own id where it retires one, and an id of the peer is
--- retired where the next one is used, or one comes late.
+-- retired where the next one is used, or one comes late. And a poll asks the peer by ACK_FREQUENCY
+-- where it is to be asked anew (QUIC Acknowledgement Frequency, section 4).
 abbrev pub asks_for : Seen → Control → Bool
 asks_for s (ResetOf id) = is_some (reset_by id s.now.call s.now.answer)
 asks_for s (StopOf id) = stopped_by id s.now.call s.now.answer
@@ -248,26 +261,26 @@ asks_for s Blocked = finds_blocked (λ id. true) s.now.call s.now.answer
 asks_for s (BlockedOn id) = finds_blocked (λ j. j == id) s.now.call s.now.answer
 asks_for s (NewId number) = brings is_retirement s
 asks_for s (Retirement number) = uses_next s.now.call s.now.answer || brings is_new_id s
+asks_for s Request = is_poll s.now.call && wants_anew s.asking s.before.own s.before.flight
 
 -- ---- the causes
 
--- whether an ACK frame may become due by a call: a packet comes while one waits that asks; it bears
--- the mark of congestion; 25 ms have passed since one came that asks; or a datagram may go, and
--- many came that don't ask (RFC 9000, section 13.2.1)
+-- whether an ACK frame may become due by a call: behind it one is due for packets that ask; or one
+-- bore the mark of congestion; or a datagram may go, and many came that don't ask (RFC 9000, section
+-- 13.2.1)
 abbrev pub may_hasten : Seen → Bool
-may_hasten s =
-    (are_some (came s) && one_asks s.unanswered_behind)
-    || (takes_marked s.now.call s.now.answer || (waits_out s.now s.arrivals s.behind.clock || (is_poll s.now.call && nat_lt may_come (count_silent s.unanswered))))
+may_hasten s = s.due || (s.marked || (is_poll s.now.call && nat_lt may_come (count_silent s.unanswered)))
 
 -- What makes it wait: an ACK frame becomes due; PING is asked for, or the time without a packet is
--- over, or a probe waits in vain; probes wait where the timer of losses expires; a message is sent;
--- bytes are written, or an end is told; a control frame is called for; what a datagram bore is
--- lost; or a probe says it again. PATH_CHALLENGE waits only where a moment comes, at which the
--- timer of path validation may expire, and PATH_RESPONSE only where PATH_CHALLENGE comes (section
--- 8.2).
+-- over, or a probe waits in vain, by which IMMEDIATE_ACK may wait; probes wait where the timer of
+-- losses expires; a message is sent; bytes are written, or an end is told; a control frame is
+-- called for; what a datagram bore is lost; or a probe says it again. PATH_CHALLENGE waits only
+-- where a moment comes, at which the timer of path validation may expire, and PATH_RESPONSE only
+-- where PATH_CHALLENGE comes (section 8.2).
 abbrev pub HasCause : Seen → Thing → Type 0
 HasCause s Ack = may_hasten s ≡ true
 HasCause s Ping = makes_ping s ≡ true
+HasCause s Immediate = fails_to_probe s ≡ true
 HasCause s Challenge = is_timeout s.now.call ≡ true
 HasCause s Response = brings is_path_challenge s ≡ true
 HasCause s Probe = makes_probes s ≡ true
@@ -286,10 +299,10 @@ seen_at r side i call a = record {
   before = watch r side i;
   behind = watch r side (suc i);
   unanswered = (wants r side i).packets;
-  unanswered_behind = (wants r side (suc i)).packets;
-  arrivals = (debt r side i).arrivals;
+  due = is_due r side (suc i);
+  marked = (wants r side (suc i)).marked;
   alive = (wants r side i).alive;
-  terms = terms_of (end_at side r.start);
+  asking = asking_at r side;
 }
 
 -- It waited before, and didn't go by the call; or it has a cause.

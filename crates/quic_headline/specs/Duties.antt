@@ -7,7 +7,7 @@ use Rattle.quic_wire_core.specs.declared.stream_id.Side.{Side}
 use Rattle.quic_wire_core.specs.declared.stream_id.Dir.{Dir}
 use Rattle.quic_wire_core.specs.StreamId.{other_side}
 use Rattle.quic_wire_core.specs.declared.shared.IssuedCid.{IssuedCid}
-use Rattle.quic_wire.specs.Value.{FrameValue, StopSendingValue, NewConnectionIdValue, max_data, max_stream_data, max_streams, new_connection_id, retire_connection_id}
+use Rattle.quic_wire.specs.Value.{FrameValue, StopSendingValue, NewConnectionIdValue, max_data, max_stream_data, max_streams, new_connection_id, retire_connection_id, AckFrequencyValue, ack_frequency}
 use Rattle.quic_wire.specs.FrameView.{is_one_way}
 use Rattle.quic_send_buffer.specs.declared.stream_meta.StreamMeta.{StreamMeta}
 use Rattle.quic_send_buffer.specs.Buffered.{is_lost, is_unsent}
@@ -35,8 +35,8 @@ pub data Limited : Type 0 where
   StreamCount : (dir : Dir) → Limited
 
 -- an offset of a stream, the end of one, or its reset; that the peer is to stop sending on one;
--- that an id of the peer with a number is retired, and an own id of a number; and a limit, with its
--- value
+-- that an id of the peer with a number is retired, and an own id of a number; a limit, with its
+-- value; and the request of a number of how often to acknowledge
 pub data Duty : Type 0 where
   Offset : (id : ℕ) (offset : ℕ) → Duty
   Fin : (id : ℕ) → Duty
@@ -45,6 +45,7 @@ pub data Duty : Type 0 where
   Retire : (number : ℕ) → Duty
   NewId : (number : ℕ) → Duty
   Limit : (what : Limited) (value : ℕ) → Duty
+  Frequency : (number : ℕ) → Duty
 
 -- ---- what is owed
 
@@ -74,6 +75,13 @@ pub record IsSaid (e : End) (own : List Sent) (what : Limited) (value : ℕ) : T
   pub greatest : (other : ℕ) → WasGiven own (limit_frame what other) → other ≤ value
   pub matters : Matters e what
 
+-- A request of a number stands in one of these datagrams, in ACK_FREQUENCY (QUIC Acknowledgement
+-- Frequency, section 4).
+pub record IsAsked (own : List Sent) (number : ℕ) : Type 0 where
+  pub frame : AckFrequencyValue
+  pub asked : WasGiven own (ack_frequency frame)
+  pub of_number : frame.sequence ≡ number
+
 -- whether the final size of a stream is unknown to an end that receives on it: it knows that of a
 -- half that is done (section 4.5)
 abbrev pub lacks_size : Option RecvHalf → Bool
@@ -84,7 +92,7 @@ lacks_size (Some half) = is_none half.final
 -- reset, each offset that was written, and the end if it was finished; each reset; STOP_SENDING of
 -- each stream that it stopped, while the final size isn't known (section 3.5); the retirement of
 -- each id of the peer below that in use (section 5.1.2); each own id but the first, while it lives
--- (section 5.1.1); and each limit
+-- (section 5.1.1); each limit; and each request, in the place of which a newer one may come
 abbrev pub IsOwed : End → List Sent → List Told → Duty → Type 0
 IsOwed e own told (Offset id offset) = (reset id told ≡ None) × (offset < length (written id told))
 IsOwed e own told (Fin id) = (reset id told ≡ None) × (ended id told ≡ true)
@@ -93,6 +101,7 @@ IsOwed e own told (Stop id) = (stopped id told ≡ true) × (lacks_size (at e.st
 IsOwed e own told (Retire number) = number < e.ids.peer.active
 IsOwed e own told (NewId number) = (1 ≤ number) × (is_in number e.ids.own.living ≡ true)
 IsOwed e own told (Limit what value) = IsSaid e own what value
+IsOwed e own told (Frequency number) = IsAsked own number
 
 -- ---- it waits
 
@@ -132,6 +141,7 @@ is_due e (Stop id) = has_stop id e.waiting.frames.stop_sending
 is_due e (Retire number) = has_retirement number e.waiting.frames.retire_cids
 is_due e (NewId number) = has_new_id number e.waiting.frames.new_cids
 is_due e (Limit what value) = limit_waits e.waiting.frames what
+is_due e (Frequency number) = e.waiting.frames.ack_frequency
 
 -- It waits to go. What waits is queued: the end has something to send.
 pub record Waits (e : End) (duty : Duty) : Type 0 where
@@ -171,9 +181,18 @@ pub record IsInFlight (own : List Sent) (packets : Table TrackedPacket) (frame :
   pub packet : TrackedPacket
   pub tracked : In (sent.number, packet) packets
 
+-- A datagram that was given, and is one of these, has a request that is as new, or newer, and that
+-- goes again if it is lost.
+pub record IsRequested (own : List Sent) (packets : Table TrackedPacket) (number : ℕ) : Type 0 where
+  pub frame : AckFrequencyValue
+  pub newer : number ≤ frame.sequence
+  pub flies : IsInFlight own packets (ack_frequency frame)
+  pub kept : flies.packet.carried.retransmits.ack_frequency ≡ true
+
 -- it stands in a datagram that is neither acknowledged nor lost yet; a limit with its value
 abbrev pub IsUnderWay : List Sent → Table TrackedPacket → Duty → Type 0
 IsUnderWay own packets (Limit what value) = IsInFlight own packets (limit_frame what value)
+IsUnderWay own packets (Frequency number) = IsRequested own packets number
 IsUnderWay own packets duty = IsCarried packets duty
 
 -- ---- it has arrived
@@ -201,6 +220,14 @@ pub record WasRetired (packets : List Packet) (number : ℕ) : Type 0 where
   pub was_taken : In packet packets
   pub carried : In (retire_connection_id number) packet.frames
 
+-- A request that is as new, or newer, stands in an ACK_FREQUENCY frame that was taken.
+pub record HasAsked (packets : List Packet) (number : ℕ) : Type 0 where
+  pub packet : Packet
+  pub was_taken : In packet packets
+  pub frame : AckFrequencyValue
+  pub carried : In (ack_frequency frame) packet.frames
+  pub newer : number ≤ frame.sequence
+
 -- it stood in a packet that was taken
 abbrev pub HasCome : List Packet → List Told → Duty → Type 0
 HasCome packets told (Offset id offset) = HasArrived packets id offset
@@ -210,6 +237,7 @@ HasCome packets told (Stop id) = was_stopped id packets ≡ true
 HasCome packets told (Retire number) = WasRetired packets number
 HasCome packets told (NewId number) = (id : List ℕ) × WasToldId packets number id
 HasCome packets told (Limit what value) = LimitHasArrived packets what value
+HasCome packets told (Frequency number) = HasAsked packets number
 
 -- ---- where it is
 

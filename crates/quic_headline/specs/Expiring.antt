@@ -5,7 +5,6 @@ use Rattle.std.specs.Prelude.{ℕ, suc, ◌+◌, ◌*◌, ◌-◌, ◌^◌, ◌�
 use Rattle.std.specs.List.{list_any}
 use Rattle.quic_wire_core.specs.declared.stream_id.Side.{Side}
 use Rattle.quic_wire_core.specs.StreamId.{other_side}
-use Rattle.quic_time.specs.Rtt.{Rtt}
 use Rattle.quic_time.specs.declared.timer.Timer.{Timer}
 use Rattle.quic_time.specs.declared.timer.Timer.TheVariants.{Idle, Close, PathValidation, KeepAlive}
 use Rattle.quic_config.specs.Transport.{told_timeout}
@@ -19,7 +18,7 @@ use Rattle.quic_machine.specs.declared.run.Answer.{Answer}
 use Rattle.quic_machine.specs.declared.run.View.{View}
 use Rattle.quic_machine.specs.Machine.{end_at}
 use Rattle.quic_headline.specs.Runs.{Run, Told, Packet, state_in, state_at, AreServed, folded, until, given_of}
-use Rattle.quic_headline.specs.Observer.{Sent, asks_of, Terms, terms_of, lesser, latest, waited, is_past, Watch, watch_from, watch, news, clock_behind, is_timely, Lens, watch_told, lens_of}
+use Rattle.quic_headline.specs.Observer.{Sent, asks_of, Flight, lesser, latest, waited, is_past, Watch, watch_from, watch, news, clock_behind, is_timely, Lens, watch_told, lens_of}
 use Rattle.quic_headline.specs.Headline.{IsAt}
 use Rattle.quic_headline.specs.Moments.{timers_in, went}
 use Rattle.quic_headline.specs.Polls.{end_in, seen_at}
@@ -37,9 +36,9 @@ timer_in timer v side = slice_get (timers_in v side) (place timer)
 abbrev pub moment_behind : ℕ → ℕ → ℕ
 moment_behind moment time = min (moment + time) latest
 
--- three probe timeouts, where a round trip takes so long (RFC 9002, section 6.2.1)
-abbrev pub three_waits : Terms → Rtt → ℕ
-three_waits t rtt = min (waited t rtt 0 * 3) latest
+-- three probe timeouts, by how long a round trip and the peer take (RFC 9002, section 6.2.1)
+abbrev pub three_waits : Flight → ℕ
+three_waits f = min (waited f 0 * 3) latest
 
 -- ---- being idle (section 10.1)
 
@@ -66,20 +65,20 @@ abbrev pub begins_anew : List Packet → List Sent → Bool → Bool
 begins_anew came sents quiet = nat_lt 0 (length came) || (list_any asks_of sents && quiet)
 
 -- when it is over if it begins now: it lasts three probe timeouts at least
-abbrev pub idle_from : Option ℕ → Terms → Watch → Option ℕ
-idle_from time t w = option_map (λ (long : ℕ). moment_behind w.clock (max long (three_waits t w.flight.rtt))) time
+abbrev pub idle_from : Option ℕ → Watch → Option ℕ
+idle_from time w = option_map (λ (long : ℕ). moment_behind w.clock (max long (three_waits w.flight))) time
 
 -- what is known behind a call at which these go, and these packets come
-abbrev pub silence_behind : Option ℕ → Terms → List Sent → List Packet → Watch → Silence → Silence
-silence_behind time t sents came after s = record {
+abbrev pub silence_behind : Option ℕ → List Sent → List Packet → Watch → Silence → Silence
+silence_behind time sents came after s = record {
   watch = after;
-  over = (if begins_anew came sents s.quiet then idle_from time t after else s.over);
+  over = (if begins_anew came sents s.quiet then idle_from time after else s.over);
   quiet = nat_lt 0 (length came) || (s.quiet && not (list_any asks_of sents));
 }
 
 -- one call more at the end
 abbrev pub silence_told : Option ℕ → Lens → Told → Silence → Silence
-silence_told time l t s = let after = watch_told l t s.watch in silence_behind time l.terms (went s.watch after) (news s.watch.intake after.intake) after s
+silence_told time l t s = let after = watch_told l t s.watch in silence_behind time (went s.watch after) (news s.watch.intake after.intake) after s
 
 -- before the first call no such time has begun
 abbrev pub first_silence : Watch → Silence
@@ -117,24 +116,24 @@ pub record Questions : Type 0 where
   pub due : Option ℕ
 
 -- an end asks, or asks once more: it waits for three probe timeouts
-abbrev pub one_more : Terms → Watch → ℕ → Questions
-one_more t w count =
-    if nat_lt count most_questions then record { watch = w; count = count + 1; due = Some (moment_behind w.clock (three_waits t w.flight.rtt)) }
+abbrev pub one_more : Watch → ℕ → Questions
+one_more w count =
+    if nat_lt count most_questions then record { watch = w; count = count + 1; due = Some (moment_behind w.clock (three_waits w.flight)) }
     else record { watch = w; count = count; due = None }
 
 -- one call more at the end
 abbrev pub questions_told : Lens → Told → Questions → Questions
 questions_told l t q =
     let after = watch_told l t q.watch in
-    if is_timely t.state t.call && is_past q.due after.clock then one_more l.terms after q.count else record q { watch = after }
+    if is_timely t.state t.call && is_past q.due after.clock then one_more after q.count else record q { watch = after }
 
 -- an end asks as it is made, but where the address of its peer is validated
-abbrev pub first_questions : Bool → Terms → Watch → Questions
-first_questions validated t w = if validated then record { watch = w; count = 0; due = None } else one_more t w 0
+abbrev pub first_questions : Bool → Watch → Questions
+first_questions validated w = if validated then record { watch = w; count = 0; due = None } else one_more w 0
 
 -- how it does before the first call
 abbrev pub questions_at_first : Run → Side → Questions
-questions_at_first r side = first_questions (end_at side r.start).path.validated (terms_of (end_at side r.start)) (watch_from (end_at side r.start) (given_of r side))
+questions_at_first r side = first_questions (end_at side r.start).path.validated (watch_from (end_at side r.start) (given_of r side))
 
 -- how an end asked behind the first so many answers
 abbrev pub questions : Run → Side → ℕ → Questions
@@ -188,7 +187,7 @@ IsOfItself reason = ⊥
 abbrev pub CloseMoments : Run → Type 0
 CloseMoments r = (side : Side) (i : ℕ) (call : Call) (a : Answer) (v : View) → AreServed r (suc i) → IsAt r i side call a → slice_get r.views i ≡ Some v
     → state_at r side i ≡ states.Open → state_in v side ≡ states.Closing → IsOfItself (reason_in v side)
-    → timer_in Close v side ≡ Some (Some (moment_behind (clock_behind (watch r side i).clock (moment_told call)) (three_waits (terms_of (end_at side r.start)) (watch r side i).flight.rtt)))
+    → timer_in Close v side ≡ Some (Some (moment_behind (clock_behind (watch r side i).clock (moment_told call)) (three_waits (watch r side i).flight)))
 
 -- that timer stays as it is while the end is closing
 abbrev pub CloseMomentsStay : Run → Type 0

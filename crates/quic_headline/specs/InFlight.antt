@@ -4,7 +4,7 @@ use Rattle.std.specs.Prelude.{ℕ, ◌+◌, ◌≡◌, ◌⊎◌, Bool, true, fa
 use Rattle.std.specs.List.{list_any}
 use Rattle.quic_wire_core.specs.declared.shared.IssuedCid.{IssuedCid}
 use Rattle.quic_wire_core.specs.declared.stream_id.Side.{Side}
-use Rattle.quic_wire.specs.Value.{FrameValue, StreamValue, StopSendingValue, ack, stream, reset_stream, stop_sending, max_data, max_stream_data, max_streams, data_blocked, stream_data_blocked, new_connection_id, retire_connection_id}
+use Rattle.quic_wire.specs.Value.{FrameValue, StreamValue, StopSendingValue, ack, stream, reset_stream, stop_sending, max_data, max_stream_data, max_streams, data_blocked, stream_data_blocked, new_connection_id, retire_connection_id, ack_frequency}
 use Rattle.quic_send_buffer.specs.declared.stream_meta.StreamMeta.{StreamMeta}
 use Rattle.quic_machine.specs.declared.answers.State.TheVariants as states
 use Rattle.quic_streams_parts.specs.Table.{Table}
@@ -41,6 +41,12 @@ is_max_data other = false
 abbrev pub is_data_blocked : FrameValue → Bool
 is_data_blocked (data_blocked limit) = true
 is_data_blocked other = false
+
+-- the same of ACK_FREQUENCY, in the place of which another goes (QUIC Acknowledgement Frequency,
+-- section 4)
+abbrev pub is_ack_frequency : FrameValue → Bool
+is_ack_frequency (ack_frequency f) = true
+is_ack_frequency other = false
 
 -- MAX_STREAMS of two-way or of one-way streams
 abbrev pub is_max_streams : Bool → FrameValue → Bool
@@ -97,7 +103,7 @@ again_in frames = record {
   stream_data_blocked = with_ids (blocked_in frames) [];
   new_cids = new_ids_in frames;
   retire_cids = retirements_in frames;
-  ack_frequency = false;
+  ack_frequency = list_any is_ack_frequency frames;
 }
 
 -- what a datagram with these frames carried

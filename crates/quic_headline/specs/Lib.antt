@@ -23,6 +23,8 @@ pub mod Unread
 pub mod Undone
 pub mod Credit
 pub mod Allowed
+pub mod Requested
+pub mod Requests
 pub mod Queue
 pub mod Events
 pub mod AppLimited
@@ -37,4 +39,5 @@ pub mod Validated
 pub mod Expiring
 pub mod Closes
 pub mod Alone
+pub mod Keeping
 pub mod Promises

@@ -10,7 +10,8 @@ use Rattle.quic_machine.specs.declared.answers.State.TheVariants as states
 use Rattle.quic_machine.specs.declared.run.View.{View}
 use Rattle.quic_machine.specs.Machine.{end_at}
 use Rattle.quic_headline.specs.Runs.{Run, Told, Packet, In, IsNamed, state_in, AreServed, folded, until, given_of}
-use Rattle.quic_headline.specs.Observer.{Sent, asks_of, Watch, terms_of, loss_due, watch_from, watch, took, sents_until, news, Lens, watch_told, lens_of}
+use Rattle.quic_headline.specs.Requested.{requested}
+use Rattle.quic_headline.specs.Observer.{Sent, asks_of, Watch, loss_due, watch_from, watch, took, sents_until, news, Lens, watch_told, lens_of}
 
 -- ---- what a view shows
 
@@ -30,7 +31,7 @@ loss_timer v side = slice_get (timers_in v side) 0
 -- reckons: when the first datagram is lost by time, or else a backed-off probe timeout behind the
 -- last that asks; and that it isn't set where none in flight asks
 abbrev pub LossMoments : Run → Type 0
-LossMoments r = (side : Side) (i : ℕ) (v : View) → AreServed r (suc i) → slice_get r.views i ≡ Some v → state_in v side ≡ states.Open → loss_timer v side ≡ Some (loss_due (terms_of (end_at side r.start)) (watch r side (suc i)).flight)
+LossMoments r = (side : Side) (i : ℕ) (v : View) → AreServed r (suc i) → slice_get r.views i ≡ Some v → state_in v side ≡ states.Open → loss_timer v side ≡ Some (loss_due (watch r side (suc i)).flight)
 
 -- each datagram that an end gave before a place, and that asks, is named in an ACK frame that the
 -- end took before it (RFC 9000, section 19.3)
@@ -62,49 +63,46 @@ acknowledges ss = list_any (λ s. list_any is_ack s.frames) ss
 abbrev pub went : Watch → Watch → List Sent
 went before after = drop (length before.own) after.own
 
--- the moment at which these packets came, once for each that asks for an acknowledgement
-abbrev pub arrivals_of : List Packet → ℕ → List ℕ
-arrivals_of [] moment = []
-arrivals_of (p ∷ ps) moment = if list_any asks p.frames then moment ∷ arrivals_of ps moment else arrivals_of ps moment
+-- until when these packets are to be acknowledged, which came at a moment, where an acknowledgement
+-- may wait so long: once for each that asks for one
+abbrev pub deadlines_of : List Packet → ℕ → ℕ → List ℕ
+deadlines_of [] delay moment = []
+deadlines_of (p ∷ ps) delay moment = if list_any asks p.frames then min (moment + delay) (2 ^ 64 - 1) ∷ deadlines_of ps delay moment else deadlines_of ps delay moment
 
--- what an observer knows of an end, and when the packets came that ask, and were taken since the
--- end gave an ACK frame
+-- what an observer knows of an end, and until when the packets are to be acknowledged that ask, and
+-- were taken since the end gave an ACK frame, the latest first
 pub record Debt : Type 0 where
   pub watch : Watch
-  pub arrivals : List ℕ
+  pub deadlines : List ℕ
 
--- those behind a call: an ACK frame that goes ends them
-abbrev pub arrivals_behind : Debt → Watch → List ℕ
-arrivals_behind d after = if acknowledges (went d.watch after) then [] else arrivals_of (news d.watch.intake after.intake) after.clock ++ d.arrivals
+-- those behind a call: an ACK frame that goes ends them. A packet that comes may wait as long as
+-- the peer asked for by then, in the packet itself at the latest; whoever waits already, waits as
+-- before
+abbrev pub deadlines_behind : Debt → Watch → List ℕ
+deadlines_behind d after =
+    if acknowledges (went d.watch after) then [] else deadlines_of (news d.watch.intake after.intake) (requested after.intake.took).delay after.clock ++ d.deadlines
 
 -- one call more at the end
 abbrev pub debt_told : Lens → Told → Debt → Debt
-debt_told l t d = let after = watch_told l t d.watch in record { watch = after; arrivals = arrivals_behind d after }
+debt_told l t d = let after = watch_told l t d.watch in record { watch = after; deadlines = deadlines_behind d after }
 
 -- nothing came before the first call
 abbrev pub first_debt : Watch → Debt
-first_debt w = record { watch = w; arrivals = [] }
+first_debt w = record { watch = w; deadlines = [] }
 
 -- what the observer of an end knows by the first so many answers
 abbrev pub debt : Run → Side → ℕ → Debt
 debt r side i = folded (debt_told (lens_of r side)) (until r side i) (first_debt (watch_from (end_at side r.start) (given_of r side)))
 
--- the first of these arrivals, of which the latest stands first
-abbrev pub first_arrival : List ℕ → Option ℕ
-first_arrival [] = None
-first_arrival (arrival ∷ []) = Some arrival
-first_arrival (later ∷ arrival ∷ arrivals) = first_arrival (arrival ∷ arrivals)
-
--- A moment lies 25 ms, in nanoseconds, behind the first of these arrivals: no acknowledgement waits
--- longer.
-pub record IsDueFor (arrivals : List ℕ) (moment : ℕ) : Type 0 where
-  pub arrival : ℕ
-  pub first : first_arrival arrivals ≡ Some arrival
-  pub due : moment ≡ min (arrival + 25000000) (2 ^ 64 - 1)
+-- the deadline of the packet that came first, where that of the latest stands first
+abbrev pub first_deadline : List ℕ → Option ℕ
+first_deadline [] = None
+first_deadline (deadline ∷ []) = Some deadline
+first_deadline (later ∷ deadline ∷ deadlines) = first_deadline (deadline ∷ deadlines)
 
 -- behind each event before which, and at which, no delivery, no poll and no timeout met want of
--- memory: where the view shows the timer of acknowledgements of an open end set, it is set to 25 ms
--- behind the moment at which the first packet came that asks, and that was taken since the end gave
--- an ACK frame
+-- memory: where the view shows the timer of acknowledgements of an open end set, it is set to the
+-- deadline of the first packet that asks, and that was taken since the end gave an ACK frame: 25 ms
+-- behind the moment at which it came, or as long as the peer asked for by then
 abbrev pub AckMoments : Run → Type 0
-AckMoments r = (side : Side) (i moment : ℕ) (v : View) → AreServed r (suc i) → slice_get r.views i ≡ Some v → state_in v side ≡ states.Open → ack_timer v side ≡ Some (Some moment) → IsDueFor (debt r side (suc i)).arrivals moment
+AckMoments r = (side : Side) (i moment : ℕ) (v : View) → AreServed r (suc i) → slice_get r.views i ≡ Some v → state_in v side ≡ states.Open → ack_timer v side ≡ Some (Some moment) → first_deadline (debt r side (suc i)).deadlines ≡ Some moment

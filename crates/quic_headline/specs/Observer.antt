@@ -6,7 +6,7 @@ use Rattle.std.specs.List.{list_any}
 use Rattle.std.specs.Option.{option_to_list}
 use Rattle.quic_wire_core.specs.declared.stream_id.Side.{Side}
 use Rattle.quic_wire_core.specs.StreamId.{other_side}
-use Rattle.quic_wire.specs.Value.{FrameValue, StreamValue, AckValue, ack, stream, connection_close, application_close, asks}
+use Rattle.quic_wire.specs.Value.{FrameValue, StreamValue, AckValue, ack, stream, connection_close, application_close, ack_frequency, asks}
 use Rattle.quic_wire.specs.Items.{items}
 use Rattle.quic_packet.specs.Number.{window}
 use Rattle.quic_packet.specs.Keys.{width_in}
@@ -65,14 +65,13 @@ pub record HoldsEnd (sents : List Sent) (id : ℕ) : Type 0 where
 
 -- By what losses are judged at an end: how far below the greatest number that was acknowledged a
 -- datagram counts as lost (RFC 9002, section 6.1.1), after what part of a round trip (section
--- 6.1.2); and what the peer told: by how many bits the delays in its ACK frames are shifted, and
--- how long it may hold one back, in nanoseconds (RFC 9000, section 18.2). And after how long
--- without a packet PING goes, if it is configured to (section 10.1.2).
+-- 6.1.2); and by how many bits the delays in the peer's ACK frames are shifted, as it told (RFC
+-- 9000, section 18.2). And after how long without a packet PING goes, if it is configured to
+-- (section 10.1.2).
 pub record Terms : Type 0 where
   pub threshold : ℕ
   pub part : ℕ × ℕ
   pub exponent : ℕ
-  pub delay : ℕ
   pub keep_alive : Option ℕ
 
 -- those of an end, by its settings and by what its peer told as the connection began
@@ -81,28 +80,32 @@ terms_of e = record {
   threshold = e.transport.packet_threshold;
   part = e.transport.time_threshold;
   exponent = e.peer_params.ack_delay_exponent;
-  delay = e.peer_params.max_ack_delay * 1000000;
   keep_alive = e.transport.keep_alive_interval;
 }
 
 -- the greatest number that was acknowledged so far, if one was; the datagrams that are neither
 -- acknowledged nor lost, nor forgotten; those that were acknowledged in flight; the last that went
--- and asks; how long a round trip takes; when one below the greatest acknowledged is lost by time,
--- if one may be; how often the timer of losses expired for no such one since an acknowledgement
--- came; and how many probes of losses wait since then
+-- and asks; how long a round trip takes; how long the peer holds an acknowledgement back, in
+-- nanoseconds, and the number of the last datagram that asks it for another delay, with that, until
+-- it is acknowledged (QUIC Acknowledgement Frequency, section 4); when one below the greatest
+-- acknowledged is lost by time, if one may be; how often the timer of losses expired for no such
+-- one since an acknowledgement came; and how many probes of losses wait since then
 pub record Flight : Type 0 where
   pub named : Option ℕ
   pub flying : List Sent
   pub acked : List Sent
   pub asked : Option Sent
   pub rtt : Rtt
+  pub delay : ℕ
+  pub request : Option (ℕ × ℕ)
   pub loss_time : Option ℕ
   pub expiries : ℕ
   pub probes : ℕ
 
--- nothing was sent, and a round trip is taken to last so long
-abbrev pub no_flight : ℕ → Flight
-no_flight initial_rtt = record { named = None; flying = []; acked = []; asked = None; rtt = assumed_rtt initial_rtt; loss_time = None; expiries = 0; probes = 0 }
+-- nothing was sent, a round trip is taken to last so long, and the peer holds an acknowledgement
+-- back for so long
+abbrev pub no_flight : ℕ → ℕ → Flight
+no_flight initial_rtt delay = record { named = None; flying = []; acked = []; asked = None; rtt = assumed_rtt initial_rtt; delay = delay; request = None; loss_time = None; expiries = 0; probes = 0 }
 
 -- no moment and no time lies above this
 abbrev pub latest : ℕ
@@ -145,6 +148,43 @@ after_losses t clock f =
     let greatest = unwrap_or f.named 0 in
     record f { flying = staying t delay clock greatest f.flying; loss_time = first_late delay greatest (staying t delay clock greatest f.flying) }
 
+-- ---- the delay of the peer (QUIC Acknowledgement Frequency, sections 4 and 7)
+
+-- whether the datagram of a request is among these
+abbrev pub is_answered : ℕ × ℕ → List Sent → Bool
+is_answered request ss = list_any (λ s. s.number == request.0) ss
+
+-- how long it does once these are acknowledged: as it was asked, where that is among them
+abbrev pub kept_delay : Option (ℕ × ℕ) → List Sent → ℕ → ℕ
+kept_delay None ss delay = delay
+kept_delay (Some request) ss delay = if is_answered request ss then request.1 else delay
+
+-- and whether it is still to acknowledge that
+abbrev pub open_request : Option (ℕ × ℕ) → List Sent → Option (ℕ × ℕ)
+open_request None ss = None
+open_request (Some request) ss = if is_answered request ss then None else Some request
+
+-- the delay for which the first ACK_FREQUENCY frame asks, in nanoseconds, if there is one
+abbrev pub delay_asked : List FrameValue → Option ℕ
+delay_asked [] = None
+delay_asked (ack_frequency f ∷ fs) = Some (min (f.delay * 1000) latest)
+delay_asked (other ∷ fs) = delay_asked fs
+
+-- the request that is still to be acknowledged, once a datagram of this number went, which asks for
+-- this delay or for none
+abbrev pub request_behind : Option ℕ → ℕ → Option (ℕ × ℕ) → Option (ℕ × ℕ)
+request_behind None number request = request
+request_behind (Some delay) number request = Some (number, delay)
+
+-- the delay for which it asks, if there is one
+abbrev pub delay_in : Option (ℕ × ℕ) → ℕ
+delay_in None = 0
+delay_in (Some request) = request.1
+
+-- the longest that the peer may hold one back: as it did, or as it was asked to
+abbrev pub longest : Flight → ℕ
+longest f = max f.delay (delay_in f.request)
+
 -- ---- acknowledgements (RFC 9002, section 5)
 
 -- whether a number lies above all that were acknowledged
@@ -164,10 +204,10 @@ abbrev pub measures : Option ℕ → AckValue → List Sent → Option Sent
 measures named a acked = if is_greatest named a.largest && list_any asks_of acked then of_number a.largest acked else None
 
 -- the round trip with one more measured at a moment, less the delay that the peer tells, which is
--- no longer than it may be (section 5.3)
-abbrev pub rtt_behind : Terms → ℕ → AckValue → Option Sent → Rtt → Rtt
-rtt_behind t clock a None rtt = rtt
-rtt_behind t clock a (Some s) rtt = with_sample rtt (min (min (a.delay * 2 ^ t.exponent * 1000) latest) t.delay) (clock - s.moment)
+-- no longer than this (section 5.3)
+abbrev pub rtt_behind : Terms → ℕ → ℕ → AckValue → Option Sent → Rtt → Rtt
+rtt_behind t delay clock a None rtt = rtt
+rtt_behind t delay clock a (Some s) rtt = with_sample rtt (min (min (a.delay * 2 ^ t.exponent * 1000) latest) delay) (clock - s.moment)
 
 -- An ACK frame that names datagrams in flight, which are these: they are acknowledged, the others
 -- stay but for those that are lost, and no probe waits. One that names none leaves all in flight.
@@ -177,7 +217,9 @@ settled_by t clock a (s ∷ ss) others f = after_losses t clock (record f {
   named = Some (greatest_of f.named a.largest);
   flying = others;
   acked = f.acked ++ s ∷ ss;
-  rtt = rtt_behind t clock a (measures f.named a (s ∷ ss)) f.rtt;
+  rtt = rtt_behind t (kept_delay f.request (s ∷ ss) f.delay) clock a (measures f.named a (s ∷ ss)) f.rtt;
+  delay = kept_delay f.request (s ∷ ss) f.delay;
+  request = open_request f.request (s ∷ ss);
   expiries = 0;
   probes = 0;
 })
@@ -223,9 +265,15 @@ without_oldest (oldest ∷ others) ss = without_number oldest.number ss
 abbrev pub kept_flying : Bool → Flight → List Sent
 kept_flying asks f = if not asks && nat_lt 1000 (length (unasked f)) then without_oldest (unasked f) f.flying else f.flying
 
--- a datagram is in flight from when it goes; one that asks takes away a probe that waits
+-- a datagram is in flight from when it goes; one that asks takes away a probe that waits, and one
+-- with ACK_FREQUENCY takes the place of a request that isn't acknowledged
 abbrev pub and_flying : Sent → Flight → Flight
-and_flying s f = record f { flying = kept_flying (asks_of s) f ++ s ∷ []; asked = if asks_of s then Some s else f.asked; probes = if asks_of s then f.probes - 1 else f.probes }
+and_flying s f = record f {
+  flying = kept_flying (asks_of s) f ++ s ∷ [];
+  asked = if asks_of s then Some s else f.asked;
+  request = request_behind (delay_asked s.frames) s.number f.request;
+  probes = if asks_of s then f.probes - 1 else f.probes;
+}
 
 -- whether a frame is a close (RFC 9000, section 19.19)
 abbrev pub is_close : FrameValue → Bool
@@ -247,13 +295,13 @@ and_sent s f = if closes_of s then f else and_flying s f
 -- how long an acknowledgement is waited for, once the timer expired so often: the estimate, four
 -- times its variation or a millisecond, and the peer's delay; doubled at each expiry, up to 16
 -- times
-abbrev pub waited : Terms → Rtt → ℕ → ℕ
-waited t rtt expiries = min (min (min (best_rtt rtt + max (4 * rtt.var) 1000000) latest + t.delay) latest * 2 ^ min expiries 16) latest
+abbrev pub waited : Flight → ℕ → ℕ
+waited f expiries = min (min (min (best_rtt f.rtt + max (4 * f.rtt.var) 1000000) latest + longest f) latest * 2 ^ min expiries 16) latest
 
 -- when the last that asks is to be acknowledged, at the latest
-abbrev pub probe_due : Terms → Flight → Option Sent → Option ℕ
-probe_due t f None = None
-probe_due t f (Some s) = if list_any asks_of f.flying then Some (min (s.moment + waited t f.rtt f.expiries) latest) else None
+abbrev pub probe_due : Flight → Option Sent → Option ℕ
+probe_due f None = None
+probe_due f (Some s) = if list_any asks_of f.flying then Some (min (s.moment + waited f f.expiries) latest) else None
 
 -- the first of two moments, if it is there, or else the second
 abbrev pub due_or : Option ℕ → Option ℕ → Option ℕ
@@ -262,8 +310,8 @@ due_or (Some moment) other = Some moment
 
 -- when the timer is to expire: when the first is lost by time, or else that; it waits for nothing
 -- where none in flight asks
-abbrev pub loss_due : Terms → Flight → Option ℕ
-loss_due t f = due_or f.loss_time (probe_due t f f.asked)
+abbrev pub loss_due : Flight → Option ℕ
+loss_due f = due_or f.loss_time (probe_due f f.asked)
 
 -- whether there is a moment that the clock has come to
 abbrev pub is_past : Option ℕ → ℕ → Bool
@@ -282,7 +330,7 @@ expired_for (Some moment) t clock f = after_losses t clock f
 
 -- the clock of an end comes to a moment
 abbrev pub after_moment : Terms → ℕ → Flight → Flight
-after_moment t clock f = if is_past (loss_due t f) clock then expired_for f.loss_time t clock f else f
+after_moment t clock f = if is_past (loss_due f) clock then expired_for f.loss_time t clock f else f
 
 -- ---- the observer
 
@@ -296,10 +344,10 @@ pub record Watch : Type 0 where
   pub own : List Sent
   pub flight : Flight
 
--- nothing happened to an end that gives these datagrams in all, was made at this moment, and takes
--- a round trip to last so long
-abbrev pub first_watch : List (List ℕ) → ℕ → ℕ → Watch
-first_watch gives moment initial_rtt = record { intake = nothing_came; clock = moment; left = gives; own = []; flight = no_flight initial_rtt }
+-- nothing happened to an end that gives these datagrams in all, was made at this moment, takes a
+-- round trip to last so long, and was told that its peer holds acknowledgements back for so long
+abbrev pub first_watch : List (List ℕ) → ℕ → ℕ → ℕ → Watch
+first_watch gives moment initial_rtt delay = record { intake = nothing_came; clock = moment; left = gives; own = []; flight = no_flight initial_rtt delay }
 
 -- the packets that came between two intakes
 abbrev pub news : Intake → Intake → List Packet
@@ -409,7 +457,7 @@ lens_of r side = record { taker = policy_at (other_side side) r.keys; own = poli
 
 -- nothing happened yet to an end that gives these datagrams in all
 abbrev pub watch_from : End → List (List ℕ) → Watch
-watch_from e gives = first_watch gives e.closing.clock e.transport.initial_rtt
+watch_from e gives = first_watch gives e.closing.clock e.transport.initial_rtt (e.peer_params.max_ack_delay * 1000000)
 
 -- what the observer of an end knows by the first so many answers
 abbrev pub watch : Run → Side → ℕ → Watch

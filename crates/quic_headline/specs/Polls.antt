@@ -21,7 +21,7 @@ use Rattle.quic_machine.specs.declared.run.View.{View}
 use Rattle.quic_machine.specs.Closing.{ticked}
 use Rattle.quic_machine.specs.End.{End, with_closing, with_window}
 use Rattle.quic_machine.specs.Control.{paced_until, with_pacing_timer}
-use Rattle.quic_machine.specs.Poll.{probed, waits}
+use Rattle.quic_machine.specs.Poll.{probed, request_queued, waits}
 use Rattle.quic_machine.specs.Machine.{World, Policies, IsStep, policy_at, end_at, end_met, control_at, given_by, tells, end_view}
 use Rattle.quic_headline.specs.Runs.{Run, In, same_side, state_in, until, AreServed, LeadsTo, written, ended, reset, bytes_handed, bytes_given}
 use Rattle.quic_headline.specs.Observer.{Sent, HoldsOffset, HoldsEnd, asks_of, watch, sents_until, acked_until}
@@ -141,9 +141,10 @@ pub record IsMade (r : Run) (i : ℕ) (side : Side) (call : Call) (a : Answer) (
   pub served : AreServed r (suc i)
 
 -- an end as a poll asks its pacer: at the moment of the poll, with the window that its controller
--- shows; the timer of the pacer is stopped, and something waits for each probe to carry
+-- shows; the timer of the pacer is stopped, something waits for each probe to carry, and
+-- ACK_FREQUENCY does, where the peer is to be asked
 abbrev pub polled_end : Side → World → ℕ → End
-polled_end side w now = let e = with_window (end_at side w) (control_at side w []) in probed (with_pacing_timer (with_closing e (ticked e.closing now)) None)
+polled_end side w now = let e = with_window (end_at side w) (control_at side w []) in request_queued (probed (with_pacing_timer (with_closing e (ticked e.closing now)) None))
 
 -- the moment that the pacer of an end names in a poll, if it names a later one
 abbrev pub pacer_names : Side → World → ℕ → Option ℕ

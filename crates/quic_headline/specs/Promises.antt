@@ -29,7 +29,8 @@ use Rattle.quic_headline.specs.Queue.{MessagesGo, MessagesGoInOrder}
 use Rattle.quic_headline.specs.Events.{MessagesAreTold, OpeningsAreTold, ReadablesAreTold, WritablesAreTold}
 use Rattle.quic_headline.specs.Telling.{ControllersAreTold}
 use Rattle.quic_headline.specs.AckFrames.{AcksCountMarks, AcksNameAll}
-use Rattle.quic_headline.specs.Pings.{PingsGo}
+use Rattle.quic_headline.specs.Requests.{RequestsSay, RequestsGo}
+use Rattle.quic_headline.specs.Pings.{PingsGo, ProbesHasten}
 use Rattle.quic_headline.specs.Waited.{EachWaited}
 use Rattle.quic_headline.specs.Begins.{WaitingBegins}
 use Rattle.quic_headline.specs.Spread.{PacerIsOfHistory}
@@ -140,7 +141,8 @@ pub record Tells (r : Run) : Type 0 where
   -- what is answered of timers, of the state and of the address is what the view behind it shows
   pub views_tell : ViewsTell r
 
--- What ACK frames name, and when they go (RFC 9000, sections 13.1 and 13.2).
+-- What ACK frames name, when they go, and how the peer is asked for them (RFC 9000, sections 13.1
+-- and 13.2; QUIC Acknowledgement Frequency, section 4).
 pub record Acknowledges (r : Run) : Type 0 where
   -- an ACK frame that came names only packets that its end had taken whole (section 13.1)
   pub acknowledged_were_taken : AcknowledgedWereTaken r
@@ -156,6 +158,12 @@ pub record Acknowledges (r : Run) : Type 0 where
   -- the timer of acknowledgements, where set, is set for the first packet that waits (section
   -- 13.2.1)
   pub ack_moments : AckMoments r
+  -- an ACK_FREQUENCY frame says how many went before it, and asks for what is configured (QUIC
+  -- Acknowledgement Frequency, section 4)
+  pub requests_say : RequestsSay r
+  -- one goes where the peer is to be asked anew, but for window, pacer and address (QUIC
+  -- Acknowledgement Frequency, section 4; RFC 9002, sections 7 and 7.7)
+  pub requests_go : RequestsGo r
 
 -- What is in flight, when it is lost, and the congestion window over it (RFC 9002, sections 2, 6
 -- and 7).
@@ -169,6 +177,8 @@ pub record Loses (r : Run) : Type 0 where
   pub loss_timer_quiet : LossTimerQuiet r
   -- PTO probes, two for each expiry, go past window and pacer (sections 6.2.4 and 7.5)
   pub probes_pass : ProbesPass r
+  -- they have IMMEDIATE_ACK, where the peer takes it (QUIC Acknowledgement Frequency, section 5)
+  pub probes_hasten : ProbesHasten r
   -- the window is that of a controller which was told what the lists say (sections 6, 7 and 7.6)
   pub controllers_are_told : ControllersAreTold r
   -- it is that of one which was told what the calls tell (section 7)

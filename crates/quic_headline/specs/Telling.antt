@@ -26,7 +26,7 @@ use Rattle.quic_machine.specs.declared.answers.State.TheVariants as states
 use Rattle.quic_machine.specs.declared.run.View.{View}
 use Rattle.quic_machine.specs.Machine.{end_at, control_at}
 use Rattle.quic_headline.specs.Runs.{Run, Told, Packet, Intake, In, given_of, names, is_refused, and_told, until, AreServed}
-use Rattle.quic_headline.specs.Observer.{Sent, asks_of, Terms, Flight, latest, late_by, is_lost, is_greatest, measures, rtt_behind, after_ack, after_packets, waited, loss_due, is_past, Watch, news, has_opened, moment_of, clock_behind, Lens, is_timely, watch_came, watch_told, lens_of, watch_from, next_number}
+use Rattle.quic_headline.specs.Observer.{Sent, asks_of, Terms, Flight, latest, late_by, is_lost, is_greatest, measures, kept_delay, open_request, rtt_behind, after_ack, after_packets, waited, loss_due, is_past, Watch, news, has_opened, moment_of, clock_behind, Lens, is_timely, watch_came, watch_told, lens_of, watch_from, next_number}
 use Rattle.quic_headline.specs.Polls.{window_in, mtu_in, search_at}
 use Rattle.quic_headline.specs.AppLimited.{CountsAt}
 
@@ -97,8 +97,8 @@ last_moment (s ∷ t ∷ ss) = last_moment (t ∷ ss)
 
 -- how far apart two datagrams have to have gone whose loss shows that congestion persists: so many
 -- times as long as an acknowledgement is waited for (section 7.6.1)
-abbrev pub lasting : Terms → TransportSettings → Rtt → ℕ
-lasting t c rtt = min (c.persistent_congestion_threshold * waited t rtt 0) latest
+abbrev pub lasting : TransportSettings → Flight → ℕ
+lasting c f = min (c.persistent_congestion_threshold * waited f 0) latest
 
 -- what shows it of a datagram that is lost
 abbrev pub loss_as : Option ℕ → Sent → Loss
@@ -115,7 +115,7 @@ pub record TellsLosses (j : Judging) (clock : ℕ) (by_ack : Bool) (f : Flight) 
   pub pinged : (s : Sent) → In s (lost_at j.terms clock f) → is_number s.number probe ≡ true → MayProbe j.settings.min_mtu s
   pub falls : Bool
   pub persists : Bool
-  pub persistent : (persists ≡ true) ↔ ((by_ack ≡ true) × IsPersistent (lasting j.terms j.settings f.rtt) (measured_first j.first j.next f.rtt.smoothed) (map (loss_as probe) (lost_at j.terms clock f)))
+  pub persistent : (persists ≡ true) ↔ ((by_ack ≡ true) × IsPersistent (lasting j.settings f) (measured_first j.first j.next f.rtt.smoothed) (map (loss_as probe) (lost_at j.terms clock f)))
   pub is : told ≡ told_if falls (congestion.Resized j.settings.min_mtu)
       ++ (let others = but_for_probe probe (lost_at j.terms clock f) in told_if (list_any asks_of others) (congestion.Congested clock (last_moment others) persists (min (bytes_asking others) latest)))
 
@@ -134,7 +134,9 @@ acked_flight t clock a acked others f = record f {
   named = Some (greatest_of f.named a.largest);
   flying = others;
   acked = f.acked ++ acked;
-  rtt = rtt_behind t clock a (measures f.named a acked) f.rtt;
+  rtt = rtt_behind t (kept_delay f.request acked f.delay) clock a (measures f.named a acked) f.rtt;
+  delay = kept_delay f.request acked f.delay;
+  request = open_request f.request acked;
   expiries = 0;
   probes = 0;
 }
@@ -223,7 +225,7 @@ pub record TellsCall (l : Lens) (c : TransportSettings) (validated : Bool) (firs
   pub refused : Tellings
   pub refuses : TellsPart (judging l c validated first limited w) clock (has_opened w.intake after && is_refused t.answer) after.part w.flight refused
   pub late : Tellings
-  pub expires : let f = (watch_came l.terms after clock w).flight in TellsMoment (is_timely t.state t.call && is_past (loss_due l.terms f) clock) (judging l c validated first limited w) clock f late
+  pub expires : let f = (watch_came l.terms after clock w).flight in TellsMoment (is_timely t.state t.call && is_past (loss_due f) clock) (judging l c validated first limited w) clock f late
   pub went : List Sent
   pub gave : (watch_told l t w).own ≡ w.own ++ went
   pub is : told ≡ taken ++ refused ++ late ++ told_gone went

@@ -4,25 +4,22 @@ use Rattle.std.specs.Prelude.{ℕ, ◌+◌, ◌<◌, ◌≤◌, ◌≡◌, ◌�
 use Rattle.std.specs.List.{list_any, count_by}
 use Rattle.quic_wire_core.specs.declared.stream_id.Side.{Side}
 use Rattle.quic_time.specs.Clocks.{saturated}
-use Rattle.quic_wire.specs.Value.{FrameValue, StreamValue, ping, stream, max_data, max_streams, data_blocked, path_challenge, path_response, padding, asks}
+use Rattle.quic_wire.specs.Value.{FrameValue, StreamValue, ping, immediate_ack, stream, max_data, max_streams, data_blocked, path_challenge, path_response, ack_frequency, padding, asks}
 use Rattle.quic_machine.specs.declared.run.Call.{Call}
 use Rattle.quic_machine.specs.declared.run.Call.TheVariants as calls
 use Rattle.quic_machine.specs.CallCases.{is_poll}
 use Rattle.quic_machine.specs.Machine.{end_at}
 use Rattle.quic_headline.specs.Runs.{Run, Told, Packet, In, folded, until, given_of}
 use Rattle.quic_headline.specs.Observer.{Sent, HoldsOffset, asks_of, is_close, Watch, watch_from, watch, news, is_past, is_timely, Lens, watch_told, lens_of}
-use Rattle.quic_headline.specs.InFlight.{is_max_data, is_data_blocked, is_max_streams}
+use Rattle.quic_headline.specs.InFlight.{is_max_data, is_data_blocked, is_max_streams, is_ack_frequency}
 use Rattle.quic_headline.specs.Moments.{acknowledges, went}
 use Rattle.quic_headline.specs.Polls.{GaveOne, IsSizeProbe}
-use Rattle.quic_headline.specs.AcksDue.{takes_marked}
+use Rattle.quic_headline.specs.AcksDue.{takes_marked, is_immediate_ack, is_due}
+use Rattle.quic_headline.specs.Requests.{Asking, asking_at, wants_anew}
 
 -- ---- what is wanted of an end
 
--- whether one of these packets asks for an acknowledgement
-abbrev pub one_asks : List Packet → Bool
-one_asks ps = list_any (λ p. list_any asks p.frames) ps
-
--- how many of them don't
+-- how many of these packets don't ask for an acknowledgement
 abbrev pub count_silent : List Packet → ℕ
 count_silent ps = count_by (λ p. not (list_any asks p.frames)) ps
 
@@ -59,9 +56,9 @@ asks_ping call = false
 -- gave an ACK frame, the latest first; whether one of them bore the mark of congestion; whether
 -- PING was asked for since one went, or the time without a packet was over; when that is over, if
 -- it is kept (RFC 9000, section 10.1.2); whether a probe of losses waited at a poll that gave
--- nothing, since a datagram went that asks: it may be PING, and wait (section 8.1); and the
--- datagrams that it gave since it last was called otherwise than to be polled, or a probe of losses
--- waited.
+-- nothing, since a datagram went that asks: it may be PING or IMMEDIATE_ACK, and wait (section
+-- 8.1); and the datagrams that it gave since it last was called otherwise than to be polled, or a
+-- probe of losses waited.
 pub record Wants : Type 0 where
   pub watch : Watch
   pub packets : List Packet
@@ -120,10 +117,11 @@ no_wants w = record { watch = w; packets = []; marked = false; pinged = false; a
 abbrev pub wants : Run → Side → ℕ → Wants
 wants r side i = folded (wants_told (lens_of r side)) (until r side i) (no_wants (watch_from (end_at side r.start) (given_of r side)))
 
--- whether an ACK frame is wanted: since one went a packet came that asks, or that bore the mark, or
--- more than so many that don't ask (RFC 9000, section 13.2.1)
-abbrev pub calls_for_ack : Wants → Bool
-calls_for_ack w = one_asks w.packets || (w.marked || nat_lt may_come (count_silent w.packets))
+-- whether an ACK frame is wanted at an end behind the first so many answers: one is due for packets
+-- that ask (RFC 9000, section 13.2.1; QUIC Acknowledgement Frequency, sections 4 to 6); or since one
+-- went a packet bore the mark, or more than so many came that don't ask
+abbrev pub wants_ack : Run → Side → ℕ → Bool
+wants_ack r side i = is_due r side i || ((wants r side i).marked || nat_lt may_come (count_silent (wants r side i).packets))
 
 -- ---- what a datagram carries
 
@@ -132,20 +130,23 @@ abbrev pub HoldsNone : List Sent → StreamValue → Type 0
 HoldsNone sents f = (offset : ℕ) → f.offset ≤ offset → offset < f.offset + length f.bytes → HoldsOffset sents f.id offset → ⊥
 
 -- A frame waited where this is wanted: PING was asked for since one went, or the time without a
--- packet was over, or it may be a probe that waited in vain; a STREAM frame brings a byte, or the
--- end of its stream, and no byte that was acknowledged in flight; and none of the datagrams that
--- went since something else than a poll could make it wait had MAX_DATA, MAX_STREAMS of these
--- streams, DATA_BLOCKED, PATH_CHALLENGE or PATH_RESPONSE. Of the other frames that ask for an
--- acknowledgement it isn't said what made them wait; ACK frames and PADDING go along.
-abbrev pub FrameWaited : Wants → FrameValue → Type 0
-FrameWaited w ping = w.pinged || w.probed ≡ true
-FrameWaited w (stream f) = ((0 < length f.bytes) ⊎ (f.fin ≡ true)) × HoldsNone w.watch.flight.acked f
-FrameWaited w (max_data limit) = stands is_max_data w.since ≡ false
-FrameWaited w (max_streams f) = stands (is_max_streams f.one_way) w.since ≡ false
-FrameWaited w (data_blocked limit) = stands is_data_blocked w.since ≡ false
-FrameWaited w (path_challenge token) = stands is_path_challenge w.since ≡ false
-FrameWaited w (path_response token) = stands is_path_response w.since ≡ false
-FrameWaited w f = Unit {0}
+-- packet was over, or it may be a probe that waited in vain, as IMMEDIATE_ACK is; a STREAM frame
+-- brings a byte, or the end of its stream, and no byte that was acknowledged in flight; and none of
+-- the datagrams that went since something else than a poll could make it wait had MAX_DATA,
+-- MAX_STREAMS of these streams, DATA_BLOCKED, PATH_CHALLENGE or PATH_RESPONSE; nor ACK_FREQUENCY,
+-- unless the peer is to be asked anew. Of the other frames that ask for an acknowledgement it isn't
+-- said what made them wait; ACK frames and PADDING go along.
+abbrev pub FrameWaited : Asking → Wants → FrameValue → Type 0
+FrameWaited a w ping = w.pinged || w.probed ≡ true
+FrameWaited a w immediate_ack = w.probed ≡ true
+FrameWaited a w (stream f) = ((0 < length f.bytes) ⊎ (f.fin ≡ true)) × HoldsNone w.watch.flight.acked f
+FrameWaited a w (max_data limit) = stands is_max_data w.since ≡ false
+FrameWaited a w (max_streams f) = stands (is_max_streams f.one_way) w.since ≡ false
+FrameWaited a w (data_blocked limit) = stands is_data_blocked w.since ≡ false
+FrameWaited a w (path_challenge token) = stands is_path_challenge w.since ≡ false
+FrameWaited a w (path_response token) = stands is_path_response w.since ≡ false
+FrameWaited a w (ack_frequency f) = (stands is_ack_frequency w.since ≡ false) ⊎ (wants_anew a w.watch.own w.watch.flight ≡ true)
+FrameWaited a w f = Unit {0}
 
 -- A datagram closes the connection, and carries nothing else but PADDING (RFC 9000, sections 10.2.1
 -- and 19.19).
@@ -161,8 +162,8 @@ pub record IsCloseAlone (s : Sent) : Type 0 where
 pub data HasWaited (r : Run) (side : Side) (i : ℕ) (s : Sent) : Type 0 where
   as_size_probe : IsSizeProbe r side i s → HasWaited r side i s
   as_loss_probe : 0 < (watch r side i).flight.probes → HasWaited r side i s
-  as_ack : asks_of s ≡ false → acknowledges (s ∷ []) ≡ true → calls_for_ack (wants r side i) ≡ true → HasWaited r side i s
-  as_frames : asks_of s ≡ true → ((f : FrameValue) → In f s.frames → FrameWaited (wants r side i) f) → HasWaited r side i s
+  as_ack : asks_of s ≡ false → acknowledges (s ∷ []) ≡ true → wants_ack r side i ≡ true → HasWaited r side i s
+  as_frames : asks_of s ≡ true → ((f : FrameValue) → In f s.frames → FrameWaited (asking_at r side) (wants r side i) f) → HasWaited r side i s
   as_close : IsCloseAlone s → HasWaited r side i s
 
 -- so does each datagram that a poll gives

@@ -26,8 +26,9 @@ ghost use Rattle.quic_headline.specs.Undone.{NoneOpenedOnlyForUndone};
 ghost use Rattle.quic_headline.specs.Allowed.{ReadsAreAllowed, ReadsAreOver, WritesAreAllowed, ResetsAreAllowed};
 ghost use Rattle.quic_headline.specs.AcksDue.{AcksAreDue};
 ghost use Rattle.quic_headline.specs.AckFrames.{AcksCountMarks};
+ghost use Rattle.quic_headline.specs.Requests.{RequestsSay, RequestsGo};
 ghost use Rattle.quic_headline.specs.Waited.{EachWaited};
-ghost use Rattle.quic_headline.specs.Pings.{PingsGo};
+ghost use Rattle.quic_headline.specs.Pings.{PingsGo, ProbesHasten};
 ghost use Rattle.quic_headline.specs.Begins.{WaitingBegins};
 ghost use Rattle.quic_headline.specs.Events.{MessagesAreTold, OpeningsAreTold, ReadablesAreTold, WritablesAreTold};
 ghost use Rattle.quic_headline.specs.Resets.{ResetsAreTold};
@@ -38,6 +39,7 @@ ghost use Rattle.quic_headline.specs.Views.{ViewsTell};
 ghost use Rattle.quic_headline.specs.Sizes.{SizeIsOfHistory, SizesMove, DatagramsAreSized};
 ghost use Rattle.quic_headline.specs.Threefold.{Threefold};
 ghost use Rattle.quic_headline.specs.Alone.{Lone, IsNew, FollowsAlone, BytesCame, MessagesCame};
+ghost use Rattle.quic_headline.specs.Keeping.{StaysWithin};
 ghost use Rattle.quic_headline.specs.Expiring.{IdleMoments, AliveMoments, PathMoments, ClosedTimers, CloseMoments, CloseMomentsStay, DrainsInTime};
 ghost use Rattle.quic_headline.specs.Closes.{ClosesSayWhy, PeerClosesCome, ClosesAreOwed, OwedClosesGo, DrainedAreSilent};
 ghost use Rattle.quic_headline.specs.Validated.{ValidatedByAnswer, AnswersValidate};
@@ -290,7 +292,9 @@ pub fn numbers_rise()
 /// yet; or it arrived. So does the end of each such stream that was finished, and the reset of
 /// each that was reset; and so does the greatest limit of each kind that the end said and that
 /// matters still: it waits to be said anew, stands with its value in such a datagram, or one as
-/// great arrived (RFC 9000, section 13.3).
+/// great arrived (RFC 9000, section 13.3). Of each request in an ACK_FREQUENCY frame that the end
+/// gave, another waits, or one as new stands in such a datagram or arrived (QUIC Acknowledgement
+/// Frequency, section 4).
 pub fn duties_stand()
     ensures { (r : Run) (end : World) → IsHonest r → IsRun r end → DutiesStand r }
 {}
@@ -330,8 +334,10 @@ pub fn tracks_in_flight()
 /// Behind each event an open end shows its loss timer set to the moment that an observer of the
 /// run's lists reckons: that at which the first datagram is lost by time; else that at which the
 /// last ack-eliciting datagram went and the probe timeout, by the round trips that the observer
-/// measured, doubled at each expiry of the timer since a tracked datagram was acknowledged, up to
-/// 16 times. Where no tracked datagram asks, it isn't set (RFC 9002, section 6.2.1).
+/// measured and by how long the peer may hold an ACK frame back, as it told or was asked to,
+/// doubled at each expiry of the timer since a tracked datagram was acknowledged, up to 16 times.
+/// Where no tracked datagram asks, it isn't set (RFC 9002, section 6.2.1; QUIC Acknowledgement
+/// Frequency, section 4).
 pub fn loss_moments()
     ensures { (r : Run) (end : World) → IsHonest r → IsRun r end → LossMoments r }
 {}
@@ -345,7 +351,9 @@ pub fn loss_timer_quiet()
 
 /// Where an open end shows its timer of acknowledgements set behind an event, it is set to 25 ms
 /// behind the moment at which the first ack-eliciting packet came that the end took since it gave
-/// an ACK frame (RFC 9000, section 13.2.1).
+/// an ACK frame (RFC 9000, section 13.2.1), or as long behind as the newest ACK_FREQUENCY frame
+/// asked for that it had taken by then, in that packet at the latest (QUIC Acknowledgement
+/// Frequency, section 4).
 pub fn ack_moments()
     ensures { (r : Run) (end : World) → IsHonest r → IsRun r end → AckMoments r }
 {}
@@ -575,19 +583,43 @@ pub fn resets_are_allowed()
 /// due from any of these on, until one goes: a packet that asks came, with which two wait, or out
 /// of order, which is below one that asks, or above all of them with a number missing between; a
 /// packet bore the mark of congestion while one that asks waits; or a timeout told that 25 ms have
-/// passed since one came (RFC 9000, sections 13.2.1 and 13.2.2).
+/// passed since one came (RFC 9000, sections 13.2.1 and 13.2.2). By ACK_FREQUENCY the peer says
+/// how many may wait, for how long, and how far out of order one may come, and by IMMEDIATE_ACK it
+/// asks for an ACK frame at once (QUIC Acknowledgement Frequency, sections 4 to 6).
 pub fn acks_are_due()
     ensures { (r : Run) (end : World) → IsHonest r → IsRun r end → AcksAreDue r }
 {}
 
+/// An ACK_FREQUENCY frame in a datagram that a poll gives, at an end that is configured to ask and
+/// whose peer advertised its min_ack_delay, is the only one there. Its number is how many went
+/// before it, up to the greatest that a frame tells; it asks for what is configured, and for the
+/// delay that is wanted at that moment, in microseconds: the one that is configured, or else that
+/// of the peer, no longer than a round trip, which counts as 25 ms at least, and no shorter than
+/// the peer can be asked for (QUIC Acknowledgement Frequency, section 4).
+pub fn requests_say()
+    ensures { (r : Run) (end : World) → IsHonest r → IsRun r end → RequestsSay r }
+{}
+
+/// Where an end that is configured to ask, and whose peer can be asked, asked for nothing yet, or
+/// wants another delay than it asked for last, by more than a fifth of that, each ack-eliciting
+/// datagram that a poll gives has ACK_FREQUENCY. Where a poll of an open endpoint gives nothing
+/// then, the congestion window has no room for one more datagram, or the pacer holds it back until
+/// a later moment (RFC 9002, sections 7 and 7.7), or nothing more may go to an address that isn't
+/// validated (RFC 9000, section 8.1; QUIC Acknowledgement Frequency, section 4).
+pub fn requests_go()
+    ensures { (r : Run) (end : World) → IsHonest r → IsRun r end → RequestsGo r }
+{}
+
 /// Each datagram that a poll gives carries something that waited: it is an MTU probe, or a PTO
-/// probe waited; or it isn't ack-eliciting, and has an ACK frame, and since the last one a packet
-/// came that is ack-eliciting or bore the mark CE, or more than ten that aren't ack-eliciting; or
-/// it is, and each PING in it was asked for since one went, by a call or by keep-alive, or may be a
-/// PTO probe that waited at a poll which gave nothing, each STREAM frame brings a byte or an end,
-/// and no byte that was acknowledged in flight, and MAX_DATA, MAX_STREAMS, DATA_BLOCKED,
-/// PATH_CHALLENGE and PATH_RESPONSE go once behind what made them wait (RFC 9000, sections 8.2,
-/// 12.2, 13.2 and 13.3); or it closes the connection (section 10.2).
+/// probe waited; or it isn't ack-eliciting, and has an ACK frame, and one is due, as
+/// [`acks_are_due`] has it, or since the last one a packet came that bore the mark CE, or more than
+/// ten that aren't ack-eliciting; or it is, and each PING in it was asked for since one went, by a
+/// call or by keep-alive, or may be a PTO probe that waited at a poll which gave nothing, as
+/// IMMEDIATE_ACK is, each STREAM frame brings a byte or an end, and no byte that was acknowledged
+/// in flight, and MAX_DATA, MAX_STREAMS, DATA_BLOCKED, PATH_CHALLENGE and PATH_RESPONSE go once
+/// behind what made them wait, and ACK_FREQUENCY too unless the peer is to be asked anew (RFC 9000,
+/// sections 8.2, 12.2, 13.2 and 13.3; QUIC Acknowledgement Frequency, sections 4 to 6); or it
+/// closes the connection (section 10.2).
 pub fn each_waited()
     ensures { (r : Run) (end : World) → IsHonest r → IsRun r end → EachWaited r }
 {}
@@ -601,13 +633,23 @@ pub fn pings_go()
     ensures { (r : Run) (end : World) → IsHonest r → IsRun r end → PingsGo r }
 {}
 
+/// Where a PTO probe waits, and the peer told its min_ack_delay, each ack-eliciting datagram that a
+/// poll gives has IMMEDIATE_ACK, so that the peer acknowledges it without delay (RFC 9002, section
+/// 6.2.4; QUIC Acknowledgement Frequency, sections 3 and 5).
+pub fn probes_hasten()
+    ensures { (r : Run) (end : World) → IsHonest r → IsRun r end → ProbesHasten r }
+{}
+
 /// What waits at an open end behind a call waited before it, or has one of these causes: a call
 /// asks for it, as a write of bytes, a finish, a reset, a stop, a message or PING; PING, where
-/// keep-alive asks for it, or a PTO probe waits at a poll that gives nothing; a write is blocked;
-/// bytes are read, or a frame that comes uses up what may come, or may end a stream; a packet comes
-/// that is to be acknowledged, or waited for 25 ms; a datagram that bore it is lost; or the loss
-/// timer expired, and a PTO probe says it again. At the other end nothing begins to wait (RFC 9000,
-/// sections 13.2.1 and 13.3; RFC 9002, sections 6.1 and 6.2.4).
+/// keep-alive asks for it, or it or IMMEDIATE_ACK, where a PTO probe waits at a poll that gives
+/// nothing; a write is blocked; bytes are read, or a frame that comes uses up what may come, or may
+/// end a stream; an ACK frame is due, as [`acks_are_due`] has it, or a packet came with the mark
+/// CE, or a poll finds that more than ten came that aren't ack-eliciting; a poll finds that the
+/// peer is to be asked how often to acknowledge; a datagram that bore it is lost; or the loss timer
+/// expired, and a PTO probe says it again. At the other end nothing begins to wait (RFC 9000,
+/// sections 13.2.1 and 13.3; RFC 9002, sections 6.1 and 6.2.4; QUIC Acknowledgement Frequency,
+/// sections 4 to 6).
 pub fn waiting_begins()
     ensures { (r : Run) (end : World) → IsHonest r → IsRun r end → WaitingBegins r }
 {}
@@ -734,6 +776,17 @@ pub fn messages_come()
     ensures { (p : Policy) (theirs : List (List ℕ)) (x left : Lone) (calls : List Call) (told : List Answer) → IsNew x.end
         → FollowsAlone p theirs x calls told left
         → MessagesCame p theirs calls told }
+{}
+
+/// An end that was made with these settings keeps no more of what was handed to it than it
+/// advertised, or than a number of its own lets it, as long as it doesn't fail: of each stream, and
+/// of all together, what lies within the window past what was read; streams that the peer opened,
+/// as many past those that are done as it may have open at once (RFC 9000, sections 4.1 and 4.6);
+/// messages within the receive buffer (RFC 9221, section 3); 64 runs of numbers to acknowledge (RFC
+/// 9000, section 13.2.3); and four connection ids of the peer beside the one in use (section
+/// 5.1.1).
+pub fn keeps_within()
+    ensures { (p : Policy) (theirs : List (List ℕ)) (x left : Lone) (calls : List Call) (told : List Answer) → StaysWithin p theirs x calls told left }
 {}
 
 /// A run less any choice of its idle events, which are injections and deliveries that their end

@@ -5,6 +5,7 @@ use Rattle.quic_send_buffer.specs.declared.stream_meta.StreamMeta.{StreamMeta}
 use Rattle.quic_wire.specs.Value.{AckValue}
 use Rattle.quic_congestion.specs.Congestion.{Told, Congested}
 use Rattle.quic_recovery_core.specs.PendingAcks.{after_subtract}
+use Rattle.quic_recovery_core.specs.AckFrequency as frequency
 use Rattle.quic_time.specs.Clocks.{saturated}
 use Rattle.quic_time.specs.Rtt.{with_sample}
 use Rattle.quic_streams_parts.specs.Table.{Table, at}
@@ -14,7 +15,7 @@ use Rattle.quic_streams_state.specs.Acked.{after_stream_acked, after_stream_lost
 use Rattle.quic_spaces.specs.Numbers.{cut_against}
 use Rattle.quic_machine.specs.Tracking.{TrackedPacket, Carried, asks_any, acked_by, not_acked_by, loss_delay, Verdict, verdict_at, lost_by, after_detection, after_answered}
 use Rattle.quic_machine.specs.Sizes.{search_acked, search_lost, told_packets, told_losses}
-use Rattle.quic_machine.specs.End.{End, with_acknowledging, with_tracking, with_rtt, with_streams, with_told, with_marking, peer_delay}
+use Rattle.quic_machine.specs.End.{End, with_acknowledging, with_frequency, with_tracking, with_rtt, with_streams, with_told, with_marking, peer_delay}
 use Rattle.quic_spaces.specs.Marks.{Counts, marks_refused, marks_judged}
 use Rattle.quic_spaces.specs.declared.space.EcnError.{EcnError}
 use Rattle.quic_machine.specs.Control.{last_sent, told_acks_ended}
@@ -49,9 +50,14 @@ streams_acked (m ∷ ms) e = streams_acked ms (stream_acked m e)
 abbrev pub carried_acked : Carried → End → End
 carried_acked c e = streams_acked c.stream_frames (resets_acked c.retransmits.reset_stream (without_known c.largest_acked e))
 
+-- the packet of a number is acknowledged: where it has the request of how often to acknowledge, the
+-- peer keeps to that from now on (QUIC Acknowledgement Frequency, section 4)
+abbrev pub request_acked : ℕ → End → End
+request_acked n e = with_frequency e (frequency.after_acked e.frequency.in_flight n e.frequency)
+
 -- a packet is acknowledged
 abbrev pub packet_acked : ℕ × TrackedPacket → End → End
-packet_acked p e = carried_acked p.1.carried (search_acked p e)
+packet_acked p e = carried_acked p.1.carried (request_acked p.0 (search_acked p e))
 
 -- packets are acknowledged, one after another
 abbrev pub packets_acked : Table TrackedPacket → End → End

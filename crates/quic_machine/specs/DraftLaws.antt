@@ -5,7 +5,7 @@ use Rattle.std.specs.List.{fold}
 use Rattle.std.specs.Option.{is_some}
 use Rattle.std.proofs.lemmas.Bool.{and_parts}
 use Rattle.std.proofs.lemmas.List.{length-append, append_assoc, append-nil}
-use Rattle.quic_wire.specs.Value.{FrameValue, StreamValue, ping, stream, datagram, ack, path_challenge, path_response, connection_close, application_close, asks}
+use Rattle.quic_wire.specs.Value.{FrameValue, StreamValue, ping, immediate_ack, stream, datagram, ack, path_challenge, path_response, connection_close, application_close, asks}
 use Rattle.quic_wire.specs.Writing.{spelling, spelled_all, stream_spelling}
 use Rattle.quic_packet.specs.Number.{width_for}
 use Rattle.quic_send_buffer.specs.Buffered.{writes_length}
@@ -26,7 +26,7 @@ use Rattle.quic_machine.specs.End.{End, number_of}
 use Rattle.quic_paths.specs.Responses.{Response}
 use Rattle.quic_machine.specs.Parts.{current_mtu, Signals, signals_wait}
 use Rattle.quic_machine.specs.Validation.{path_waits, path_frames_size, challenge_frame, response_frame}
-use Rattle.quic_machine.specs.Poll.{Draft, frame_room, fits, left, with_signal, challenge_if, response_if, ping_if, with_challenge_frame, with_response_frame, with_ping_frame, behind_control, with_control_frames, with_message, with_messages_of, with_message_frames, behind_stream, no_stream_frames, with_stream_frames, Kind, order, put, with_asking, no_frames, ack_of, with_ack, ack_fits, ack_if, composed_if, composed, lazied, lazied_as, Leaving, whole, alone, probe, closing, nothing, with_frame, least_by, least_left, with_signal_frames, draft_left, draft_as}
+use Rattle.quic_machine.specs.Poll.{Draft, frame_room, fits, left, with_signal, challenge_if, response_if, ping_if, immediate_if, with_challenge_frame, with_response_frame, with_ping_frame, with_immediate_frame, request_if, with_frequency_frame, behind_control, with_control_frames, with_message, with_messages_of, with_message_frames, behind_stream, no_stream_frames, with_stream_frames, Kind, order, put, with_asking, no_frames, ack_of, with_ack, ack_fits, ack_if, composed_if, composed, lazied, lazied_as, Leaving, whole, alone, probe, closing, nothing, with_frame, least_by, least_left, with_signal_frames, draft_left, draft_as}
 use Rattle.quic_machine.specs.Poll as poll
 use Rattle.quic_machine.specs.Puts.{Put, after, May, MayClose, stream_room, without_entry, with_entry, with_half_frame}
 use Rattle.quic_machine.specs.Puts as puts
@@ -98,6 +98,7 @@ abbrev pub IsSignal : FrameValue → Type 0
 IsSignal (path_challenge token) = Unit {0}
 IsSignal (path_response token) = Unit {0}
 IsSignal ping = Unit {0}
+IsSignal immediate_ack = Unit {0}
 IsSignal f = ⊥
 
 -- it asks
@@ -105,6 +106,7 @@ pub signal_asks : (f : FrameValue) → IsSignal f → asks f ≡ true
 signal_asks (path_challenge token) is = refl
 signal_asks (path_response token) is = refl
 signal_asks ping is = refl
+signal_asks immediate_ack is = refl
 signal_asks f is = absurd is
 
 module _ (P : Draft → Type 0) (goes : (d : Draft) (f : FrameValue) (left : Signals) → IsSignal f → P d → P (with_signal d f left)) where
@@ -121,8 +123,15 @@ module _ (P : Draft → Type 0) (goes : (d : Draft) (f : FrameValue) (left : Sig
   ping_goes true d p = goes d ping (record d.end.waiting.signals { ping = false }) tt p
   ping_goes false d p = p
 
-  answers_go : (d : Draft) → P d → P (with_ping_frame (with_response_frame d))
-  answers_go d p = let x : Draft = with_response_frame d in ping_goes x.end.waiting.signals.ping x (response_goes d.end.waiting.signals.response d p)
+  immediate_goes : (b : Bool) (d : Draft) → P d → P (immediate_if b d)
+  immediate_goes true d p = goes d immediate_ack (record d.end.waiting.signals { immediate = false }) tt p
+  immediate_goes false d p = p
+
+  pings_go : (d : Draft) → P d → P (with_immediate_frame (with_ping_frame d))
+  pings_go d p = let x : Draft = with_ping_frame d in immediate_goes x.end.waiting.signals.immediate x (ping_goes d.end.waiting.signals.ping d p)
+
+  answers_go : (d : Draft) → P d → P (with_immediate_frame (with_ping_frame (with_response_frame d)))
+  answers_go d p = pings_go (with_response_frame d) (response_goes d.end.waiting.signals.response d p)
 
   -- what holds of a draft, and stays where one goes, holds where those go that wait
   pub by_signals : (d : Draft) → P d → P (with_signal_frames d)
@@ -135,17 +144,21 @@ by_some_signal P goes d some = challenge d.end.waiting.signals.challenge some
     stays : (d : Draft) (f : FrameValue) (left : Signals) → IsSignal f → P d → P (with_signal d f left)
     stays d f left is p = goes d f left is
 
-    pinged : (b : Bool) → b ≡ true → P (ping_if b d)
-    pinged true some = goes d ping (record d.end.waiting.signals { ping = false }) tt
-    pinged false some = cc
+    hastens : (b : Bool) → b ≡ true → P (immediate_if b d)
+    hastens true some = goes d immediate_ack (record d.end.waiting.signals { immediate = false }) tt
+    hastens false some = cc
 
-    response : (o : Option Response) → is_some o || d.end.waiting.signals.ping ≡ true → P (with_ping_frame (response_if o d))
+    pinged : (b : Bool) → b || d.end.waiting.signals.immediate ≡ true → P (with_immediate_frame (ping_if b d))
+    pinged true some =
+        let x : Draft = ping_if true d in
+        immediate_goes P stays x.end.waiting.signals.immediate x (goes d ping (record d.end.waiting.signals { ping = false }) tt)
+    pinged false some = hastens d.end.waiting.signals.immediate some
+
+    response : (o : Option Response) → is_some o || (d.end.waiting.signals.ping || d.end.waiting.signals.immediate) ≡ true → P (with_immediate_frame (with_ping_frame (response_if o d)))
     response None some = pinged d.end.waiting.signals.ping some
-    response (Some r) some =
-        let x : Draft = response_if (Some r) d in
-        ping_goes P stays x.end.waiting.signals.ping x (goes d (response_frame r) (record d.end.waiting.signals { response = None }) tt)
+    response (Some r) some = pings_go P stays (response_if (Some r) d) (goes d (response_frame r) (record d.end.waiting.signals { response = None }) tt)
 
-    challenge : (o : Option ℕ) → is_some o || (is_some d.end.waiting.signals.response || d.end.waiting.signals.ping) ≡ true → P (with_ping_frame (with_response_frame (challenge_if o d)))
+    challenge : (o : Option ℕ) → is_some o || (is_some d.end.waiting.signals.response || (d.end.waiting.signals.ping || d.end.waiting.signals.immediate)) ≡ true → P (with_immediate_frame (with_ping_frame (with_response_frame (challenge_if o d))))
     challenge None some = response d.end.waiting.signals.response some
     challenge (Some word) some = answers_go P stays (challenge_if (Some word) d) (goes d (challenge_frame word) (record d.end.waiting.signals { challenge = None }) tt)
 
@@ -153,11 +166,15 @@ by_some_signal P goes d some = challenge d.end.waiting.signals.challenge some
 pub no_signal : (d : Draft) → signals_wait d.end.waiting.signals ≡ false → with_signal_frames d ≡ d
 no_signal d none = challenge d.end.waiting.signals.challenge none
   where
-    response : (o : Option Response) → is_some o || d.end.waiting.signals.ping ≡ false → with_ping_frame (response_if o d) ≡ d
-    response None none = ap (λ (b : Bool). ping_if b d) none
+    pinged : (b : Bool) → b || d.end.waiting.signals.immediate ≡ false → with_immediate_frame (ping_if b d) ≡ d
+    pinged true none = cc
+    pinged false none = ap (λ (b : Bool). immediate_if b d) none
+
+    response : (o : Option Response) → is_some o || (d.end.waiting.signals.ping || d.end.waiting.signals.immediate) ≡ false → with_immediate_frame (with_ping_frame (response_if o d)) ≡ d
+    response None none = pinged d.end.waiting.signals.ping none
     response (Some r) none = cc
 
-    challenge : (o : Option ℕ) → is_some o || (is_some d.end.waiting.signals.response || d.end.waiting.signals.ping) ≡ false → with_ping_frame (with_response_frame (challenge_if o d)) ≡ d
+    challenge : (o : Option ℕ) → is_some o || (is_some d.end.waiting.signals.response || (d.end.waiting.signals.ping || d.end.waiting.signals.immediate)) ≡ false → with_immediate_frame (with_ping_frame (with_response_frame (challenge_if o d))) ≡ d
     challenge None none = response d.end.waiting.signals.response none
     challenge (Some word) none = cc
 
@@ -244,15 +261,27 @@ module _ (P : Draft → Type 0) (w : Writing P) where
   ping_keeps true d p = w puts.ping d tt p
   ping_keeps false d p = p
 
+  immediate_keeps : (b : Bool) (d : Draft) → P d → P (immediate_if b d)
+  immediate_keeps true d p = w puts.immediate d tt p
+  immediate_keeps false d p = p
+
   signals_keep : (d : Draft) → P d → P (with_signal_frames d)
   signals_keep d p =
       let asked : Draft = with_challenge_frame d in
       let answered : Draft = with_response_frame asked in
-      ping_keeps answered.end.waiting.signals.ping answered (response_keeps asked.end.waiting.signals.response asked refl (challenge_keeps d.end.waiting.signals.challenge d refl p))
+      let pinged : Draft = with_ping_frame answered in
+      immediate_keeps pinged.end.waiting.signals.immediate pinged
+      (ping_keeps answered.end.waiting.signals.ping answered (response_keeps asked.end.waiting.signals.response asked refl (challenge_keeps d.end.waiting.signals.challenge d refl p)))
+
+  -- the request of how often to acknowledge, where it waits
+  request_keeps : (b : Bool) (d : Draft) → d.end.waiting.frames.ack_frequency ≡ b → P d → P (request_if b d)
+  request_keeps true d is p = w puts.request d is p
+  request_keeps false d is p = p
 
   -- one kind
   kind_keeps : (kind : Kind) (d : Draft) → P d → P (put d kind)
   kind_keeps poll.signals d p = signals_keep d p
+  kind_keeps poll.frequency d p = request_keeps d.end.waiting.frames.ack_frequency d refl p
   kind_keeps poll.controls d p = by_entries P (drops_of P w) (entry_of P w) d p
   kind_keeps poll.messages d p = by_messages P (message_of P w) d p
   kind_keeps poll.streams d p = by_streams P (half_of P w) d p
@@ -327,10 +356,14 @@ by_leave P w leaving e may p = by_left P w leaving (lazied_as leaving e) may p
 
 -- frames of path validation set it
 signals_least : (d : Draft) → d.least ≡ 0 → (with_signal_frames d).least ≡ least_by whole (path_waits d.end)
-signals_least d none = pinged answered.end.waiting.signals.ping answered ∙ go d.end.waiting.signals.challenge
+signals_least d none = hastens (with_ping_frame answered).end.waiting.signals.immediate (with_ping_frame answered) ∙ pinged answered.end.waiting.signals.ping answered ∙ go d.end.waiting.signals.challenge
   where
     answered : Draft
     answered = with_response_frame (with_challenge_frame d)
+
+    hastens : (b : Bool) (x : Draft) → (immediate_if b x).least ≡ x.least
+    hastens true x = refl
+    hastens false x = refl
 
     pinged : (b : Bool) (x : Draft) → (ping_if b x).least ≡ x.least
     pinged true x = refl
@@ -355,13 +388,18 @@ signals_least d none = pinged answered.end.waiting.signals.ping answered ∙ go 
         ∙ both answers
 
 -- what else asks leaves it
+request_least : (b : Bool) (d : Draft) → (request_if b d).least ≡ d.least
+request_least true d = refl
+request_least false d = refl
+
 asking_least : (d : Draft) → (with_asking d).least ≡ (with_signal_frames d).least
 asking_least d = by_streams Keeps (λ x id h room found first some is counts same. same) (with_message_frames (with_control_frames begun))
     (by_messages Keeps (λ x m ms is fit same. same) (with_control_frames begun)
     (by_entries Keeps (λ x kind same. same) (λ x kind f is same. same) begun refl))
+    ∙ request_least (with_signal_frames d).end.waiting.frames.ack_frequency (with_signal_frames d)
   where
     begun : Draft
-    begun = with_signal_frames d
+    begun = with_frequency_frame (with_signal_frames d)
 
     Keeps : Draft → Type 0
     Keeps x = x.least ≡ begun.least

@@ -11,6 +11,7 @@ use Rattle.quic_machine.specs.declared.answers.ConfigError.{ConfigError}
 use Rattle.quic_machine.specs.declared.answers.ConfigError.TheVariants as config_errors
 use Rattle.quic_config.specs.Transport.{Settings, TransportSettings, transport_of, first_mtu}
 use Rattle.quic_recovery_core.specs.PendingAcks.{Pending, none_pending}
+use Rattle.quic_recovery_core.specs.AckFrequency.{Frequency, initial_frequency, longest_delay}
 use Rattle.quic_time.specs.Clocks.{saturated}
 use Rattle.quic_time.specs.Rtt as rtt
 use Rattle.quic_time.specs.Timers.{Timers, no_timers}
@@ -37,11 +38,13 @@ pub record End : Type 0 where
   -- its clock, and whether it is open (section 10)
   pub closing : Closing
   -- connection ids (section 5.1), packet numbers (section 12.3), which of them are left out
-  -- (section 21.4), and what is to be acknowledged (section 13.2)
+  -- (section 21.4), what is to be acknowledged (section 13.2), and how often that was asked for
+  -- (QUIC Acknowledgement Frequency, section 4)
   pub ids : Ids
   pub numbers : Numbers
   pub filter : Filter
   pub acknowledging : Pending
+  pub frequency : Frequency
   -- the marks with which packets came, here and at the peer (section 13.4)
   pub marks : Marks
   -- when timers expire, and the datagrams that are tracked (RFC 9002, sections 2 and 6)
@@ -110,6 +113,7 @@ silent_end side settings windows theirs own_id peer_id now validated words = rec
   numbers = no_numbers;
   filter = first_filter (words 0);
   acknowledging = none_pending;
+  frequency = initial_frequency (theirs.max_ack_delay * 1000000);
   marks = no_marks;
   timers = no_timers;
   tracking = nothing_tracked now;
@@ -155,6 +159,10 @@ with_number_given word e = record e { numbers = number_given e.numbers (number_o
 abbrev pub with_acknowledging : End → Pending → End
 with_acknowledging e p = record e { acknowledging = p }
 
+-- the end that was asked so how often to acknowledge
+abbrev pub with_frequency : End → Frequency → End
+with_frequency e f = record e { frequency = f }
+
 -- the end with other counts of marks at the peer
 abbrev pub with_told : End → Counts → End
 with_told e counts = record e { marks = record e.marks { told = counts } }
@@ -186,14 +194,15 @@ with_window e window = record e { path = record e.path { window = window } }
 
 -- ---- the loss timer (RFC 9002, section 6.2)
 
--- how long the peer may hold an acknowledgement back, in nanoseconds: it told so in milliseconds
--- (RFC 9000, section 18.2)
+-- how long the peer holds an acknowledgement back, in nanoseconds: as it told when the connection
+-- began (RFC 9000, section 18.2), or as it was asked, and acknowledged that
 abbrev pub peer_delay : End → ℕ
-peer_delay e = e.peer_params.max_ack_delay * 1000000
+peer_delay e = e.frequency.peer_delay
 
--- how long an acknowledgement is waited for before a probe goes
+-- how long an acknowledgement is waited for before a probe goes: the peer may hold it back as it
+-- was asked already, or not yet (QUIC Acknowledgement Frequency, section 7)
 abbrev pub probe_timeout : End → ℕ
-probe_timeout e = saturated (rtt.probe_timeout e.path.rtt + peer_delay e)
+probe_timeout e = saturated (rtt.probe_timeout e.path.rtt + longest_delay e.frequency)
 
 -- the loss timer as a function of the end: it is set anew, last, by each call that may change what
 -- it follows
@@ -270,6 +279,10 @@ with_frames e frames = with_waiting e (record e.waiting { frames = frames })
 -- the end with PING waiting or not
 abbrev pub with_ping : End → Bool → End
 with_ping e waits = with_signals e (record e.waiting.signals { ping = waits })
+
+-- the end with IMMEDIATE_ACK waiting or not
+abbrev pub with_immediate : End → Bool → End
+with_immediate e waits = with_signals e (record e.waiting.signals { immediate = waits })
 
 -- an end that met want of memory where a datagram was taken or given, or packets were lost at a
 -- timeout: it is failed for good, for no reason, and keeps its keys and its random source. What

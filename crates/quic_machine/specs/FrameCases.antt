@@ -3,8 +3,9 @@
 use Rattle.std.proofs.Common.{◌≡◌, ℕ, Bool, true, false, not, ◌||◌, ◌==◌, List, [], ◌∷◌, map, length, Option, Some, None, Result, Ok, Err, refl, sym, ◌∙◌}
 use Rattle.std.specs.Prelude.{◌++◌, nat_le, nat_lt, if◌then◌else◌}
 use Rattle.std.specs.List.{list_any}
+use Rattle.std.proofs.lemmas.Bool.{and_parts}
 use Rattle.std.specs.declared.ops.Range.{Range}
-use Rattle.quic_wire.specs.Value.{FrameValue, AckValue, ack, stream, reset_stream, stop_sending, max_data, max_stream_data, max_streams, datagram, new_connection_id, retire_connection_id, path_challenge, path_response}
+use Rattle.quic_wire.specs.Value.{FrameValue, AckValue, ack, stream, reset_stream, stop_sending, max_data, max_stream_data, max_streams, datagram, new_connection_id, retire_connection_id, path_challenge, path_response, immediate_ack, ack_frequency}
 use Rattle.quic_wire_core.specs.declared.shared.EcnCodepoint.{EcnCodepoint}
 use Rattle.quic_wire.specs.Items.{items}
 use Rattle.quic_wire.specs.declared.frame.InvalidFrame.{InvalidFrame}
@@ -25,6 +26,7 @@ use Rattle.quic_wire.specs.Close.{CloseValue}
 use Rattle.quic_machine.specs.Policy.{Policy}
 use Rattle.quic_machine.specs.Closing.{ticked, close_asked}
 use Rattle.quic_recovery_core.specs.PendingAcks.{Pending}
+use Rattle.quic_recovery_core.specs.AckFrequency.{Frequency, micros, is_stale}
 use Rattle.quic_wire_core.specs.declared.shared.IssuedCid.{IssuedCid}
 use Rattle.quic_wire_core.specs.TransportError.{ErrorValue}
 use Rattle.quic_ids.specs.CidState.{retirement_answer}
@@ -33,7 +35,7 @@ use Rattle.quic_ids.specs.declared.cid_queue.InsertError.{InsertError}
 use Rattle.quic_ids.specs.declared.cid_queue.InsertError.TheVariants as inserts
 use Rattle.quic_retransmits.specs.Retransmits.{most_retirements, can_retire, after_retire}
 use Rattle.quic_machine.specs.Ids.{Ids, known, destination, frame_of, taken_up, retires_for, retired, may_issue}
-use Rattle.quic_machine.specs.IdFrames.{issued, issued_if, drawn}
+use Rattle.quic_machine.specs.IdFrames.{most_untold, issued, issued_if, issues_for, drawn}
 use Rattle.quic_spaces.specs.Numbers.{number_opened, number_named}
 use Rattle.quic_spaces.specs.Marks.{Counts}
 use Rattle.quic_spaces.specs.declared.space.EcnError.{EcnError}
@@ -49,11 +51,11 @@ use Rattle.quic_machine.specs.MessageCalls.{most_message}
 use Rattle.quic_machine.specs.Sizes.{is_resized, with_acked, search_acked, after_lost, without_longer_if, shortened, with_searched}
 use Rattle.quic_machine.specs.Steps.{Step, after}
 use Rattle.quic_machine.specs.Steps as steps
-use Rattle.quic_machine.specs.Acked.{without_known, reset_acked, resets_acked, stream_acked, streams_acked, packet_acked, packets_acked, stream_lost, streams_lost, again, carried_lost, packets_lost, lost_as, verdict, losses_detected, measured, sampled, without_acked, counts_judged, counts_answer, counts_seen, marks_seen, losses_taken, after_named, after_acked}
+use Rattle.quic_machine.specs.Acked.{request_acked, without_known, reset_acked, resets_acked, stream_acked, streams_acked, packet_acked, packets_acked, stream_lost, streams_lost, again, carried_lost, packets_lost, lost_as, verdict, losses_detected, measured, sampled, without_acked, counts_judged, counts_answer, counts_seen, marks_seen, losses_taken, after_named, after_acked}
 use Rattle.quic_paths.specs.Paths.{is_asked}
 use Rattle.quic_paths.specs.Responses.{Response}
 use Rattle.quic_machine.specs.Validation.{Asked, asked_of, path_asked, path_validated, word_of, validated_if}
-use Rattle.quic_machine.specs.Receive.{Fault, broke, too_many_pieces, closed_by_peer, drained_at, exhausted, unopened_in, violation, reason_of, Progress, goes_on, is_above, names_ungiven, message_taken, message_judged, take_message, retired_for, id_judged, retirement_judged, take_frame, take_item, unless_fault, take_items, is_empty, take_payload, asks_in, after_taken, dropped, ends_as, by_state, opened_to, opened_as, opening, headed, received_in, is_read, drawn_if, received}
+use Rattle.quic_machine.specs.Receive.{Fault, broke, too_many_pieces, closed_by_peer, drained_at, exhausted, unopened_in, violation, reason_of, Progress, goes_on, is_above, names_ungiven, message_taken, message_judged, take_message, retired_for, id_judged, retirement_judged, asks_too_soon, frequency_judged, take_frame, take_item, unless_fault, take_items, is_empty, take_payload, asks_in, after_taken, dropped, ends_as, by_state, opened_to, opened_as, opening, headed, received_in, is_read, drawn_if, received}
 
 -- ---- packets that are acknowledged, and those that are lost
 
@@ -124,8 +126,10 @@ module _ (P : End → Type 0) (c : Settling P) where
   packets_acked_keep [] e i = i
   packets_acked_keep (p ∷ ps) e i =
       let heard : End = search_acked p e in
-      let known : End = without_known p.1.carried.largest_acked heard in
-      let resets = resets_acked_keep P (λ id. c (steps.reset id)) p.1.carried.retransmits.reset_stream known (known_keeps p.1.carried.largest_acked heard (c (steps.searched (with_acked p e.path.discovery)) e i)) in
+      let asked : End = request_acked p.0 heard in
+      let known : End = without_known p.1.carried.largest_acked asked in
+      let kept : P asked = c (steps.answered p.0) heard (c (steps.searched (with_acked p e.path.discovery)) e i) in
+      let resets = resets_acked_keep P (λ id. c (steps.reset id)) p.1.carried.retransmits.reset_stream known (known_keeps p.1.carried.largest_acked asked kept) in
       packets_acked_keep ps (packet_acked p e) (streams_acked_keep P (λ m. c (steps.acked m)) p.1.carried.stream_frames (resets_acked p.1.carried.retransmits.reset_stream known) resets)
 
   -- packets are lost
@@ -200,7 +204,7 @@ IsApart f = Unit {0}
 
 -- what such a frame may change: ids, and which wait to be told of and to be retired; whether the
 -- peer's address is validated, what is asked of the peer until when, and the answer to it that
--- waits; and what is to be acknowledged, but for the numbers
+-- waits; and what is to be acknowledged, but for the numbers, and how often that was asked for
 pub record Apart : Type 0 where
   pub ids : Ids
   pub new_cids : List IssuedCid
@@ -210,6 +214,7 @@ pub record Apart : Type 0 where
   pub moment : Option ℕ
   pub response : Option Response
   pub acknowledging : Pending
+  pub frequency : Frequency
 
 -- the end with that
 abbrev pub with_apart : End → Apart → End
@@ -223,6 +228,7 @@ with_apart e c = record e {
   validation = c.asked.validation;
   timers = record e.timers { path_validation = c.moment };
   acknowledging = record c.acknowledging { runs = e.acknowledging.runs };
+  frequency = c.frequency;
 }
 
 -- that of an end as it is
@@ -236,6 +242,7 @@ apart_of e = record {
   moment = e.timers.path_validation;
   response = e.waiting.signals.response;
   acknowledging = e.acknowledging;
+  frequency = e.frequency;
 }
 
 -- an end where other ids are known, and other ones wait to be told of and to be retired
@@ -285,6 +292,10 @@ frame_leaves P (max_data limit) e on all = all _
 frame_leaves P (max_stream_data f) e on all = all _
 frame_leaves P (max_streams f) e on all = all _
 frame_leaves P f e on all = absurd on
+
+-- an id is issued only where it may be
+pub issues_may : (n : ℕ) (e : End) → issues_for n e ≡ true → may_issue e.ids n ≡ true
+issues_may n e issues = (and_parts (may_issue e.ids n) (nat_lt (length e.waiting.frames.new_cids) most_untold) issues).0
 
 -- a frame apart from streams leaves what such a one may change, and fewer messages where they are
 -- too long for another id in use; nothing else changes
@@ -340,7 +351,7 @@ apart_leaves P (retire_connection_id n) e apart all shorter = judged (retirement
     issues false = all (ids_changed e (retired n e.ids) e.waiting.frames.new_cids e.waiting.frames.retire_cids)
 
     judged : (r : Result Bool ErrorValue) → P (retirement_judged r n e).end
-    judged (Ok more) = issues (may_issue e.ids n)
+    judged (Ok more) = issues (issues_for n e)
     judged (Err error) = all (apart_of e)
 apart_leaves P (path_challenge token) e apart all shorter = all (record (apart_of e) { response = (path_asked token e).waiting.signals.response })
 apart_leaves P (path_response token) e apart all shorter = go (is_asked e.validation.challenge (word_of token))
@@ -348,6 +359,13 @@ apart_leaves P (path_response token) e apart all shorter = go (is_asked e.valida
     go : (b : Bool) → P (validated_if b e)
     go true = all (record (apart_of e) { validated = true; asked = asked_of (path_validated e); moment = None })
     go false = all (apart_of e)
+apart_leaves P immediate_ack e apart all shorter = all (record (apart_of e) { acknowledging = record e.acknowledging { due = true } })
+apart_leaves P (ack_frequency f) e apart all shorter = go (is_stale e.frequency.last f.sequence) (asks_too_soon f)
+  where
+    go : (stale soon : Bool) → P (frequency_judged stale soon f e).end
+    go true soon = all (apart_of e)
+    go false true = all (record (apart_of e) { frequency = record e.frequency { last = Some f.sequence } })
+    go false false = all (record (apart_of e) { acknowledging = record e.acknowledging { threshold = f.threshold; reordering = f.reordering }; frequency = record e.frequency { last = Some f.sequence; own_delay = micros f.delay } })
 apart_leaves P f e apart all shorter = all (apart_of e)
 
 -- ids that are drawn leave other ones, and other ones that wait to be told of; nothing else changes

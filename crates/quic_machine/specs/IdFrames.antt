@@ -1,6 +1,6 @@
 -- Connection ids at an end (RFC 9000, section 5.1): what frames about them leave, what is drawn
 -- behind a packet, and the change to another id of the peer.
-use Rattle.std.specs.Prelude.{◌≡◌, ◌⊎◌, ℕ, Bool, true, false, nat_lt, if◌then◌else◌, List, [], ◌∷◌, ◌++◌, length, Option, Some, None, Result, Ok, Err}
+use Rattle.std.specs.Prelude.{◌≡◌, ◌⊎◌, ℕ, Bool, true, false, nat_lt, ◌&&◌, if◌then◌else◌, List, [], ◌∷◌, ◌++◌, length, Option, Some, None, Result, Ok, Err}
 use Rattle.std.specs.declared.ops.Range.{Range}
 use Rattle.quic_wire.specs.Value.{NewConnectionIdValue}
 use Rattle.quic_retransmits.specs.Retransmits.{after_retire, can_retire}
@@ -39,9 +39,18 @@ abbrev pub issued_if : Bool → End → End
 issued_if true e = issued e
 issued_if false e = e
 
+-- where so many ids wait to be told, no other is issued: so the peer can't have them pile up by
+-- retirements (section 5.1.1 lets an end limit what it issues; the number is our choice)
+abbrev pub most_untold : ℕ
+most_untold = 50
+
+-- whether the next one is issued for one that is retired: it may be, and fewer wait
+abbrev pub issues_for : ℕ → End → Bool
+issues_for n e = may_issue e.ids n && nat_lt (length e.waiting.frames.new_cids) most_untold
+
 -- it lives no more, and the next one may be issued for it
 abbrev pub after_retired : ℕ → End → End
-after_retired n e = issued_if (may_issue e.ids n) (with_ids e (retired n e.ids))
+after_retired n e = issued_if (issues_for n e) (with_ids e (retired n e.ids))
 
 -- ---- behind a packet
 

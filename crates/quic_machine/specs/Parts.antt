@@ -99,19 +99,21 @@ with_queues m queues = record m { queues = queues }
 
 -- frames that ask for an acknowledgement and that no packet's record has: each goes once, and not
 -- again where it is lost. The word of a PATH_CHALLENGE that waits, and the answer that waits to one
--- of the peer's (RFC 9000, section 8.2); and whether PING waits (section 19.2)
+-- of the peer's (RFC 9000, section 8.2); whether PING waits (section 19.2); and whether
+-- IMMEDIATE_ACK does (QUIC Acknowledgement Frequency, section 5)
 pub record Signals : Type 0 where
   pub challenge : Option ℕ
   pub response : Option Response
   pub ping : Bool
+  pub immediate : Bool
 
 -- none of them waits
 abbrev pub no_signals : Signals
-no_signals = record { challenge = None; response = None; ping = false }
+no_signals = record { challenge = None; response = None; ping = false; immediate = false }
 
 -- whether one of them waits
 abbrev pub signals_wait : Signals → Bool
-signals_wait s = is_some s.challenge || (is_some s.response || s.ping)
+signals_wait s = is_some s.challenge || (is_some s.response || (s.ping || s.immediate))
 
 -- which of them wait to be sent, and what waits beside the bytes of streams (RFC 9000, section
 -- 13.3)

@@ -1,11 +1,11 @@
 -- What an end gives when it is polled (RFC 9000, sections 12.2, 13.3 and 14.1).
-use Rattle.std.specs.Prelude.{ℕ, ◌+◌, ◌-◌, ◌≡◌, Bool, true, false, ◌&&◌, ◌||◌, ◌==◌, not, nat_le, nat_lt, if◌then◌else◌, List, [], ◌∷◌, ◌++◌, map, length, replicate, max, take, zero, suc, option_map, ◌⊎◌, Option, Some, None, IsSome, Result, Ok, Err}
+use Rattle.std.specs.Prelude.{ℕ, ◌+◌, ◌-◌, ◌*◌, ◌/◌, ◌^◌, ◌≡◌, Bool, true, false, ◌&&◌, ◌||◌, ◌==◌, not, nat_le, nat_lt, if◌then◌else◌, List, [], ◌∷◌, ◌++◌, map, length, replicate, min, max, take, zero, suc, option_map, ◌⊎◌, Option, Some, None, unwrap_or, IsSome, Result, Ok, Err}
 use Rattle.std.specs.List.{list_any, fold}
 use Rattle.std.specs.Option.{is_some, is_none}
 use Rattle.quic_wire_core.specs.declared.shared.EcnCodepoint.{EcnCodepoint}
 use Rattle.quic_wire_core.specs.declared.shared.EcnCodepoint.TheVariants.{Ect0}
 use Rattle.quic_packet.specs.Number.{truncated}
-use Rattle.quic_wire.specs.Value.{FrameValue, AckValue, ack, ping, stream, datagram, path_challenge, path_response, application_close, asks}
+use Rattle.quic_wire.specs.Value.{FrameValue, AckValue, ack, ping, immediate_ack, ack_frequency, AckFrequencyValue, stream, datagram, path_challenge, path_response, application_close, asks}
 use Rattle.quic_wire.specs.Writing.{spelling, spelled_all, frame_size}
 use Rattle.quic_wire.specs.Grammar.{Payload}
 use Rattle.quic_packet.specs.Datagram.{sent}
@@ -23,6 +23,9 @@ use Rattle.quic_machine.specs.declared.answers.State.TheVariants as states
 use Rattle.quic_machine.specs.declared.answers.LostReason.{LostReason}
 use Rattle.quic_machine.specs.declared.answers.LostReason.TheVariants as reasons
 use Rattle.quic_congestion.specs.Congestion.{Told}
+use Rattle.quic_config.specs.Configs.{FrequencySettings, default_frequency}
+use Rattle.quic_time.specs.Rtt.{best_rtt}
+use Rattle.quic_recovery_core.specs.AckFrequency.{micros, candidate, should_ask}
 use Rattle.quic_recovery_core.specs.PendingAcks.{Pending, can_send, is_filled, after_acks_sent, after_lazy}
 use Rattle.quic_spaces.specs.Acknowledging.{ack_at}
 use Rattle.quic_spaces.specs.Marks.{told_counts}
@@ -34,7 +37,7 @@ use Rattle.quic_spaces.specs.Records.{first_record}
 use Rattle.quic_machine.specs.Policy.{Policy}
 use Rattle.quic_machine.specs.Ids.{destination}
 use Rattle.quic_machine.specs.Parts.{current_mtu, Signals, signals_wait}
-use Rattle.quic_machine.specs.End.{End, words_drawn, with_closing, closed_by, number_of, with_number_given, with_acknowledging, with_ack_timer_at, with_tracking, with_loss_timer, with_streams, with_queued, with_waiting, with_signals, with_ping}
+use Rattle.quic_machine.specs.End.{End, words_drawn, with_closing, closed_by, number_of, with_number_given, with_acknowledging, with_frequency, with_frames, with_ack_timer_at, with_tracking, with_loss_timer, with_streams, with_queued, with_waiting, with_signals, with_ping, with_immediate}
 use Rattle.quic_paths.specs.Responses.{Response}
 use Rattle.quic_machine.specs.Validation.{path_waits, path_frames_size, challenge_frame, response_frame}
 use Rattle.quic_machine.specs.Control.{is_window_full, Gated, gated_if, paid, with_pacing_timer, with_app_limited, told_sent}
@@ -131,6 +134,11 @@ abbrev pub ping_if : Bool → Draft → Draft
 ping_if true d = with_signal d ping (record d.end.waiting.signals { ping = false })
 ping_if false d = d
 
+-- IMMEDIATE_ACK goes if it waits
+abbrev pub immediate_if : Bool → Draft → Draft
+immediate_if true d = with_signal d immediate_ack (record d.end.waiting.signals { immediate = false })
+immediate_if false d = d
+
 -- each where it waits
 abbrev pub with_challenge_frame : Draft → Draft
 with_challenge_frame d = challenge_if d.end.waiting.signals.challenge d
@@ -143,9 +151,62 @@ with_response_frame d = response_if d.end.waiting.signals.response d
 abbrev pub with_ping_frame : Draft → Draft
 with_ping_frame d = ping_if d.end.waiting.signals.ping d
 
--- the signals that wait go: those of path validation, and PING
+-- IMMEDIATE_ACK goes, where it waits
+abbrev pub with_immediate_frame : Draft → Draft
+with_immediate_frame d = immediate_if d.end.waiting.signals.immediate d
+
+-- the signals that wait go: those of path validation, PING, and IMMEDIATE_ACK
 abbrev pub with_signal_frames : Draft → Draft
-with_signal_frames d = with_ping_frame (with_response_frame (with_challenge_frame d))
+with_signal_frames d = with_immediate_frame (with_ping_frame (with_response_frame (with_challenge_frame d)))
+
+-- the greatest number that has a form as a variable-length integer, or a lesser one (RFC 9000,
+-- section 16)
+abbrev pub written : ℕ → ℕ
+written n = min n (2 ^ 62 - 1)
+
+-- the same settings with a delay in whole microseconds, as frames say it: so what is asked for and
+-- what is wanted is compared in one unit
+abbrev pub in_micros : FrequencySettings → FrequencySettings
+in_micros s = record s { max_delay = option_map (λ nanos. nanos / 1000 * 1000) s.max_delay }
+
+-- how the peer is asked to acknowledge: as an end is configured, which asks it
+abbrev pub frequency_settings : End → FrequencySettings
+frequency_settings e = in_micros (unwrap_or e.transport.ack_frequency_config default_frequency)
+
+-- what ACK_FREQUENCY says: its number, one after another; and what the end is configured to, with
+-- the delay of this moment in whole microseconds (QUIC Acknowledgement Frequency, section 4)
+abbrev pub request_of : End → AckFrequencyValue
+request_of e =
+    let settings = frequency_settings e in
+    record {
+      sequence = written e.frequency.next;
+      threshold = written settings.threshold;
+      delay = written (candidate e.frequency (best_rtt e.path.rtt) settings e.peer_params / 1000);
+      reordering = written settings.reordering;
+    }
+
+-- how many requests have a number of their own
+abbrev pub most_requests : ℕ
+most_requests = 2 ^ 62
+
+-- the end after it went in the next datagram: it waits no more, and until the peer acknowledges it,
+-- it isn't known to which delay the peer keeps
+abbrev pub after_request : End → End
+after_request e =
+    with_frequency (with_frames e (record e.waiting.frames { ack_frequency = false })) (record e.frequency { next = min (e.frequency.next + 1) most_requests; in_flight = Some (record { packet = number_of e; delay = micros (request_of e).delay }) })
+
+-- ACK_FREQUENCY goes
+abbrev pub with_request : Draft → Draft
+with_request d = with_frame d (ack_frequency (request_of d.end)) (spelling (ack_frequency (request_of d.end))) (after_request d.end)
+
+-- ACK_FREQUENCY goes if it waits
+abbrev pub request_if : Bool → Draft → Draft
+request_if true d = with_request d
+request_if false d = d
+
+-- ACK_FREQUENCY goes, where it waits
+abbrev pub with_frequency_frame : Draft → Draft
+with_frequency_frame d = request_if d.end.waiting.frames.ack_frequency d
 
 -- frames of control behind those of a draft, which leave these streams, and this to be sent besides
 abbrev pub behind_control : Draft → control.Draft → Draft
@@ -206,21 +267,23 @@ abbrev pub ack_if : Bool → Draft → Draft
 ack_if true d = with_ack d
 ack_if false d = d
 
--- what asks for an acknowledgement: signals, what has to be told of streams, messages, and the
--- bytes of streams
+-- what asks for an acknowledgement: signals, the request of how often to acknowledge, what has to
+-- be told of streams, messages, and the bytes of streams
 pub data Kind : Type 0 where
   signals : Kind
+  frequency : Kind
   controls : Kind
   messages : Kind
   streams : Kind
 
 -- the kinds, in the order in which they go
 abbrev pub order : List Kind
-order = signals ∷ controls ∷ messages ∷ streams ∷ []
+order = signals ∷ frequency ∷ controls ∷ messages ∷ streams ∷ []
 
 -- what waits of a kind goes behind the frames of a draft, where it fits
 abbrev pub put : Draft → Kind → Draft
 put d signals = with_signal_frames d
+put d frequency = with_frequency_frame d
 put d controls = with_control_frames d
 put d messages = with_message_frames d
 put d streams = with_stream_frames d
@@ -302,10 +365,20 @@ after_given p d = with_loss_timer (with_app_limited (packet_given (asking d.fram
 
 -- ---- what waits
 
+-- where the peer takes IMMEDIATE_ACK, which it tells by min_ack_delay, that waits for each probe
+-- (QUIC Acknowledgement Frequency, sections 3 and 5)
+abbrev pub hastened : End → End
+hastened e = with_immediate e (is_some e.peer_params.min_ack_delay || e.waiting.signals.immediate)
+
+-- PING waits, unless IMMEDIATE_ACK does, which asks for an acknowledgement as well
+abbrev pub ping_unless : Bool → End → End
+ping_unless true e = e
+ping_unless false e = with_ping e true
+
 -- a probe goes (RFC 9002, section 6.2.4): what has to be sent again of a packet, if there is such a
--- packet, waits once more, and the packet stays tracked; else PING waits
+-- packet, waits once more, and the packet stays tracked; else PING waits, unless IMMEDIATE_ACK does
 abbrev pub record_moved : Option (ℕ × TrackedPacket) → End → End
-record_moved None e = with_ping e true
+record_moved None e = ping_unless e.waiting.signals.immediate e
 record_moved (Some p) e = with_waiting (with_tracking e (record e.tracking { packets = table.put e.tracking.packets p.0 (without_record p.1) }))
     (record e.waiting { frames = merged e.waiting.frames p.1.carried.retransmits })
 
@@ -316,12 +389,22 @@ probe_filled false e = e
 
 -- where probes wait
 abbrev pub probe_if : Bool → End → End
-probe_if true e = probe_filled (is_empty e.waiting.frames e.streams) e
+probe_if true e = probe_filled (is_empty e.waiting.frames e.streams) (hastened e)
 probe_if false e = e
 
 -- the end where something waits for each probe to carry
 abbrev pub probed : End → End
 probed e = probe_if (nat_lt 0 e.tracking.probes) e
+
+-- whether an end that is configured so asks its peer anew how often to acknowledge: one that takes
+-- ACK_FREQUENCY, which it tells by min_ack_delay (QUIC Acknowledgement Frequency, section 3)
+abbrev pub asks_anew : Option FrequencySettings → End → Bool
+asks_anew None e = false
+asks_anew (Some settings) e = is_some e.peer_params.min_ack_delay && should_ask e.frequency (best_rtt e.path.rtt) (in_micros settings) e.peer_params
+
+-- the end where ACK_FREQUENCY waits, if it did or is to go
+abbrev pub request_queued : End → End
+request_queued e = with_frames e (record e.waiting.frames { ack_frequency = asks_anew e.transport.ack_frequency_config e || e.waiting.frames.ack_frequency })
 
 -- how many bytes are left for frames at least, whichever number a datagram has: one takes four
 -- bytes at most
@@ -407,11 +490,11 @@ leaves_unless false e = leaves (gated e)
 abbrev pub leaves_at : End → Ready
 leaves_at e = leaves_unless e.path.blocked e
 
--- an end is ready to give: the timer of its pacer is stopped, what a probe carries waits, the limit
--- on an address that isn't validated, window and pacer were asked, and where nothing waits the
--- search for a size
+-- an end is ready to give: the timer of its pacer is stopped, what a probe carries waits, and so
+-- does the request of how often to acknowledge, if there is to be one; the limit on an address that
+-- isn't validated, window and pacer were asked, and where nothing waits the search for a size
 abbrev pub ready : End → Ready
-ready e = leaves_at (probed (with_pacing_timer e None))
+ready e = leaves_at (request_queued (probed (with_pacing_timer e None)))
 
 -- whether a datagram goes
 abbrev pub goes_as : Leaving → Bool

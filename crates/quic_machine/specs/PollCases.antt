@@ -22,10 +22,10 @@ use Rattle.quic_spaces.specs.Numbers.{can_number}
 use Rattle.quic_spaces.specs.Records.{first_record}
 use Rattle.quic_machine.specs.Tracking.{TrackedPacket, Tracking}
 use Rattle.quic_machine.specs.Parts.{Waiting}
-use Rattle.quic_machine.specs.End.{End, words_drawn, with_closing, closed_by, with_number_given, with_loss_timer, with_ping, with_discovery}
+use Rattle.quic_machine.specs.End.{End, words_drawn, with_closing, closed_by, with_number_given, with_loss_timer, with_ping, with_immediate, with_discovery}
 use Rattle.quic_machine.specs.Control.{is_window_full, paced_until, pacer_asked, Gated, lets, holds, by_pacer, by_window, gated_if, with_pacing_timer, with_app_limited}
 use Rattle.quic_machine.specs.Sizes.{may_search, search_names, search_asked}
-use Rattle.quic_machine.specs.Poll.{Polled, Draft, gives_nothing, gives_datagram, asking, datagram_of, datagram_size, tracked, paid_if, after_given, record_moved, probe_filled, probe_if, probed, waits, is_gated, gated, Leaving, whole, alone, probe, closing, nothing, Ready, probe_named, searched_if, free_if, held_if, leaves_if, leaves, ready, goes, is_held, zeros_behind, draft_left, draft_as, draft_of, rests, may_seal, bounds, close_to_go, closes_if, closes, sends, polled_if, polled_in, polled, leaves_unless, leaves_at}
+use Rattle.quic_machine.specs.Poll.{Polled, Draft, gives_nothing, gives_datagram, asking, datagram_of, datagram_size, tracked, paid_if, after_given, hastened, ping_unless, record_moved, probe_filled, probe_if, probed, request_queued, waits, is_gated, gated, Leaving, whole, alone, probe, closing, nothing, Ready, probe_named, searched_if, free_if, held_if, leaves_if, leaves, ready, goes, is_held, zeros_behind, draft_left, draft_as, draft_of, rests, may_seal, bounds, close_to_go, closes_if, closes, sends, polled_if, polled_in, polled, leaves_unless, leaves_at}
 use Rattle.quic_machine.specs.Idle.{packet_given, packet_given_leaves}
 use Rattle.quic_machine.specs.Machine.{gives, gave}
 use Rattle.quic_machine.specs.DraftLaws.{Writing, MayGo, MayLeave, lazy_due, by_left, by_leave}
@@ -94,26 +94,52 @@ bounds_none p e = go (can_number e.numbers) (may_seal p e)
 
 -- ---- a probe
 
--- what holds of an end holds where something waits for a probe: nothing changes, PING waits, or the
--- record of a packet does, which has something
-pub by_probed : (e : End) (P : End → Type 0) → P e → P (with_ping e true) → ((p : ℕ × TrackedPacket) → nat_lt 0 e.tracking.probes ≡ true → first_record e.streams e.tracking.packets ≡ Some p → P (record_moved (Some p) e)) → P (probed e)
-by_probed e P same pings moves = go (nat_lt 0 e.tracking.probes) refl
-  where
-    record_case : nat_lt 0 e.tracking.probes ≡ true → (o : Option (ℕ × TrackedPacket)) → first_record e.streams e.tracking.packets ≡ o → P (record_moved o e)
-    record_case probes None is = pings
-    record_case probes (Some p) is = moves p probes is
+-- what something waits for a probe with: whatever waits already, IMMEDIATE_ACK or not; PING; or the
+-- record of a packet, which has something, and IMMEDIATE_ACK or not
+pub record Probes (e : End) (P : End → Type 0) : Type 0 where
+  pub none : nat_lt 0 e.tracking.probes ≡ false → P e
+  pub hastens : nat_lt 0 e.tracking.probes ≡ true → P (hastened e)
+  pub pings : nat_lt 0 e.tracking.probes ≡ true → (hastened e).waiting.signals.immediate ≡ false → P (with_ping (hastened e) true)
+  pub moves : (p : ℕ × TrackedPacket) → nat_lt 0 e.tracking.probes ≡ true → first_record e.streams e.tracking.packets ≡ Some p → P (record_moved (Some p) (hastened e))
 
-    empty_case : nat_lt 0 e.tracking.probes ≡ true → (b : Bool) → P (probe_filled b e)
+-- what holds in each case holds where something waits for a probe
+pub by_probes : (e : End) (P : End → Type 0) → Probes e P → P (probed e)
+by_probes e P c = go (nat_lt 0 e.tracking.probes) refl
+  where
+    ping_case : nat_lt 0 e.tracking.probes ≡ true → (b : Bool) → (hastened e).waiting.signals.immediate ≡ b → P (ping_unless b (hastened e))
+    ping_case probes true is = c.hastens probes
+    ping_case probes false is = c.pings probes is
+
+    record_case : nat_lt 0 e.tracking.probes ≡ true → (o : Option (ℕ × TrackedPacket)) → first_record e.streams e.tracking.packets ≡ o → P (record_moved o (hastened e))
+    record_case probes None is = ping_case probes (hastened e).waiting.signals.immediate refl
+    record_case probes (Some p) is = c.moves p probes is
+
+    empty_case : nat_lt 0 e.tracking.probes ≡ true → (b : Bool) → P (probe_filled b (hastened e))
     empty_case probes true = record_case probes (first_record e.streams e.tracking.packets) refl
-    empty_case probes false = same
+    empty_case probes false = c.hastens probes
 
     go : (b : Bool) → nat_lt 0 e.tracking.probes ≡ b → P (probe_if b e)
     go true is = empty_case is (is_empty e.waiting.frames e.streams)
-    go false is = same
+    go false is = c.none is
+
+-- what holds of an end whichever of PING and IMMEDIATE_ACK wait, and where the record of a packet
+-- waits, which has something, and IMMEDIATE_ACK or not, holds where something waits for a probe
+pub by_probed : (e : End) (P : End → Type 0) → P e → ((immediate : Bool) → P (with_immediate e immediate)) → ((immediate : Bool) → P (with_ping (with_immediate e immediate) true))
+    → ((immediate : Bool) (p : ℕ × TrackedPacket) → nat_lt 0 e.tracking.probes ≡ true → first_record e.streams e.tracking.packets ≡ Some p → P (record_moved (Some p) (with_immediate e immediate))) → P (probed e)
+by_probed e P same hastens pings moves = by_probes e P (record {
+  none = λ none. same;
+  hastens = λ some. hastens (hastened e).waiting.signals.immediate;
+  pings = λ some unless. pings (hastened e).waiting.signals.immediate;
+  moves = λ p some is. moves (hastened e).waiting.signals.immediate p some is;
+})
 
 -- a probe changes what is tracked and what waits, and nothing else
 pub probe_leaves : (e : End) → probed e ≡ record e { tracking = (probed e).tracking; waiting = (probed e).waiting }
-probe_leaves e = by_probed e (λ (x : End). x ≡ record e { tracking = x.tracking; waiting = x.waiting }) refl refl (λ p probes is. refl)
+probe_leaves e = by_probed e (λ (x : End). x ≡ record e { tracking = x.tracking; waiting = x.waiting }) refl (λ immediate. refl) (λ immediate. refl) (λ immediate p probes is. refl)
+
+-- and so it is where the request of how often to acknowledge may wait besides
+pub request_leaves : (e : End) → request_queued (probed e) ≡ record e { tracking = (probed e).tracking; waiting = (request_queued (probed e)).waiting }
+request_leaves e = ap (λ (x : End). record x { waiting = (request_queued (probed e)).waiting }) (probe_leaves e)
 
 -- ---- window and pacer
 
@@ -202,8 +228,8 @@ search_leaves g = by_leaves g (λ (r : Ready). r.end ≡ with_discovery g.end r.
 
 -- where an ACK goes alone, it is due
 pub may_leave_at : (e : End) (now : ℕ) → MayLeave (ready_at e now).leaving (ready_at e now).end
-may_leave_at e now = by_ready (probed (with_pacing_timer (with_closing e (ticked e.closing now)) None)) (λ (r : Ready). MayLeave r.leaving r.end) (λ blocked. tt) (λ unblocked. record {
-  acks = λ held due. lazy_due (gated (probed (with_pacing_timer (with_closing e (ticked e.closing now)) None))).end due;
+may_leave_at e now = by_ready (request_queued (probed (with_pacing_timer (with_closing e (ticked e.closing now)) None))) (λ (r : Ready). MayLeave r.leaving r.end) (λ blocked. tt) (λ unblocked. record {
+  acks = λ held due. lazy_due (gated (request_queued (probed (with_pacing_timer (with_closing e (ticked e.closing now)) None)))).end due;
   held = λ held none. tt;
   all = λ free some. tt;
   idle = λ free none. tt;
@@ -213,7 +239,7 @@ may_leave_at e now = by_ready (probed (with_pacing_timer (with_closing e (ticked
 
 -- no close goes of an end that is open
 pub ready_closes_not : (e : End) (now : ℕ) (f : FrameValue) → (ready_at e now).leaving ≡ closing f → ⊥
-ready_closes_not e now f = by_ready (probed (with_pacing_timer (with_closing e (ticked e.closing now)) None)) (λ (r : Ready). r.leaving ≡ closing f → ⊥) (λ blocked is. cc) (λ unblocked. record {
+ready_closes_not e now f = by_ready (request_queued (probed (with_pacing_timer (with_closing e (ticked e.closing now)) None))) (λ (r : Ready). r.leaving ≡ closing f → ⊥) (λ blocked is. cc) (λ unblocked. record {
   acks = λ held due is. cc;
   held = λ held none is. cc;
   all = λ free some is. cc;
@@ -224,7 +250,7 @@ ready_closes_not e now f = by_ready (probed (with_pacing_timer (with_closing e (
 
 -- all goes where something waits
 pub whole_waits : (e : End) (now : ℕ) → (ready_at e now).leaving ≡ whole → waits (ready_at e now).end ≡ true
-whole_waits e now = by_ready (probed (with_pacing_timer (with_closing e (ticked e.closing now)) None)) (λ (r : Ready). r.leaving ≡ whole → waits r.end ≡ true) (λ blocked is. cc) (λ unblocked. record {
+whole_waits e now = by_ready (request_queued (probed (with_pacing_timer (with_closing e (ticked e.closing now)) None))) (λ (r : Ready). r.leaving ≡ whole → waits r.end ≡ true) (λ blocked is. cc) (λ unblocked. record {
   acks = λ held due is. cc;
   held = λ held none is. cc;
   all = λ free some is. some;
@@ -261,9 +287,12 @@ ready_leaves e now = go (probed begun).path.blocked
         let same : r ≡ at_poll e now (record (changed_by g) { discovery = r.path.discovery }) = searched ∙ ap (λ (z : End). with_discovery z r.path.discovery) left in
         same ∙ ap (λ (z : End). at_poll e now (record (changed_by z) { discovery = r.path.discovery })) (sym same)
 
-    go : (b : Bool) → (leaves_unless b (probed begun)).end ≡ poll_left e now (leaves_unless b (probed begun)).end
-    go true = gates (probed begun) (probed begun) refl (probe_leaves begun)
-    go false = both (leaves (gated (probed begun))).end (gated (probed begun)).end (search_leaves (gated (probed begun))) (gates (gated (probed begun)).end (probed begun) (gate_leaves (probed begun)) (probe_leaves begun))
+    readied : End
+    readied = request_queued (probed begun)
+
+    go : (b : Bool) → (leaves_unless b readied).end ≡ poll_left e now (leaves_unless b readied).end
+    go true = gates readied readied refl (request_leaves begun)
+    go false = both (leaves (gated readied)).end (gated readied).end (search_leaves (gated readied)) (gates (gated readied).end readied (gate_leaves readied) (request_leaves begun))
 
 -- ---- cases
 

@@ -16,7 +16,7 @@ use Rattle.quic_recovery_core.specs.PendingAcks.{is_filled}
 use Rattle.quic_paths.specs.Responses.{Response}
 use Rattle.quic_machine.specs.End.{with_streams}
 use Rattle.quic_machine.specs.Validation.{challenge_frame, response_frame}
-use Rattle.quic_machine.specs.Poll.{Draft, fits, with_frame, with_signal, with_least, left, with_message, no_stream_frames, ack_of, with_ack}
+use Rattle.quic_machine.specs.Poll.{Draft, fits, with_frame, with_signal, with_least, left, with_request, with_message, no_stream_frames, ack_of, with_ack}
 
 -- ---- one frame of each kind
 
@@ -56,6 +56,9 @@ pub data Put : Type 0 where
   challenge : ℕ → Put
   response : Response → Put
   ping : Put
+  immediate : Put
+  -- ACK_FREQUENCY goes
+  request : Put
   -- PING goes alone, as a probe of a size
   probes : ℕ → Put
   -- a close goes alone, for an error of QUIC or of the application
@@ -75,6 +78,8 @@ after ack d = with_ack d
 after (challenge word) d = with_signal d (challenge_frame word) (record d.end.waiting.signals { challenge = None })
 after (response r) d = with_signal d (response_frame r) (record d.end.waiting.signals { response = None })
 after ping d = with_signal d values.ping (record d.end.waiting.signals { ping = false })
+after immediate d = with_signal d values.immediate_ack (record d.end.waiting.signals { immediate = false })
+after request d = with_request d
 after (probes size) d = with_frame (with_least d size) values.ping (spelling values.ping) d.end
 after (connection_close c) d = with_frame d (values.connection_close c) (spelling (values.connection_close c)) d.end
 after (application_close c) d = with_frame d (values.application_close c) (spelling (values.application_close c)) d.end
@@ -83,15 +88,17 @@ after (control kind f) d = with_entry d kind f
 after (message m ms) d = with_message d m ms
 after (stream id h room) d = with_half_frame d id h room
 
--- where it may be put into a draft: an ACK that has numbers; a frame of path validation that waits;
--- a close, where no frame went before it; a frame of control that says what is due; a message that
--- fits; and a frame of the stream that stands first in the queue, which brings something, where
--- enough bytes are left
+-- where it may be put into a draft: an ACK that has numbers; a frame of path validation that waits,
+-- and ACK_FREQUENCY; a close, where no frame went before it; a frame of control that says what is
+-- due; a message that fits; and a frame of the stream that stands first in the queue, which brings
+-- something, where enough bytes are left
 abbrev pub May : Put → Draft → Type 0
 May ack d = (is_filled d.end.acknowledging.runs ≡ true) × MayAck d
 May (challenge word) d = d.end.waiting.signals.challenge ≡ Some word
 May (response r) d = d.end.waiting.signals.response ≡ Some r
 May ping d = Unit {0}
+May immediate d = Unit {0}
+May request d = d.end.waiting.frames.ack_frequency ≡ true
 May (probes size) d = Unit {0}
 May (connection_close c) d = MayClose d (values.connection_close c)
 May (application_close c) d = MayClose d (values.application_close c)

@@ -1,11 +1,11 @@
 -- What an end makes of a datagram that comes (RFC 9000, sections 5.2, 12 and 13.1).
-use Rattle.std.specs.Prelude.{ℕ, ◌+◌, Bool, true, false, ◌==◌, ◌||◌, not, nat_le, nat_lt, if◌then◌else◌, List, [], ◌∷◌, ◌++◌, Option, Some, None, Result, Ok, Err}
+use Rattle.std.specs.Prelude.{ℕ, ◌+◌, Bool, true, false, ◌==◌, ◌||◌, not, nat_le, nat_lt, ltb, if◌then◌else◌, List, [], ◌∷◌, ◌++◌, Option, Some, None, Result, Ok, Err}
 use Rattle.std.specs.List.{list_any}
 use Rattle.quic_wire_core.specs.TransportError.{ErrorValue}
 use Rattle.quic_wire_core.specs.declared.shared.EcnCodepoint.{EcnCodepoint}
 use Rattle.quic_wire_core.specs.declared.stream_id.Side.{Side}
 use Rattle.quic_wire_core.specs.declared.stream_id.Side.TheVariants.{Client, Server}
-use Rattle.quic_wire.specs.Value.{FrameValue, AckValue, ack, stream, reset_stream, stop_sending, max_data, max_stream_data, max_streams, new_token, handshake_done, connection_close, application_close, datagram, new_connection_id, retire_connection_id, NewConnectionIdValue, asks, path_challenge, path_response}
+use Rattle.quic_wire.specs.Value.{FrameValue, AckValue, ack, stream, reset_stream, stop_sending, max_data, max_stream_data, max_streams, new_token, handshake_done, connection_close, application_close, datagram, new_connection_id, retire_connection_id, NewConnectionIdValue, asks, path_challenge, path_response, immediate_ack, ack_frequency, AckFrequencyValue}
 use Rattle.quic_wire.specs.Close.{CloseValue, by_transport, by_application, transport_close}
 use Rattle.quic_wire.specs.Items.{items}
 use Rattle.quic_packet.specs.Header.{key_phase, reserved_bits}
@@ -41,6 +41,8 @@ use Rattle.quic_spaces.specs.Filter.{names_skipped}
 use Rattle.quic_congestion.specs.Congestion.{Told}
 use Rattle.quic_recovery_core.specs.Duplicates.{Seen, is_duplicate}
 use Rattle.quic_recovery_core.specs.PendingAcks.{Pending, after_insert, after_packet, packet_starts_wait}
+use Rattle.quic_recovery_core.specs.AckFrequency.{micros, is_stale}
+use Rattle.quic_time.specs.Clocks.{granularity}
 use Rattle.quic_time.specs.Timers.{Timers}
 use Rattle.quic_machine.specs.Parts.{Messaging}
 use Rattle.quic_spaces.specs.Acknowledging.{ack_due, with_due}
@@ -54,7 +56,7 @@ use Rattle.quic_messages.specs.Messages.{received_answer, after_received}
 use Rattle.quic_time.specs.Clocks.{saturated}
 use Rattle.quic_machine.specs.Policy.{Policy}
 use Rattle.quic_machine.specs.Idle.{packet_heard}
-use Rattle.quic_machine.specs.End.{End, side_of, with_closing, closed_by, drained_by, with_numbers, with_frames, with_streams, with_messages, with_ack_timer, with_loss_timer}
+use Rattle.quic_machine.specs.End.{End, side_of, with_closing, closed_by, drained_by, with_numbers, with_acknowledging, with_frequency, with_frames, with_streams, with_messages, with_ack_timer, with_loss_timer}
 use Rattle.quic_machine.specs.Opens.{own_id_length}
 use Rattle.quic_machine.specs.Tracking.{dir_named}
 use Rattle.quic_machine.specs.Acked.{after_acked, told_acked}
@@ -213,6 +215,34 @@ retirement_judged (Err error) n e = record { end = e; fault = Some (broke error)
 abbrev pub take_retirement : ℕ → End → Progress
 take_retirement n e = retirement_judged (retirement_answer e.ids.own n e.ids.limit) n e
 
+-- an acknowledgement is due, whatever else is to be acknowledged
+abbrev pub ack_required : End → End
+ack_required e = with_acknowledging e (record e.acknowledging { due = true })
+
+-- the peer is acknowledged as it asks by a frame: its number counts, and so does what it says of
+-- packets that wait and come out of order, and of how long an acknowledgement may wait (QUIC
+-- Acknowledgement Frequency, section 4)
+abbrev pub acknowledging_as : AckFrequencyValue → End → End
+acknowledging_as f e = record e {
+  acknowledging = record e.acknowledging { threshold = f.threshold; reordering = f.reordering };
+  frequency = record e.frequency { last = Some f.sequence; own_delay = micros f.delay };
+}
+
+-- whether a frame asks for less than an end lets an acknowledgement wait: it says that this is 1 ms
+abbrev pub asks_too_soon : AckFrequencyValue → Bool
+asks_too_soon f = ltb (micros f.delay) granularity
+
+-- a frame that is no newer than one that came changes nothing; of one that asks for too little its
+-- number counts alone, and it breaks a rule (section 4)
+abbrev pub frequency_judged : Bool → Bool → AckFrequencyValue → End → Progress
+frequency_judged true soon f e = goes_on e
+frequency_judged false true f e = record { end = with_frequency e (record e.frequency { last = Some f.sequence }); fault = Some violation }
+frequency_judged false false f e = goes_on (acknowledging_as f e)
+
+-- what an ACK_FREQUENCY frame makes of the end
+abbrev pub take_frequency : AckFrequencyValue → End → Progress
+take_frequency f e = frequency_judged (is_stale e.frequency.last f.sequence) (asks_too_soon f) f e
+
 -- what a frame makes of the end; those of other kinds are read, held to their rule of ids and
 -- counts, and do nothing yet
 abbrev pub take_frame : FrameValue → End → Progress
@@ -232,6 +262,8 @@ take_frame (new_token t) e = record { end = e; fault = fault_at (side_of e) }
 take_frame handshake_done e = record { end = e; fault = fault_at (side_of e) }
 take_frame (new_connection_id f) e = take_new_id f e
 take_frame (retire_connection_id n) e = take_retirement n e
+take_frame immediate_ack e = goes_on (ack_required e)
+take_frame (ack_frequency f) e = take_frequency f e
 take_frame f e = record { end = e; fault = fault_of (broken e.streams (id_rule f)) }
 
 -- what the next item of a payload comes to
@@ -298,9 +330,10 @@ pub record Outcome : Type 0 where
 abbrev pub dropped : DropReason → End → Outcome
 dropped reason e = record { answer = Dropped reason; end = e }
 
--- the timers after a packet of a number was taken, which asks for an acknowledgement or doesn't
-abbrev pub timers_after : Timers → Pending → ℕ → ℕ → Bool → Seen → Timers
-timers_after t p now n asking seen = if packet_starts_wait p n asking seen then with_ack_timer t (Some (ack_due now)) else t
+-- the timers after a packet of a number was taken, which asks for an acknowledgement or doesn't,
+-- where one may wait so long
+abbrev pub timers_after : ℕ → Timers → Pending → ℕ → ℕ → Bool → Seen → Timers
+timers_after delay t p now n asking seen = if packet_starts_wait p n asking seen then with_ack_timer t (Some (ack_due delay now)) else t
 
 -- the whole payload of a packet of this number was taken, which asks for an acknowledgement or
 -- doesn't, and came with this mark or with none: the number is to be acknowledged, at once where it
@@ -312,7 +345,7 @@ number_noted n asking mark e =
     record e {
       numbers = number_taken e.numbers n;
       acknowledging = after_packet p now n asking e.numbers.opened;
-      timers = timers_after e.timers p now n asking e.numbers.opened;
+      timers = timers_after e.frequency.own_delay e.timers p now n asking e.numbers.opened;
       marks = record e.marks { came = after_mark mark e.marks.came };
     }
 

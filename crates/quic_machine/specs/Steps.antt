@@ -7,13 +7,15 @@ use Rattle.quic_congestion.specs.Search.{Discovery}
 use Rattle.quic_messages.specs.Messages.{without_longer}
 use Rattle.quic_machine.specs.Tracking.{Tracking, Carried}
 use Rattle.quic_machine.specs.End.{End, with_tracking, with_rtt, with_told, with_marking, with_discovery, with_queued}
-use Rattle.quic_machine.specs.Acked.{without_known, reset_acked, stream_acked, stream_lost}
+use Rattle.quic_machine.specs.Acked.{request_acked, without_known, reset_acked, stream_acked, stream_lost}
 use Rattle.quic_machine.specs.Acked as acks
 
 -- one change of an end that an ACK frame or a loss makes
 pub data Step : Type 0 where
   -- numbers that the peer knows of need no more acknowledgement
   known : ℕ → Step
+  -- the packet of a number is, which may have the request of how often to acknowledge
+  answered : ℕ → Step
   -- RESET_STREAM of a stream is acknowledged; a STREAM frame is acknowledged, or lost; and what
   -- else a packet carried is
   reset : ℕ → Step
@@ -33,6 +35,7 @@ pub data Step : Type 0 where
 -- the end that a step leaves
 abbrev pub after : Step → End → End
 after (known n) e = without_known (Some n) e
+after (answered n) e = request_acked n e
 after (reset id) e = reset_acked id e
 after (acked m) e = stream_acked m e
 after (lost m) e = stream_lost m e

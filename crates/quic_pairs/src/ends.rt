@@ -29,18 +29,24 @@ fn id_of(side: Side) -> ConnectionId {
     }
 }
 
-/// No greater size of datagrams is looked for, so that only what a test asks for goes.
+/// The configuration of an end where this is set. No greater size of datagrams is looked for, so
+/// that only what a test asks for goes.
+pub fn config_of(transport: TransportConfig) -> Config<NewRenoConfig> {
+    let mut transport = transport;
+    transport.mtu_discovery_config(None);
+    Config::new(transport, NewRenoConfig::default())
+}
+
+/// What an end is made from.
 fn making(
     side: Side,
-    transport: TransportConfig,
+    config: Config<NewRenoConfig>,
     validated: bool,
 ) -> Making<NewRenoConfig, PlainHeaderKey, PlainKey, Words>
     ensures { result.keys ≡ keys_of side }
 {
-    let mut transport = transport;
-    transport.mtu_discovery_config(None);
     Making {
-        config: Config::new(transport, NewRenoConfig::default()),
+        config,
         id: id_of(side),
         keys: keys_for(side),
         random: Words::word(63),
@@ -48,11 +54,13 @@ fn making(
     }
 }
 
-/// Two ends that are made for one another at the moment 0: they and their keys meet what the
-/// promises on runs ask. The address of the server's peer is validated or isn't.
+/// Two ends that are made for one another at the moment 0, a client and a server of these
+/// configurations: they and their keys meet what the promises on runs ask. The address of the
+/// server's peer is validated or isn't.
 fn ends_with(
     alloc: Global,
-    transport: TransportConfig,
+    client: Config<NewRenoConfig>,
+    server: Config<NewRenoConfig>,
     validated: bool,
 ) -> Result<BothEnds, ConfigError>
     ensures started { IfOk result (λ ends. AreStarted (first_world window_after ends)) }
@@ -61,8 +69,8 @@ fn ends_with(
 {
     keys_meet_the_premises();
     let now = Instant::from_nanos(0);
-    let client = making(Side::Client, transport, true);
-    let server = making(Side::Server, transport, validated);
+    let client = making(Side::Client, client, true);
+    let server = making(Side::Server, server, validated);
     Ends::new(alloc, now, client, server)
 }
 
@@ -76,7 +84,8 @@ pub fn new_ends(alloc: Global) -> Result<BothEnds, ConfigError>
     ensures keys { IfOk result (λ ends. AreKeys (policies_of (λ _. plain_protection) (λ k. plain_aead k.mark)
         (λ k. k.confidentiality_limit) (λ k. k.integrity_limit) stream_from ends)) }
 {
-    ends_with(alloc, TransportConfig::default(), true)
+    let config = config_of(TransportConfig::default());
+    ends_with(alloc, config, config, true)
 }
 
 /// Two ends, and the datagrams that they gave.
@@ -99,16 +108,17 @@ impl Pair {
     }
 }
 
-/// Two ends where this is set, which gave nothing yet; the address of the server's peer is
+/// Two ends of these configurations, which gave nothing yet; the address of the server's peer is
 /// validated or isn't.
 fn new_pair(
     alloc: Global,
-    transport: TransportConfig,
+    client: Config<NewRenoConfig>,
+    server: Config<NewRenoConfig>,
     validated: bool,
 ) -> Result<Pair, ConfigError> {
     Ok(Pair {
         alloc,
-        ends: ends_with(alloc, transport, validated)?,
+        ends: ends_with(alloc, client, server, validated)?,
         given: Given::new(alloc),
     })
 }
@@ -147,7 +157,25 @@ pub fn with_server<T, F: FnOnce(&mut Pair) -> Result<T, Fail>>(
 ) -> Result<T, Fail>
     requires { F.IsAlwaysCallable act }
 {
-    let mut pair = boxed(alloc, new_pair(alloc, transport, validated)?)?;
+    let config = config_of(transport);
+    with_configs(alloc, config, config, validated, act)
+}
+
+/// The same of a client and a server of these configurations.
+///
+/// # Errors
+///
+/// - [`Fail`]: the two endpoints can't be made, or `act` answers one.
+pub fn with_configs<T, F: FnOnce(&mut Pair) -> Result<T, Fail>>(
+    alloc: Global,
+    client: Config<NewRenoConfig>,
+    server: Config<NewRenoConfig>,
+    validated: bool,
+    act: F,
+) -> Result<T, Fail>
+    requires { F.IsAlwaysCallable act }
+{
+    let mut pair = boxed(alloc, new_pair(alloc, client, server, validated)?)?;
     act(pair.as_mut())
 }
 

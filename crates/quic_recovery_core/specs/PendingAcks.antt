@@ -125,8 +125,9 @@ abbrev pub is_lost_by : Option ℕ → ℕ → ℕ → Bool
 is_lost_by None greatest reordering = false
 is_lost_by (Some missing) greatest reordering = nat_le reordering (greatest - missing)
 
--- whether a missing number that the last acknowledgement did not show as lost would be by the next
--- one
+-- whether the next acknowledgement would show a missing number as lost: the least that is missing
+-- above one less than the threshold below the greatest number that asked as the last one went. That
+-- one itself is passed over, though none showed it as lost yet
 abbrev pub shows_loss : Option ℕ → ℕ → ℕ → Seen → Bool
 shows_loss None reordering greatest s = false
 shows_loss (Some acked) reordering greatest s = nat_le reordering acked && is_lost_by (smallest_missing s (acked - reordering + 1) greatest) greatest reordering

@@ -1,8 +1,11 @@
 //! Tests of two ends of `quic_connection`, through its public items: the worked example, messages,
-//! validation, what views show, and each call that no script makes where memory lacks (`lacking`).
+//! validation, what views show, one that asks the other how often to acknowledge, and each call
+//! that no script makes where memory lacks (`lacking`).
 //! What a script can say is a case of `quic_run`; runs by chance are `./random-scripts`.
 #![tactic(auto)]
 
+#[cfg(test)]
+mod ack_frequency;
 #[cfg(test)]
 mod lacking;
 pub mod laws;

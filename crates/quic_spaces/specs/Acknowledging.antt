@@ -5,13 +5,10 @@ use Rattle.quic_wire.specs.AckSet.{ack_of_set}
 use Rattle.quic_recovery_core.specs.PendingAcks.{Pending, delay_of}
 use Rattle.quic_spaces.specs.Marks.{Counts}
 
--- how long an acknowledgement may wait, in nanoseconds: 25 ms (RFC 9000, section 18.2)
-abbrev pub max_ack_delay : ℕ
-max_ack_delay = 25000000
-
--- when an acknowledgement is due that waits from a moment on
-abbrev pub ack_due : ℕ → ℕ
-ack_due moment = min (moment + max_ack_delay) (2 ^ 64 - 1)
+-- when an acknowledgement is due that may wait so long from a moment on, both in nanoseconds (RFC
+-- 9000, section 13.2.1)
+abbrev pub ack_due : ℕ → ℕ → ℕ
+ack_due delay moment = min (moment + delay) (2 ^ 64 - 1)
 
 -- an acknowledgement is due, if it was or is made so
 abbrev pub with_due : Bool → Pending → Pending

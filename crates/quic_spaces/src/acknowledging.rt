@@ -9,13 +9,10 @@ ghost use Rattle.quic_spaces.specs.Acknowledging.{ack_due, with_due, delay_at, a
 
 use quic_recovery_core::{Dedup, PendingAcks};
 use quic_sets::ArrayRangeSet;
-use quic_time::Instant;
-use quic_wire::frame::{Ack, EcnCounts};
+use quic_time::{Duration, Instant};
+use quic_wire::frame::{Ack, AckFrequency, EcnCounts};
 use std::alloc::{AllocError, Global};
 use std::marker::Model;
-
-/// How long an acknowledgement may wait, in nanoseconds (RFC 9000, section 18.2).
-const MAX_ACK_DELAY: u64 = 25_000_000;
 
 /// Microseconds of one unit in which ACK frames tell their delay: the default exponent is 3 (RFC
 /// 9000, section 18.2).
@@ -24,11 +21,12 @@ const ACK_DELAY_UNIT: u64 = 8;
 /// The greatest number that a frame can tell (RFC 9000, section 16).
 const MAX_DELAY: u64 = (1 << 62) - 1;
 
-/// The moment at which an acknowledgement is due that waits from this one on.
-pub fn ack_due(now: Instant) -> Instant
-    ensures { result ≡ ack_due now }
+/// The moment at which an acknowledgement is due that waits from this one on, for so long at most
+/// (RFC 9000, section 13.2.1).
+pub fn ack_due(delay: Duration, now: Instant) -> Instant
+    ensures { result ≡ ack_due delay now }
 {
-    Instant::from_nanos(now.as_nanos().saturating_add(MAX_ACK_DELAY))
+    Instant::from_nanos(now.as_nanos().saturating_add(delay.as_nanos()))
 }
 
 /// The numbers of packets that were taken and are to be acknowledged, and when that is due (over
@@ -108,6 +106,15 @@ impl Acknowledging {
         ensures { self.new ≡ record self.old { due = true } }
     {
         self.pending.set_immediate_ack_required();
+    }
+
+    /// From now on an acknowledgement is due with more than so many ack-eliciting packets, and
+    /// where one comes as far out of order as the frame says (QUIC Acknowledgement Frequency,
+    /// section 4; quinn-proto's `set_ack_frequency_params`).
+    pub fn set_ack_frequency_params(&mut self, frame: &AckFrequency)
+        ensures { self.new ≡ record self.old { threshold = frame.now.ack_eliciting_threshold; reordering = frame.now.reordering_threshold } }
+    {
+        self.pending.set_ack_frequency_params(frame);
     }
 
     /// The peer knows that the numbers up to one came: they need no more acknowledgement.

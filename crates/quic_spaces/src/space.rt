@@ -170,7 +170,7 @@ impl PacketSpace {
 
     /// Where probes wait, sees that something goes with one: IMMEDIATE_ACK if it is asked for, and,
     /// where nothing waits in `pending`, what the first packet carried of it that has something, or
-    /// PING (RFC 9002, section 6.2.4). That packet stays tracked.
+    /// PING, unless IMMEDIATE_ACK waits (RFC 9002, section 6.2.4). That packet stays tracked.
     ///
     /// # Errors
     ///

@@ -15,6 +15,7 @@ pub mod FrameFound
 pub mod FrameWhole
 pub mod FrameWritten
 pub mod FrameReadBack
+pub mod Unpadded
 pub mod AckWritten
 pub mod AckRead
 pub mod FrameRange

@@ -1,8 +1,8 @@
 -- The frames of a payload, up to the first refusal (RFC 9000, section 12.4).
-use Rattle.std.specs.Prelude.{◌≡◌, ℕ, zero, suc, List, [], ◌∷◌, length, Option, Some, None, Result, Ok, Err}
+use Rattle.std.specs.Prelude.{◌≡◌, ℕ, zero, suc, Bool, true, false, not, List, [], ◌∷◌, filter, length, Option, Some, None, Result, Ok, Err}
 use Rattle.quic_wire.specs.declared.frame.FrameError.{FrameError}
 use Rattle.quic_wire.specs.declared.frame.InvalidFrame.{InvalidFrame}
-use Rattle.quic_wire.specs.Value.{FrameValue}
+use Rattle.quic_wire.specs.Value.{FrameValue, padding}
 use Rattle.quic_wire.specs.Reading.{var_at, body_at}
 
 -- A refusal, with the type of the frame that it was met in.
@@ -40,3 +40,17 @@ abbrev pub EndsAtRefusal : List (Result FrameValue InvalidFrame) → Type 0
 EndsAtRefusal [] = Unit {0}
 EndsAtRefusal (Ok f ∷ others) = EndsAtRefusal others
 EndsAtRefusal (Err e ∷ others) = others ≡ []
+
+-- Whether an item is PADDING (section 19.1).
+abbrev pub pads : Result FrameValue InvalidFrame → Bool
+pads (Ok padding) = true
+pads i = false
+
+-- The items that aren't PADDING.
+unfoldable pub without_padding : List (Result FrameValue InvalidFrame) → List (Result FrameValue InvalidFrame)
+without_padding is = filter (λ i. not (pads i)) is
+
+-- No PADDING stands in front.
+abbrev pub BeginsUnpadded : List (Result FrameValue InvalidFrame) → Type 0
+BeginsUnpadded [] = Unit {0}
+BeginsUnpadded (i ∷ is) = pads i ≡ false

@@ -12,12 +12,14 @@ mod close;
 mod datagram;
 mod iter;
 pub(crate) mod reading;
+mod unpadded;
 mod writing;
 
 pub use ack::{Ack, AckIter, EcnCounts};
 pub use close::{ApplicationClose, Close, ConnectionClose};
 pub use datagram::Datagram;
 pub use iter::Iter;
+pub use unpadded::Unpadded;
 pub use writing::{
     put_frame, put_stream, put_stream_header, size_of_frame, size_of_stream_header, write_frame,
 };

@@ -1,6 +1,6 @@
 -- Marks that are counted, PING that goes, and the timer of acknowledgements, in the machine's runs;
 -- and machines that count no mark, let PING wait, or set that timer anew.
-use Rattle.std.proofs.Common.{◌≡◌, ℕ, zero, suc, ◌+◌, ◌-◌, ◌^◌, ◌≤◌, min, true, false, List, [], ◌∷◌, ◌++◌, Some, None, Ok, Option, refl, inl, inr, ap, ◌∙◌, sym, subst, arith}
+use Rattle.std.proofs.Common.{◌≡◌, ℕ, zero, suc, ◌+◌, ◌≤◌, true, false, List, [], ◌∷◌, ◌++◌, Some, None, Ok, Option, refl, inl, inr, ap, ◌∙◌, sym, subst, arith}
 use Rattle.std.specs.Prelude.{slice_get}
 use Rattle.std.specs.List.{list_any}
 use Rattle.quic_wire_core.specs.declared.stream_id.Side.{Side}
@@ -17,7 +17,7 @@ use Rattle.quic_machine.specs.RunLaws.{one_run}
 use Rattle.quic_headline.specs.Runs.{Run, In, until}
 use Rattle.quic_headline.specs.Observer.{Sent, asks_of, sents_until}
 use Rattle.quic_headline.specs.Headline.{IsHonest}
-use Rattle.quic_headline.specs.Moments.{debt, first_arrival, IsDueFor, AckMoments}
+use Rattle.quic_headline.specs.Moments.{debt, first_deadline, AckMoments}
 use Rattle.quic_headline.specs.Polls.{GaveOne, GaveAsking, GaveNothing, IsFull, IsPaced, IsHeldBack}
 use Rattle.quic_headline.specs.Waited.{is_ping, wants}
 use Rattle.quic_headline.specs.Pings.{PingsGo}
@@ -36,7 +36,7 @@ use Rattle.quic_worked.proofs.WorkedHonest.{are_started}
 use Rattle.quic_worked.proofs.WorkedKeys.{are_keys}
 use Rattle.quic_worked.proofs.Steps.{counts_so}
 use Rattle.quic_worked.proofs.Validated.{unless_limited}
-use Rattle.quic_worked.proofs.TimedRun.{ack_moment_of}
+use Rattle.quic_worked.proofs.TimedRun.{ack_moment_of, moment_in}
 use Rattle.quic_worked.proofs.HastyRun.{step_0, step_1, step_2, step_3, step_4, seen_0, seen_1, seen_2, seen_3, seen_4, marked_0, marked_1, marked_2}
 
 -- ---- what goes in the marked run
@@ -239,18 +239,15 @@ withheld_is_none = behind refl step_0 (stops _ _ _ _ _ withheld_no)
 
 -- ---- a server whose timer is set anew
 
-pub both_came : (debt timer_moved Server 6).arrivals ≡ 1000000 ∷ 0 ∷ []
+pub both_came : (debt timer_moved Server 6).deadlines ≡ 26000000 ∷ 25000000 ∷ []
 unfolding client_acked
 both_came = refl
 
-not_due : IsDueFor (1000000 ∷ 0 ∷ []) 26000000 → ⊥
-not_due i = go i.arrival i.first i.due
-  where
-    go : (arrival : ℕ) → first_arrival (1000000 ∷ 0 ∷ []) ≡ Some arrival → ◌≡◌ {A = ℕ} 26000000 (min (arrival + 25000000) (2 ^ 64 - 1)) → ⊥
-    go arrival first due = (let same : 0 ≡ arrival = cc in omega (arith, same, due))
+not_due : first_deadline (26000000 ∷ 25000000 ∷ []) ≡ Some 26000000 → ⊥
+not_due first = let same : ◌≡◌ {A = ℕ} 25000000 26000000 = ap (λ (o : Option ℕ). moment_in (Some o)) first in omega (arith, same)
 
 pub moved_not : AckMoments timer_moved → ⊥
-moved_not h = not_due (subst (λ (ms : List ℕ). IsDueFor ms 26000000) both_came (h Server 5 26000000 (seen_with (Some 1024000000) (Some 26000000)) refl refl refl refl))
+moved_not h = not_due (ap first_deadline (sym both_came) ∙ h Server 5 26000000 (seen_with (Some 1024000000) (Some 26000000)) refl refl refl refl)
 
 moved_own : (side : Side) → AreOwn side [] timer_moved.events timer_moved.answers timer_moved.views
 moved_own Client = (tt, (tt, (tt, (tt, (tt, (tt, tt))))))

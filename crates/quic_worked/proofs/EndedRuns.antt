@@ -24,7 +24,7 @@ use Rattle.quic_machine.specs.Machine.{World, Policies, IsAnswer, IsStep, Follow
 use Rattle.quic_headline.specs.Runs.{until}
 use Rattle.quic_headline.specs.Observer.{Sent, watch, sents_until}
 use Rattle.quic_headline.specs.Polls.{GaveOne}
-use Rattle.quic_headline.specs.Waited.{wants, calls_for_ack, as_size_probe, as_loss_probe, as_ack, as_frames, as_close, EachWaited}
+use Rattle.quic_headline.specs.Waited.{wants_ack, as_size_probe, as_loss_probe, as_ack, as_frames, as_close, EachWaited}
 use Rattle.quic_headline.specs.Headline.{IsAt, IsHonest, IsRun}
 use Rattle.quic_headline.specs.Causes.{Shows, reason_in, HadClosed, PeerClosed, WasClosed, ApplicationClosed, WasIdle, IdleExpired, ordinary, IsKeyUsedUp, unopened, KeyLimited, KeysLast}
 use Rattle.quic_worked.specs.Settings.{plain_settings}
@@ -323,7 +323,7 @@ named_sent : sents_until close_named Server 4 ≡ sents_until close_named Server
 unfolding client_acked application_close_at
 named_sent = refl
 
-named_unwanted : calls_for_ack (wants close_named Server 3) ≡ false
+named_unwanted : wants_ack close_named Server 3 ≡ false
 unfolding client_acked application_close_at
 named_unwanted = refl
 
@@ -339,7 +339,7 @@ unfolding gave_name
 named_wrong h = elim (h Server 3 0 gave_name) [
   | as_size_probe probe ↦ (let above : 1200 ≤ 31 = probe.above in absurd (omega (arith, above)))
   | as_loss_probe waits ↦ (let none = named_no_probe in absurd (omega (arith, waits, none)))
-  | as_ack none frames wanted ↦ both_ways (calls_for_ack (wants close_named Server 3)) named_unwanted wanted
+  | as_ack none frames wanted ↦ both_ways (wants_ack close_named Server 3) named_unwanted wanted
   | as_frames asks each ↦ (let clash : ◌≡◌ {A = Bool} false true = asks in cc)
   | as_close closes ↦ (let clash : ◌≡◌ {A = Bool} false true = alone_closes naming_close closes in cc)
 ]

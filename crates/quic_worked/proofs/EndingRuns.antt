@@ -23,7 +23,7 @@ use Rattle.quic_machine.specs.declared.run.EndView.{EndView}
 use Rattle.quic_machine.specs.declared.run.View.{View}
 use Rattle.quic_machine.specs.Machine.{World, IsStep, Follows, end_at, view_of}
 use Rattle.quic_headline.specs.Runs.{Run, Told, In, state_in, state_behind, until}
-use Rattle.quic_headline.specs.Observer.{Sent, terms_of, clock_behind, watch, sents_until}
+use Rattle.quic_headline.specs.Observer.{Sent, clock_behind, watch, sents_until}
 use Rattle.quic_headline.specs.Headline.{IsHonest, IsRun}
 use Rattle.quic_headline.specs.Moments.{timers_in}
 use Rattle.quic_headline.specs.Polls.{GaveOne, seen_at}
@@ -222,7 +222,7 @@ timers_so side i v is = shown_at (λ u. HasOnlyClose (state_in u side) (timers_i
 
 -- when it is reckoned to be, where this call closes the client
 abbrev pub over_behind : Run → Call → ℕ
-over_behind r call = moment_behind (clock_behind (watch r Client 2).clock (moment_told call)) (three_waits (terms_of (end_at Client r.start)) (watch r Client 2).flight.rtt)
+over_behind r call = moment_behind (clock_behind (watch r Client 2).clock (moment_told call)) (three_waits (watch r Client 2).flight)
 
 -- whatever is seen of the client then
 pub over_by : (seen : EndView) → over_behind (closed_as seen) (calls.Close close_call) ≡ 4072000000

@@ -65,3 +65,8 @@ mod KnownRuns
 mod UnvalidatedRun
 mod AnsweredRun
 pub mod Validated
+pub mod AskingRuns
+mod AskingMachines
+pub mod ObeyingRuns
+mod HastenedRuns
+mod EarlyAcks

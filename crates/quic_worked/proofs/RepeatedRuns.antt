@@ -12,7 +12,7 @@ use Rattle.quic_headline.specs.Observer.{Sent, is_close, closes_of, watch, sents
 use Rattle.quic_headline.specs.Headline.{IsHonest}
 use Rattle.quic_headline.specs.InFlight.{is_max_data}
 use Rattle.quic_headline.specs.Polls.{GaveOne}
-use Rattle.quic_headline.specs.Waited.{wants, calls_for_ack, stands, is_path_challenge, is_path_response, as_size_probe, as_loss_probe, as_ack, as_frames, as_close, IsCloseAlone, EachWaited}
+use Rattle.quic_headline.specs.Waited.{wants, wants_ack, stands, is_path_challenge, is_path_response, as_size_probe, as_loss_probe, as_ack, as_frames, as_close, IsCloseAlone, EachWaited}
 use Rattle.quic_worked.specs.Worked.{asks_datagram, gives_bytes, gives_unmarked, id_word}
 use Rattle.quic_worked.specs.Acknowledged.{client_acked}
 use Rattle.quic_worked.specs.Paired.{asks_server}
@@ -41,15 +41,15 @@ pub ping_gone : (wants hasty_run Client 2).pinged ≡ false
 unfolding client_acked
 ping_gone = refl
 
-pub none_came : calls_for_ack (wants hasty_run Server 4) ≡ false
+pub none_came : wants_ack hasty_run Server 4 ≡ false
 unfolding client_acked
 none_came = refl
 
-pub both_came : calls_for_ack (wants hasty_run Server 6) ≡ true
+pub both_came : wants_ack hasty_run Server 6 ≡ true
 unfolding client_acked
 both_came = refl
 
-pub both_named : calls_for_ack (wants hasty_run Server 7) ≡ false
+pub both_named : wants_ack hasty_run Server 7 ≡ false
 unfolding client_acked
 both_named = refl
 
@@ -131,7 +131,7 @@ acked_twice : sents_until ack_again Server 8 ≡ sents_until ack_again Server 7 
 unfolding client_acked
 acked_twice = refl
 
-ack_unwanted : calls_for_ack (wants ack_again Server 7) ≡ false
+ack_unwanted : wants_ack ack_again Server 7 ≡ false
 unfolding client_acked
 ack_unwanted = refl
 
@@ -147,7 +147,7 @@ unfolding gave_ack
 ack_shows h = elim (h Server 7 0 gave_ack) [
   | as_size_probe probe ↦ (let above : 1200 ≤ 31 = probe.above in absurd (omega (arith, above)))
   | as_loss_probe waits ↦ (let none = no_probe_of_server in absurd (omega (arith, waits, none)))
-  | as_ack none frames wanted ↦ both_ways (calls_for_ack (wants ack_again Server 7)) ack_unwanted wanted
+  | as_ack none frames wanted ↦ both_ways (wants_ack ack_again Server 7) ack_unwanted wanted
   | as_frames asks each ↦ (let clash : false ≡ true = asks in cc)
   | as_close closes ↦ (let clash : false ≡ true = alone_closes second_ack closes in cc)
 ]

@@ -1,5 +1,5 @@
 -- The run in which timers expire, event by event, and what an observer reckons of it.
-use Rattle.std.proofs.Common.{◌≡◌, ℕ, zero, suc, ◌+◌, ◌-◌, ◌^◌, min, List, [], ◌∷◌, Option, Some, None, Ok, refl, inl, sym, ap, ◌∙◌, subst, arith}
+use Rattle.std.proofs.Common.{◌≡◌, ℕ, zero, suc, List, [], ◌∷◌, Option, Some, None, Ok, refl, inl, sym, ap, ◌∙◌, arith}
 use Rattle.std.specs.Prelude.{slice_get}
 use Rattle.quic_wire_core.specs.declared.stream_id.Side.{Side}
 use Rattle.quic_wire_core.specs.declared.stream_id.Side.TheVariants.{Client, Server}
@@ -9,7 +9,7 @@ use Rattle.quic_machine.specs.declared.run.View.{View}
 use Rattle.quic_machine.specs.Machine.{IsStep, Follows, view_of}
 use Rattle.quic_machine.specs.RunLaws.{one_run}
 use Rattle.quic_headline.specs.Headline.{IsRun}
-use Rattle.quic_headline.specs.Moments.{loss_timer, LossMoments, ack_timer, debt, first_arrival, IsDueFor, AckMoments}
+use Rattle.quic_headline.specs.Moments.{loss_timer, LossMoments, ack_timer, debt, first_deadline, AckMoments}
 use Rattle.quic_worked.specs.Worked.{worked_policies, once_opened, once_written, once_ended, once_sent, gives_bytes}
 use Rattle.quic_worked.specs.Acknowledged.{client_acked}
 use Rattle.quic_worked.specs.Timed.{serves, asks_at, comes_at, once_later, seen_with, timed_run, never_backs_off, never_resets, never_measures, waits_twice, due_at, NeverShows}
@@ -246,23 +246,23 @@ never_shows_early end f =
 
 -- ---- what came and asks
 
-pub owes_nothing : (debt timed_run Server 6).arrivals ≡ []
+pub owes_nothing : (debt timed_run Server 6).deadlines ≡ []
 unfolding client_acked
 owes_nothing = refl
 
-pub owes_one : (debt timed_run Server 7).arrivals ≡ 1030000000 ∷ []
+pub owes_one : (debt timed_run Server 7).deadlines ≡ 1055000000 ∷ []
 unfolding client_acked
 owes_one = refl
 
-pub owes_still : (debt timed_run Server 8).arrivals ≡ 1030000000 ∷ []
+pub owes_still : (debt timed_run Server 8).deadlines ≡ 1055000000 ∷ []
 unfolding client_acked
 owes_still = refl
 
-pub owes_no_more : (debt timed_run Server 9).arrivals ≡ []
+pub owes_no_more : (debt timed_run Server 9).deadlines ≡ []
 unfolding client_acked
 owes_no_more = refl
 
-pub owes_never : (debt timed_run Client 10).arrivals ≡ []
+pub owes_never : (debt timed_run Client 10).deadlines ≡ []
 unfolding client_acked
 owes_never = refl
 
@@ -274,11 +274,11 @@ unset side u v moment is none set =
     cc
 
 -- the view in which it is
-due_there : (v : View) (moment : ℕ) → Some (seen_with (Some 3072000000) (Some 1055000000)) ≡ Some v → ack_timer v Server ≡ Some (Some moment) → IsDueFor (debt timed_run Server 7).arrivals moment
+due_there : (v : View) (moment : ℕ) → Some (seen_with (Some 3072000000) (Some 1055000000)) ≡ Some v → ack_timer v Server ≡ Some (Some moment) → first_deadline (debt timed_run Server 7).deadlines ≡ Some moment
 due_there v moment is set =
     let same : seen_with (Some 3072000000) (Some 1055000000) ≡ v = cc in
     let shown : ◌≡◌ {A = Option (Option ℕ)} (Some (Some 1055000000)) (Some (Some moment)) = ap (λ (x : View). ack_timer x Server) same ∙ set in
-    record { arrival = 1030000000; first = ap first_arrival owes_one; due = sym (ap moment_in shown) }
+    ap first_deadline owes_one ∙ ap (λ (k : ℕ). Some k) (ap moment_in shown)
 
 pub timed_acks : AckMoments timed_run
 timed_acks Client zero moment v served is opened set = absurd (unset Client _ v moment is refl set)
@@ -306,18 +306,15 @@ timed_acks Server (suc (suc (suc (suc (suc (suc (suc (suc (suc (suc i)))))))))) 
 
 -- ---- a server that waits twice
 
-owes_as_well : (debt waits_twice Server 7).arrivals ≡ 1030000000 ∷ []
+owes_as_well : (debt waits_twice Server 7).deadlines ≡ 1055000000 ∷ []
 unfolding client_acked
 owes_as_well = refl
 
-not_due : IsDueFor (1030000000 ∷ []) 1080000000 → ⊥
-not_due i = go i.arrival i.first i.due
-  where
-    go : (arrival : ℕ) → first_arrival (1030000000 ∷ []) ≡ Some arrival → ◌≡◌ {A = ℕ} 1080000000 (min (arrival + 25000000) (2 ^ 64 - 1)) → ⊥
-    go arrival first due = (let same : 1030000000 ≡ arrival = cc in omega (arith, same, due))
+not_due : first_deadline (1055000000 ∷ []) ≡ Some 1080000000 → ⊥
+not_due first = let same : ◌≡◌ {A = ℕ} 1055000000 1080000000 = ap (λ (o : Option ℕ). moment_in (Some o)) first in omega (arith, same)
 
 pub waits_not_twice : AckMoments waits_twice → ⊥
-waits_not_twice h = not_due (subst (λ (ms : List ℕ). IsDueFor ms 1080000000) owes_as_well (h Server 6 1080000000 (seen_with (Some 3072000000) (Some 1080000000)) refl refl refl refl))
+waits_not_twice h = not_due (ap first_deadline (sym owes_as_well) ∙ h Server 6 1080000000 (seen_with (Some 3072000000) (Some 1080000000)) refl refl refl refl)
 
 -- the moment of the server's timer of acknowledgements, in a view that is there
 abbrev pub ack_moment_of : Option View → ℕ

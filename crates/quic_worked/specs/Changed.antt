@@ -50,6 +50,7 @@ took f e = judged (take_items (Ok f ∷ []) e) (asks f) 0 None
 abbrev pub counting : ℕ → ℕ
 counting n = n
 
+-- such a word, in eight bytes
 abbrev pub word_bytes : ℕ → List ℕ
 word_bytes n = replicate 7 0x00 ++ n ∷ []
 
@@ -101,10 +102,12 @@ opened_client = end_on_streams client_made (calls.Open Bi) (answers.Open (Some 0
 abbrev pub small_client : End
 small_client = with_discovery (quiet false) (record client_made.path.discovery { size = 60 })
 
+-- behind its first write
 abbrev pub forty_written : End
 forty_written =
     end_on_streams (end_on_streams small_client (calls.Open Bi) (answers.Open (Some 0))) (calls.Write 0 (replicate 40 0x61)) (answers.Write (Ok 40))
 
+-- behind both
 abbrev pub both_written : End
 both_written =
     end_on_streams (end_on_streams forty_written (calls.Open Bi) (answers.Open (Some 4))) (calls.Write 4 hello) (answers.Write (Ok 5))
@@ -165,6 +168,7 @@ agreed own peer = agreed_timeout (record client_made.transport { max_idle_timeou
 abbrev pub hello_close : ApplicationCloseValue
 hello_close = record { code = 7; reason = hello }
 
+-- the client that closed so
 abbrev pub closing_client : End
 closing_client = end_after_close 0 7 hello client_made
 

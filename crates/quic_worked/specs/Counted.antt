@@ -77,9 +77,11 @@ ping_withheld = record {
 abbrev pub comes_second : RunEvent
 comes_second = record { side = Server; call = calls.Deliver (record delivery { index = 1; now = 1000000 }) }
 
+-- two PINGs of the client go, and both come
 abbrev pub twice_events : List RunEvent
 twice_events = ping_events ++ ping_events ++ delivers_at 0 ∷ comes_second ∷ []
 
+-- the answers: both are taken
 abbrev pub twice_answers : List Answer
 twice_answers = first_ping_answers ++ ping_answers ++ answers.Deliver receives.Taken ∷ answers.Deliver receives.Taken ∷ []
 

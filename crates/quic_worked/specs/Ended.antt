@@ -1,7 +1,7 @@
 -- Runs in which an end closes for a reason: its application closes it, and its peer takes the
 -- close; nothing comes for the idle timeout; its key seals no more. And machines that close for
 -- none of these.
-use Rattle.std.specs.Prelude.{ℕ, true, List, [], ◌∷◌, ◌++◌, replicate, Some, None, Ok}
+use Rattle.std.specs.Prelude.{ℕ, true, false, List, [], ◌∷◌, ◌++◌, replicate, Some, None, Ok}
 use Rattle.quic_wire_core.specs.declared.stream_id.Side.TheVariants.{Client, Server}
 use Rattle.quic_wire.specs.Close.{CloseValue, by_application}
 use Rattle.quic_config.specs.Transport.{Settings, default_settings, parameters_of}
@@ -79,10 +79,10 @@ closing_run = record {
 
 -- ---- nothing comes for the idle timeout
 
--- a client without settings of its own but that it looks for no greater size of datagrams: its idle
--- timeout is 30 seconds
+-- a client without settings of its own but that it looks for no greater size of datagrams, and
+-- can't be asked how often to acknowledge: its idle timeout is 30 seconds
 abbrev pub idle_settings : Settings
-idle_settings = record default_settings { mtu_discovery_config = None }
+idle_settings = record default_settings { mtu_discovery_config = None; ack_frequency_support = false }
 
 -- what it tells of itself
 abbrev pub idle_parameters : List ℕ

@@ -43,3 +43,6 @@ pub mod Unvalidated
 pub mod Expiring
 pub mod Ending
 pub mod Changed
+pub mod Asking
+pub mod Obeying
+pub mod Hastened

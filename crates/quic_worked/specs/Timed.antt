@@ -11,9 +11,9 @@ use Rattle.quic_machine.specs.declared.run.Call.TheVariants as calls
 use Rattle.quic_machine.specs.declared.run.Answer.{Answer}
 use Rattle.quic_machine.specs.declared.run.Answer.TheVariants as answers
 use Rattle.quic_machine.specs.declared.run.View.{View}
-use Rattle.quic_machine.specs.Machine.{World, end_at, Follows}
+use Rattle.quic_machine.specs.Machine.{World, Follows}
 use Rattle.quic_headline.specs.Runs.{Run}
-use Rattle.quic_headline.specs.Observer.{terms_of, loss_due, watch}
+use Rattle.quic_headline.specs.Observer.{loss_due, watch}
 use Rattle.quic_worked.specs.Worked.{ran, worked_policies, started, delivery, once_sent, sending_events, sending_answers, gives_bytes, hello_datagram, open_view, sent_view, view_with, ids_payload, server_with, server_open}
 use Rattle.quic_worked.specs.Acknowledged.{ack_payload, client_datagram, client_acked, from_server}
 
@@ -114,7 +114,7 @@ waits_twice = run_seen (views_with 2048000000 3072000000 4229000000 1080000000)
 
 -- when the loss timer of an end is to expire behind so many answers, as an observer reckons it
 abbrev pub due_at : Run → Side → ℕ → Option ℕ
-due_at r side i = loss_due (terms_of (end_at side r.start)) (watch r side i).flight
+due_at r side i = loss_due (watch r side i).flight
 
 -- the machine never shows these views
 abbrev pub NeverShows : Run → Type 0

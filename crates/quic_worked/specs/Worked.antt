@@ -194,8 +194,7 @@ abbrev pub server_id : List ℕ
 server_id = replicate 8 0x50
 
 -- what each end tells the other: 2^62 - 1 bytes in all, 1250000 on each stream, 100
--- streams of each kind, 5 ids, DATAGRAM frames of 65535 bytes, 1000 microseconds (RFC 9000, section
--- 18.2)
+-- streams of each kind, 5 ids, DATAGRAM frames of 65535 bytes (RFC 9000, section 18.2)
 abbrev pub worked_parameters : List ℕ
 worked_parameters =
     (0x04 ∷ 0x08 ∷ 0xff ∷ 0xff ∷ 0xff ∷ 0xff ∷ 0xff ∷ 0xff ∷ 0xff ∷ 0xff ∷ [])
@@ -206,7 +205,6 @@ worked_parameters =
     ++ (0x09 ∷ 0x02 ∷ 0x40 ∷ 0x64 ∷ [])
     ++ (0x0e ∷ 0x01 ∷ 0x05 ∷ [])
     ++ (0x20 ∷ 0x04 ∷ 0x80 ∷ 0x00 ∷ 0xff ∷ 0xff ∷ [])
-    ++ (0xc0 ∷ 0x00 ∷ 0x00 ∷ 0x00 ∷ 0xff ∷ 0x04 ∷ 0xde ∷ 0x1b ∷ 0x02 ∷ 0x43 ∷ 0xe8 ∷ [])
 
 -- the client before the first event: open at moment 0, on a validated path; of its numbers 63 is
 -- the first that is left out

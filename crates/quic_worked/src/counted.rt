@@ -51,7 +51,7 @@ pub fn withheld_pings_show()
 /// A server whose timer of acknowledgements is set anew by a second packet shows another moment
 /// than 25 ms behind the first, which the machine doesn't.
 pub fn moved_timer_shows()
-    ensures arrivals { (debt timer_moved Server 6).arrivals ≡ 1000000 ∷ 0 ∷ [] }
+    ensures deadlines { (debt timer_moved Server 6).deadlines ≡ 26000000 ∷ 25000000 ∷ [] }
     ensures moments { AckMoments timer_moved → ⊥ }
     ensures honest { IsHonest timer_moved }
     ensures machine { NeverShows timer_moved }

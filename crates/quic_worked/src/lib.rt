@@ -4,6 +4,7 @@
 
 pub mod acknowledged;
 pub mod allowed;
+pub mod asking;
 pub mod begun;
 pub mod blocked;
 pub mod bounded;
@@ -20,6 +21,7 @@ pub mod exchange;
 pub mod expiring;
 pub mod faults;
 pub mod halved;
+pub mod hastened;
 pub mod hasty;
 pub mod held;
 pub mod isolated;
@@ -28,6 +30,7 @@ pub mod limited;
 pub mod machines;
 pub mod measured;
 pub mod messages;
+pub mod obeying;
 pub mod paced;
 pub mod paired;
 pub mod picked;

@@ -5,7 +5,7 @@ ghost use Rattle.quic_wire_core.specs.declared.stream_id.Side.TheVariants.{Clien
 ghost use Rattle.quic_machine.specs.declared.run.ReadCall.{ReadCall};
 ghost use Rattle.quic_headline.specs.Headline.{IsHonest};
 ghost use Rattle.quic_headline.specs.InFlight.{is_max_data};
-ghost use Rattle.quic_headline.specs.Waited.{wants, calls_for_ack, stands, is_path_challenge, is_path_response, EachWaited};
+ghost use Rattle.quic_headline.specs.Waited.{wants, wants_ack, stands, is_path_challenge, is_path_response, EachWaited};
 ghost use Rattle.quic_worked.specs.Broken.{IsNoRun};
 ghost use Rattle.quic_worked.specs.Hasty.{hasty_run};
 ghost use Rattle.quic_worked.specs.Limited.{limited_run};
@@ -13,15 +13,15 @@ ghost use Rattle.quic_worked.specs.Credit.{ReadsEight};
 ghost use Rattle.quic_worked.specs.Repeated.{ping_again, ack_again, limit_again, challenge_again, response_again};
 ghost use Rattle.quic_worked.specs.Unvalidated.{far_run, answered_run};
 
-/// PING is wanted once it is asked for, and no more once it went; so it is of an ACK frame once
+/// PING is wanted once it is asked for, and no more once it went; so it is of an ACK frame once two
 /// packets came that ask. MAX_DATA went at the poll that gives it, and not before; so did
 /// PATH_CHALLENGE and PATH_RESPONSE.
 pub fn wants_are_met()
     ensures asked { (wants hasty_run Client 1).pinged ≡ true }
     ensures pinged { (wants hasty_run Client 2).pinged ≡ false }
-    ensures before { calls_for_ack (wants hasty_run Server 4) ≡ false }
-    ensures came { calls_for_ack (wants hasty_run Server 6) ≡ true }
-    ensures acknowledged { calls_for_ack (wants hasty_run Server 7) ≡ false }
+    ensures before { wants_ack hasty_run Server 4 ≡ false }
+    ensures came { wants_ack hasty_run Server 6 ≡ true }
+    ensures acknowledged { wants_ack hasty_run Server 7 ≡ false }
     ensures unsaid { (read : ReadCall) → stands is_max_data (wants (limited_run read) Server 9).since ≡ false }
     ensures said { (read : ReadCall) → stands is_max_data (wants (limited_run read) Server 10).since ≡ true }
     ensures unchallenged { stands is_path_challenge (wants far_run Server 4).since ≡ false }

@@ -36,14 +36,14 @@ pub fn wrong_waits_show()
     ensures machine_measures { NeverShows never_measures }
 {}
 
-/// An acknowledgement waits from when the packet that asks came until an ACK frame goes, for 25 ms.
-/// The machine's timer is set so.
+/// An acknowledgement waits for 25 ms behind the moment at which the packet that asks came, or
+/// until an ACK frame goes. The machine's timer is set so.
 pub fn acknowledgement_waits()
-    ensures before { (debt timed_run Server 6).arrivals ≡ [] }
-    ensures came { (debt timed_run Server 7).arrivals ≡ 1030000000 ∷ [] }
-    ensures due { (debt timed_run Server 8).arrivals ≡ 1030000000 ∷ [] }
-    ensures went { (debt timed_run Server 9).arrivals ≡ [] }
-    ensures client { (debt timed_run Client 10).arrivals ≡ [] }
+    ensures before { (debt timed_run Server 6).deadlines ≡ [] }
+    ensures came { (debt timed_run Server 7).deadlines ≡ 1055000000 ∷ [] }
+    ensures due { (debt timed_run Server 8).deadlines ≡ 1055000000 ∷ [] }
+    ensures went { (debt timed_run Server 9).deadlines ≡ [] }
+    ensures client { (debt timed_run Client 10).deadlines ≡ [] }
     ensures moments { AckMoments timed_run }
 {}
 

@@ -45,7 +45,7 @@ pub enum Attack {
     NewIds,
     /// NEW_CONNECTION_ID of numbers that were retired.
     LateIds,
-    /// RETIRE_CONNECTION_ID, each of one that lives.
+    /// RETIRE_CONNECTION_ID, of 40 that live in turn, and again of one that was retired.
     Retirements,
     /// Messages of no byte.
     EmptyMessages,

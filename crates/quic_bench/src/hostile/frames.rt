@@ -17,6 +17,12 @@ const NEXT_ID: u64 = 5;
 /// How many of the peer's first ids are given again once they are retired.
 const LATE_IDS: u64 = 30;
 
+/// How many of the server's ids are retired in turn, less than the 50 that it lets wait to be told.
+const LIVING_IDS: u64 = 40;
+
+/// In how many frames they are: more than a datagram has.
+const RETIREMENTS: u64 = 600;
+
 /// The least limit of a stream that the peer tells, above those with which streams begin.
 const LEAST_LIMIT: u64 = 1 << 21;
 
@@ -218,13 +224,27 @@ fn put_about_stream(out: &mut Vec<u8>, plan: &Plan, index: u64) -> Result<(), Al
     }
 }
 
+/// The number of the server's id that a frame retires: the first so many of each turn that of one
+/// more that lives, all others that of the first one, which was retired.
+fn retired_by(index: u64) -> u64 {
+    let place = index % RETIREMENTS;
+    if place < LIVING_IDS {
+        (index / RETIREMENTS)
+            .saturating_mul(LIVING_IDS)
+            .saturating_add(place)
+            .saturating_add(1)
+    } else {
+        1
+    }
+}
+
 /// Appends a frame of an attack that isn't about streams.
 fn put_control(out: &mut Vec<u8>, attack: Attack, index: u64) -> Result<(), AllocError> {
     match attack {
         Attack::Challenges => put_challenge(out, index),
         Attack::NewIds => put_new_id(out, index),
         Attack::LateIds => put_id(out, index % LATE_IDS, 0),
-        Attack::Retirements => put_one(out, 0x19, index.saturating_add(1)),
+        Attack::Retirements => put_one(out, 0x19, retired_by(index)),
         Attack::EmptyMessages => put_one(out, 0x31, 0),
         Attack::ByteMessages => put_two(out, 0x31, 1, 7),
         Attack::Padding => put_type(out, 0x00),

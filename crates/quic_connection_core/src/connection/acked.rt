@@ -149,6 +149,7 @@ impl<H: HeaderKey + Drop, K: PacketKey + Drop, R: Rng + Drop, C: Controller> Con
         while let Some((number, packet)) = acked.pop() {
             self.tell_acked(&packet);
             self.search_acked(number, packet.size);
+            self.ack_frequency.on_acked(number);
             self.on_packet_acked(packet)?;
         }
         Ok(())

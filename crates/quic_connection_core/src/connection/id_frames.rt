@@ -22,6 +22,10 @@ use quic_wire::frame::NewConnectionId;
 use rand_core::Rng;
 use std::alloc::AllocError;
 
+/// Where so many own ids wait to be told, no other is issued (RFC 9000, section 5.1.1, which names
+/// no number).
+const MAX_UNTOLD_IDS: usize = 50;
+
 impl<H: HeaderKey + Drop, K: PacketKey + Drop, R: Rng + Drop, C: Controller> Connection<
     H,
     K,
@@ -55,8 +59,8 @@ impl<H: HeaderKey + Drop, K: PacketKey + Drop, R: Rng + Drop, C: Controller> Con
     }
 
     /// Takes a RETIRE_CONNECTION_ID frame (RFC 9000, section 19.16): an own id lives no more, and
-    /// the next one is issued in its place, of which the peer has to be told (section 5.1.1). It is
-    /// drawn behind the frames of the packet.
+    /// the next one is issued in its place, of which the peer has to be told (section 5.1.1),
+    /// unless 50 wait to be told. It is drawn behind the frames of the packet.
     pub(crate) fn take_retirement(&mut self, sequence: u64) -> Result<(), Trouble>
         ensures takes { TakesAs result (take_retirement sequence self.old.end) self.new.end }
         ensures others { self.new ≡ with_end self.old self.new.end }
@@ -65,7 +69,7 @@ impl<H: HeaderKey + Drop, K: PacketKey + Drop, R: Rng + Drop, C: Controller> Con
             Ok(may_issue) => may_issue,
             Err(error) => return Err(Trouble::Broke(error)),
         };
-        if may_issue {
+        if may_issue && self.streams.pending.new_cids() < MAX_UNTOLD_IDS {
             self.issue_id()?;
         }
         Ok(())

@@ -19,7 +19,7 @@ ghost use Rattle.quic_connection_parts.specs.Leaving.{leaving_of, IsLooked, leas
 ghost use Rattle.quic_machine.specs.Idle.{packet_given};
 ghost use Rattle.quic_machine.specs.Validation.{path_waits};
 ghost use Rattle.quic_machine.specs.Parts.{current_mtu};
-ghost use Rattle.quic_connection_parts.specs.Frames.{content_at, with_content, asked, ping_bytes, pinged, fits_behind, ack_bytes_if, acked_if, end_after_ack_if};
+ghost use Rattle.quic_connection_parts.specs.Frames.{content_at, with_content, with_request, asked, ping_bytes, pinged, immediate_bytes, end_after_immediate_if, bare_bytes, bare_sent, fits_behind, ack_bytes_if, acked_if, end_after_ack_if};
 ghost use Rattle.quic_connection_parts.specs.Drawn.{words_of, after_words};
 ghost use Rattle.quic_connection_parts.specs.Telling.{KeepsRest};
 ghost use Rattle.quic_congestion.specs.Congestion.{after_calls};
@@ -28,7 +28,7 @@ use crate::connection::Connection;
 use crate::connection::validation::PATH_FRAMES_SIZE;
 use quic_congestion::Controller;
 use quic_connection_parts::leaving::Leaving;
-use quic_connection_parts::packet::{pad, put_content, put_ping};
+use quic_connection_parts::packet::{pad, put_content, put_immediate_ack, put_ping};
 use quic_connection_parts::sent::{Carried, SentFrames};
 use quic_machine::{Failed, Timer};
 use quic_packet::crypto::{HeaderKey, PacketKey, TAG_LEN};
@@ -343,10 +343,10 @@ impl<H: HeaderKey + Drop, K: PacketKey + Drop, R: Rng + Drop, C: Controller> Con
         largest
     }
 
-    /// Appends what asks for an acknowledgement, frames of path validation, PING, messages and
-    /// frames about streams, behind the frames of the packet whose payload begins at `body`: none,
-    /// or an ACK. There is room for the whole payload. This answers what went. An error is want of
-    /// memory; the end is of no more use then.
+    /// Appends what asks for an acknowledgement, frames of path validation, PING, IMMEDIATE_ACK,
+    /// ACK_FREQUENCY, messages and frames about streams, behind the frames of the packet whose
+    /// payload begins at `body`: none, or an ACK. There is room for the whole payload. This answers
+    /// what went. An error is want of memory; the end is of no more use then.
     fn put_asking(&mut self, body: usize, out: &mut Vec<u8>) -> Result<SentFrames, AllocError>
         requires number { can_number self.old.end.numbers ≡ true }
         requires body { body ≤ vec_len out.old }
@@ -366,13 +366,42 @@ impl<H: HeaderKey + Drop, K: PacketKey + Drop, R: Rng + Drop, C: Controller> Con
     {
         let before = out.len();
         let requires_padding = self.put_path_frames(out);
-        self.put_ping(out);
-        let carried = self.put_content(body, out)?;
+        self.put_bare_signals(out);
+        let requests = self.put_request(out);
+        let carried = self.put_content(requests, body, out)?;
         Ok(SentFrames {
             asks: before < out.len(),
             requires_padding,
             carried,
         })
+    }
+
+    /// Appends PING and IMMEDIATE_ACK, each if it waits, for which there is room.
+    fn put_bare_signals(&mut self, out: &mut Vec<u8>)
+        requires { vec_len out.old + 2 ≤ vec_capacity out.old }
+        ensures items { out.new.items ≡ out.old.items ++ bare_bytes self.old.end.waiting.signals }
+        ensures len { vec_len out.new ≡ vec_len out.old + length (bare_bytes self.old.end.waiting.signals) }
+        ensures few { length (bare_bytes self.old.end.waiting.signals) ≤ 2 }
+        ensures capacity { vec_capacity out.old ≤ vec_capacity out.new }
+        ensures end { self.new ≡ with_end self.old (bare_sent self.old.end) }
+    {
+        self.put_ping(out);
+        self.put_immediate_ack(out);
+    }
+
+    /// Appends IMMEDIATE_ACK if it waits, for which there is room.
+    fn put_immediate_ack(&mut self, out: &mut Vec<u8>)
+        requires { vec_len out.old + 1 ≤ vec_capacity out.old }
+        ensures items { out.new.items ≡ out.old.items ++ immediate_bytes self.old.end.waiting.signals.immediate }
+        ensures len { vec_len out.new ≡ vec_len out.old + length (immediate_bytes self.old.end.waiting.signals.immediate) }
+        ensures few { length (immediate_bytes self.old.end.waiting.signals.immediate) ≤ 1 }
+        ensures capacity { vec_capacity out.old ≤ vec_capacity out.new }
+        ensures end { self.new ≡ with_end self.old (end_after_immediate_if self.old.end.waiting.signals.immediate self.old.end) }
+    {
+        if self.take_immediate_ack() {
+            put_immediate_ack(out);
+            self.count_immediate_ack();
+        }
     }
 
     /// Appends PING if it waits, for which there is room.
@@ -391,10 +420,16 @@ impl<H: HeaderKey + Drop, K: PacketKey + Drop, R: Rng + Drop, C: Controller> Con
     }
 
     /// Appends messages and frames about streams behind the frames of the packet whose payload
-    /// begins at `body`; there is room for the whole payload. This answers what they carry. An
-    /// error is want of memory; the end is of no more use then.
+    /// begins at `body`; there is room for the whole payload. This answers what they carry, with
+    /// ACK_FREQUENCY where `requests` says that it went before them. An error is want of memory;
+    /// the end is of no more use then.
     #[tactic(auto, using(crate::proofs::Plain::can_give))]
-    fn put_content(&mut self, body: usize, out: &mut Vec<u8>) -> Result<Carried, AllocError>
+    fn put_content(
+        &mut self,
+        requests: bool,
+        body: usize,
+        out: &mut Vec<u8>,
+    ) -> Result<Carried, AllocError>
         requires number { can_number self.old.end.numbers ≡ true }
         requires body { body ≤ vec_len out.old }
         requires within { vec_len out.old ≤ body + frame_room self.old.end }
@@ -404,7 +439,7 @@ impl<H: HeaderKey + Drop, K: PacketKey + Drop, R: Rng + Drop, C: Controller> Con
         ensures grows { vec_len out.old ≤ vec_len out.new }
         ensures capacity { vec_capacity out.old ≤ vec_capacity out.new }
         ensures end { OnOk result (self.new ≡ with_end self.old (with_content self.old.end (content_at self.old.end (vec_len out.old - body)))) }
-        ensures carried { IfOk result (λ carried. carried ≡ carried_in (content_at self.old.end (vec_len out.old - body)).frames) }
+        ensures carried { IfOk result (λ carried. carried ≡ with_request requests (carried_in (content_at self.old.end (vec_len out.old - body)).frames)) }
         ensures front { take (vec_len out.old) out.new.items ≡ out.old.items }
         ensures others { self.new ≡ with_end self.old self.new.end }
     {
@@ -416,6 +451,7 @@ impl<H: HeaderKey + Drop, K: PacketKey + Drop, R: Rng + Drop, C: Controller> Con
             &mut self.stats.frame_tx,
             fair,
             self.alloc,
+            requests,
             body,
             most,
             out,

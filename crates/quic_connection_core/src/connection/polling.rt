@@ -1,5 +1,6 @@
 //! What goes at a poll, if something does.
 ghost use Rattle.std.specs.Prelude.{◌≡◌, ◌≢◌, ◌-◌, ◌≤◌, ◌++◌, IfOk, IfSome, OnOk, OnErr, Ok, None, true, false};
+ghost use Rattle.std.specs.Option.{is_some};
 ghost use Rattle.quic_time.specs.Timers.{no_timers};
 ghost use Rattle.quic_machine.specs.End.{with_end, hearing, policy_of, HasFailed, words_drawn};
 ghost use Rattle.quic_machine.specs.Heard.{heard_sent, heard_given};
@@ -31,11 +32,13 @@ impl<H: HeaderKey + Drop, K: PacketKey + Drop, R: Rng + Drop, C: Controller> Con
     C,
 > {
     /// Appends the next datagram to `out`, if there is something to send at this moment: a due
-    /// acknowledgement, PATH_CHALLENGE, PATH_RESPONSE, PING, what has to be told of streams,
-    /// messages, or bytes of streams (RFC 9000, sections 8.2, 13.2 and 13.3; RFC 9221, section 5).
-    /// An acknowledgement that isn't due goes along where it fits. Where a PTO probe waits and
-    /// nothing has to be told of streams, what a tracked packet carried of it is told once more, or
-    /// a PING goes (RFC 9002, section 6.2.4). The datagram is tracked until it is acknowledged,
+    /// acknowledgement, PATH_CHALLENGE, PATH_RESPONSE, PING, IMMEDIATE_ACK, ACK_FREQUENCY, what has
+    /// to be told of streams, messages, or bytes of streams (RFC 9000, sections 8.2, 13.2 and 13.3;
+    /// RFC 9221, section 5). An acknowledgement that isn't due goes along where it fits. Where a
+    /// PTO probe waits and nothing has to be told of streams, what a tracked packet carried of it
+    /// is told once more, or a PING goes (RFC 9002, section 6.2.4). An IMMEDIATE_ACK goes with each
+    /// PTO probe to a peer that told its min_ack_delay, and in the place of that PING (QUIC
+    /// Acknowledgement Frequency, section 5). The datagram is tracked until it is acknowledged,
     /// lost or forgotten, and sets the loss timer anew. Where its number is the one above one that
     /// is left out, a word of the random source says which is left out next. Its bytes count as
     /// sent (section 8.1).
@@ -147,8 +150,9 @@ impl<H: HeaderKey + Drop, K: PacketKey + Drop, R: Rng + Drop, C: Controller> Con
         self.path.on_datagram_sent(size as u64);
     }
 
-    /// Takes a moment over, stops the timer of the pacer, and sees that something goes with a probe
-    /// that waits: what leaves then, if something does. Where memory lacks, the end fails for good.
+    /// Takes a moment over, stops the timer of the pacer, sees that something goes with a probe
+    /// that waits, and that the peer is asked how often to acknowledge: what leaves then, if
+    /// something does. Where memory lacks, the end fails for good.
     fn make_ready(&mut self, now: Instant) -> Result<Option<Leaving>, Failed>
         ensures leaving { IfOk result (λ leaving. Leaves leaving (ready_at self.old.end now).leaving) }
         ensures end { OnOk result (self.new ≡ with_end self.old (rested (ready_at self.old.end now))) }
@@ -159,6 +163,7 @@ impl<H: HeaderKey + Drop, K: PacketKey + Drop, R: Rng + Drop, C: Controller> Con
         self.tick(now);
         self.timers.stop(Timer::Pacing);
         self.queue_probe()?;
+        self.queue_ack_frequency();
         Ok(self.leaving())
     }
 
@@ -237,10 +242,18 @@ impl<H: HeaderKey + Drop, K: PacketKey + Drop, R: Rng + Drop, C: Controller> Con
         ensures err { OnErr result (self.new ≡ self.old) }
         ensures lacking { OnErr result (MovesRecord self.old.end) }
     {
+        let immediate = self.takes_immediate_ack();
         // The proof reads that the numbers ascend.
         let _packet = self.space.tracking.packets().get(0);
         let EndStreams { state, pending } = &mut self.streams;
-        self.space.maybe_queue_probe(false, pending, state)
+        self.space.maybe_queue_probe(immediate, pending, state)
+    }
+
+    /// Whether the peer takes IMMEDIATE_ACK: it told its min_ack_delay.
+    fn takes_immediate_ack(&self) -> bool
+        ensures { result ≡ is_some self.now.end.peer_params.min_ack_delay }
+    {
+        self.peer_params.min_ack_delay.is_some()
     }
 
     /// Whether what asks for an acknowledgement is held back: it would exceed the congestion

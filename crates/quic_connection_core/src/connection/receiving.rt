@@ -26,7 +26,7 @@ use quic_connection_parts::stream_frames::take_other;
 use quic_machine::{DropReason, Instant, Received, State};
 use quic_packet::crypto::{HeaderKey, NotOpened, PacketKey};
 use quic_packet::{HeaderError, Opened, open_packet};
-use quic_wire::frame::{Ack, Frame, InvalidFrame, Iter};
+use quic_wire::frame::{Ack, Frame, InvalidFrame, Unpadded};
 use quic_wire_core::{ConnectionId, EcnCodepoint, Reason, TransportError};
 use rand_core::Rng;
 
@@ -252,7 +252,7 @@ impl<H: HeaderKey + Drop, K: PacketKey + Drop, R: Rng + Drop, C: Controller> Con
         ensures others { KeepsRest self.old self.new }
     {
         let mut asks = false;
-        for item in Iter::new(payload) {
+        for item in Unpadded::new(payload) {
             self.take_item(&item)?;
             asks = asks || item_asks(&item);
         }
@@ -275,8 +275,8 @@ impl<H: HeaderKey + Drop, K: PacketKey + Drop, R: Rng + Drop, C: Controller> Con
         }
     }
 
-    /// Takes a frame. Those that speak of neither packets, streams, messages, ids nor a close do
-    /// nothing yet.
+    /// Takes a frame. Those that speak of neither packets and their acknowledgements, streams,
+    /// messages, ids, the path nor a close do nothing yet.
     #[tactic(auto, using(crate::proofs::Items::tells_nothing))]
     fn take_frame(&mut self, frame: &Frame<'_>) -> Result<(), Trouble>
         requires { HasForm (frame_view frame.now) }
@@ -305,6 +305,11 @@ impl<H: HeaderKey + Drop, K: PacketKey + Drop, R: Rng + Drop, C: Controller> Con
             }
             Frame::NewConnectionId(frame) => self.take_new_id(*frame),
             Frame::RetireConnectionId { sequence } => self.take_retirement(*sequence),
+            Frame::ImmediateAck => {
+                self.take_immediate_ack_frame();
+                Ok(())
+            }
+            Frame::AckFrequency(frame) => self.take_ack_frequency(frame),
             _ => take_other(&mut self.streams, frame),
         }
     }

@@ -51,6 +51,22 @@ impl<H, K, R, C: Controller> Connection<H, K, R, C> {
         frames.ping = frames.ping.saturating_add(1);
     }
 
+    /// An IMMEDIATE_ACK frame goes.
+    pub(crate) fn count_immediate_ack(&mut self)
+        ensures { self.new ≡ self.old }
+    {
+        let frames = &mut self.stats.frame_tx;
+        frames.immediate_ack = frames.immediate_ack.saturating_add(1);
+    }
+
+    /// An ACK_FREQUENCY frame goes.
+    pub(crate) fn count_ack_frequency(&mut self)
+        ensures { self.new ≡ self.old }
+    {
+        let frames = &mut self.stats.frame_tx;
+        frames.ack_frequency = frames.ack_frequency.saturating_add(1);
+    }
+
     /// A PATH_CHALLENGE frame goes.
     pub(crate) fn count_challenge(&mut self)
         ensures { self.new ≡ self.old }

@@ -8,7 +8,7 @@ use Rattle.quic_recovery_core.proofs.AckRunSteps.{above_in}
 use Rattle.quic_streams_parts.specs.Table.{Table}
 use Rattle.quic_machine.specs.Tracking.{TrackedPacket, Carried, acked_in}
 use Rattle.quic_machine.specs.End.{End}
-use Rattle.quic_machine.specs.Acked.{without_known, resets_acked, packet_acked, packets_acked}
+use Rattle.quic_machine.specs.Acked.{without_known, resets_acked, packet_acked, packets_acked, request_acked}
 use Rattle.quic_machine.specs.Sizes.{search_acked}
 use Rattle.quic_machine.specs.FrameCases.{streams_acked_keep, resets_acked_keep, packets_lost_keep, frame_leaves, apart_leaves}
 use Rattle.quic_headline.specs.Runs.{In}
@@ -69,10 +69,11 @@ module _ (number : ℕ) where
   acked_stays acked (s ∷ ss) (p ∷ ps) e waits among i =
       let c : Carried = p.1.carried in
       let heard : End = search_acked p e in
-      let knows : End = without_known c.largest_acked heard in
+      let asked : End = request_acked p.0 heard in
+      let knows : End = without_known c.largest_acked asked in
       acked_stays acked ss ps (packet_acked p e) waits.1 (λ t j. among t (inr j))
       (streams_acked_keep (Stays acked) (λ m x j. j) c.stream_frames (resets_acked c.retransmits.reset_stream knows)
-      (resets_acked_keep (Stays acked) (λ id x j. j) c.retransmits.reset_stream knows (known_stays acked s (among s (inl refl)) c.largest_acked (sym (carried_acks c s.frames waits.0.carried)) heard i)))
+      (resets_acked_keep (Stays acked) (λ id x j. j) c.retransmits.reset_stream knows (known_stays acked s (among s (inl refl)) c.largest_acked (sym (carried_acks c s.frames waits.0.carried)) asked i)))
   acked_stays acked [] (p ∷ ps) e waits among i = absurd waits
   acked_stays acked (s ∷ ss) [] e waits among i = absurd waits
 

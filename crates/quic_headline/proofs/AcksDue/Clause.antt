@@ -14,16 +14,15 @@ use Rattle.quic_machine.specs.declared.run.Call.{Call}
 use Rattle.quic_machine.specs.declared.run.Call.TheVariants as calls
 use Rattle.quic_machine.specs.declared.run.Answer.{Answer}
 use Rattle.quic_machine.specs.declared.run.Answer.TheVariants as answers
-use Rattle.quic_spaces.specs.Numbers.{can_number}
 use Rattle.quic_machine.specs.Policy.{Policy}
 use Rattle.quic_machine.specs.Closing.{ticked}
-use Rattle.quic_machine.specs.End.{End, with_closing, with_window, closed_by}
+use Rattle.quic_machine.specs.End.{End, with_closing, closed_by}
 use Rattle.quic_machine.specs.Control.{Gated, with_pacing_timer}
-use Rattle.quic_machine.specs.Poll.{Polled, Draft, no_frames, with_asking, with_ack, composed_if, probed, waits, asks_to_go, gated, Leaving, whole, alone, Ready, goes_as, goes, lazied, draft_as, draft_of, sends, polled_if, polled_in, polled, bounds}
+use Rattle.quic_machine.specs.Poll.{Polled, Draft, no_frames, with_asking, with_ack, composed_if, probed, waits, asks_to_go, gated, Leaving, whole, alone, Ready, goes_as, goes, lazied, draft_as, draft_of, sends, polled_if, polled_in, polled, bounds, request_queued}
 use Rattle.quic_machine.specs.PollCases.{ready_at, frames_at, by_leaves, search_leaves, ready_leaves, draft_at}
 use Rattle.quic_machine.specs.DraftLaws.{Writing, by_asking}
 use Rattle.quic_machine.specs.Puts as puts
-use Rattle.quic_machine.specs.Machine.{World, gave, end_at, control_at, policy_at}
+use Rattle.quic_machine.specs.Machine.{World, gave, end_at, policy_at}
 use Rattle.quic_headline.specs.Runs.{Run, Intake, In, folded}
 use Rattle.quic_headline.specs.Observer.{Sent, Watch, first_watch, watch, took, sents_until}
 use Rattle.quic_headline.specs.Headline.{IsHonest, IsRun}
@@ -50,7 +49,7 @@ use Rattle.quic_headline.proofs.Held.Limited.{limits_poll}
 use Rattle.quic_headline.proofs.Rest.Unanswered.{Owes}
 use Rattle.quic_headline.proofs.Rest.Owed.{Known, known, owed_filled}
 use Rattle.quic_headline.proofs.AcksDue.Arrivals.{IsPressed}
-use Rattle.quic_headline.proofs.AcksDue.Waits.{Punctual, punctual_group}
+use Rattle.quic_headline.proofs.Timers.FirstDue.{Indebted, debt_group}
 use Rattle.quic_headline.proofs.AcksDue.Group.{Waiting, Hastes, hastes_group}
 
 -- ---- a draft with an ACK frame
@@ -88,7 +87,7 @@ module _ (p : Policy) (e : End) (now : ℕ) (due : can_send e.acknowledging ≡ 
 
   -- the end whose window and pacer were asked
   abbrev gate : Gated
-  gate = gated (probed (with_pacing_timer (with_closing e (ticked e.closing now)) None))
+  gate = gated (request_queued (probed (with_pacing_timer (with_closing e (ticked e.closing now)) None)))
 
   due_ready : can_send g.end.acknowledging ≡ true
   due_ready = ap can_send (ready_acks e now) ∙ due
@@ -142,10 +141,10 @@ module _ (p : Policy) (e : End) (now : ℕ) (due : can_send e.acknowledging ≡ 
 
 -- all that is known of the packets, what isn't answered, and how long it waits
 abbrev Timed : Way
-Timed = And Known Punctual
+Timed = And Known Indebted
 
 timed : Group Nothing Timed
-timed = both Nothing Known Punctual known (over Observed (And Nothing Known) Punctual (λ x y h. (h.1.0.0.0, h.1.0.1)) punctual_group)
+timed = both Nothing Known Indebted known (over Observed (And Nothing Known) Indebted (λ x y h. (h.1.0.0.0, h.1.0.1)) debt_group)
 
 -- and what is due
 abbrev All : Way
@@ -193,6 +192,8 @@ acks_are_due r end honest run quiet side i now a v q served at there opened due 
       gives = (h.gives.0.0.0.0.0, h.gives.0.0.0.1);
       takes = (h.takes.0.0.0.0.0, h.takes.0.0.0.1);
       behind = (h.behind.0.0.0.0.0, h.behind.0.0.0.1);
+      behind_back = (h.behind_back.0.0.0.0.0, h.behind_back.0.0.0.1);
+      calls = h.calls;
       seen = h.seen;
       seen_behind = h.seen_behind;
     }
@@ -216,7 +217,7 @@ acks_are_due r end honest run quiet side i now a v q served at there opened due 
     pressed : IsPressed e.acknowledging
     pressed = h.gives.1.due opened_before due
 
-    since : In q (folded (unanswered_told (lens x y)) x.told (none_unanswered (first_watch x.final x.began x.initial_rtt))).packets
+    since : In q (folded (unanswered_told (lens x y)) x.told (none_unanswered (first_watch x.final x.began x.initial_rtt x.initial_delay))).packets
     since = owed.since
 
     owes : Owes x.sents (came_to x y).took x.end q.number
@@ -227,7 +228,7 @@ acks_are_due r end honest run quiet side i now a v q served at there opened due 
     sents_are = ap (λ (v : Watch). v.own) h.seen ∙ h.gives.0.0.0.1.own
 
     took_is : took r side i ≡ (came_to x y).took
-    took_is = ap (λ (v : Watch). v.intake.took) h.seen ∙ ap (λ (j : Intake). j.took) (watched_intake (lens x y) x.told (first_watch x.final x.began x.initial_rtt))
+    took_is = ap (λ (v : Watch). v.intake.took) h.seen ∙ ap (λ (j : Intake). j.took) (watched_intake (lens x y) x.told (first_watch x.final x.began x.initial_rtt x.initial_delay))
 
     can : can_send e.acknowledging ≡ true
     can = and_from e.acknowledging.due (is_filled e.acknowledging.runs) pressed.0 (owed_filled r side i q owed e x.sents (came_to x y).took sents_are took_is owes)

@@ -204,6 +204,8 @@ module _ (stop over : ℕ → Type 0) where
     challenges = λ word. tt;
     responses = λ r. tt;
     pings = tt;
+    immediate = tt;
+    requests = λ r. tt;
     connection_closes = λ c. tt;
     application_closes = λ c. tt;
     acks = λ a. tt;

@@ -1,12 +1,11 @@
 -- Each byte that a read gives stood in a frame that was handed in before.
-use Rattle.std.proofs.Common.{◌≡◌, ℕ, ◌+◌, ◌-◌, ◌≤◌, ltb, cond, Bool, true, false, List, [], take, Some, None, Result, Ok, Err, refl, sym, subst}
+use Rattle.std.proofs.Common.{◌≡◌, ℕ, ◌+◌, ◌-◌, ◌≤◌, ltb, cond, Bool, true, false, List, [], take, Some, None, Ok, refl, subst}
 use Rattle.std.specs.Prelude.{slice_get, ◌==◌, if◌then◌else◌}
 use Rattle.std.proofs.lemmas.Bool.{ltb-false, eqb-true}
 use Rattle.quic_wire.specs.Value.{StreamValue, stream}
 use Rattle.quic_wire_core.specs.declared.stream_id.Side.{Side}
 use Rattle.quic_config.specs.Transport.{Settings}
 use Rattle.quic_parameters.specs.Parameters.{ParameterValues}
-use Rattle.quic_parameters.specs.ParametersRead.{parameters_at}
 use Rattle.quic_sets.specs.Parts.{byte_from}
 use Rattle.quic_assembler.specs.declared.assembler.Chunk.{Chunk}
 use Rattle.quic_streams_state.specs.Reading.{told_bytes, after_read_begun}
@@ -16,25 +15,21 @@ use Rattle.quic_machine.specs.declared.run.Answer.{Answer}
 use Rattle.quic_machine.specs.declared.run.Answer.TheVariants as answers
 use Rattle.quic_machine.specs.Policy.{Policy}
 use Rattle.quic_machine.specs.Parts.{Windows}
-use Rattle.quic_machine.specs.End.{End, new_end, IsMade}
+use Rattle.quic_machine.specs.End.{End, new_end}
 use Rattle.quic_machine.specs.Machine.{IsAnswer}
 use Rattle.quic_headline.specs.Runs.{In, chunks_of, nexts_by}
 use Rattle.quic_headline.specs.Alone.{Lone, IsNew, FollowsAlone, ByteCame, BytesCame, handed_in}
 use Rattle.quic_headline.proofs.Alone.Halves.{HoldsCame, came_first, came_begun}
 use Rattle.quic_headline.proofs.Alone.Taking.{Stands, came_open}
 use Rattle.quic_headline.proofs.Alone.Calls.{Brings, nexts_came, call_came}
-use Rattle.quic_headline.proofs.Alone.Places.{AtCall, at_call}
+use Rattle.quic_headline.proofs.Alone.Places.{made_holds, AtCall, at_call}
 
 -- ---- at the start
 
 -- what holds of each end as it is made holds of a new one
 pub new_holds : (P : End → Type 0) (e : End) → ((side : Side) (settings : Settings) (windows : Windows) (theirs : ParameterValues) (own_id peer_id : List ℕ) (now : ℕ) (validated : Bool) (words : ℕ → ℕ) → P (new_end side settings windows theirs own_id peer_id now validated words))
     → IsNew e → P e
-new_holds P e all new = go (parameters_at new.parameters) new.made
-  where
-    go : {E : Type 0} (r : Result ParameterValues E) → IsMade new.side new.settings new.windows r new.own_id new.peer_id new.moment new.validated new.words e → P e
-    go (Ok theirs) made = subst P (sym made) (all new.side new.settings new.windows theirs new.own_id new.peer_id new.moment new.validated new.words)
-    go (Err error) made = absurd made
+new_holds P e all new = made_holds P e new (λ theirs. all new.side new.settings new.windows theirs new.own_id new.peer_id new.moment new.validated new.words)
 
 -- ---- a frame
 

@@ -1,9 +1,8 @@
 -- Each byte that waits of a stream came: a fact of receiving halves, whatever comes and whatever is
 -- read.
-use Rattle.std.proofs.Common.{◌≡◌, ℕ, ◌+◌, ◌^◌, ◌<◌, zero, suc, [], Bool, true, false, cond, length, Option, Some, None, Result, Ok, Err, refl, sym, ◌∙◌, subst, arith}
-use Rattle.std.specs.Prelude.{◌==◌, ◌&&◌, if◌then◌else◌, slice_get, List, take}
+use Rattle.std.proofs.Common.{◌≡◌, ℕ, ◌+◌, ◌^◌, ◌<◌, Bool, true, false, cond, length, Option, Some, None, Result, Ok, refl, sym, ◌∙◌, subst, arith}
+use Rattle.std.specs.Prelude.{◌&&◌, if◌then◌else◌, slice_get}
 use Rattle.std.specs.Option.{is_some, option_or, IfSome}
-use Rattle.std.proofs.lemmas.Bool.{cond_both}
 use Rattle.std.proofs.lemmas.Option.{slice_get_within}
 use Rattle.quic_wire_core.specs.declared.stream_id.Side.{Side}
 use Rattle.quic_wire.specs.Value.{StreamValue, ResetStreamValue}
@@ -15,9 +14,6 @@ use Rattle.quic_assembler.proofs.Arrived.Lawful.{insert_bytes, insert_lawful, re
 use Rattle.quic_assembler.proofs.Parts.Filled.{low_small}
 use Rattle.quic_assembler.proofs.Calls.Kept.{order_kept}
 use Rattle.quic_streams_parts.specs.declared.answers.ReadError.{ReadError}
-use Rattle.quic_streams_parts.specs.declared.answers.WriteError.{WriteError}
-use Rattle.quic_streams_parts.specs.declared.answers.WriteError.TheVariants as write_errors
-use Rattle.quic_streams_parts.specs.declared.answers.Written.{Written}
 use Rattle.quic_streams_parts.specs.SendHalf.{SendHalf, Queued}
 use Rattle.quic_streams_parts.specs.RecvHalf.{RecvHalf, new_recv_half, end_of, with_offsets_of, with_frame, reset_by, after_frame, after_reset_stream, begun, read_on, stopped_now, next_of}
 use Rattle.quic_streams_halves.specs.Halves.{Status, unknown, fresh, live, done, no_places, has_place, idle_status}
@@ -25,11 +21,10 @@ use Rattle.quic_retransmits.specs.Retransmits.{Retransmits}
 use Rattle.quic_streams_state.specs.declared.state.StreamsState.{StreamsState}
 use Rattle.quic_streams_state.specs.State.{new_streams, after_set_params, sending_half, receiving_half, is_opened, receives_on}
 use Rattle.quic_streams_state.specs.Sends.{with_queued}
-use Rattle.quic_streams_state.specs.Writing.{grown_by, accepted_at, written_by, after_write, chunks_accepted_at, after_write_chunks}
 use Rattle.quic_streams_state.specs.Taking.{after_stream, after_reset_frame}
 use Rattle.quic_streams_state.specs.Reading.{Told, told_bytes, told_end, told_reset, next_at, next_answer, after_read_begun, after_next, after_stop}
 use Rattle.quic_streams_laws.specs.Keeping.{KeepsBy}
-use Rattle.quic_streams_laws.specs.KeepingLaws.{by_option, by_blocked, by_stream, by_reset_frame, by_read_begun, by_next, by_stop}
+use Rattle.quic_streams_laws.specs.KeepingLaws.{by_stream, by_reset_frame, by_read_begun, by_next, by_stop}
 use Rattle.quic_streams_laws.specs.StartLaws.{shape_new, shape_set_params}
 use Rattle.quic_streams_laws.specs.ShapeLaws.{sends_with}
 use Rattle.quic_streams_laws.specs.HalfLaws.{next_gave}
@@ -185,25 +180,5 @@ module _ (came : ℕ → ℕ → ℕ → Type 0) where
   -- ---- writes
 
   -- what is written leaves receiving halves, however much counts as sent
-  put_leaves : (s : StreamsState) (id : ℕ) (h : SendHalf) (q : Queued) (n : ℕ) → sending_half s id ≡ Some h → HoldsCame came s → HoldsCame came (record s { sending = record (with_queued s.sending s.side id q) { accepted = n } })
+  pub put_leaves : (s : StreamsState) (id : ℕ) (h : SendHalf) (q : Queued) (n : ℕ) → sending_half s id ≡ Some h → HoldsCame came s → HoldsCame came (record s { sending = record (with_queued s.sending s.side id q) { accepted = n } })
   put_leaves s id h q n is i = let w = sends_with s id h q is i.shape in record { shape = record { sending = w.sending; receiving = w.receiving }; each = i.each }
-
-  refused_leaves : (s : StreamsState) (p : Retransmits) (id : ℕ) (bytes : List ℕ) (error : WriteError) → HoldsCame came s → HoldsCame came (written_by (Err error) s p id bytes).state
-  refused_leaves s p id bytes write_errors.Blocked i = by_blocked (HoldsCame came) came_kept s p id (sending_half s id) refl i
-  refused_leaves s p id bytes (write_errors.Stopped code) i = i
-  refused_leaves s p id bytes write_errors.ClosedStream i = i
-  refused_leaves s p id bytes write_errors.Memory i = i
-
-  pub write_leaves : (b : Bool) (answer : Result ℕ WriteError) (s : StreamsState) (p : Retransmits) (id : ℕ) (bytes : List ℕ) → HoldsCame came s → HoldsCame came (after_write b answer s p id bytes).state
-  write_leaves false answer s p id bytes i = i
-  write_leaves true (Err error) s p id bytes i = refused_leaves s p id bytes error i
-  write_leaves true (Ok n) s p id bytes i = by_option (sending_half s id) (λ o. HoldsCame came (accepted_at o s id (take n bytes))) (λ e. i) (λ h e. cond_both (length (take n bytes) == 0) s (grown_by h s id (take n bytes)) (HoldsCame came) (λ z. i) (λ z. put_leaves s id h _ _ e i))
-
-  pub chunks_leave : (b : Bool) (answer : Result Written WriteError) (s : StreamsState) (p : Retransmits) (id : ℕ) (chunks : List (List ℕ)) → HoldsCame came s → HoldsCame came (after_write_chunks b answer s p id chunks).state
-  chunks_leave false answer s p id chunks i = i
-  chunks_leave true (Err error) s p id chunks i = refused_leaves s p id [] error i
-  chunks_leave true (Ok w) s p id chunks i = by_option (sending_half s id) (λ o. HoldsCame came (chunks_accepted_at o s id w.bytes chunks)) (λ e. i) (λ h e. accepts h e w.bytes)
-    where
-      accepts : (h : SendHalf) → sending_half s id ≡ Some h → (n : ℕ) → HoldsCame came (chunks_accepted_at (Some h) s id n chunks)
-      accepts h e zero = i
-      accepts h e (suc n) = put_leaves s id h _ _ e i

@@ -1,19 +1,32 @@
--- What each call at one end keeps holds at each call, where no answer fails before.
-use Rattle.std.proofs.Common.{◌≡◌, ℕ, zero, suc, Bool, false, List, [], ◌∷◌, take, Option, Some, None, refl, sym, subst, inl, inr}
+-- What each call at one end keeps holds at each call, and behind all of them, where no answer fails
+-- before; and what holds of an end as it was made.
+use Rattle.std.proofs.Common.{◌≡◌, ℕ, zero, suc, Bool, false, List, [], ◌∷◌, take, Option, Some, None, Result, Ok, Err, refl, sym, subst, inl, inr}
 use Rattle.std.specs.Prelude.{slice_get}
 use Rattle.std.specs.List.{list_any}
 use Rattle.std.proofs.lemmas.Bool.{or_parts}
+use Rattle.quic_parameters.specs.Parameters.{ParameterValues}
+use Rattle.quic_parameters.specs.ParametersRead.{parameters_at}
 use Rattle.quic_machine.specs.declared.run.Call.{Call}
 use Rattle.quic_machine.specs.declared.run.Call.TheVariants as calls
 use Rattle.quic_machine.specs.declared.run.Answer.{Answer}
 use Rattle.quic_machine.specs.Policy.{Policy}
 use Rattle.quic_machine.specs.Control.{Control}
 use Rattle.quic_machine.specs.Heard.{Heard}
-use Rattle.quic_machine.specs.End.{End, with_window}
+use Rattle.quic_machine.specs.End.{End, with_window, new_end, IsMade}
 use Rattle.quic_machine.specs.Validation.{with_blocked}
 use Rattle.quic_machine.specs.Machine.{IsAnswer, IsLeft, after_call, reads_window, end_left, fails}
 use Rattle.quic_headline.specs.Runs.{In}
-use Rattle.quic_headline.specs.Alone.{Lone, IsLoneStep, FollowsAlone, handed_in}
+use Rattle.quic_headline.specs.Alone.{Lone, IsLoneStep, IsNew, FollowsAlone, handed_in}
+
+-- ---- at the start
+
+-- what holds of an end made so, whatever its peer's parameters say, holds of it
+pub made_holds : (P : End → Type 0) (e : End) (new : IsNew e) → ((theirs : ParameterValues) → P (new_end new.side new.settings new.windows theirs new.own_id new.peer_id new.moment new.validated new.words)) → P e
+made_holds P e new all = go (parameters_at new.parameters) new.made
+  where
+    go : {E : Type 0} (r : Result ParameterValues E) → IsMade new.side new.settings new.windows r new.own_id new.peer_id new.moment new.validated new.words e → P e
+    go (Ok theirs) made = subst P (sym made) (all theirs)
+    go (Err error) made = absurd made
 
 -- ---- what is handed in
 
@@ -69,3 +82,12 @@ module _ (p : Policy) (theirs : List (List ℕ)) (H : List ℕ → Type 0) (P : 
   at_call (suc i) x left (c ∷ cs) (b ∷ told) call a f served at_place at_answer all h =
       let both = or_parts (fails b) (list_any fails (take i told)) served in
       at_call i f.0 left cs told call a f.2 both.1 at_place at_answer (hands_rest theirs H c (take i cs) all) (next_holds x f.0 c b f.1 both.0 (hands_first theirs H c (take i cs) all) h)
+
+  -- behind all calls
+  pub behind_calls : (x left : Lone) (cs : List Call) (told : List Answer) → FollowsAlone p theirs x cs told left → list_any fails told ≡ false → ((d : List ℕ) → In d (handed_in theirs cs) → H d) → P x.end → P left.end
+  behind_calls x left [] [] f served all h = subst (λ (y : Lone). P y.end) (sym f) h
+  behind_calls x left [] (b ∷ told) f served all h = absurd f
+  behind_calls x left (c ∷ cs) [] f served all h = absurd f
+  behind_calls x left (c ∷ cs) (b ∷ told) f served all h =
+      let both = or_parts (fails b) (list_any fails told) served in
+      behind_calls f.0 left cs told f.2 both.1 (hands_rest theirs H c cs all) (next_holds x f.0 c b f.1 both.0 (hands_first theirs H c cs all) h)

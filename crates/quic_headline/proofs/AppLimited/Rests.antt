@@ -6,7 +6,7 @@ use Rattle.std.proofs.lemmas.Bool.{and_parts, or_parts, both_ways}
 use Rattle.quic_recovery_core.specs.PendingAcks.{can_send}
 use Rattle.quic_machine.specs.End.{End}
 use Rattle.quic_machine.specs.Control.{is_window_full, pacer_asked, with_pacing_timer, Gated, lets, holds}
-use Rattle.quic_machine.specs.Poll.{waits, probed, asks_to_go, is_gated, Ready, leaves, goes, is_held}
+use Rattle.quic_machine.specs.Poll.{waits, probed, asks_to_go, is_gated, Ready, leaves, goes, is_held, request_queued}
 use Rattle.quic_machine.specs.PollCases.{ready_at, probe_leaves, by_gate, by_leaves}
 use Rattle.quic_headline.proofs.Held.Silent.{may_go, may_not_go}
 use Rattle.quic_headline.proofs.Steps.Probes.{begun}
@@ -23,7 +23,7 @@ pub data IsResting (g : Ready) : Type 0 where
 module _ (e : End) (now : ℕ) where
   -- the end that asks
   abbrev x : End
-  x = probed (begun e now)
+  x = request_queued (probed (begun e now))
 
   abbrev Rests : Ready → Type 0
   Rests g = goes g ≡ false → IsResting g

@@ -2,8 +2,7 @@
 use Rattle.std.proofs.Common.{◌≡◌, ℕ, ◌+◌, ◌-◌, ◌≤◌, ◌^◌, max, min, Bool, true, false, ◌||◌, List, [], ◌∷◌, Option, Some, None, refl, sym, ap, ◌∙◌, ◌⊎◌, inl, inr, arith}
 use Rattle.std.proofs.lemmas.Bool.{and_parts}
 use Rattle.std.specs.Prelude.{nat_le, nat_lt, if◌then◌else◌, not, ◌&&◌}
-use Rattle.std.specs.List.{list_any}
-use Rattle.std.proofs.lemmas.Bool.{or_left, or_right, or_cases, leb-true, le-leb}
+use Rattle.std.proofs.lemmas.Bool.{or_cases}
 use Rattle.quic_recovery_core.specs.PendingAcks.{Pending, lazy_threshold, after_timeout}
 use Rattle.quic_time.specs.Timers.{has_come}
 use Rattle.quic_machine.specs.declared.answers.State.TheVariants as states
@@ -16,8 +15,8 @@ use Rattle.quic_machine.specs.DraftLaws.{Writing, by_leave, MayLeave}
 use Rattle.quic_machine.specs.Puts as puts
 use Rattle.quic_machine.specs.PollCases.{ready_at, draft_at, by_poll_to, may_leave_at}
 use Rattle.quic_machine.specs.LeaveCases.{at_expiry}
-use Rattle.quic_headline.specs.Runs.{In}
-use Rattle.quic_headline.specs.Moments.{first_arrival, IsDueFor}
+use Rattle.quic_headline.specs.Observer.{is_past}
+use Rattle.quic_headline.specs.Moments.{first_deadline}
 use Rattle.quic_machine.specs.Closing.{ticked}
 use Rattle.quic_headline.proofs.Packets.Closes.{by_closes}
 use Rattle.quic_headline.proofs.Packets.Probes.{ready_acks, by_going}
@@ -33,38 +32,19 @@ expired_due words e now expiry due = go (not expiry.idle && expiry.acks) refl (a
     go true both is = inr (and_parts (not expiry.idle) expiry.acks both).1
     go false none is = inl is
 
--- a timer that has come was set to a moment up to that one
-come_at : (o : Option ℕ) (clock : ℕ) → has_come o clock ≡ true → (moment : ℕ) × (o ≡ Some moment) × (moment ≤ clock)
-come_at None clock is = cc
-come_at (Some moment) clock is = (moment, refl, leb-true moment clock is)
-
--- the first arrival is one of them
-first_in : (arrivals : List ℕ) (arrival : ℕ) → first_arrival arrivals ≡ Some arrival → In arrival arrivals
-first_in [] arrival is = cc
-first_in (a ∷ []) arrival is = inl (let same : a ≡ arrival = cc in sym same)
-first_in (later ∷ a ∷ arrivals) arrival is = inr (first_in (a ∷ arrivals) arrival is)
-
--- so 25 ms have passed since one of these came
-late_for : (arrivals : List ℕ) (moment clock : ℕ) → IsDueFor arrivals moment → moment ≤ clock → list_any (λ arrival. nat_le (min (arrival + 25000000) (2 ^ 64 - 1)) clock) arrivals ≡ true
-late_for arrivals moment clock i late = go arrivals (first_in arrivals i.arrival i.first)
+-- where one is due behind a timeout at an open end, it was, or the first of these deadlines has come
+pub timeout_due : (p : Policy) (e : End) (now : ℕ) (deadlines : List ℕ) → e.closing.state ≡ states.Open → ((moment : ℕ) → e.timers.max_ack_delay ≡ Some moment → first_deadline deadlines ≡ Some moment) → (timed_out p e now).end.acknowledging.due ≡ true
+    → (e.acknowledging.due ≡ true) ⊎ (is_past (first_deadline deadlines) (max e.closing.clock now) ≡ true)
+timeout_due p e now deadlines opened owes due = go e.closing.state opened due
   where
-    passes : (n : ℕ) → i.arrival ≡ n → nat_le (min (n + 25000000) (2 ^ 64 - 1)) clock ≡ true
-    passes n is = le-leb (min (n + 25000000) (2 ^ 64 - 1)) clock (let due = i.due in omega (arith, due, is, late))
+    late : (o : Option ℕ) → e.timers.max_ack_delay ≡ o → has_come o (max e.closing.clock now) ≡ true → is_past (first_deadline deadlines) (max e.closing.clock now) ≡ true
+    late None set came = cc
+    late (Some moment) set came = ap (λ (o : Option ℕ). is_past o (max e.closing.clock now)) (owes moment set) ∙ came
 
-    go : (ns : List ℕ) → In i.arrival ns → list_any (λ arrival. nat_le (min (arrival + 25000000) (2 ^ 64 - 1)) clock) ns ≡ true
-    go [] among = absurd among
-    go (n ∷ ns) (inl is) = or_left (nat_le (min (n + 25000000) (2 ^ 64 - 1)) clock) _ (passes n is)
-    go (n ∷ ns) (inr more) = or_right (nat_le (min (n + 25000000) (2 ^ 64 - 1)) clock) _ (go ns more)
-
--- where one is due behind a timeout at an open end, it was, or one of these waited for 25 ms
-pub timeout_due : (p : Policy) (e : End) (now : ℕ) (arrivals : List ℕ) → e.closing.state ≡ states.Open → ((moment : ℕ) → e.timers.max_ack_delay ≡ Some moment → IsDueFor arrivals moment) → (timed_out p e now).end.acknowledging.due ≡ true
-    → (e.acknowledging.due ≡ true) ⊎ (list_any (λ arrival. nat_le (min (arrival + 25000000) (2 ^ 64 - 1)) (max e.closing.clock now)) arrivals ≡ true)
-timeout_due p e now arrivals opened owes due = go e.closing.state opened due
-  where
-    go : (s : State) → s ≡ states.Open → (timed_out_in s p e now).end.acknowledging.due ≡ true → (e.acknowledging.due ≡ true) ⊎ (list_any (λ arrival. nat_le (min (arrival + 25000000) (2 ^ 64 - 1)) (max e.closing.clock now)) arrivals ≡ true)
+    go : (s : State) → s ≡ states.Open → (timed_out_in s p e now).end.acknowledging.due ≡ true → (e.acknowledging.due ≡ true) ⊎ (is_past (first_deadline deadlines) (max e.closing.clock now) ≡ true)
     go states.Open is due = elim (expired_due p.words e now _ due) [
       | inl was ↦ inl was
-      | inr came ↦ (let at = come_at e.timers.max_ack_delay (max e.closing.clock now) came in inr (late_for arrivals at.0 (max e.closing.clock now) (owes at.0 at.1) at.2))
+      | inr came ↦ inr (late e.timers.max_ack_delay refl came)
     ]
     go states.Closing is due = cc
     go states.Drained is due = cc

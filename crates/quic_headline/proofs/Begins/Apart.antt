@@ -7,7 +7,7 @@ use Rattle.std.specs.Option.{is_some}
 use Rattle.std.specs.declared.ops.Range.{Range}
 use Rattle.std.proofs.lemmas.Bool.{or_left, or_right}
 use Rattle.quic_wire_core.specs.TransportError.{ErrorValue}
-use Rattle.quic_wire.specs.Value.{FrameValue, AckValue, ack, stream, reset_stream, stop_sending, max_data, max_stream_data, max_streams, datagram, path_challenge, path_response, new_connection_id, retire_connection_id}
+use Rattle.quic_wire.specs.Value.{FrameValue, AckValue, ack, stream, reset_stream, stop_sending, max_data, max_stream_data, max_streams, datagram, path_challenge, path_response, new_connection_id, retire_connection_id, ack_frequency}
 use Rattle.quic_ids.specs.CidState.{retirement_answer}
 use Rattle.quic_ids.specs.CidQueue.{insert_answer}
 use Rattle.quic_ids.specs.declared.cid_queue.InsertError.{InsertError}
@@ -23,8 +23,8 @@ use Rattle.quic_machine.specs.declared.run.Answer.TheVariants as answers
 use Rattle.quic_machine.specs.Policy.{Policy}
 use Rattle.quic_machine.specs.Parts.{Signals, Waiting}
 use Rattle.quic_machine.specs.Sizes.{shortened}
-use Rattle.quic_machine.specs.Ids.{frame_of, retires_for, retired, may_issue, retires_for_next, next_used}
-use Rattle.quic_machine.specs.IdFrames.{retiring, with_taken_up, issued_if, next_id_taken, end_on_next_id}
+use Rattle.quic_machine.specs.Ids.{frame_of, retires_for, retired, retires_for_next, next_used}
+use Rattle.quic_machine.specs.IdFrames.{retiring, with_taken_up, issued_if, issues_for, next_id_taken, end_on_next_id}
 use Rattle.quic_machine.specs.Validation.{path_asked, path_validated, word_of, validated_if}
 use Rattle.quic_machine.specs.End.{End, with_ids, with_frames}
 use Rattle.quic_machine.specs.Acked.{after_acked}
@@ -46,6 +46,7 @@ use Rattle.quic_headline.proofs.Waited.Flags.{challenge, response}
 use Rattle.quic_headline.proofs.Waited.Pings.{ready_waiting}
 use Rattle.quic_headline.proofs.Waited.Group.{polled_flags}
 use Rattle.quic_headline.proofs.Begins.Walk.{PendsAt, Pends, ids_pend}
+use Rattle.quic_headline.proofs.Packets.Apart.{by_frequency}
 
 -- ---- what waits
 
@@ -117,7 +118,7 @@ apart_waits (retire_connection_id n) e apart = judged (retirement_answer e.ids.o
     issues false = unmoved false true false e.waiting
 
     judged : (r : Result Bool ErrorValue) → LeavesBy false true false e.waiting (retirement_judged r n e).end.waiting
-    judged (Ok more) = issues (may_issue e.ids n)
+    judged (Ok more) = issues (issues_for n e)
     judged (Err error) = unmoved false true false e.waiting
 apart_waits (path_challenge token) e apart = signals_move true e.waiting (path_asked token e).waiting.signals ((λ is. is), λ is. inr refl)
 apart_waits (path_response token) e apart = go (is_asked e.validation.challenge (word_of token))
@@ -125,6 +126,7 @@ apart_waits (path_response token) e apart = go (is_asked e.validation.challenge 
     go : (b : Bool) → LeavesBy false false false e.waiting (validated_if b e).waiting
     go true = signals_move false e.waiting (path_validated e).waiting.signals ((λ is. cc), λ is. inl is)
     go false = unmoved false false false e.waiting
+apart_waits (ack_frequency r) e apart = by_frequency (λ (x : End). LeavesBy false false false e.waiting x.waiting) r e (λ threshold reordering frequency. unmoved false false false e.waiting)
 apart_waits f e apart = unmoved false false false e.waiting
 
 -- what an ACK frame leaves
@@ -187,7 +189,7 @@ polled_signals p e now opened = (
   where
     ready : SignalsBy false e.waiting.signals (ready_at e now).end.waiting.signals
     ready = subst (λ (w : Waiting). SignalsBy false e.waiting.signals w.signals) (sym (ready_waiting e now))
-        (by_probed (begun e now) (λ (x : End). SignalsBy false e.waiting.signals x.waiting.signals) (signals_same false e.waiting.signals) ((λ is. is), λ is. inl is) (λ q probes is. signals_same false e.waiting.signals))
+        (by_probed (begun e now) (λ (x : End). SignalsBy false e.waiting.signals x.waiting.signals) (signals_same false e.waiting.signals) (λ immediate. ((λ is. is), λ is. inl is)) (λ immediate. ((λ is. is), λ is. inl is)) (λ immediate q probes is. ((λ is. is), λ is. inl is)))
 
 -- any but a poll, a moment that comes and a delivery
 pub quiet_signals : (p : Policy) (e : End) (theirs : List (List ℕ)) (call : Call) (a : Answer) → is_delivery call ≡ false → is_poll call ≡ false → is_timeout call ≡ false → SignalsBy false e.waiting.signals (after_call p e theirs call a).waiting.signals

@@ -1,6 +1,6 @@
 -- So what waits behind a call waited before it, or has a cause, at each place of an honest run.
-use Rattle.std.proofs.Common.{◌≡◌, ℕ, suc, ◌+◌, ◌-◌, ◌<◌, ◌≤◌, ◌^◌, max, min, Bool, true, false, ◌||◌, ◌&&◌, List, [], ◌∷◌, ◌++◌, length, map, drop, append-nil, Option, Some, None, Ok, refl, sym, ap, ◌∙◌, subst, ◌⊎◌, inl, inr, arith}
-use Rattle.std.specs.Prelude.{nat_le, nat_lt, not, ltb, leb}
+use Rattle.std.proofs.Common.{◌≡◌, ℕ, suc, ◌+◌, ◌-◌, ◌<◌, ◌≤◌, max, Bool, true, false, ◌||◌, ◌&&◌, List, [], ◌∷◌, ◌++◌, length, map, drop, append-nil, Option, Some, None, Ok, refl, sym, ap, ◌∙◌, subst, ◌⊎◌, inl, inr, arith}
+use Rattle.std.specs.Prelude.{nat_lt, not, ltb, leb}
 use Rattle.std.specs.Option.{is_some, is_none, option_map}
 use Rattle.std.specs.List.{list_any}
 use Rattle.std.proofs.lemmas.Bool.{or_left, or_right, or_cases, and_from, and_parts, lt-ltb, ltb-true, both_ways}
@@ -15,7 +15,7 @@ use Rattle.quic_streams_parts.specs.Dirs.{of}
 use Rattle.quic_machine.specs.Tracking.{dir_named}
 use Rattle.quic_machine.specs.Poll.{polled}
 use Rattle.quic_wire.specs.Value.{FrameValue}
-use Rattle.quic_recovery_core.specs.PendingAcks.{Pending, lazy_threshold}
+use Rattle.quic_recovery_core.specs.PendingAcks.{Pending}
 use Rattle.quic_send_buffer.specs.Buffered.{IsBuffered, written as buffered, is_lost, is_unsent}
 use Rattle.quic_sets.proofs.Offsets.Edits.{has_is}
 use Rattle.quic_spaces.specs.Numbers.{Numbers, number_opened}
@@ -34,9 +34,9 @@ use Rattle.quic_machine.specs.declared.run.Call.{Call}
 use Rattle.quic_machine.specs.declared.run.Call.TheVariants as calls
 use Rattle.quic_machine.specs.declared.run.Delivery.{Delivery}
 use Rattle.quic_machine.specs.declared.run.Answer.{Answer}
+use Rattle.quic_machine.specs.declared.run.Answer.TheVariants as answers
 use Rattle.quic_time.specs.Timers.{has_come}
 use Rattle.quic_machine.specs.Closing.{Closing, ticked}
-use Rattle.quic_machine.specs.Calls.{closed_in}
 use Rattle.quic_machine.specs.End.{End, words_drawn}
 use Rattle.quic_machine.specs.Control as window
 use Rattle.quic_machine.specs.Timeouts.{timed_out_in, timed_out}
@@ -46,19 +46,18 @@ use Rattle.quic_machine.specs.Receive.{Outcome, asks_in, after_taken}
 use Rattle.quic_machine.specs.StreamCalls.{is_on_streams}
 use Rattle.quic_machine.specs.FrameCases.{begun}
 use Rattle.quic_machine.specs.CallCases.{is_delivery, is_poll, is_timeout}
-use Rattle.quic_machine.specs.InjectionCases.{by_injection}
-use Rattle.quic_machine.specs.LeaveCases.{by_event}
-use Rattle.quic_machine.specs.Machine.{World, IsAnswer, says_last, fails, gave, reads_window, changed, end_at, control_at, heard_at}
+use Rattle.quic_machine.specs.Machine.{World, IsAnswer, fails, gave, reads_window, changed, end_at, control_at, heard_at}
 use Rattle.quic_machine.specs.Heard.{Heard}
 use Rattle.quic_machine.specs.RunLaws.{as_many_views}
 use Rattle.quic_headline.specs.Runs.{Run, Told, Packet, Intake, In, and_told, folded, until, state_at, given_of, AreServed, written}
-use Rattle.quic_headline.specs.Observer.{Sent, HoldsOffset, HoldsEnd, Flight, after_frames, Watch, first_watch, watch, news, clock_behind, moment_of, is_past, is_timely, watch_moment, watch_given, watch_told, watch_from, terms_of, lens_of}
+use Rattle.quic_headline.specs.Observer.{Sent, HoldsOffset, HoldsEnd, Flight, after_frames, Watch, first_watch, watch, news, clock_behind, moment_of, is_past, is_timely, watch_moment, watch_given, watch_told, watch_from, lens_of}
 use Rattle.quic_headline.specs.Headline.{IsHonest, IsRun, IsAt}
 use Rattle.quic_headline.specs.Duties.{AllData, StreamCount, on_half, has_new_id}
-use Rattle.quic_headline.specs.Moments.{went, debt}
-use Rattle.quic_headline.specs.AcksDue.{takes_marked, are_some, waits_out}
-use Rattle.quic_headline.specs.Waited.{one_asks, count_silent, may_come, stands, is_ping, asks_ping, is_path_challenge, wakes, wants, wants_told, no_wants}
-use Rattle.quic_headline.specs.Begins.{Control, LimitOf, Blocked, NewId, Retirement, Thing, Ack, Ping, Challenge, Response, Probe, Message, Byte, Fin, Frame, byte_waits, IsPending, Bears, Seen, came, brings, WasLost, may_end, brings_data, is_retirement, is_new_id, uses_next, asks_for, HasCause, HasGone, seen_at, still, BeginsAt, WaitingBegins}
+use Rattle.quic_headline.specs.Moments.{went}
+use Rattle.quic_headline.specs.Requests.{Asking, asking_of, asking_at, wants_anew}
+use Rattle.quic_headline.specs.AcksDue.{is_immediate_ack, haste_told, no_haste, is_due}
+use Rattle.quic_headline.specs.Waited.{stands, is_ping, asks_ping, is_path_challenge, wakes, wants, wants_told, no_wants}
+use Rattle.quic_headline.specs.Begins.{Control, LimitOf, Blocked, NewId, Retirement, Thing, Ack, Ping, Immediate, Challenge, Response, Probe, Message, Byte, Fin, Frame, byte_waits, IsPending, Bears, Seen, came, brings, WasLost, may_end, brings_data, is_retirement, is_new_id, uses_next, asks_for, fails_to_probe, HasCause, HasGone, seen_at, still, BeginsAt, WaitingBegins, Request}
 use Rattle.quic_headline.specs.Begins as new
 use Rattle.quic_headline.proofs.Packets.Intakes.{folded_more}
 use Rattle.quic_headline.proofs.Packets.Group.{PacketsHold, meets}
@@ -67,7 +66,7 @@ use Rattle.quic_headline.proofs.Packets.Delivered.{Arrivals, arrived, with_taken
 use Rattle.quic_headline.proofs.Packets.Flying.{Waits, held, frames_fly, ticked_waits, numbers_wait}
 use Rattle.quic_headline.proofs.Packets.Watching.{came_with, timed_with, untimely, watched_intake, one_new, none_comes, told_timed, with_delivery, nothing_delivered, packet_delivered, at_time, timeout_flies}
 use Rattle.quic_headline.proofs.Places.Parties.{sent_by, sent_if, sents_by, told_of, Party, called, came_to, lens, watch_of, AreJoined}
-use Rattle.quic_headline.proofs.Places.Groups.{Way, Nothing, And, Group, both, over}
+use Rattle.quic_headline.proofs.Places.Groups.{Way, Nothing, And, Calls, Group, both, over, less_calls}
 use Rattle.quic_headline.proofs.Places.Coming.{came_more, by_coming}
 use Rattle.quic_headline.proofs.Places.Steps.{only_polls_give, poll_answer}
 use Rattle.quic_headline.proofs.Places.Placed.{Placed, placed, party_at, stands_in}
@@ -81,16 +80,17 @@ use Rattle.quic_headline.proofs.Duties.Listed.{places_same}
 use Rattle.quic_headline.proofs.Grown.Clause.{GrownWait}
 use Rattle.quic_headline.proofs.Timers.Watched.{Observed, drop_all, went_is}
 use Rattle.quic_headline.proofs.Timers.Still.{was_open}
-use Rattle.quic_headline.proofs.Timers.AckMoments.{call_answered, debt_of}
-use Rattle.quic_headline.proofs.Timers.FirstDue.{Indebted, debt_group}
-use Rattle.quic_headline.proofs.Steps.Made.{MadeAt, made_at, made_served, made_end, served_before, told_next, told_here, one_behind, calling, CallHolds, call_holds}
-use Rattle.quic_headline.proofs.Waited.Marks.{call_due}
-use Rattle.quic_headline.proofs.Packets.Apart.{next_acks}
+use Rattle.quic_headline.proofs.Timers.AckMoments.{call_answered}
+use Rattle.quic_headline.proofs.Requests.Asks.{by_of, is_anew, anew_known}
+use Rattle.quic_headline.proofs.Requests.Drafts.{polled_requests, none_waits}
+use Rattle.quic_headline.proofs.Requests.Group.{Counted, counted_group}
+use Rattle.quic_headline.proofs.Steps.Made.{MadeAt, made_at, made_served, made_end, served_before, told_next, told_here, one_behind, calling, CallHolds, call_holds, whole}
 use Rattle.quic_headline.proofs.Waited.Alive.{timed, wakes_at, past_is}
-use Rattle.quic_headline.proofs.Waited.Pings.{call_pinged, polled_pinged}
+use Rattle.quic_headline.proofs.Waited.Pings.{of_ping, of_immediate, call_pinged, call_hastened, polled_pinged}
 use Rattle.quic_headline.proofs.Waited.Flags.{Flag, all, counts, blocked, challenge, response, flag, says as flag_says}
-use Rattle.quic_headline.proofs.Waited.Group.{polled_flags, wants_of, Wanting, wanting_group}
-use Rattle.quic_headline.proofs.Begins.Acks.{timeout_due, polled_due}
+use Rattle.quic_headline.proofs.AcksDue.Group.{haste_of}
+use Rattle.quic_headline.proofs.Waited.Group.{polled_flags, wants_of}
+use Rattle.quic_headline.proofs.Waited.Urged.{Urging, Wished, wished_group, urges}
 use Rattle.quic_headline.proofs.Begins.Queued.{call_queues}
 use Rattle.quic_headline.proofs.Begins.Probed.{told_probes}
 use Rattle.quic_headline.proofs.Begins.Called.{call_asks}
@@ -100,24 +100,26 @@ use Rattle.quic_headline.proofs.Begins.Apart.{SignalsBy, signals_same, frames_si
 use Rattle.quic_headline.proofs.Begins.Flights.{By, BegunAt, Begun, ids_begun, begun_loses, begun_flies}
 use Rattle.quic_headline.proofs.Begins.Gone.{polled_goes}
 use Rattle.quic_headline.proofs.Begins.Steps.{Left, left_of, polled_left, streams_left, quiet_left}
+use Rattle.quic_headline.specs.InFlight.{is_ack_frequency}
 
 -- ---- what is known
 
--- all that is known of packets and streams, limits that grew, what is owed, and what is wanted
+-- all that is known of packets and streams, limits that grew, how often the peer was asked how to
+-- acknowledge, and what is due and wanted
 abbrev Grown : Way
 Grown = And (And (everything.All Ready ready) ReadsHold) GrownWait
 
-abbrev Owing : Way
-Owing = And Grown Indebted
+abbrev Requesting : Way
+Requesting = And Grown Counted
 
 abbrev Known : Way
-Known = And Owing Wanting
+Known = And Requesting Wished
 
-owing : Group Nothing Owing
-owing = both Nothing Grown Indebted (everything.all_grown Ready ready) (over Observed (And Nothing Grown) Indebted (λ x y h. (h.1.0.0.0.0, h.1.0.0.1)) debt_group)
+requesting : Group Nothing Requesting
+requesting = both Nothing Grown Counted (everything.all_grown Ready ready) (over PacketsHold (And Nothing Grown) Counted (λ x y h. h.1.0.0.0.0) counted_group)
 
 known : Group Nothing Known
-known = both Nothing Owing Wanting owing (over Observed (And Nothing Owing) Wanting (λ x y h. (h.1.0.0.0.0.0, h.1.0.0.0.1)) wanting_group)
+known = both Nothing Requesting Wished requesting (over Observed (And Nothing Requesting) Wished (λ x y h. (h.1.0.0.0.0.0, h.1.0.0.0.1)) wished_group)
 
 packets : (x y : Party) → Known x y → PacketsHold x y
 packets x y h = h.0.0.0.0.0.0
@@ -130,6 +132,7 @@ sight x y h = h.0.0.0.0.1
 
 -- What holds of two ends where one is called, and behind it.
 record Stepped (x y : Party) (call : Call) (a : Answer) : Type 0 where
+  calls : Calls Known x y call a
   joined : AreJoined x y
   answer : IsAnswer x.policy x.end y.given call a
   served : fails a ≡ false
@@ -146,10 +149,10 @@ seen_of x y call a = record {
   before = watch_of x y;
   behind = watch_told (lens x y) (told_of call a x.end.closing.state) (watch_of x y);
   unanswered = (wants_of x y).packets;
-  unanswered_behind = (wants_of (called x y.given call a) y).packets;
-  arrivals = (debt_of x y).arrivals;
+  due = (haste_of (called x y.given call a) y).due;
+  marked = (wants_of (called x y.given call a) y).marked;
   alive = (wants_of x y).alive;
-  terms = x.terms;
+  asking = asking_of x.made;
 }
 
 -- it waited, or has a cause
@@ -168,13 +171,13 @@ module _ (x y : Party) (call : Call) (a : Answer) (s : Stepped x y call a) where
 
   -- what the observer knows behind the call
   behind_is : watch_of next y ≡ seen.behind
-  behind_is = folded_more (watch_told (lens x y)) x.told (told_of call a x.end.closing.state) (first_watch x.final x.began x.initial_rtt)
+  behind_is = folded_more (watch_told (lens x y)) x.told (told_of call a x.end.closing.state) (first_watch x.final x.began x.initial_rtt x.initial_delay)
 
   -- what came
   came_is : came seen ≡ news (came_to x y) (came_to next y)
   came_is =
-      ap (λ (i : Intake). news i seen.behind.intake) (watched_intake (lens x y) x.told (first_watch x.final x.began x.initial_rtt))
-      ∙ ap (λ (i : Intake). news (came_to x y) i) (ap (λ (w : Watch). w.intake) (sym behind_is) ∙ watched_intake (lens x y) next.told (first_watch x.final x.began x.initial_rtt))
+      ap (λ (i : Intake). news i seen.behind.intake) (watched_intake (lens x y) x.told (first_watch x.final x.began x.initial_rtt x.initial_delay))
+      ∙ ap (λ (i : Intake). news (came_to x y) i) (ap (λ (w : Watch). w.intake) (sym behind_is) ∙ watched_intake (lens x y) next.told (first_watch x.final x.began x.initial_rtt x.initial_delay))
 
 -- what goes at a call is what its end sends
 went_here : (x y : Party) (call : Call) (a : Answer) → Stepped x y call a → went (seen_of x y call a).before (seen_of x y call a).behind ≡ sents_by x.policy x.end call a
@@ -191,70 +194,9 @@ timeout_clock x y now a s = clock_behind_is x y (calls.Timeout now) a s ∙ ap (
 
 -- ---- an acknowledgement
 
--- where one is due behind a delivery, it was, or a packet came
-delivered_some : (x y : Party) (delivery : Delivery) (a : Answer) (s : Stepped x y (calls.Deliver delivery) a) → (called x y.given (calls.Deliver delivery) a).end.acknowledging.due ≡ true
-    → (x.end.acknowledging.due ≡ true) ⊎ (are_some (news (came_to x y) (came_to (called x y.given (calls.Deliver delivery) a) y)) ≡ true)
-delivered_some x y delivery a s = by_coming x y a s.joined s.served (meets y x (packets y x s.takes)) (λ (e : End) (j : Intake). e.closing.state ≡ states.Open → e.acknowledging.due ≡ true → (x.end.acknowledging.due ≡ true) ⊎ (are_some (news (came_to x y) j) ≡ true)) (calls.Deliver delivery) s.answer (record {
-  apart = λ apart. cc;
-  none = λ other same opened due. inl due;
-  comes = λ other same d among. record {
-    ignored = λ reason opened due. inl due;
-    noted = λ state reason opened due. (let clash : states.Closing ≡ states.Open = sym state ∙ opened in cc);
-    takes = λ words state new none mark opened due. inr (ap are_some (one_new (came_to x y) d.number d.frames));
-    drains = λ words state new close is opened. cc;
-    refuses = λ words state new f is opened. cc;
-    exhausts = λ state opened. cc;
-  };
-}) s.opened
-
+-- where one is due behind a call, it was, or the observer finds why
 ack_begins : (x y : Party) (call : Call) (a : Answer) → Stepped x y call a → IsPending (called x y.given call a).end Ack → Caused x y call a Ack
-ack_begins x y (calls.Deliver delivery) a s due = elim (call_due x.policy x.end y.given (calls.Deliver delivery) a refl s.answer s.served s.opened due) [
-  | inl before ↦ inl before
-  | inr other ↦ elim (delivered_some x y delivery a s due) [
-    | inl before ↦ inl before
-    | inr some ↦ inr (elim other [
-      | inl marked ↦ or_right (are_some (came v) && one_asks v.unanswered_behind) _ (or_left (takes_marked (calls.Deliver delivery) a) _ marked)
-      | inr counted ↦ or_left (are_some (came v) && one_asks v.unanswered_behind) _ (and_from (are_some (came v)) (one_asks v.unanswered_behind) (ap are_some (came_is x y (calls.Deliver delivery) a s) ∙ some) ((s.behind.1.wanted s.opened).acks.asking counted))
-    ])
-  ]
-]
-  where
-    v : Seen
-    v = seen_of x y (calls.Deliver delivery) a
-ack_begins x y (calls.Timeout now) a s due = elim (timeout_due x.policy x.end now (debt_of x y).arrivals opened (s.gives.0.1.1.owes opened) due) [
-  | inl before ↦ inl before
-  | inr late ↦ inr (or_right (are_some (came v) && one_asks v.unanswered_behind) _ (or_right (takes_marked (calls.Timeout now) a) _ (or_left (waits_out v.now v.arrivals v.behind.clock) _
-      (and_from (is_timely x.end.closing.state (calls.Timeout now)) _ (ap (λ (z : State). is_timely z (calls.Timeout now)) opened)
-      (ap (λ (n : ℕ). list_any (λ arrival. nat_le (min (arrival + 25000000) (2 ^ 64 - 1)) n) v.arrivals) clock ∙ late)))))
-]
-  where
-    v : Seen
-    v = seen_of x y (calls.Timeout now) a
-
-    opened : x.end.closing.state ≡ states.Open
-    opened = was x y (calls.Timeout now) a s
-
-    clock : v.behind.clock ≡ max x.end.closing.clock now
-    clock = timeout_clock x y now a s
-ack_begins x y (calls.Poll now) a s due = elim (polled_due x.policy x.end now due) [
-  | inl before ↦ inl before
-  | inr many ↦ inr (or_right (are_some (came v) && one_asks v.unanswered_behind) _ (or_right (takes_marked (calls.Poll now) a) _ (or_right (waits_out v.now v.arrivals v.behind.clock) _
-      (let most = (s.gives.1.wanted (was x y (calls.Poll now) a s)).acks.silent in let less = ltb-true lazy_threshold x.end.acknowledging.silent many in lt-ltb may_come (count_silent v.unanswered) (omega arith)))))
-]
-  where
-    v : Seen
-    v = seen_of x y (calls.Poll now) a
-ack_begins x y (calls.Inject injection) a s due = inl (by_injection x.policy x.end (says_last a) injection (λ (e : End). e.acknowledging.due ≡ true → x.end.acknowledging.due ≡ true) (λ is. is) (λ now is. is) due)
-ack_begins x y (calls.Close close) a s due = inl (go x.end.closing.state due)
-  where
-    go : (z : State) → (closed_in z close.now close.error_code close.reason x.end).acknowledging.due ≡ true → x.end.acknowledging.due ≡ true
-    go states.Open is = is
-    go states.Closing is = is
-    go states.Drained is = is
-    go states.Failed is = is
-ack_begins x y calls.UseNextId a s due = inl (sym (ap (λ (p : Pending). p.due) (next_acks x.end a)) ∙ due)
-ack_begins x y calls.Event a s due = inl (by_event x.end (λ (e : End). e.acknowledging.due ≡ true → x.end.acknowledging.due ≡ true) (λ is. is) (λ told is. is) due)
-ack_begins x y call a s due = inl due
+ack_begins x y call a s due = urges x y call a (less_calls Known Urging (λ z v h. ((packets z v h, sight z v h), h.1.0)) x y call a s.calls) s.opened due
 
 -- ---- PING, probes and messages
 
@@ -268,12 +210,20 @@ other_ping x y call a s silent woken set = elim (or_cases (asks_ping call) (wake
   ]
 ]
 
+-- a probe waits at a poll in vain
+vain_poll : (x y : Party) (now : ℕ) (a : Answer) → Stepped x y (calls.Poll now) a → 0 < x.end.tracking.probes → sent_if (gave (answers.Poll (polled x.policy x.end now).answer)) (sent_by x.policy x.end now) ≡ [] → fails_to_probe (seen_of x y (calls.Poll now) a) ≡ true
+vain_poll x y now a s some none =
+    and_from (nat_lt 0 v.before.flight.probes) (not (nat_lt 0 (length (went v.before v.behind))))
+    (let same = ((sight x y s.gives).watched.flight (was x y (calls.Poll now) a s)).probes in lt-ltb 0 v.before.flight.probes (omega arith))
+    (ap (λ (ss : List Sent). not (nat_lt 0 (length ss))) (went_here x y (calls.Poll now) a s ∙ ap (λ (b : Answer). sent_if (gave b) (sent_by x.policy x.end now)) (poll_answer x.policy x.end now a s.answer s.served) ∙ none))
+  where
+    v : Seen
+    v = seen_of x y (calls.Poll now) a
+
 ping_begins : (x y : Party) (call : Call) (a : Answer) → Stepped x y call a → IsPending (called x y.given call a).end Ping → Caused x y call a Ping
-ping_begins x y (calls.Poll now) a s set = elim (polled_pinged x.policy x.end now s.opened set).before [
+ping_begins x y (calls.Poll now) a s set = elim (polled_pinged of_ping x.policy x.end now s.opened set).before [
   | inl before ↦ inl before
-  | inr waited ↦ inr (or_right (wakes v.now v.behind.clock v.alive) _ (and_from (nat_lt 0 v.before.flight.probes) (not (nat_lt 0 (length (went v.before v.behind))))
-      (let same = ((sight x y s.gives).watched.flight (was x y (calls.Poll now) a s)).probes in let some = waited.0 in lt-ltb 0 v.before.flight.probes (omega arith))
-      (ap (λ (ss : List Sent). not (nat_lt 0 (length ss))) (went_here x y (calls.Poll now) a s ∙ ap (λ (b : Answer). sent_if (gave b) (sent_by x.policy x.end now)) (poll_answer x.policy x.end now a s.answer s.served) ∙ waited.1))))
+  | inr waited ↦ inr (or_right (wakes v.now v.behind.clock v.alive) _ (vain_poll x y now a s waited.0 waited.1))
 ]
   where
     v : Seen
@@ -281,7 +231,7 @@ ping_begins x y (calls.Poll now) a s set = elim (polled_pinged x.policy x.end no
 ping_begins x y (calls.Timeout now) a s set = other_ping x y (calls.Timeout now) a s refl (λ woke.
     ap (λ (z : State). is_timely z (calls.Timeout now) && is_past v.alive v.behind.clock) opened
     ∙ past_is v.alive v.behind.clock
-    ∙ ap (λ (o : Option ℕ). has_come o v.behind.clock) (s.gives.1.wanted opened).alive
+    ∙ ap (λ (o : Option ℕ). has_come o v.behind.clock) (s.gives.1.0.1.wanted opened).alive
     ∙ ap (λ (n : ℕ). has_come x.end.timers.keep_alive n) (timeout_clock x y now a s)
     ∙ woke) set
   where
@@ -291,6 +241,14 @@ ping_begins x y (calls.Timeout now) a s set = other_ping x y (calls.Timeout now)
     opened : x.end.closing.state ≡ states.Open
     opened = was x y (calls.Timeout now) a s
 ping_begins x y call a s set = other_ping x y call a s refl (λ woke. cc) set
+
+-- IMMEDIATE_ACK waited, or a probe does in vain
+immediate_begins : (x y : Party) (call : Call) (a : Answer) → Stepped x y call a → IsPending (called x y.given call a).end Immediate → Caused x y call a Immediate
+immediate_begins x y (calls.Poll now) a s set = elim (polled_pinged of_immediate x.policy x.end now s.opened set).before [
+  | inl before ↦ inl before
+  | inr waited ↦ inr (vain_poll x y now a s waited.0 waited.1)
+]
+immediate_begins x y call a s set = inl (sym (call_hastened x.policy x.end y.given call a refl s.opened) ∙ set)
 
 probe_begins : (x y : Party) (call : Call) (a : Answer) → Stepped x y call a → IsPending (called x y.given call a).end Probe → Caused x y call a Probe
 probe_begins x y call a s some = elim (told_probes (lens x y) (told_of call a x.end.closing.state) (watch_of x y) (subst (λ (n : ℕ). 0 < n) (sym here) some)) [
@@ -428,7 +386,7 @@ module _ (x y : Party) (delivery : Delivery) (a : Answer) (s : Stepped x y (call
   i = came_to x y
 
   intake : w.intake ≡ i
-  intake = watched_intake (lens x y) x.told (first_watch x.final x.began x.initial_rtt)
+  intake = watched_intake (lens x y) x.told (first_watch x.final x.began x.initial_rtt x.initial_delay)
 
   -- nothing came
   same_arrived : Arrived x y delivery x.end i
@@ -549,7 +507,7 @@ delivery_begins x y delivery a s = left_of (Caused x y call a) (called x y.given
         ap (λ (b : Bool). watch_given b (lens x y) (timed_with (lens x y) (told_of call a x.end.closing.state) (watch_of x y))) (only_polls_give x.policy x.end y.given call a refl s.answer)
         ∙ ap (λ (b : Bool). watch_moment b x.terms (came_with (lens x y) (told_of call a x.end.closing.state) (watch_of x y))) (untimely x.end.closing.state call refl)
         ∙ ap (λ (j : Intake). with_delivery x.terms (watch_of x y) x.end.closing.state delivery j)
-        (ap (λ (i : Intake). and_told x.policy y.final (told_of call a x.end.closing.state) i) (watched_intake (lens x y) x.told (first_watch x.final x.began x.initial_rtt)) ∙ sym (came_more x y call a))
+        (ap (λ (i : Intake). and_told x.policy y.final (told_of call a x.end.closing.state) i) (watched_intake (lens x y) x.told (first_watch x.final x.began x.initial_rtt x.initial_delay)) ∙ sym (came_more x y call a))
 
     at : BegunAt (λ q. IsPending x.end q) (watch_of x y).flight.flying (watch_of x y).flight.acked r.frames (seen_of x y call a).behind.flight.flying (seen_of x y call a).behind.flight.acked (called x y.given call a).end.streams (called x y.given call a).end.waiting.frames
     at = subst (λ (v : Watch). BegunAt (λ q. IsPending x.end q) (watch_of x y).flight.flying (watch_of x y).flight.acked r.frames v.flight.flying v.flight.acked (called x y.given call a).end.streams (called x y.given call a).end.waiting.frames) (sym behind) r.begins
@@ -590,7 +548,7 @@ timeout_begins x y now a s = left_of (Caused x y call a) (called x y.given call 
 -- a poll
 poll_begins : (x y : Party) (now : ℕ) (a : Answer) → Stepped x y (calls.Poll now) a → StreamsBegin x y (calls.Poll now) a
 poll_begins x y now a s = polled_left (Caused x y call a) x.policy x.end now (watch_of x y).flight.flying seen_waits.tells.waits
-    (λ some u among c bears. inr (inr (inr (record { polls = refl; waited = subst (λ (n : ℕ). 0 < n) (sym seen_waits.probes) some; sent = u; flies = among; bears = bears }))))
+    (λ some u among c bears. inr (inr (inr (record { polls = refl; waited = subst (λ (n : ℕ). 0 < n) (sym seen_waits.probes) some; sent = u; flies = among; bears = bears })))) (λ anew. inr (inl (sym known_anew ∙ anew)))
     (pend_more (λ q. IsPending x.end q) (Caused x y call a) x.end.streams x.end.waiting.frames (λ q is. inl is) (pends_start x y s.gives)) s.opened
   where
     call : Call
@@ -599,11 +557,19 @@ poll_begins x y now a s = polled_left (Caused x y call a) x.policy x.end now (wa
     seen_waits : Waits x.terms (watch_of x y).clock (watch_of x y).flight (held x.end)
     seen_waits = (sight x y s.gives).watched.flight (was x y call a s)
 
+    -- the observer finds when the peer is to be asked
+    known_anew : is_anew (by_of x.end) ≡ wants_anew (asking_of x.made) (watch_of x y).own (watch_of x y).flight
+    known_anew =
+        anew_known x.terms (watch_of x y).clock x.sents (watch_of x y).flight x.end seen_waits.tells s.gives.0.1.next
+        ∙ ap (λ (b : Asking). wants_anew b x.sents (watch_of x y).flight) s.gives.0.1.same
+        ∙ ap (λ (ss : List Sent). wants_anew (asking_of x.made) ss (watch_of x y).flight) (sym (sight x y s.gives).own)
+
 -- what an application asks for is asked for
 asked_is : (x y : Party) (call : Call) (a : Answer) (c : Control) → call_asks call a c ≡ true → asks_for (seen_of x y call a) c ≡ true
 asked_is x y call a (LimitOf AllData) is = or_left (call_asks call a (LimitOf AllData)) (brings brings_data (seen_of x y call a)) is
 asked_is x y call a (LimitOf (StreamCount dir)) is = or_left (call_asks call a (LimitOf (StreamCount dir))) (brings may_end (seen_of x y call a)) is
 asked_is x y call a (NewId number) is = cc
+asked_is x y call a Request is = cc
 asked_is x y call a (Retirement number) is = or_left (uses_next call a) (brings is_new_id (seen_of x y call a)) is
 asked_is x y call a c is = is
 
@@ -618,6 +584,7 @@ other_begins x y call a apart silent other s = go (is_on_streams call) refl
     almost : (q : Thing) → IsPending x.end q → Almost x y call a q
     almost Ack is = inl is
     almost Ping is = inl is
+    almost Immediate is = inl is
     almost Challenge is = inl is
     almost Response is = inl is
     almost Probe is = inl is
@@ -639,6 +606,7 @@ other_begins x y call a apart silent other s = go (is_on_streams call) refl
 begins : (x y : Party) (call : Call) (a : Answer) → Stepped x y call a → (q : Thing) → IsPending (called x y.given call a).end q → Caused x y call a q
 begins x y call a s Ack is = ack_begins x y call a s is
 begins x y call a s Ping is = ping_begins x y call a s is
+begins x y call a s Immediate is = immediate_begins x y call a s is
 begins x y call a s Challenge is = (signals_begin x y call a s).0 is
 begins x y call a s Response is = (signals_begin x y call a s).1 is
 begins x y call a s Probe is = probe_begins x y call a s is
@@ -674,21 +642,27 @@ flag_gone x y now a s k there set = both_ways (flag k (polled x.policy x.end now
 gone_waits : (x y : Party) (call : Call) (a : Answer) → Stepped x y call a → (q : Thing) → HasGone (sents_by x.policy x.end call a) q → IsPending (called x y.given call a).end q → ⊥
 gone_waits x y call a s Ack there due = both_ways (called x y.given call a).end.acknowledging.due (call_answered (λ (p : Pending) (o : Option ℕ). p.due ≡ false) (λ p. refl) x.policy x.end y.given call a (packets x y s.gives).owes s.answer s.served there) due
 gone_waits x y (calls.Poll now) a s Ping there set = both_ways (stands is_ping (sents_by x.policy x.end (calls.Poll now) a))
-    (ap (λ (b : Answer). stands is_ping (sent_if (gave b) (sent_by x.policy x.end now))) (poll_answer x.policy x.end now a s.answer s.served) ∙ (polled_pinged x.policy x.end now s.opened set).none) there
+    (ap (λ (b : Answer). stands is_ping (sent_if (gave b) (sent_by x.policy x.end now))) (poll_answer x.policy x.end now a s.answer s.served) ∙ (polled_pinged of_ping x.policy x.end now s.opened set).none) there
+gone_waits x y (calls.Poll now) a s Immediate there set = both_ways (stands is_immediate_ack (sents_by x.policy x.end (calls.Poll now) a))
+    (ap (λ (b : Answer). stands is_immediate_ack (sent_if (gave b) (sent_by x.policy x.end now))) (poll_answer x.policy x.end now a s.answer s.served) ∙ (polled_pinged of_immediate x.policy x.end now s.opened set).none) there
 gone_waits x y (calls.Poll now) a s Challenge there set = flag_gone x y now a s challenge there set
 gone_waits x y (calls.Poll now) a s Response there set = flag_gone x y now a s response there set
 gone_waits x y (calls.Poll now) a s (Frame (LimitOf AllData)) there set = flag_gone x y now a s all there set
 gone_waits x y (calls.Poll now) a s (Frame (LimitOf (StreamCount dir))) there set = flag_gone x y now a s (counts (is_one_way dir)) there (ap (λ (d : Dir). of d (called x y.given (calls.Poll now) a).end.waiting.frames.max_stream_id) (dir_same dir) ∙ set)
 gone_waits x y (calls.Poll now) a s (Frame Blocked) there set = flag_gone x y now a s blocked there set
+gone_waits x y (calls.Poll now) a s (Frame Request) there set = both_ways (polled x.policy x.end now).end.waiting.frames.ack_frequency
+    (none_waits x.end now (polled x.policy x.end now).end _ (polled_requests x.policy x.end now (packets x y s.gives).owes) (ap (λ (b : Answer). stands is_ack_frequency (sent_if (gave b) (sent_by x.policy x.end now))) (sym (poll_answer x.policy x.end now a s.answer s.served)) ∙ there)) set
 gone_waits x y (calls.Poll now) a s (Byte id o) there set = (polled_goes x.policy x.end now s.opened).0 id o (subst (λ (b : Answer). HoldsOffset (sent_if (gave b) (sent_by x.policy x.end now)) id o) (poll_answer x.policy x.end now a s.answer s.served) there) set
 gone_waits x y (calls.Poll now) a s (Fin id) there set = (polled_goes x.policy x.end now s.opened).1 id (subst (λ (b : Answer). HoldsEnd (sent_if (gave b) (sent_by x.policy x.end now)) id) (poll_answer x.policy x.end now a s.answer s.served) there) set
 gone_waits x y (calls.Poll now) a s q there set = absurd there
 gone_waits x y call a s Ping there set = cc
+gone_waits x y call a s Immediate there set = cc
 gone_waits x y call a s Challenge there set = cc
 gone_waits x y call a s Response there set = cc
 gone_waits x y call a s (Frame (LimitOf AllData)) there set = cc
 gone_waits x y call a s (Frame (LimitOf (StreamCount dir))) there set = cc
 gone_waits x y call a s (Frame Blocked) there set = cc
+gone_waits x y call a s (Frame Request) there set = cc
 gone_waits x y call a s (Byte id o) there set = there.among
 gone_waits x y call a s (Fin id) there set = there.among
 gone_waits x y call a s q there set = absurd there
@@ -699,6 +673,7 @@ gone_waits x y call a s q there set = absurd there
 reads_pends : (control : window.Control) (heard : Heard) (call : Call) (e : End) (q : Thing) → IsPending (reads_window control heard call e) q → IsPending e q
 reads_pends control heard (calls.Poll now) e Ack is = is
 reads_pends control heard (calls.Poll now) e Ping is = is
+reads_pends control heard (calls.Poll now) e Immediate is = is
 reads_pends control heard (calls.Poll now) e Challenge is = is
 reads_pends control heard (calls.Poll now) e Response is = is
 reads_pends control heard (calls.Poll now) e Probe is = is
@@ -715,7 +690,7 @@ reads_closing control heard call e = refl
 
 -- what the observer knows behind a call
 watched_behind : (x y : Party) (call : Call) (a : Answer) → watch_of (called x y.given call a) y ≡ (seen_of x y call a).behind
-watched_behind x y call a = folded_more (watch_told (lens x y)) x.told (told_of call a x.end.closing.state) (first_watch x.final x.began x.initial_rtt)
+watched_behind x y call a = folded_more (watch_told (lens x y)) x.told (told_of call a x.end.closing.state) (first_watch x.final x.began x.initial_rtt x.initial_delay)
 
 -- a call at one end leaves the other
 other_stays : (side : Side) (w : World) (e : End) (ds : List (List ℕ)) (control : window.Control) (heard : Heard) → end_at (other_side side) (changed side w e ds control heard) ≡ end_at (other_side side) w
@@ -759,41 +734,41 @@ module _ (r : Run) (end : World) (honest : IsHonest r) (run : IsRun r end) (side
       told_next side (end_at side r.start).closing.state i r.events r.answers r.views (record { side = side; call = call }) a here.event here.answer (as_many_views r.keys r.start end r.events r.answers r.views run.follows)
       ∙ ap (λ (ts : List Told). until r side i ++ ts) (told_here side (state_at r side i) call a ∙ ap (λ (z : State). told_of call a z ∷ []) state)
 
-  -- what an observer wants and owes, by what was told
-  wants_same : (told : List Told) → folded (wants_told (lens_of r side)) told (no_wants (watch_from (end_at side r.start) (given_of r side))) ≡ folded (wants_told (lens x y)) told (no_wants (first_watch x.final x.began x.initial_rtt))
+  -- what an observer wants, by what was told
+  wants_same : (told : List Told) → folded (wants_told (lens_of r side)) told (no_wants (watch_from (end_at side r.start) (given_of r side))) ≡ folded (wants_told (lens x y)) told (no_wants (first_watch x.final x.began x.initial_rtt x.initial_delay))
   wants_same told = refl
 
-  debt_same : (debt r side i).arrivals ≡ (debt_of x y).arrivals
-  debt_same = refl
+  -- and what it finds due
+  haste_same : (told : List Told) → folded (haste_told (lens_of r side)) told (no_haste (watch_from (end_at side r.start) (given_of r side))) ≡ folded (haste_told (lens x y)) told (no_haste (first_watch x.final x.began x.initial_rtt x.initial_delay))
+  haste_same told = refl
 
   opened_stepped : (called x y.given call a).end.closing.state ≡ states.Open → Stepped x y call a
-  opened_stepped opened = record { joined = h.joined; answer = made.made.step.answer; served = made_served r i side call a front made.behind made.made; gives = h.gives; takes = h.takes; behind = h.behind; opened = opened }
+  opened_stepped opened = record { calls = whole Known r i side call a front h; joined = h.joined; answer = made.made.step.answer; served = made_served r i side call a front made.behind made.made; gives = h.gives; takes = h.takes; behind = h.behind; opened = opened }
 
   -- what is seen of these
-  abbrev seen_with : State → Watch → Watch → List Packet → List Packet → List ℕ → Option ℕ → Seen
-  seen_with z before behind unanswered unanswered_behind arrivals alive = record {
+  abbrev seen_with : State → Watch → Watch → Bool → Bool → Seen
+  seen_with z before behind due marked = record {
     told = until r side i;
     now = record { call = call; answer = a; state = z };
     before = before;
     behind = behind;
-    unanswered = unanswered;
-    unanswered_behind = unanswered_behind;
-    arrivals = arrivals;
-    alive = alive;
-    terms = terms_of (end_at side r.start);
+    unanswered = (wants_of x y).packets;
+    due = due;
+    marked = marked;
+    alive = (wants_of x y).alive;
+    asking = asking_at r side;
   }
 
   -- what is seen in the run is seen so
   seen_same : seen_at r side i call a ≡ seen_of x y call a
   seen_same =
-      ap (λ z. seen_with z (watch r side i) (watch r side (suc i)) (wants r side i).packets (wants r side (suc i)).packets (debt r side i).arrivals (wants r side i).alive) state
-      ∙ ap (λ b. seen_with x.end.closing.state b (watch r side (suc i)) (wants r side i).packets (wants r side (suc i)).packets (debt r side i).arrivals (wants r side i).alive) h.seen
-      ∙ ap (λ b. seen_with x.end.closing.state (watch_of x y) b (wants r side i).packets (wants r side (suc i)).packets (debt r side i).arrivals (wants r side i).alive) (h.seen_behind ∙ watched_behind x y call a)
-      ∙ ap (λ ps. seen_with x.end.closing.state (watch_of x y) v.behind ps (wants r side (suc i)).packets (debt r side i).arrivals (wants r side i).alive) (ap (λ q. q.packets) (wants_same (until r side i)))
-      ∙ ap (λ ps. seen_with x.end.closing.state (watch_of x y) v.behind (wants_of x y).packets ps (debt r side i).arrivals (wants r side i).alive)
-      (ap (λ (ts : List Told). (folded (wants_told (lens_of r side)) ts (no_wants (watch_from (end_at side r.start) (given_of r side)))).packets) told_more ∙ ap (λ q. q.packets) (wants_same (called x y.given call a).told))
-      ∙ ap (λ ns. seen_with x.end.closing.state (watch_of x y) v.behind (wants_of x y).packets (wants_of (called x y.given call a) y).packets ns (wants r side i).alive) debt_same
-      ∙ ap (λ o. seen_with x.end.closing.state (watch_of x y) v.behind (wants_of x y).packets (wants_of (called x y.given call a) y).packets (debt_of x y).arrivals o) (ap (λ q. q.alive) (wants_same (until r side i)))
+      ap (λ z. seen_with z (watch r side i) (watch r side (suc i)) (is_due r side (suc i)) (wants r side (suc i)).marked) state
+      ∙ ap (λ b. seen_with x.end.closing.state b (watch r side (suc i)) (is_due r side (suc i)) (wants r side (suc i)).marked) h.seen
+      ∙ ap (λ b. seen_with x.end.closing.state (watch_of x y) b (is_due r side (suc i)) (wants r side (suc i)).marked) (h.seen_behind ∙ watched_behind x y call a)
+      ∙ ap (λ d. seen_with x.end.closing.state (watch_of x y) v.behind d (wants r side (suc i)).marked)
+      (ap (λ (ts : List Told). (folded (haste_told (lens_of r side)) ts (no_haste (watch_from (end_at side r.start) (given_of r side)))).due) told_more ∙ ap (λ q. q.due) (haste_same (called x y.given call a).told))
+      ∙ ap (λ m. seen_with x.end.closing.state (watch_of x y) v.behind v.due m)
+      (ap (λ (ts : List Told). (folded (wants_told (lens_of r side)) ts (no_wants (watch_from (end_at side r.start) (given_of r side)))).marked) told_more ∙ ap (λ q. q.marked) (wants_same (called x y.given call a).told))
     where
       v : Seen
       v = seen_of x y call a

@@ -21,7 +21,8 @@ use Rattle.quic_streams_state.specs.Control.{without_first}
 use Rattle.quic_streams_laws.specs.ToldLaws.{first_is}
 use Rattle.quic_headline.specs.InFlight.{resets_in, stops_in, limits_in, blocked_in, new_ids_in, retirements_in, again_in}
 use Rattle.quic_headline.specs.Duties.{AllData, StreamData, StreamCount, has_reset, has_stop, has_retirement, has_new_id}
-use Rattle.quic_headline.specs.Begins.{Control, ResetOf, StopOf, LimitOf, Blocked, BlockedOn, NewId, Retirement, control_waits, says}
+use Rattle.quic_headline.specs.Begins.{Control, ResetOf, StopOf, LimitOf, Blocked, BlockedOn, NewId, Retirement, control_waits, says, Request}
+use Rattle.quic_headline.proofs.Packets.Entries.{without_asks}
 
 -- ---- sets of ids
 
@@ -81,6 +82,7 @@ merged_one Blocked p q is = or_cases p.data_blocked q.data_blocked is
 merged_one (BlockedOn id) p q is = has_one q.stream_data_blocked p.stream_data_blocked id is
 merged_one (NewId number) p q is = any_more (λ (c : IssuedCid). c.sequence == number) p.new_cids q.new_cids is
 merged_one (Retirement number) p q is = any_more (λ (n : ℕ). n == number) p.retire_cids q.retire_cids is
+merged_one Request p q is = or_cases p.ack_frequency q.ack_frequency is
 
 -- nothing waits
 pub none_waits : (c : Control) → control_waits nothing_waits c ≡ false
@@ -94,6 +96,7 @@ none_waits Blocked = refl
 none_waits (BlockedOn id) = refl
 none_waits (NewId number) = refl
 none_waits (Retirement number) = refl
+none_waits Request = refl
 
 -- without the first of a kind nothing more waits
 pub fewer_wait : (c : Control) (kind : ControlKind) (p : Retransmits) → control_waits (without_first kind p) c ≡ true → control_waits p c ≡ true
@@ -112,7 +115,16 @@ fewer_wait Blocked DataBlocked p is = cc
 fewer_wait (BlockedOn id) StreamDataBlocked p is = any_behind (λ (j : ℕ). is_at (nat_cmp id) j) p.stream_data_blocked is
 fewer_wait (NewId number) NewConnectionId p is = any_behind (λ (c : IssuedCid). c.sequence == number) p.new_cids is
 fewer_wait (Retirement number) RetireConnectionId p is = any_behind (λ (n : ℕ). n == number) p.retire_cids is
+fewer_wait Request kind p is = sym (without_asks kind p) ∙ is
 fewer_wait c kind p is = is
+
+-- whether or not ACK_FREQUENCY waits, the others wait as before
+pub asked_one : (c : Control) (waits : Bool) (p : Retransmits) → control_waits (record p { ack_frequency = waits }) c ≡ true → (control_waits p c ≡ true) ⊎ ((c ≡ Request) × (waits ≡ true))
+asked_one Request waits p is = inr (refl, is)
+asked_one (LimitOf AllData) waits p is = inl is
+asked_one (LimitOf (StreamData id)) waits p is = inl is
+asked_one (LimitOf (StreamCount dir)) waits p is = inl is
+asked_one c waits p is = inl is
 
 -- ---- what frames say
 
@@ -180,3 +192,4 @@ again_said Blocked fs is = is
 again_said (BlockedOn id) fs is = blocked_said fs id (has_in (blocked_in fs) id is)
 again_said (NewId number) fs is = new_ids_said fs number is
 again_said (Retirement number) fs is = retirements_said fs number is
+again_said Request fs is = is

@@ -3,7 +3,7 @@ use Rattle.std.proofs.Common.{◌≡◌, ℕ, zero, suc, ◌+◌, ◌-◌, ◌<�
 use Rattle.std.specs.Prelude.{ltb, leb}
 use Rattle.std.specs.Option.{is_none}
 use Rattle.std.proofs.lemmas.Bool.{or_cases, and_from, and_parts, both_ways, not-true, cond_both, cases_eq, lt-ltb, le-leb, leb-true}
-use Rattle.quic_wire.specs.Value.{FrameValue, StreamValue, stream, max_data, max_stream_data, max_streams, datagram, padding, ping, ack, connection_close, application_close}
+use Rattle.quic_wire.specs.Value.{FrameValue, StreamValue, stream, max_data, max_stream_data, max_streams, datagram, padding, ping, ack, connection_close, application_close, immediate_ack, ack_frequency}
 use Rattle.quic_sets.specs.Offsets.{is_within}
 use Rattle.quic_send_buffer.specs.Buffered.{is_lost, is_unsent, written, next_start, sent_end}
 use Rattle.quic_send_buffer.proofs.Buffered.Places.{has_without}
@@ -22,7 +22,7 @@ use Rattle.quic_machine.specs.declared.answers.State.TheVariants as states
 use Rattle.quic_machine.specs.declared.run.Answer.TheVariants as answers
 use Rattle.quic_machine.specs.Policy.{Policy}
 use Rattle.quic_machine.specs.End.{End}
-use Rattle.quic_machine.specs.Poll.{Draft, Leaving, Polled, draft_as, polled, zeros_behind, ack_of}
+use Rattle.quic_machine.specs.Poll.{Draft, Leaving, Polled, draft_as, polled, zeros_behind, ack_of, request_of}
 use Rattle.quic_machine.specs.PollCases.{ready_at, draft_at, may_leave_at}
 use Rattle.quic_machine.specs.DraftLaws.{Writing, by_leave, MayLeave}
 use Rattle.quic_machine.specs.Validation.{challenge_frame, response_frame}
@@ -154,6 +154,8 @@ draft_rids leaving e may = by_leave AllRid keep leaving e may (λ id h there. re
     keep (puts.stream id h room) d (found, first, some, is, more) i = half_rids d.end.transport.send_fairness d.frames d.end.streams id room h found i
     keep (puts.message m ms) d may i = λ id h there. rid_more d.frames (datagram m) id h (λ g same of_it. cc) (i id h there)
     keep puts.ping d may i = λ id h there. rid_more d.frames ping id h (λ g same of_it. cc) (i id h there)
+    keep puts.immediate d may i = λ id h there. rid_more d.frames immediate_ack id h (λ g same of_it. cc) (i id h there)
+    keep puts.request d may i = λ id h there. rid_more d.frames (ack_frequency (request_of d.end)) id h (λ g same of_it. cc) (i id h there)
     keep (puts.connection_close c) d may i = λ id h there. rid_more d.frames (connection_close c) id h (λ g same of_it. cc) (i id h there)
     keep (puts.application_close c) d may i = λ id h there. rid_more d.frames (application_close c) id h (λ g same of_it. cc) (i id h there)
     keep (puts.probes size) d may i = λ id h there. rid_more d.frames ping id h (λ g same of_it. cc) (i id h there)

@@ -79,16 +79,16 @@ moment_clock false t w = refl
 
 -- probes waited, or the timer expires, and none may be lost by time
 abbrev Expires : Terms → Watch → Type 0
-Expires t w = (0 < w.flight.probes) ⊎ ((is_none w.flight.loss_time && is_past (loss_due t w.flight) w.clock) ≡ true)
+Expires t w = (0 < w.flight.probes) ⊎ ((is_none w.flight.loss_time && is_past (loss_due w.flight) w.clock) ≡ true)
 
 moment_probes : (t : Terms) (w : Watch) → 0 < (watch_moment true t w).flight.probes → Expires t w
-moment_probes t w some = go (is_past (loss_due t w.flight) w.clock) refl some
+moment_probes t w some = go (is_past (loss_due w.flight) w.clock) refl some
   where
-    expires : (o : Option ℕ) → w.flight.loss_time ≡ o → is_past (loss_due t w.flight) w.clock ≡ true → 0 < (expired_for o t w.clock w.flight).probes → Expires t w
-    expires None is past more = inr (and_from (is_none w.flight.loss_time) (is_past (loss_due t w.flight) w.clock) (ap is_none is) past)
+    expires : (o : Option ℕ) → w.flight.loss_time ≡ o → is_past (loss_due w.flight) w.clock ≡ true → 0 < (expired_for o t w.clock w.flight).probes → Expires t w
+    expires None is past more = inr (and_from (is_none w.flight.loss_time) (is_past (loss_due w.flight) w.clock) (ap is_none is) past)
     expires (Some moment) is past more = inl more
 
-    go : (b : Bool) → is_past (loss_due t w.flight) w.clock ≡ b → 0 < (if b then expired_for w.flight.loss_time t w.clock w.flight else w.flight).probes → Expires t w
+    go : (b : Bool) → is_past (loss_due w.flight) w.clock ≡ b → 0 < (if b then expired_for w.flight.loss_time t w.clock w.flight else w.flight).probes → Expires t w
     go true past more = expires w.flight.loss_time refl past more
     go false past more = inl more
 
@@ -104,14 +104,14 @@ timely_apart state (calls.Deliver delivery) is = not_timely state is
 timely_apart state call is = refl
 
 -- behind a call probes wait where they did, or where the timer expires at it
-pub told_probes : (l : Lens) (t : Told) (w : Watch) → 0 < (watch_told l t w).flight.probes → (0 < w.flight.probes) ⊎ ((is_timely t.state t.call && (is_none w.flight.loss_time && is_past (loss_due l.terms w.flight) (watch_told l t w).clock)) ≡ true)
+pub told_probes : (l : Lens) (t : Told) (w : Watch) → 0 < (watch_told l t w).flight.probes → (0 < w.flight.probes) ⊎ ((is_timely t.state t.call && (is_none w.flight.loss_time && is_past (loss_due w.flight) (watch_told l t w).clock)) ≡ true)
 told_probes l t w some = go (is_timely t.state t.call) refl (given_fewer (gave t.answer) l (timed_with l t w) some)
   where
     clock : (watch_told l t w).clock ≡ (came_with l t w).clock
     clock = given_clock (gave t.answer) l (timed_with l t w) ∙ moment_clock (is_timely t.state t.call) l.terms (came_with l t w)
 
     go : (b : Bool) → is_timely t.state t.call ≡ b → 0 < (watch_moment b l.terms (came_with l t w)).flight.probes
-        → (0 < w.flight.probes) ⊎ ((b && (is_none w.flight.loss_time && is_past (loss_due l.terms w.flight) (watch_told l t w).clock)) ≡ true)
+        → (0 < w.flight.probes) ⊎ ((b && (is_none w.flight.loss_time && is_past (loss_due w.flight) (watch_told l t w).clock)) ≡ true)
     go false is more = inl (packets_fewer l.terms _ (news w.intake (and_told l.own l.peer_gave t w.intake)) w.flight more)
     go true is more =
         let quiet : came_with l t w ≡ record w { clock = clock_behind w.clock (moment_of t.state false t.call) } = came_quiet l t w (none_comes l t w.intake (timely_apart t.state t.call is)) in
@@ -119,7 +119,7 @@ told_probes l t w some = go (is_timely t.state t.call) refl (given_fewer (gave t
         elim (moment_probes l.terms (came_with l t w) more) [
           | inl waits ↦ inl (subst (λ (f : Flight). 0 < f.probes) same waits)
           | inr expires ↦ inr (
-              ap (λ (n : ℕ). is_none w.flight.loss_time && is_past (loss_due l.terms w.flight) n) clock
-              ∙ ap (λ (f : Flight). is_none f.loss_time && is_past (loss_due l.terms f) (came_with l t w).clock) (sym same)
+              ap (λ (n : ℕ). is_none w.flight.loss_time && is_past (loss_due w.flight) n) clock
+              ∙ ap (λ (f : Flight). is_none f.loss_time && is_past (loss_due f) (came_with l t w).clock) (sym same)
               ∙ expires)
         ]

@@ -1,5 +1,6 @@
 -- What waits of streams, and beside their bytes, behind a poll and behind a call of an application.
-use Rattle.std.proofs.Common.{◌≡◌, ℕ, zero, suc, ◌<◌, ◌≤◌, Bool, true, false, List, [], ◌∷◌, Some, None, refl, sym, ◌∙◌, subst, inl, inr, arith}
+use Rattle.std.proofs.Common.{◌≡◌, ℕ, zero, suc, ◌<◌, ◌≤◌, Bool, true, false, List, [], ◌∷◌, Some, None, refl, sym, ap, ◌∙◌, subst, inl, inr, arith}
+use Rattle.std.proofs.lemmas.Bool.{or_cases}
 use Rattle.quic_send_buffer.specs.Buffered.{IsBuffered, written}
 use Rattle.quic_streams_parts.specs.SendHalf.{SendHalf}
 use Rattle.quic_streams_parts.specs.Table.{Table}
@@ -17,8 +18,8 @@ use Rattle.quic_machine.specs.End.{End, with_closing, streams_at, closed_by}
 use Rattle.quic_machine.specs.Tracking.{TrackedPacket}
 use Rattle.quic_machine.specs.Calls.{is_open, closed_in}
 use Rattle.quic_machine.specs.StreamCalls.{IsStreamAnswer, is_on_streams}
-use Rattle.quic_machine.specs.Poll.{Polled, Ready, polled, record_moved}
-use Rattle.quic_machine.specs.PollCases.{ready_at, draft_at, by_poll_to, may_leave_at}
+use Rattle.quic_machine.specs.Poll.{Polled, Ready, polled, record_moved, probed as probed_end, request_queued, asks_anew}
+use Rattle.quic_machine.specs.PollCases.{ready_at, draft_at, by_poll_to, may_leave_at, probe_leaves}
 use Rattle.quic_machine.specs.InjectionCases.{by_injection}
 use Rattle.quic_machine.specs.LeaveCases.{by_event}
 use Rattle.quic_machine.specs.CallCases.{is_delivery, is_poll, is_timeout}
@@ -29,18 +30,20 @@ use Rattle.quic_machine.specs.declared.answers.State.{State}
 use Rattle.quic_headline.proofs.Packets.Apart.{by_next_id}
 use Rattle.quic_headline.specs.Runs.{In, ended_by}
 use Rattle.quic_headline.specs.Observer.{Sent}
-use Rattle.quic_headline.specs.Begins.{Control, Retirement, control_waits, Thing, Byte, Fin, Frame, Bears, uses_next}
+use Rattle.quic_headline.specs.Begins.{Control, Retirement, control_waits, Thing, Byte, Fin, Frame, Bears, uses_next, Request}
 use Rattle.quic_headline.proofs.Packets.Closes.{by_closes}
-use Rattle.quic_headline.proofs.Packets.Probes.{by_ready, ready_state, by_going}
+use Rattle.quic_headline.proofs.Packets.Probes.{by_readied, ready_state, by_going}
 use Rattle.quic_headline.proofs.Packets.Waited.{IsWaited, AreWaited}
 use Rattle.quic_headline.proofs.Halves.WordsCalls.{call_on_is}
 use Rattle.quic_headline.proofs.Waited.Pings.{ready_still}
 use Rattle.quic_headline.proofs.Begins.Called.{call_asks, call_one}
 use Rattle.quic_headline.proofs.Begins.Halves.{Any, AllPend, pend_kept, pends_more}
 use Rattle.quic_headline.proofs.Begins.OnStreams.{calls_pend}
-use Rattle.quic_headline.proofs.Begins.Walk.{PendsAt, Pends, Sends, moved_pend, draft_pends}
+use Rattle.quic_headline.proofs.Begins.Walk.{PendsAt, Pends, Sends, moved_pend, draft_pends, asked_pend}
 use Rattle.quic_headline.proofs.Begins.Apart.{next_waits, leaves_pend}
 use Rattle.quic_headline.proofs.Begins.Flights.{control_borne}
+use Rattle.quic_headline.proofs.Steps.Probes.{begun}
+use Rattle.quic_headline.proofs.Requests.Asks.{by_of, is_anew, anew_is}
 
 -- what waits at an end is F
 pub record Left (F : Thing → Type 0) (e : End) : Type 0 where
@@ -65,7 +68,7 @@ waited_back [] (q ∷ ps) p w i = absurd w
 waited_back (s ∷ ss) [] p w i = absurd w
 
 module _ (F : Thing → Type 0) (p : Policy) (e : End) (now : ℕ) (flying : List Sent) (waited : AreWaited flying e.tracking.packets)
-    (probed : 0 < e.tracking.probes → (s : Sent) → In s flying → (c : Control) → Bears s (Frame c) → F (Frame c)) (i : Pends F e) where
+    (probed : 0 < e.tracking.probes → (s : Sent) → In s flying → (c : Control) → Bears s (Frame c) → F (Frame c)) (asked : is_anew (by_of e) ≡ true → F (Frame Request)) (i : Pends F e) where
   abbrev g : Ready
   g = ready_at e now
 
@@ -75,12 +78,19 @@ module _ (F : Thing → Type 0) (p : Policy) (e : End) (now : ℕ) (flying : Lis
       let found = waited_back flying e.tracking.packets q waited among in
       moved_pend F e.streams e.waiting.frames q.1.carried (λ c waits. probed some found.0 found.1 c (control_borne found.0 q.1.carried found.2.carried c waits)) i
 
+  -- where ACK_FREQUENCY is queued, it waited, or the peer is to be asked
+  queued_pend : (x : End) → by_of x ≡ by_of e → Pends F x → Pends F (request_queued x)
+  queued_pend x same j = asked_pend F x.streams x.waiting.frames (request_queued x).waiting.frames.ack_frequency (λ waits. elim (or_cases (asks_anew x.transport.ack_frequency_config x) x.waiting.frames.ack_frequency waits) [
+    | inl anew ↦ asked (ap is_anew (sym same) ∙ sym (anew_is x) ∙ anew)
+    | inr was ↦ j.controls Request was
+  ]) j
+
   ready_pends : Pends F g.end
   ready_pends = go e.tracking.probes refl
     where
       go : (n : ℕ) → e.tracking.probes ≡ n → Pends F g.end
-      go zero none = subst (λ (w : Waiting). PendsAt F g.end.streams w.frames) (sym (ready_still e now none)) (subst (λ (s : StreamsState). PendsAt F s e.waiting.frames) (sym (ready_state e now)) i)
-      go (suc n) some = by_ready (Pends F) e now i i (λ q among. moved (omega (arith, some)) q among) (λ moment pacing discovery x j. j)
+      go zero none = subst (λ (w : Waiting). PendsAt F g.end.streams w.frames) (sym (ready_still e now none)) (subst (λ (s : StreamsState). PendsAt F s (request_queued (begun e now)).waiting.frames) (sym (ready_state e now)) (queued_pend (begun e now) refl i))
+      go (suc n) some = by_readied (Pends F) e now i (λ ping immediate x j. j) (λ j. queued_pend (probed_end (begun e now)) (ap by_of (probe_leaves (begun e now))) j) (λ q among. moved (omega (arith, some)) q among) (λ moment pacing discovery x j. j)
 
   pub polled_left : (polled p e now).end.closing.state ≡ states.Open → Left F (polled p e now).end
   polled_left = by_poll_to p e now (λ (q : Polled). q.end.closing.state ≡ states.Open → Left F q.end) (record {

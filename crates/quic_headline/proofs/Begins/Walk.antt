@@ -1,6 +1,6 @@
 -- What waits of streams at an end, and beside their bytes, is F: each step of a datagram that
 -- comes, of losses, and of a datagram that goes, keeps that, where what it makes wait is F.
-use Rattle.std.proofs.Common.{◌≡◌, ℕ, ◌<◌, ◌≤◌, Bool, true, List, [], ◌∷◌, refl, inl, inr}
+use Rattle.std.proofs.Common.{◌≡◌, ℕ, ◌<◌, ◌≤◌, Bool, true, List, [], ◌∷◌, refl, inl, inr, subst, false, sym}
 use Rattle.std.proofs.lemmas.Bool.{or_left, or_right}
 use Rattle.quic_wire.specs.Value.{FrameValue, stream, reset_stream, stop_sending, max_data, max_stream_data, max_streams}
 use Rattle.quic_send_buffer.specs.declared.stream_meta.StreamMeta.{StreamMeta}
@@ -25,11 +25,11 @@ use Rattle.quic_machine.specs.DraftLaws.{Writing, by_leave, MayLeave}
 use Rattle.quic_machine.specs.Puts as puts
 use Rattle.quic_headline.specs.Runs.{In}
 use Rattle.quic_headline.specs.Duties.{AllData, StreamData, StreamCount, has_retirement, has_new_id}
-use Rattle.quic_headline.specs.Begins.{Control, LimitOf, NewId, Retirement, control_waits, Thing, Byte, Fin, Frame, brings_data}
+use Rattle.quic_headline.specs.Begins.{Control, LimitOf, NewId, Retirement, control_waits, Thing, Byte, Fin, Frame, brings_data, Request}
 use Rattle.quic_headline.proofs.Packets.Flying.{acked_keep}
 use Rattle.quic_headline.proofs.Grown.Flags.{Decides}
 use Rattle.quic_headline.proofs.Grown.Flags as limits
-use Rattle.quic_headline.proofs.Begins.Controls.{merged_one, fewer_wait}
+use Rattle.quic_headline.proofs.Begins.Controls.{merged_one, fewer_wait, asked_one}
 use Rattle.quic_headline.proofs.Begins.Called.{Grew, IsRaised, frame_one, acked_one, reset_acked_one}
 use Rattle.quic_headline.proofs.Begins.Halves.{PendsIn, AllPend, pend_kept, pends_more, pends_acked, pends_lost, pends_went}
 use Rattle.quic_streams_laws.specs.WrittenHalves.{nothing_lawful}
@@ -72,6 +72,10 @@ ids_pend F s p ids retired told retires i = record { controls = waits; halves = 
     waits (LimitOf (StreamCount dir)) is = i.controls (LimitOf (StreamCount dir)) is
     waits c is = i.controls c is
 
+-- whether or not ACK_FREQUENCY waits, where it is F if it does
+pub asked_pend : (F : Thing → Type 0) (s : StreamsState) (p : Retransmits) (waits : Bool) → (waits ≡ true → F (Frame Request)) → PendsAt F s p → PendsAt F s (record p { ack_frequency = waits })
+asked_pend F s p waits asked i = record { controls = λ c is. elim (asked_one c waits p is) [ inl was ↦ i.controls c was | inr new ↦ subst (λ (d : Control). F (Frame d)) (sym new.0) (asked new.1) ]; halves = i.halves; grew = i.grew }
+
 module _ (F : Thing → Type 0) where
   -- each small change of streams keeps what waits of their halves, where that of the half does
   abbrev k : KeepsBy (λ r id old new. Unit {0}) (λ s id old new. PendsIn IsBuffered F id old → PendsIn IsBuffered F id new) (λ s id n old new. PendsIn IsBuffered F id old → PendsIn IsBuffered F id new) (AllPend IsBuffered F)
@@ -101,7 +105,7 @@ module _ (F : Thing → Type 0) where
     }
 
     pub acked_pend : (ps : Table TrackedPacket) (e : End) → Pends F e → Pends F (packets_acked ps e)
-    acked_pend = acked_keep (Pends F) (λ d e i. i) (λ n e i. i) reset_frame_acked frame_acked
+    acked_pend = acked_keep (Pends F) (λ d e i. i) (λ n e i. i) (λ n e i. i) reset_frame_acked frame_acked
 
   -- ---- a packet is lost
 
@@ -179,6 +183,7 @@ module _ (F : Thing → Type 0) where
       keep (puts.drops kind) d may j = record { controls = λ c is. j.controls c (fewer_wait c kind d.end.waiting.frames is); halves = j.halves }
       keep (puts.control kind f) d may j = record { controls = λ c is. j.controls c (fewer_wait c kind d.end.waiting.frames is); halves = by_told (AllPend IsBuffered F) k f d.end.streams j.halves }
       keep (puts.stream id h room) d (found, first, some, is, more) j = record { controls = j.controls; halves = by_half_frame (AllPend IsBuffered F) k d.end.transport.send_fairness d.end.streams id room h found (λ x. pends_went F id h room x) j.halves }
+      keep puts.request d may j = record { controls = λ c is. elim (asked_one c false d.end.waiting.frames is) [ inl was ↦ j.controls c was | inr asked ↦ absurd (let clash : false ≡ true = asked.1 in cc) ]; halves = j.halves }
       keep p d may j = record { controls = j.controls; halves = j.halves }
 
       none : (l : Leaving) → Sends (no_frames (lazied_as l e))

@@ -9,7 +9,7 @@ use Rattle.quic_wire_core.specs.declared.stream_id.Side.{Side}
 use Rattle.quic_wire_core.specs.declared.stream_id.Side.TheVariants.{Client, Server}
 use Rattle.quic_wire_core.specs.StreamId.{dir_of, index_of}
 use Rattle.quic_wire_core.specs.TransportError.{ErrorValue}
-use Rattle.quic_wire.specs.Value.{FrameValue, AckValue, StreamValue, NewConnectionIdValue, ack, stream, reset_stream, new_token, handshake_done, datagram, connection_close, application_close, path_challenge, path_response, new_connection_id, retire_connection_id}
+use Rattle.quic_wire.specs.Value.{FrameValue, AckValue, StreamValue, NewConnectionIdValue, ack, stream, reset_stream, new_token, handshake_done, datagram, connection_close, application_close, path_challenge, path_response, new_connection_id, retire_connection_id, AckFrequencyValue, ack_frequency}
 use Rattle.quic_assembler.specs.declared.assembler.TheConstants.{MOST_PIECES}
 use Rattle.quic_assembler.specs.Arrived.{is_given, waits, runs_of}
 use Rattle.quic_assembler.proofs.Arrived.Lawful.{given_waits_not}
@@ -40,7 +40,8 @@ use Rattle.quic_streams_laws.specs.Kept.{IsKeptHalf, IsKeptStatus, HoldsTaken, T
 use Rattle.quic_streams_laws.specs.TakenLaws.{goes_on_kept, taken_stream}
 use Rattle.quic_machine.specs.End.{End, side_of}
 use Rattle.quic_machine.specs.Ids.{frame_of, retires_for}
-use Rattle.quic_machine.specs.Receive.{Fault, too_many_pieces, fault_of, fault_at, names_ungiven, Progress, message_judged, retired_for, id_judged, retirement_judged, take_frame, unless_fault, take_items}
+use Rattle.quic_recovery_core.specs.AckFrequency.{is_stale}
+use Rattle.quic_machine.specs.Receive.{Fault, too_many_pieces, fault_of, fault_at, names_ungiven, Progress, message_judged, retired_for, id_judged, retirement_judged, take_frame, unless_fault, take_items, asks_too_soon, frequency_judged}
 use Rattle.quic_machine.specs.FrameCases.{passed, ack_taken, frames_leave}
 use Rattle.quic_messages.specs.Messages.{received_answer}
 use Rattle.quic_messages.specs.declared.errors.ReceivedError.{ReceivedError}
@@ -154,6 +155,12 @@ retirement_apart : (r : Result Bool ErrorValue) (n : ℕ) (e : End) → (retirem
 retirement_apart (Ok more) n e is = cc
 retirement_apart (Err error) n e is = cc
 
+-- nor is one of how often to acknowledge
+frequency_apart : (stale soon : Bool) (f : AckFrequencyValue) (e : End) → (frequency_judged stale soon f e).fault ≡ Some too_many_pieces → ⊥
+frequency_apart true soon f e is = cc
+frequency_apart false true f e is = cc
+frequency_apart false false f e is = cc
+
 crowds : (f : FrameValue) (e : End) → (take_frame f e).fault ≡ Some too_many_pieces → Crowds f e
 crowds (stream g) e is = record { frame = g; is = refl; breach = pieces_of (stream_breach e.streams g) is }
 crowds (reset_stream g) e is = absurd (refusal_apart e.streams g.id g.final_size true (pieces_of (reset_breach e.streams g) is))
@@ -166,6 +173,7 @@ crowds (application_close c) e is = cc
 crowds (path_challenge token) e is = cc
 crowds (path_response token) e is = cc
 crowds (new_connection_id f) e is = absurd (id_apart (retires_for (insert_answer e.ids.peer (frame_of f))) f e is)
+crowds (ack_frequency f) e is = absurd (frequency_apart (is_stale e.frequency.last f.sequence) (asks_too_soon f) f e is)
 crowds (retire_connection_id n) e is = absurd (retirement_apart (retirement_answer e.ids.own n e.ids.limit) n e is)
 crowds f e is = absurd (rule_apart e.streams (id_rule f) (pieces_of (broken e.streams (id_rule f)) is))
 

@@ -8,7 +8,7 @@ use Rattle.quic_wire_core.specs.declared.stream_id.Side.{Side}
 use Rattle.quic_wire_core.specs.declared.stream_id.Dir.{Dir}
 use Rattle.quic_wire_core.specs.declared.stream_id.Dir.TheVariants.{Bi, Uni}
 use Rattle.quic_wire_core.specs.StreamId.{dir_of}
-use Rattle.quic_wire.specs.Value.{FrameValue, StopSendingValue, StreamCountValue, ack, stream, reset_stream, stop_sending, max_data, max_stream_data, max_streams, datagram, new_connection_id, retire_connection_id, path_response}
+use Rattle.quic_wire.specs.Value.{FrameValue, StopSendingValue, StreamCountValue, ack, stream, reset_stream, stop_sending, max_data, max_stream_data, max_streams, datagram, new_connection_id, retire_connection_id, path_response, ack_frequency}
 use Rattle.quic_assembler.specs.declared.assembler.Chunk.{Chunk}
 use Rattle.quic_send_buffer.specs.declared.stream_meta.StreamMeta.{StreamMeta}
 use Rattle.quic_streams_parts.specs.declared.answers.Breach.{Breach}
@@ -316,6 +316,7 @@ module _ (K : Side → Counts → Counts → Events → List ℕ → Type 0) (mo
   listed_frame (new_connection_id g) e opens tells i = apart_leaves (λ (x : End). Listed x.streams) (new_connection_id g) e tt (λ c. i) (λ c most. i)
   listed_frame (retire_connection_id n) e opens tells i = apart_leaves (λ (x : End). Listed x.streams) (retire_connection_id n) e tt (λ c. i) (λ c most. i)
   listed_frame (path_response token) e opens tells i = apart_leaves (λ (x : End). Listed x.streams) (path_response token) e tt (λ c. i) (λ c most. i)
+  listed_frame (ack_frequency r) e opens tells i = apart_leaves (λ (x : End). Listed x.streams) (ack_frequency r) e tt (λ c. i) (λ c most. i)
   listed_frame f e opens tells i = i
 
 -- a fact of the same but for the streams that are blocked

@@ -8,7 +8,7 @@ use Rattle.quic_wire_core.specs.declared.stream_id.Side.TheVariants.{Client, Ser
 use Rattle.quic_wire_core.specs.declared.stream_id.Dir.{Dir}
 use Rattle.quic_wire_core.specs.declared.stream_id.Dir.TheVariants.{Bi, Uni}
 use Rattle.quic_wire_core.specs.StreamId.{initiator_of, dir_of, index_of, other_side, side_bit}
-use Rattle.quic_wire.specs.Value.{FrameValue, stream, reset_stream, stop_sending, max_stream_data, max_streams, new_token, handshake_done}
+use Rattle.quic_wire.specs.Value.{FrameValue, stream, reset_stream, stop_sending, max_stream_data, max_streams, new_token, handshake_done, ack_frequency}
 use Rattle.quic_config.specs.Transport.{parameters_of}
 use Rattle.quic_streams_parts.specs.declared.answers.Breach.{Breach}
 use Rattle.quic_streams_parts.specs.declared.answers.Breach.TheVariants.{StreamLimit, StreamState, FrameEncoding}
@@ -270,6 +270,7 @@ module _ (s t : StreamsState) (k : Counted (KnowsCounts s) t) (back : Counted (K
   ids_pass (max_streams f) is = rule_passes (Counting f.count) (omega arith)
   ids_pass (new_token x) is = absurd is
   ids_pass handshake_done is = absurd is
+  ids_pass (ack_frequency f) is = refl
   ids_pass f is = rule_passes (id_rule f) is
 
 -- ---- and stays so

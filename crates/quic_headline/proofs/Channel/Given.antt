@@ -1,13 +1,13 @@
 -- Frames that an end may give: of streams that it knows, and counts that it keeps; and so they
 -- stay, since streams only open and counts only grow.
-use Rattle.std.proofs.Common.{◌≡◌, ℕ, zero, suc, ◌+◌, ◌≤◌, Bool, true, false, not, List, [], ◌∷◌, ◌++◌, replicate, Option, Some, None, refl, sym, ap, ◌∙◌, subst, inl, inr, arith}
-use Rattle.std.specs.Prelude.{◌&&◌, ◌||◌}
-use Rattle.std.proofs.lemmas.Bool.{and_parts, cond_both}
+use Rattle.std.proofs.Common.{◌≡◌, ℕ, zero, suc, ◌+◌, ◌≤◌, Bool, true, false, not, List, [], ◌∷◌, ◌++◌, replicate, Option, Some, None, refl, sym, ap, ◌∙◌, subst, inl, inr, arith, ltb}
+use Rattle.std.specs.Prelude.{◌&&◌, ◌||◌, max, min, unwrap_or, ◌/◌}
+use Rattle.std.proofs.lemmas.Bool.{and_parts, cond_both, le-ltb}
 use Rattle.quic_wire_core.specs.declared.stream_id.Dir.{Dir}
 use Rattle.quic_wire_core.specs.declared.stream_id.Dir.TheVariants.{Bi, Uni}
 use Rattle.quic_wire_core.specs.declared.stream_id.Side.{Side}
 use Rattle.quic_wire_core.specs.StreamId.{dir_of, index_of}
-use Rattle.quic_wire.specs.Value.{FrameValue, StopSendingValue, padding, stream, reset_stream, stop_sending, max_stream_data, max_streams, stream_data_blocked, streams_blocked, new_token, handshake_done}
+use Rattle.quic_wire.specs.Value.{FrameValue, StopSendingValue, padding, stream, reset_stream, stop_sending, max_stream_data, max_streams, stream_data_blocked, streams_blocked, new_token, handshake_done, ack_frequency}
 use Rattle.quic_streams_parts.specs.Dirs.{of, is_own, is_two_way}
 use Rattle.quic_streams_parts.specs.Table.{at}
 use Rattle.quic_streams_parts.specs.SendHalf.{SendHalf, frame_of}
@@ -39,8 +39,8 @@ use Rattle.quic_machine.specs.Policy.{Policy}
 use Rattle.quic_machine.specs.Tracking.{TrackedPacket, dir_named}
 use Rattle.quic_headline.proofs.Packets.Probes.{ready_streams, ready_state}
 use Rattle.quic_machine.specs.End.{End}
-use Rattle.quic_machine.specs.Receive.{take_frame}
-use Rattle.quic_machine.specs.Poll.{zeros_behind, Draft, draft_as, with_ack, no_frames, Leaving}
+use Rattle.quic_machine.specs.Receive.{take_frame, asks_too_soon}
+use Rattle.quic_machine.specs.Poll.{zeros_behind, Draft, draft_as, with_ack, no_frames, Leaving, request_of, frequency_settings, written}
 use Rattle.quic_machine.specs.DraftLaws.{Writing, MayLeave, by_leave}
 use Rattle.quic_machine.specs.Puts as puts
 use Rattle.quic_machine.specs.PollCases.{ready_at, draft_at, frames_at, may_leave_at}
@@ -52,6 +52,10 @@ use Rattle.quic_headline.proofs.Packets.Growth.{in_more}
 use Rattle.quic_headline.proofs.Places.Told.{in_append}
 use Rattle.quic_headline.proofs.Halves.QuietSteps.{frame_quiet}
 use Rattle.quic_headline.proofs.Halves.ReadCalls.{any_kept, call_kept}
+use Rattle.quic_headline.proofs.Packets.Entries.{without_asks}
+use Rattle.quic_recovery_core.specs.AckFrequency.{micros, least_delay, usual_delay}
+use Rattle.quic_time.specs.Clocks.{granularity}
+use Rattle.quic_time.specs.Rtt.{best_rtt}
 
 -- ---- what grows
 
@@ -114,12 +118,13 @@ frames_grow fs e = frames_keep (λ (x : End). Grown e.streams x.streams) (frame_
 
 -- ---- what may be given
 
--- a frame of such a stream as its rule asks, or of a count that the end keeps; and none that it
--- never gives
+-- a frame of such a stream as its rule asks, of a count that the end keeps, or one that asks for no
+-- less than the peer lets acknowledgements wait; and none that it never gives
 abbrev pub Given : StreamsState → FrameValue → Type 0
 Given s (max_streams f) = f.count ≤ raised_count (dir_named f.one_way) s.opening
 Given s (new_token t) = ⊥
 Given s handshake_done = ⊥
+Given s (ack_frequency f) = asks_too_soon f ≡ false
 Given s f = MayGiveBy s (id_rule f)
 
 module _ (s t : StreamsState) (g : Grown s t) where
@@ -144,6 +149,7 @@ module _ (s t : StreamsState) (g : Grown s t) where
   given_grows (max_streams f) is = let more = g.3 (dir_named f.one_way) in omega arith
   given_grows (new_token t) is = is
   given_grows handshake_done is = is
+  given_grows (ack_frequency f) is = is
   given_grows f is = rule_grows (id_rule f) is
 
 -- ---- what waits, and goes
@@ -185,84 +191,123 @@ module _ (s : StreamsState) (shape : IsShaped s) where
   goes_given p stops (streams_blocked f) goes = absurd goes
   goes_given p stops (new_token t) goes = absurd goes
   goes_given p stops handshake_done goes = absurd goes
+  goes_given p stops (ack_frequency f) goes = absurd goes
   goes_given p stops f goes = tt
 
 fewer_stops : (s : StreamsState) (kind : ControlKind) (p : Retransmits) → StopsHold s p → StopsHold s (without_first kind p)
 fewer_stops s StopSending p stops r i = stops r (in_others r p.stop_sending i)
 fewer_stops s kind p stops r i = stops r i
 
+-- the peer takes ACK_FREQUENCY, and then it lets acknowledgements wait for 1 ms
+abbrev pub Obeys : End → Type 0
+Obeys e = e.peer_params.min_ack_delay ≡ Some 1000
+
+-- then no less is asked for
+pub obeys_enough : (e : End) → Obeys e → asks_too_soon (request_of e) ≡ false
+obeys_enough e is =
+    let least : least_delay e.peer_params.min_ack_delay ≡ least_delay (Some 1000) = ap least_delay is in
+    enough (unwrap_or (frequency_settings e).max_delay e.frequency.peer_delay) (max (best_rtt e.path.rtt) usual_delay) (least_delay e.peer_params.min_ack_delay) least
+  where
+    enough : (a b n : ℕ) → n ≡ 1000000 → ltb (micros (written (max (min a b) n / 1000))) granularity ≡ false
+    enough a b n same = le-ltb (micros (written (max (min a b) n / 1000))) granularity (
+        let least : 1000 ≤ max (min a b) n / 1000 = omega arith in
+        let said : 1000 ≤ written (max (min a b) n / 1000) = omega arith in
+        omega arith)
+
+-- ACK_FREQUENCY is given where this is so
+abbrev pub Asks : Type 0 → FrameValue → Type 0
+Asks A (ack_frequency g) = A
+Asks A f = Unit {0}
+
+-- a frame that may be given, and if it is ACK_FREQUENCY, where this is so
+abbrev pub May : StreamsState → Type 0 → FrameValue → Type 0
+May s A f = Given s f × Asks A f
+
+-- frames of control aren't ACK_FREQUENCY
+control_asks : (A : Type 0) (s : StreamsState) (p : Retransmits) (f : FrameValue) → control.Goes p s f → Asks A f
+control_asks A s p (ack_frequency f) goes = absurd goes
+control_asks A s p f goes = tt
+
 -- frames of a draft may be given by an end that has these streams, and the draft's streams are of
--- the same ids and counts
-record Goes (s : StreamsState) (d : Draft) : Type 0 where
+-- the same ids and counts; and ACK_FREQUENCY waits where the peer obeys, and this is so
+record Goes (s : StreamsState) (A : Type 0) (d : Draft) : Type 0 where
   shape : IsShaped d.end.streams
   back : Grown d.end.streams s
   stops : StopsHold d.end.streams d.end.waiting.frames
-  frames : (f : FrameValue) → In f d.frames → Given s f
+  late : d.end.waiting.frames.ack_frequency ≡ true → Obeys d.end × A
+  frames : (f : FrameValue) → In f d.frames → May s A f
 
-module _ (s : StreamsState) where
-  more_given : (fs : List FrameValue) (g : FrameValue) → ((f : FrameValue) → In f fs → Given s f) → Given s g → (f : FrameValue) → In f (fs ++ g ∷ []) → Given s f
-  more_given fs g all one f i = elim (in_more f g fs i) [ inl old ↦ all f old | inr new ↦ subst (Given s) (sym new) one ]
+module _ (s : StreamsState) (A : Type 0) where
+  more_given : (fs : List FrameValue) (g : FrameValue) → ((f : FrameValue) → In f fs → May s A f) → May s A g → (f : FrameValue) → In f (fs ++ g ∷ []) → May s A f
+  more_given fs g all one f i = elim (in_more f g fs i) [ inl old ↦ all f old | inr new ↦ subst (May s A) (sym new) one ]
 
-  told_goes : (d : Draft) (f : FrameValue) → Goes s d → IsShaped (frame_told f d.end.streams) × Grown (frame_told f d.end.streams) s × StopsHold (frame_told f d.end.streams) d.end.waiting.frames
+  told_goes : (d : Draft) (f : FrameValue) → Goes s A d → IsShaped (frame_told f d.end.streams) × Grown (frame_told f d.end.streams) s × StopsHold (frame_told f d.end.streams) d.end.waiting.frames
   told_goes d f g = by_tells (λ (t : StreamsState). IsShaped t × Grown t s × StopsHold t d.end.waiting.frames) d.end.streams (g.shape, g.back, g.stops)
       (shape_any changes.tells d.end.streams tt g.shape, g.back, g.stops)
       (λ id. (by_limit_told IsShaped shape_any d.end.streams id g.shape, g.back, g.stops))
       (λ dir. (shape_any (changes.tells_count dir) d.end.streams tt g.shape, g.back, g.stops))
       f
 
-  acked_goes : (d : Draft) → Goes s d → Goes s (with_ack d)
-  acked_goes d g = record { shape = g.shape; back = g.back; stops = g.stops; frames = more_given d.frames _ g.frames tt }
+  acked_goes : (d : Draft) → Goes s A d → Goes s A (with_ack d)
+  acked_goes d g = record { shape = g.shape; back = g.back; stops = g.stops; late = g.late; frames = more_given d.frames _ g.frames (tt, tt) }
 
-  goes_on : Writing (Goes s)
+  goes_on : Writing (Goes s A)
   goes_on puts.ack d may g = acked_goes d g
-  goes_on (puts.drops kind) d may g = record { shape = g.shape; back = g.back; stops = fewer_stops d.end.streams kind d.end.waiting.frames g.stops; frames = g.frames }
+  goes_on (puts.drops kind) d may g = record { shape = g.shape; back = g.back; stops = fewer_stops d.end.streams kind d.end.waiting.frames g.stops; late = λ set. g.late (sym (without_asks kind d.end.waiting.frames) ∙ set); frames = g.frames }
   goes_on (puts.control kind f) d is g =
       let t = told_goes d f g in
       record {
         shape = t.0;
         back = t.1;
         stops = fewer_stops (frame_told f d.end.streams) kind d.end.waiting.frames t.2;
-        frames = more_given d.frames f g.frames (given_grows d.end.streams s g.back f (goes_given d.end.streams g.shape d.end.waiting.frames g.stops f is.says));
+        late = λ set. g.late (sym (without_asks kind d.end.waiting.frames) ∙ set);
+        frames = more_given d.frames f g.frames (given_grows d.end.streams s g.back f (goes_given d.end.streams g.shape d.end.waiting.frames g.stops f is.says), control_asks A d.end.streams d.end.waiting.frames f is.says);
       }
   goes_on (puts.stream id h room) d (found, first, some, is, counts) g = record {
     shape = by_frame IsShaped shape_any d.end.transport.send_fairness d.end.streams id room h found tt g.shape;
     back = g.back;
     stops = g.stops;
-    frames = more_given d.frames (stream (frame_of id h room)) g.frames (given_grows d.end.streams s g.back (stream (frame_of id h room)) (live_sends d.end.streams g.shape id h found));
+    late = g.late;
+    frames = more_given d.frames (stream (frame_of id h room)) g.frames (given_grows d.end.streams s g.back (stream (frame_of id h room)) (live_sends d.end.streams g.shape id h found), tt);
   }
-  goes_on p d may g = record { shape = g.shape; back = g.back; stops = g.stops; frames = more_given d.frames _ g.frames tt }
+  goes_on puts.request d set g =
+      let waited = g.late set in
+      record { shape = g.shape; back = g.back; stops = g.stops; late = λ none. cc; frames = more_given d.frames (ack_frequency (request_of d.end)) g.frames (obeys_enough d.end waited.0, waited.1) }
+  goes_on p d may g = record { shape = g.shape; back = g.back; stops = g.stops; late = g.late; frames = more_given d.frames _ g.frames (tt, tt) }
 
-  draft_goes : (leaving : Leaving) (e : End) → MayLeave leaving e → Goes s (no_frames e) → Goes s (draft_as leaving e)
-  draft_goes leaving e may first = by_leave (Goes s) goes_on leaving e may (record { shape = first.shape; back = first.back; stops = first.stops; frames = first.frames })
+  draft_goes : (leaving : Leaving) (e : End) → MayLeave leaving e → Goes s A (no_frames e) → Goes s A (draft_as leaving e)
+  draft_goes leaving e may first = by_leave (Goes s A) goes_on leaving e may (record { shape = first.shape; back = first.back; stops = first.stops; late = first.late; frames = first.frames })
 
-  padded_given : (fs : List FrameValue) (count : ℕ) → ((f : FrameValue) → In f fs → Given s f) → (f : FrameValue) → In f (fs ++ replicate count padding) → Given s f
+  padded_given : (fs : List FrameValue) (count : ℕ) → ((f : FrameValue) → In f fs → May s A f) → (f : FrameValue) → In f (fs ++ replicate count padding) → May s A f
   padded_given fs count all f i = elim (in_append f fs (replicate count padding) i) [ inl here ↦ all f here | inr behind ↦ zeros count behind ]
     where
-      zeros : (n : ℕ) → In f (replicate n padding) → Given s f
+      zeros : (n : ℕ) → In f (replicate n padding) → May s A f
       zeros zero i = absurd i
-      zeros (suc n) (inl is) = subst (Given s) (sym is) tt
+      zeros (suc n) (inl is) = subst (May s A) (sym is) (tt, tt)
       zeros (suc n) (inr i) = zeros n i
 
 -- the frames that an end gives at a moment, if what its tracked packets carried stops only such
--- streams
-pub polled_given : (e : End) (now : ℕ) → IsShaped e.streams → StopsHold e.streams e.waiting.frames → ((n : ℕ) (t : TrackedPacket) → In (n, t) e.tracking.packets → StopsHold e.streams t.carried.retransmits) → (f : FrameValue) → In f (frames_at e now) → Given e.streams f
-polled_given e now shape stops carried =
+-- streams, and where ACK_FREQUENCY waits only where the peer obeys
+pub polled_given : (A : Type 0) (e : End) (now : ℕ) → IsShaped e.streams → StopsHold e.streams e.waiting.frames → ((n : ℕ) (t : TrackedPacket) → In (n, t) e.tracking.packets → StopsHold e.streams t.carried.retransmits)
+    → ((ready_at e now).end.waiting.frames.ack_frequency ≡ true → Obeys (ready_at e now).end × A) → (f : FrameValue) → In f (frames_at e now) → May e.streams A f
+polled_given A e now shape stops carried late =
     let d : Draft = draft_at e now in
-    padded_given e.streams d.frames (zeros_behind d) (draft_goes e.streams (ready_at e now).leaving (ready_at e now).end (may_leave_at e now) ready).frames
+    padded_given e.streams A d.frames (zeros_behind d) (draft_goes e.streams A (ready_at e now).leaving (ready_at e now).end (may_leave_at e now) ready).frames
   where
     -- what waits, with what a packet carried
     more : (n : ℕ) (t : TrackedPacket) → In (n, t) e.tracking.packets → StopsHold e.streams (merged e.waiting.frames t.carried.retransmits)
     more n t among r i = elim (in_append r e.waiting.frames.stop_sending t.carried.retransmits.stop_sending i) [ inl old ↦ stops r old | inr new ↦ carried n t among r new ]
 
     stopped : StopsHold e.streams (ready_at e now).end.waiting.frames
-    stopped = ready_streams (λ (t : Streams). StopsHold e.streams t.pending) e now stops more
+    stopped = ready_streams (λ (t : Streams). StopsHold e.streams t.pending) e now stops (λ waits t i. i) more
 
-    ready : Goes e.streams (no_frames (ready_at e now).end)
+    ready : Goes e.streams A (no_frames (ready_at e now).end)
     ready =
         let same : (ready_at e now).end.streams ≡ e.streams = ready_state e now in
         record {
           shape = subst IsShaped (sym same) shape;
           back = subst (λ (t : StreamsState). Grown t e.streams) (sym same) (grown_same e.streams);
           stops = subst (λ (t : StreamsState). StopsHold t (ready_at e now).end.waiting.frames) (sym same) stopped;
+          late = late;
           frames = λ f i. absurd i;
         }

@@ -6,7 +6,7 @@ use Rattle.std.specs.Option.{IsSome}
 use Rattle.std.proofs.lemmas.Bool.{cond_both}
 use Rattle.std.proofs.lemmas.List.{append-nil}
 use Rattle.quic_wire_core.specs.StreamId.{dir_of}
-use Rattle.quic_wire.specs.Value.{FrameValue, ack, stream, reset_stream, stop_sending, max_data, max_stream_data, max_streams, datagram, new_connection_id, retire_connection_id, path_response}
+use Rattle.quic_wire.specs.Value.{FrameValue, ack, stream, reset_stream, stop_sending, max_data, max_stream_data, max_streams, datagram, new_connection_id, retire_connection_id, path_response, ack_frequency}
 use Rattle.quic_send_buffer.specs.Buffered.{written}
 use Rattle.quic_streams_parts.specs.Dirs.{is_own, is_two_way}
 use Rattle.quic_streams_parts.specs.Table.{at}
@@ -170,6 +170,7 @@ module _ (t : StreamsState) where
   frame_heard (new_connection_id g) e told i = apart_leaves (λ (x : End). Heard t x.streams) (new_connection_id g) e tt (λ c. i) (λ c most. i)
   frame_heard (retire_connection_id n) e told i = apart_leaves (λ (x : End). Heard t x.streams) (retire_connection_id n) e tt (λ c. i) (λ c most. i)
   frame_heard (path_response token) e told i = apart_leaves (λ (x : End). Heard t x.streams) (path_response token) e tt (λ c. i) (λ c most. i)
+  frame_heard (ack_frequency r) e told i = apart_leaves (λ (x : End). Heard t x.streams) (ack_frequency r) e tt (λ c. i) (λ c most. i)
   frame_heard other e told i = i
 
   -- and several

@@ -7,7 +7,7 @@ use Rattle.std.specs.List.{list_any, range_with_len}
 use Rattle.std.specs.declared.ops.Range.{Range}
 use Rattle.quic_wire_core.specs.TransportError.{ErrorValue, plain_error, protocol_violation}
 use Rattle.quic_wire_core.specs.declared.shared.IssuedCid.{IssuedCid}
-use Rattle.quic_wire.specs.Value.{FrameValue, AckValue, NewConnectionIdValue, ack, stream, reset_stream, stop_sending, max_data, max_stream_data, max_streams, datagram, path_response, new_connection_id, retire_connection_id}
+use Rattle.quic_wire.specs.Value.{FrameValue, AckValue, NewConnectionIdValue, ack, stream, reset_stream, stop_sending, max_data, max_stream_data, max_streams, datagram, path_response, new_connection_id, retire_connection_id, ack_frequency}
 use Rattle.quic_ids.specs.CidState.{is_wrong, without, retirement_answer}
 use Rattle.quic_ids.specs.CidQueue.{kept_ids, insert_answer}
 use Rattle.quic_ids.specs.declared.cid_queue.InsertError.{InsertError}
@@ -26,17 +26,17 @@ use Rattle.quic_machine.specs.Machine.{after_call}
 use Rattle.quic_machine.specs.MessageCalls.{most_message}
 use Rattle.quic_machine.specs.Sizes.{without_longer_if, shortened}
 use Rattle.quic_machine.specs.Ids.{Ids, Drawing, words_behind, words_of_id, drawn_id, undrawn_id, retired, may_issue, issued_one, drawn_one, drawn_places, frame_of, retires_for, retires_for_next, next_used}
-use Rattle.quic_machine.specs.IdFrames.{retiring, with_taken_up, issued_if, next_id_taken, end_on_next_id, drawn}
+use Rattle.quic_machine.specs.IdFrames.{retiring, with_taken_up, issued_if, issues_for, next_id_taken, end_on_next_id, drawn}
 use Rattle.quic_machine.specs.Validation.{word_of, validated_if}
 use Rattle.quic_machine.specs.End.{End, with_closing, with_ids, closed_by, words_drawn}
 use Rattle.quic_machine.specs.Receive.{Outcome, asks_in, after_taken, drained_at, reason_of, names_ungiven, retired_for, id_judged, retirement_judged, take_frame}
-use Rattle.quic_machine.specs.FrameCases.{IsApart, passed, begun, losses_keep, frame_leaves}
+use Rattle.quic_machine.specs.FrameCases.{IsApart, passed, begun, losses_keep, frame_leaves, issues_may}
 use Rattle.quic_machine.specs.Steps.{after}
 use Rattle.quic_headline.specs.Runs.{In, Packet, Intake}
 use Rattle.quic_headline.specs.Observer.{Sent}
 use Rattle.quic_headline.proofs.Places.Told.{in_append}
 use Rattle.quic_headline.proofs.Packets.Invariant.{AreTracked}
-use Rattle.quic_headline.proofs.Packets.Apart.{by_waits}
+use Rattle.quic_headline.proofs.Packets.Apart.{by_waits, by_frequency}
 use Rattle.quic_headline.proofs.Packets.Delivered.{Arrivals, arrived}
 use Rattle.quic_headline.proofs.Packets.Named.{NamesTaken, Stands, SettlesOn, by_frame, frames_settle}
 use Rattle.quic_headline.proofs.Packets.Ids.{SaysIds, Waits, SentSayIds, steps_wait, on_streams_wait, call_waits, in_set}
@@ -127,10 +127,11 @@ module _ (used issued least low : ℕ) where
       let same = retired_issued e.ids.own n in
       next_issued place e.closing.clock (retired n e.ids) (subst (λ (count : ℕ). count < 2 ^ 62) (sym same) (room_left e.ids n may).1) ∙ ap (λ (count : ℕ). count + 1) same
 
-  issued_go : (b : Bool) (n : ℕ) (e : End) → may_issue e.ids n ≡ b → n < used → GoAt e → GoAt (issued_if b (with_ids e (retired n e.ids)))
-  issued_go false n e may before i = retired_go n e before i
-  issued_go true n e may before i =
+  issued_go : (b : Bool) (n : ℕ) (e : End) → issues_for n e ≡ b → n < used → GoAt e → GoAt (issued_if b (with_ids e (retired n e.ids)))
+  issued_go false n e issues before i = retired_go n e before i
+  issued_go true n e issues before i =
       let place : ℕ = length e.waiting.frames.new_cids in
+      let may = issues_may n e issues in
       record {
         owns = renewal_owns used n place e.closing.clock e.ids before may i.owns;
         more = subst (λ (count : ℕ). least ≤ count) (sym (renewed_issued e n place may)) (let most = i.more in omega arith);
@@ -162,13 +163,14 @@ module _ (used issued least low : ℕ) where
   apart_go (retire_connection_id n) e apart comes i = judged (retirement_answer e.ids.own n e.ids.limit)
     where
       judged : (r : Result Bool ErrorValue) → GoAt (retirement_judged r n e).end
-      judged (Ok more) = issued_go (may_issue e.ids n) n e refl comes.0 i
+      judged (Ok more) = issued_go (issues_for n e) n e refl comes.0 i
       judged (Err error) = i
   apart_go (path_response token) e apart comes i = go (is_asked e.validation.challenge (word_of token))
     where
       go : (b : Bool) → GoAt (validated_if b e)
       go true = i
       go false = i
+  apart_go (ack_frequency r) e apart comes i = by_frequency GoAt r e (λ threshold reordering frequency. i)
   apart_go f e apart comes i = i
 
   -- any frame
@@ -227,24 +229,25 @@ module _ (used issued least low : ℕ) where
       left_waits : WaitAt left
       left_waits = subst (λ (n : ℕ). Waits (IsIssued n) (IsBelow e.ids.peer.active) e.waiting.frames) (sym (retired_issued e.ids.own n)) i.waits
 
-      issues : (b : Bool) → may_issue e.ids n ≡ b → WaitAt (issued_if b left)
+      issues : (b : Bool) → issues_for n e ≡ b → WaitAt (issued_if b left)
       issues false may = left_waits
-      issues true may = record {
+      issues true all = (let may = issues_may n e all in record {
         tells = λ c j. subst (λ (count : ℕ). c.sequence < count) (sym (renewed_issued e n (length e.waiting.frames.new_cids) may)) (elim (in_append c e.waiting.frames.new_cids (undrawn_id left.ids.own.issued ∷ []) j) [
           | inl old ↦ (let before : c.sequence < e.ids.own.issued = i.waits.tells c old in omega arith)
           | inr new ↦ elim new [ inl is ↦ (let number : c.sequence ≡ e.ids.own.issued = ap (λ (d : IssuedCid). d.sequence) is ∙ retired_issued e.ids.own n in omega arith) | inr none ↦ absurd none ]
         ]);
         retires = left_waits.retires;
-      }
+      })
 
       judged : (r : Result Bool ErrorValue) → WaitAt (retirement_judged r n e).end
-      judged (Ok more) = issues (may_issue e.ids n) refl
+      judged (Ok more) = issues (issues_for n e) refl
       judged (Err error) = i.waits
   apart_waits (path_response token) e apart comes i = go (is_asked e.validation.challenge (word_of token))
     where
       go : (b : Bool) → (let x : End = validated_if b e in Waits (IsIssued x.ids.own.issued) (IsBelow x.ids.peer.active) x.waiting.frames)
       go true = i.waits
       go false = i.waits
+  apart_waits (ack_frequency r) e apart comes i = by_frequency (λ (x : End). Waits (IsIssued x.ids.own.issued) (IsBelow x.ids.peer.active) x.waiting.frames) r e (λ threshold reordering frequency. i.waits)
   apart_waits f e apart comes i = i.waits
 
   -- ids are drawn

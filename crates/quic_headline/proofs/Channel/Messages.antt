@@ -4,7 +4,7 @@ use Rattle.std.proofs.Common.{cond, ◌≡◌, ℕ, ◌-◌, min, Bool, true, fa
 use Rattle.std.specs.Prelude.{if◌then◌else◌, nat_le, nat_lt, ◌||◌, is_none, is_ok, ◌+◌}
 use Rattle.std.specs.List.{filter, AllByRecursion}
 use Rattle.std.proofs.lemmas.Bool.{ltb-false, le-leb}
-use Rattle.quic_wire.specs.Value.{FrameValue, ack, padding, datagram, new_connection_id, retire_connection_id, path_response}
+use Rattle.quic_wire.specs.Value.{FrameValue, ack, padding, datagram, new_connection_id, retire_connection_id, path_response, ack_frequency}
 use Rattle.quic_config.specs.Transport.{TransportSettings, told_frame_size}
 use Rattle.quic_parameters.specs.Parameters.{ParameterValues}
 use Rattle.quic_streams_laws.specs.WrittenFrames.{all_append}
@@ -237,6 +237,7 @@ module _ (window : Option ℕ) where
   frame_leaves (new_connection_id f) e i = apart_leaves (Waits window) (new_connection_id f) e tt (λ c. i) (λ c most. some_taken window (is_within most) e.messages.queues.outgoing i)
   frame_leaves (retire_connection_id n) e i = apart_leaves (Waits window) (retire_connection_id n) e tt (λ c. i) (λ c most. some_taken window (is_within most) e.messages.queues.outgoing i)
   frame_leaves (path_response token) e i = apart_leaves (Waits window) (path_response token) e tt (λ c. i) (λ c most. some_taken window (is_within most) e.messages.queues.outgoing i)
+  frame_leaves (ack_frequency r) e i = apart_leaves (Waits window) (ack_frequency r) e tt (λ c. i) (λ c most. some_taken window (is_within most) e.messages.queues.outgoing i)
   frame_leaves f e i = i
 
   -- any call leaves it so

@@ -1,8 +1,9 @@
 -- Each frame that an end gave is of streams that it knows and counts that it keeps, and
--- STOP_SENDING that waits too: a group over what is written.
-use Rattle.std.proofs.Common.{◌≡◌, ℕ, List, ◌++◌, Some, subst, inl, inr}
+-- STOP_SENDING that waits too; and ACK_FREQUENCY goes to a peer that obeys: a group over what is
+-- written.
+use Rattle.std.proofs.Common.{◌≡◌, ℕ, List, ◌++◌, Some, subst, inl, inr, Bool, true, false, Option, None, refl, sym, ap, ◌∙◌}
 use Rattle.std.proofs.lemmas.Bool.{and_parts}
-use Rattle.quic_wire.specs.Value.{FrameValue, StopSendingValue, stop_sending}
+use Rattle.quic_wire.specs.Value.{FrameValue, StopSendingValue, stop_sending, AckFrequencyValue, ack_frequency}
 use Rattle.quic_streams_parts.specs.RecvHalf.{RecvHalf}
 use Rattle.quic_streams_state.specs.declared.state.StreamsState.{StreamsState}
 use Rattle.quic_streams_state.specs.State.{is_opened, receives_on, receiving_half}
@@ -30,13 +31,22 @@ use Rattle.quic_headline.proofs.Places.Groups.{Way, Calls, Group}
 use Rattle.quic_headline.proofs.Places.Parties.{sent_by, sent_if, sents_by, Party, called, came_to}
 use Rattle.quic_headline.proofs.Halves.Wrote.{wrote}
 use Rattle.quic_headline.proofs.Halves.QuietSteps.{sent_within}
-use Rattle.quic_headline.proofs.Channel.Given.{Grown, grown_same, call_grows, frames_grow, receives_grow, Given, given_grows, StopsHold, polled_given}
-use Rattle.quic_headline.proofs.Channel.Stops.{StopsOf, from_stops, TrackedStops, call_stops, frame_stops, settles_stops}
+use Rattle.quic_headline.proofs.Channel.Given.{Grown, grown_same, call_grows, frames_grow, receives_grow, Given, given_grows, StopsHold, polled_given, Obeys, May}
+use Rattle.quic_headline.proofs.Channel.Stops.{StopsOf, from_stops, TrackedStops, call_stops, frame_stops, settles_stops, ready_keeps}
+use Rattle.std.specs.Option.{is_some}
+use Rattle.std.specs.Prelude.{if◌then◌else◌}
+use Rattle.quic_parameters.specs.Parameters.{ParameterValues}
+use Rattle.quic_headline.proofs.Packets.Stays.{placed_call}
+use Rattle.quic_machine.specs.PollCases.{ready_leaves}
 
 -- x gives
 pub record NamesHold (x y : Party) : Type 0 where
   pub given : (s : Sent) → In s x.sents → (f : FrameValue) → In f s.frames → Given x.end.streams f
   pub stops : StopsHold x.end.streams x.end.waiting.frames
+  -- ACK_FREQUENCY waits, and was given, where the peer obeys, as it does if it takes that
+  pub obeys : is_some x.end.peer_params.min_ack_delay ≡ true → Obeys x.end
+  pub asks : x.end.waiting.frames.ack_frequency ≡ true → Obeys x.end
+  pub asked : (s : Sent) → In s x.sents → (g : AckFrequencyValue) → In (ack_frequency g) s.frames → Obeys x.end
 
 -- What that rests on.
 pub record RestsOn (B : Way) : Type 1 where
@@ -70,8 +80,12 @@ module _ (B : Way) (rests : RestsOn B) (x y : Party) (call : Call) (a : Answer) 
     abbrev Known : ℕ → Type 0
     Known id = Receives t id
 
-    stops_before : StopsOf Known x.end.waiting.frames
-    stops_before r i = receives_grow x.end.streams t grows_behind r.id (n.stops r i)
+    -- what the peer told stays
+    obeys_behind : Obeys x.end → Obeys (called x y.given call a).end
+    obeys_behind is = ap (λ (p : ParameterValues). p.min_ack_delay) (placed_call x.policy x.end y.given call a).peer ∙ is
+
+    stops_before : StopsOf Known (Obeys x.end) x.end.waiting.frames
+    stops_before = ((λ r i. receives_grow x.end.streams t grows_behind r.id (n.stops r i)), n.asks)
 
     -- what is stopped is a stream on which the end receives
     stopped_known : (id : ℕ) (h : RecvHalf) → receiving_half x.end.streams id ≡ Some h → Known id
@@ -82,12 +96,12 @@ module _ (B : Way) (rests : RestsOn B) (x y : Party) (call : Call) (a : Answer) 
     sent_known s i g j = given_grows x.end.streams t grows_behind (stop_sending g) (n.given s i (stop_sending g) j)
 
     -- and so was what is tracked
-    tracked_stops : (Q : ℕ → Type 0) → ((s : Sent) → In s x.sents → (g : StopSendingValue) → In (stop_sending g) s.frames → Q g.id) → TrackedStops Q x.end.tracking.packets
-    tracked_stops Q sent k t among =
-        let was = tracked_carried x.sents x.end.tracking.packets (rests.packets x y c.gives).tracked k t among in
-        from_stops Q t.carried was.sent.frames was.is (sent was.sent was.among)
+    tracked_stops : (Q : ℕ → Type 0) → ((s : Sent) → In s x.sents → (g : StopSendingValue) → In (stop_sending g) s.frames → Q g.id) → TrackedStops Q (Obeys x.end) x.end.tracking.packets
+    tracked_stops Q sent k p among =
+        let was = tracked_carried x.sents x.end.tracking.packets (rests.packets x y c.gives).tracked k p among in
+        from_stops Q (Obeys x.end) p.carried was.sent.frames was.is (sent was.sent was.among, n.asked was.sent was.among)
 
-    arrivals_stop : (now : ℕ) (s : Sent) → In s y.sents → Arrivals x.end now s.number s.frames (came_to x y) (λ (o : Outcome) (i : Intake). StopsOf Known o.end.waiting.frames)
+    arrivals_stop : (now : ℕ) (s : Sent) → In s y.sents → Arrivals x.end now s.number s.frames (came_to x y) (λ (o : Outcome) (i : Intake). StopsOf Known (Obeys x.end) o.end.waiting.frames)
     arrivals_stop now s among = record {
       ignored = λ reason. stops_before;
       noted = λ state reason. stops_before;
@@ -106,16 +120,16 @@ module _ (B : Way) (rests : RestsOn B) (x y : Party) (call : Call) (a : Answer) 
         back : PacketsHold y x
         back = rests.packets y x c.takes
 
-        takes_on : TakesOn took x.sents s.frames (λ (e : End). StopsOf Known e.waiting.frames)
-        takes_on = record { settles = settles_stops Known took x.sents sent_known; names = λ a e i j. j; on_streams = λ f e i on j. frame_stops Known f e on j; message = λ m e j. j; apart = λ f e i apart j. apart_leaves (λ (g : End). StopsOf Known g.waiting.frames) f e apart (λ c. j) (λ c most. j) }
+        takes_on : TakesOn took x.sents s.frames (λ (e : End). StopsOf Known (Obeys x.end) e.waiting.frames)
+        takes_on = record { settles = settles_stops Known (Obeys x.end) took x.sents (λ u i. (sent_known u i, n.asked u i)); names = λ a e i j. j; on_streams = λ f e i on j. frame_stops Known (Obeys x.end) f e on j; message = λ m e j. j; apart = λ f e i apart j. apart_leaves (λ (g : End). StopsOf Known (Obeys x.end) g.waiting.frames) f e apart (λ c. j) (λ c most. j) }
 
-        passed_stops : StopsOf Known (arrived x.end now s.number s.frames).end.waiting.frames
-        passed_stops = frames_settle took x.sents (record { taken = p.taken; rising = p.gives.rising }) s.frames (λ (e : End). StopsOf Known e.waiting.frames) takes_on (begun x.end now s.number)
+        passed_stops : StopsOf Known (Obeys x.end) (arrived x.end now s.number s.frames).end.waiting.frames
+        passed_stops = frames_settle took x.sents (record { taken = p.taken; rising = p.gives.rising }) s.frames (λ (e : End). StopsOf Known (Obeys x.end) e.waiting.frames) takes_on (begun x.end now s.number)
             (λ b i k named. back.named s b k among i named) p.tracked stops_before
 
-    stops_behind : StopsOf Known (called x y.given call a).end.waiting.frames
-    stops_behind = by_coming x y a c.joined c.served (meets y x (rests.packets y x c.takes)) (λ (e : End) (i : Intake). StopsOf Known e.waiting.frames) call c.answer (record {
-      apart = λ apart. call_stops Known x.policy x.end y.given call a apart stopped_known (λ n t among. tracked_stops Known sent_known n t among) stops_before;
+    stops_behind : StopsOf Known (Obeys x.end) (called x y.given call a).end.waiting.frames
+    stops_behind = by_coming x y a c.joined c.served (meets y x (rests.packets y x c.takes)) (λ (e : End) (i : Intake). StopsOf Known (Obeys x.end) e.waiting.frames) call c.answer (record {
+      apart = λ apart. call_stops Known (Obeys x.end) x.policy x.end y.given call a apart stopped_known n.obeys (tracked_stops Known sent_known) stops_before;
       none = λ delivery is. stops_before;
       comes = λ delivery is s among. arrivals_stop delivery.now s among;
     })
@@ -124,25 +138,52 @@ module _ (B : Way) (rests : RestsOn B) (x y : Party) (call : Call) (a : Answer) 
     old_given : (s : Sent) → In s x.sents → (f : FrameValue) → In f s.frames → Given t f
     old_given s i f j = given_grows x.end.streams t grows_behind f (n.given s i f j)
 
-    more_given : (k : Call) → IsAnswer x.policy x.end y.given k a → (s : Sent) → In s (sents_by x.policy x.end k a) → (f : FrameValue) → In f s.frames → Given x.end.streams f
-    more_given (calls.Poll now) is s i f j = sent_fine (Given x.end.streams) (λ c. tt) (λ c. tt) tt x.policy x.end now (rests.packets x y c.gives).owes
-        (λ opened. polled_given x.end now written.shape n.stops (λ k t among. tracked_stops (λ id. Receives x.end.streams id) (λ u i g j. n.given u i (stop_sending g) j) k t among))
+    more_given : (k : Call) → IsAnswer x.policy x.end y.given k a → (s : Sent) → In s (sents_by x.policy x.end k a) → (f : FrameValue) → In f s.frames → May x.end.streams (Obeys x.end) f
+    more_given (calls.Poll now) is s i f j = sent_fine (May x.end.streams (Obeys x.end)) (λ c. (tt, tt)) (λ c. (tt, tt)) (tt, tt) x.policy x.end now (rests.packets x y c.gives).owes
+        (λ opened. polled_given (Obeys x.end) x.end now written.shape n.stops (λ k p among. (tracked k p among).0)
+        (λ set. (let there : Obeys x.end = (ready_keeps Here (Obeys x.end) x.end now n.obeys tracked (n.stops, n.asks)).1 set in (ap (λ (e : End). e.peer_params.min_ack_delay) (ready_leaves x.end now) ∙ there, there))))
         s (subst (λ (b : Answer). In s (sent_if (gave b) (sent_by x.policy x.end now))) (poll_answer x.policy x.end now a is c.served) i) f j
+      where
+        Here : ℕ → Type 0
+        Here id = Receives x.end.streams id
+
+        tracked : TrackedStops Here (Obeys x.end) x.end.tracking.packets
+        tracked = tracked_stops Here (λ u i g j. n.given u i (stop_sending g) j)
     more_given k is s i f j = absurd i
 
     given_behind : (s : Sent) → In s (x.sents ++ sents_by x.policy x.end call a) → (f : FrameValue) → In f s.frames → Given t f
     given_behind s i f j = elim (in_append s x.sents (sents_by x.policy x.end call a) i) [
       | inl old ↦ old_given s old f j
-      | inr new ↦ given_grows x.end.streams t grows_behind f (more_given call c.answer s new f j)
+      | inr new ↦ given_grows x.end.streams t grows_behind f (more_given call c.answer s new f j).0
+    ]
+
+    asked_behind : (s : Sent) → In s (x.sents ++ sents_by x.policy x.end call a) → (g : AckFrequencyValue) → In (ack_frequency g) s.frames → Obeys x.end
+    asked_behind s i g j = elim (in_append s x.sents (sents_by x.policy x.end call a) i) [
+      | inl old ↦ n.asked s old g j
+      | inr new ↦ (more_given call c.answer s new (ack_frequency g) j).1
     ]
 
     pub names_behind : NamesHold (called x y.given call a) y
-    names_behind = record { given = given_behind; stops = stops_behind }
+    names_behind = record {
+      given = given_behind;
+      stops = stops_behind.0;
+      obeys = λ some. obeys_behind (n.obeys (ap (λ (p : ParameterValues). is_some p.min_ack_delay) (sym (placed_call x.policy x.end y.given call a).peer) ∙ some));
+      asks = λ set. obeys_behind (stops_behind.1 set);
+      asked = λ s i g j. obeys_behind (asked_behind s i g j);
+    }
+
+-- an end that takes ACK_FREQUENCY tells so, and obeys
+abbrev told_delay : Bool → Option ℕ
+told_delay takes = if takes then Some 1000 else None
+
+obeys_first : (takes : Bool) → is_some (told_delay takes) ≡ true → told_delay takes ≡ Some 1000
+obeys_first true some = refl
+obeys_first false some = cc
 
 pub names_group : (B : Way) → RestsOn B → Group B NamesHold
 names_group B rests = record {
-  first = λ x y m there back. record { given = λ s i. absurd i; stops = λ r i. absurd i };
+  first = λ x y m there back. record { given = λ s i. absurd i; stops = λ r i. absurd i; obeys = obeys_first y.making.settings.ack_frequency_support; asks = λ set. cc; asked = λ s i. absurd i };
   writer = λ x y call a c n back. names_behind B rests x y call a c n;
-  reader = λ x y call a c there n. record { given = n.given; stops = n.stops };
-  shows = λ x y here there b back n m. record { given = n.given; stops = n.stops };
+  reader = λ x y call a c there n. record { given = n.given; stops = n.stops; obeys = n.obeys; asks = n.asks; asked = n.asked };
+  shows = λ x y here there b back n m. record { given = n.given; stops = n.stops; obeys = n.obeys; asks = n.asks; asked = n.asked };
 }

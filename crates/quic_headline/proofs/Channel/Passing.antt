@@ -2,7 +2,7 @@
 -- rules of ids and counts, by those of limits and sizes, and by those apart from streams.
 use Rattle.std.proofs.Common.{◌≡◌, ℕ, Bool, true, false, List, [], ◌∷◌, length, ◌==◌, map, Option, Some, None, Ok, Err, refl, sym, ap, ◌∙◌, subst, inl, inr}
 use Rattle.std.specs.Prelude.{if◌then◌else◌}
-use Rattle.quic_wire.specs.Value.{FrameValue, StreamValue, ack, stream, reset_stream, new_token, handshake_done, connection_close, application_close, datagram, path_challenge, path_response, new_connection_id, retire_connection_id}
+use Rattle.quic_wire.specs.Value.{FrameValue, StreamValue, ack, stream, reset_stream, new_token, handshake_done, connection_close, application_close, datagram, path_challenge, path_response, new_connection_id, retire_connection_id, immediate_ack, ack_frequency}
 use Rattle.quic_wire.specs.Close.{CloseValue}
 use Rattle.quic_streams_parts.specs.declared.answers.Breach.{Breach}
 use Rattle.quic_streams_parts.specs.declared.answers.Breach.TheVariants.{Pieces}
@@ -14,13 +14,14 @@ use Rattle.quic_messages.specs.declared.errors.ReceivedError.TheVariants as rece
 use Rattle.quic_messages.specs.Messages.{is_taken}
 use Rattle.quic_machine.specs.declared.answers.State.TheVariants as states
 use Rattle.quic_machine.specs.End.{End, side_of}
-use Rattle.quic_machine.specs.Receive.{Fault, broke, too_many_pieces, closed_by_peer, fault_of, fault_at, names_ungiven, message_judged, take_frame, unless_fault, take_items}
+use Rattle.quic_machine.specs.Receive.{Fault, broke, too_many_pieces, closed_by_peer, fault_of, fault_at, names_ungiven, message_judged, take_frame, unless_fault, take_items, asks_too_soon, frequency_judged}
 use Rattle.quic_machine.specs.FrameCases.{passed, ack_taken}
 use Rattle.quic_headline.specs.Runs.{In}
 use Rattle.quic_headline.specs.Observer.{Sent}
 use Rattle.quic_headline.proofs.Places.Parties.{Party}
 use Rattle.quic_headline.proofs.Places.Groups.{Way}
 use Rattle.quic_headline.proofs.Packets.Delivered.{arrived}
+use Rattle.quic_recovery_core.specs.AckFrequency.{is_stale}
 
 -- ---- the rules, in three parts
 
@@ -35,8 +36,9 @@ SizesPass s (reset_stream f) = breach_at (part_for s f.id) s.receiving f.final_s
 SizesPass s f = Unit {0}
 
 -- those apart from streams: ACK names no number that wasn't given, and not the one that was left
--- out last, no server gets what only servers send, and a message is one that the end takes; and an
--- id of the peer is one that may be known, and one that it retires was issued
+-- out last, no server gets what only servers send, and a message is one that the end takes; an id
+-- of the peer is one that may be known, and one that it retires was issued; and no acknowledgement
+-- is asked for too soon
 abbrev pub PlainPass : End → FrameValue → Type 0
 PlainPass e (ack a) = names_ungiven a e ≡ false
 PlainPass e (datagram m) = is_taken e.transport.datagram_receive_buffer_size m ≡ true
@@ -44,6 +46,7 @@ PlainPass e (new_token t) = fault_at (side_of e) ≡ None
 PlainPass e handshake_done = fault_at (side_of e) ≡ None
 PlainPass e (new_connection_id f) = (take_frame (new_connection_id f) e).fault ≡ None
 PlainPass e (retire_connection_id n) = (take_frame (retire_connection_id n) e).fault ≡ None
+PlainPass e (ack_frequency f) = asks_too_soon f ≡ false
 PlainPass e f = Unit {0}
 
 -- ---- one frame
@@ -94,6 +97,12 @@ frame_passes (path_response token) e ids sizes plain fault is = cc
 frame_passes (new_connection_id f) e ids sizes plain fault is = no_fault (take_frame (new_connection_id f) e).fault plain fault is
 frame_passes (retire_connection_id n) e ids sizes plain fault is = no_fault (take_frame (retire_connection_id n) e).fault plain fault is
 frame_passes (ack a) e ids sizes plain fault is = let clash : None ≡ Some fault = sym (ap (λ (b : Bool). (ack_taken b a e).fault) plain) ∙ is in cc
+frame_passes immediate_ack e ids sizes plain fault is = cc
+frame_passes (ack_frequency f) e ids sizes plain fault is = go (is_stale e.frequency.last f.sequence) (sym (ap (λ (b : Bool). (frequency_judged (is_stale e.frequency.last f.sequence) b f e).fault) plain) ∙ is)
+  where
+    go : (b : Bool) → (frequency_judged b false f e).fault ≡ Some fault → BreaksNone fault
+    go true is = cc
+    go false is = cc
 frame_passes f e ids sizes plain fault is = nothing_broken (broken e.streams (id_rule f)) ids fault is
 
 -- ---- the frames of a packet

@@ -5,7 +5,7 @@ use Rattle.std.proofs.Common.{◌≡◌, ℕ, ◌<◌, Bool, true, false, List, 
 use Rattle.std.specs.Prelude.{nat_le}
 use Rattle.std.specs.List.{list_any}
 use Rattle.std.proofs.lemmas.Bool.{leb-true, or_from}
-use Rattle.quic_wire.specs.Value.{FrameValue, AckValue, ack, new_token, handshake_done, datagram, new_connection_id, retire_connection_id}
+use Rattle.quic_wire.specs.Value.{FrameValue, AckValue, ack, new_token, handshake_done, datagram, new_connection_id, retire_connection_id, ack_frequency}
 use Rattle.quic_config.specs.Transport.{TransportSettings}
 use Rattle.quic_messages.specs.Messages.{is_taken}
 use Rattle.quic_spaces.specs.Numbers.{Numbers}
@@ -76,6 +76,7 @@ plain_pass x y p back s among handshake_done i given fits e same skipped takes i
 plain_pass x y p back s among (datagram m) i given fits e same skipped takes ids = subst (λ (t : TransportSettings). is_taken t.datagram_receive_buffer_size m ≡ true) (sym takes) (fits.sent s among m i)
 plain_pass x y p back s among (new_connection_id f) i given fits e same skipped takes ids = ids
 plain_pass x y p back s among (retire_connection_id n) i given fits e same skipped takes ids = ids
+plain_pass x y p back s among (ack_frequency f) i given fits e same skipped takes ids = given
 plain_pass x y p back s among f i given fits e same skipped takes ids = tt
 
 -- a frame leaves how many packets its end gave

@@ -255,6 +255,8 @@ module _ (w : IsWriting N) (x y : Party) (call : Call) (a : Answer) (c : Calls N
     challenges = λ word. tt;
     responses = λ r. tt;
     pings = tt;
+    immediate = tt;
+    requests = λ r. tt;
     connection_closes = λ c. tt;
     application_closes = λ c. tt;
     acks = λ a. tt;

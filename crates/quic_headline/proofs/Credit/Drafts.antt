@@ -1,7 +1,7 @@
 -- What holds of the frames that go into a datagram, where something is known of the streams that
 -- each of them leaves known, and from which it follows of each limit.
 use Rattle.std.proofs.Common.{◌≡◌, ℕ, zero, suc, Bool, List, [], ◌∷◌, ◌++◌, replicate, Some, sym, subst, inl, inr}
-use Rattle.quic_wire.specs.Value.{FrameValue, AckValue, StreamValue, padding, ack, ping, stream, datagram, ConnectionCloseValue, ApplicationCloseValue, connection_close, application_close}
+use Rattle.quic_wire.specs.Value.{FrameValue, AckValue, StreamValue, padding, ack, ping, stream, datagram, ConnectionCloseValue, ApplicationCloseValue, connection_close, application_close, immediate_ack, AckFrequencyValue, ack_frequency}
 use Rattle.quic_streams_parts.specs.Table.{at}
 use Rattle.quic_streams_parts.specs.SendHalf.{SendHalf, frame_of}
 use Rattle.quic_retransmits.specs.Retransmits.{Retransmits}
@@ -12,7 +12,7 @@ use Rattle.quic_machine.specs.declared.answers.State.TheVariants as states
 use Rattle.quic_machine.specs.declared.run.Answer.TheVariants as answers
 use Rattle.quic_machine.specs.Policy.{Policy}
 use Rattle.quic_machine.specs.End.{End}
-use Rattle.quic_machine.specs.Poll.{Draft, ack_of, zeros_behind, composed, polled, draft_as, Leaving}
+use Rattle.quic_machine.specs.Poll.{Draft, ack_of, zeros_behind, composed, polled, draft_as, Leaving, request_of}
 use Rattle.quic_machine.specs.PollCases.{ready_at, draft_at, may_leave_at}
 use Rattle.quic_machine.specs.DraftLaws.{Writing, by_writing, by_leave, MayLeave}
 use Rattle.quic_paths.specs.Responses.{Response}
@@ -35,6 +35,8 @@ pub record AreFine (Known : StreamsState → Type 0) (Fine : FrameValue → Type
   pub challenges : (word : ℕ) → Fine (challenge_frame word)
   pub responses : (r : Response) → Fine (response_frame r)
   pub pings : Fine ping
+  pub immediate : Fine immediate_ack
+  pub requests : (r : AckFrequencyValue) → Fine (ack_frequency r)
   pub connection_closes : (c : ConnectionCloseValue) → Fine (connection_close c)
   pub application_closes : (c : ApplicationCloseValue) → Fine (application_close c)
   pub acks : (a : AckValue) → Fine (ack a)
@@ -73,6 +75,8 @@ module _ (Known : StreamsState → Type 0) (Fine : FrameValue → Type 0) (k : A
   writing (puts.application_close c) d may j = (j.0, and_fine d.frames (application_close c) j.1 (k.application_closes c))
   writing (puts.challenge word) d may j = (j.0, and_fine d.frames (challenge_frame word) j.1 (k.challenges word))
   writing (puts.response r) d may j = (j.0, and_fine d.frames (response_frame r) j.1 (k.responses r))
+  writing puts.immediate d may j = (j.0, and_fine d.frames immediate_ack j.1 k.immediate)
+  writing puts.request d may j = (j.0, and_fine d.frames (ack_frequency (request_of d.end)) j.1 (k.requests (request_of d.end)))
   writing p d may j = (j.0, and_fine d.frames _ j.1 k.pings)
 
   draft_is : (leaving : Leaving) (e : End) → MayLeave leaving e → Known e.streams → DraftIs (draft_as leaving e)

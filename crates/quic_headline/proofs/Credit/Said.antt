@@ -140,6 +140,8 @@ module _ (wide each_wide : ℕ) (packets : List Packet) (ts : List Told) (before
     challenges = λ word. tt;
     responses = λ r. tt;
     pings = tt;
+    immediate = tt;
+    requests = λ r. tt;
     connection_closes = λ c. tt;
     application_closes = λ c. tt;
     acks = λ a. tt;

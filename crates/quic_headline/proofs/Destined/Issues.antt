@@ -6,7 +6,7 @@ use Rattle.std.specs.declared.ops.Range.{Range}
 use Rattle.std.proofs.lemmas.Bool.{eq-eqb, ne_eqb, and_parts, ltb-true}
 use Rattle.quic_wire_core.specs.TransportError.{ErrorValue}
 use Rattle.quic_wire_core.specs.declared.shared.IssuedCid.{IssuedCid}
-use Rattle.quic_wire.specs.Value.{FrameValue, AckValue, ack, stream, reset_stream, stop_sending, max_data, max_stream_data, max_streams, datagram, path_response, new_connection_id, retire_connection_id}
+use Rattle.quic_wire.specs.Value.{FrameValue, AckValue, ack, stream, reset_stream, stop_sending, max_data, max_stream_data, max_streams, datagram, path_response, new_connection_id, retire_connection_id, ack_frequency}
 use Rattle.quic_ids.specs.CidState.{OwnIds, without, after_new, after_retirement, is_wrong, retirement_answer}
 use Rattle.quic_ids.specs.CidQueue.{insert_answer}
 use Rattle.quic_ids.specs.declared.cid_queue.InsertError.{InsertError}
@@ -15,12 +15,12 @@ use Rattle.quic_paths.specs.Paths.{is_asked}
 use Rattle.quic_retransmits.specs.Retransmits.{Retransmits, can_retire}
 use Rattle.quic_machine.specs.MessageCalls.{most_message}
 use Rattle.quic_machine.specs.Sizes.{without_longer_if, shortened}
-use Rattle.quic_machine.specs.Ids.{NumberedId, Drawing, words_behind, words_of_id, with_number, with_id, drawn_id, drawn_one, drawn_places, undrawn_id, retired, is_more, may_issue, frame_of, retires_for}
-use Rattle.quic_machine.specs.IdFrames.{retiring, with_taken_up, issued_if, drawn}
+use Rattle.quic_machine.specs.Ids.{NumberedId, Drawing, words_behind, words_of_id, with_number, with_id, drawn_id, drawn_one, drawn_places, undrawn_id, retired, is_more, frame_of, retires_for}
+use Rattle.quic_machine.specs.IdFrames.{retiring, with_taken_up, issued_if, issues_for, drawn}
 use Rattle.quic_machine.specs.Validation.{word_of, validated_if}
 use Rattle.quic_machine.specs.End.{End, with_ids, words_drawn}
 use Rattle.quic_machine.specs.Receive.{retired_for, id_judged, retirement_judged, take_frame}
-use Rattle.quic_machine.specs.FrameCases.{IsApart, OnStreams, begun}
+use Rattle.quic_machine.specs.FrameCases.{IsApart, OnStreams, begun, issues_may}
 use Rattle.quic_machine.specs.Steps as steps
 use Rattle.quic_headline.specs.Runs.{Packet, In}
 use Rattle.quic_headline.specs.Observer.{Sent}
@@ -32,6 +32,7 @@ use Rattle.quic_headline.proofs.Packets.Delivered.{arrived}
 use Rattle.quic_headline.proofs.Packets.Ids.{SaysIds, SentSayIds, AnyNumber, carried_waits}
 use Rattle.quic_headline.proofs.Halves.PileSteps.{acked_same, reset_acked_same, stream_same, reset_same}
 use Rattle.quic_headline.proofs.Destined.Sole.{Stays, kept_or, with_other, with_same, HasNone, IsSole, sole_more, sole_last, sole_get, sole_set, in_sole}
+use Rattle.quic_headline.proofs.Packets.Apart.{by_frequency}
 
 -- nothing is asked of an id
 abbrev pub AnyId : IssuedCid → Type 0
@@ -214,9 +215,9 @@ module _ (Gone : ℕ → Type 0) (Others : NumberedId → Type 0) (old : ℕ) wh
       there : IssuesAt left
       there = subst (λ (issued : ℕ). Issues left.ids.living issued e.ids.undrawn e.waiting.frames.new_cids) (sym (issued_same e.ids.own n)) (issues_retired n says e.ids.living e.ids.own.issued e.ids.undrawn e.waiting.frames.new_cids i)
 
-      issues : (b : Bool) → may_issue e.ids n ≡ b → IssuesAt (issued_if b left)
+      issues : (b : Bool) → issues_for n e ≡ b → IssuesAt (issued_if b left)
       issues true may =
-          let less = ltb-true e.ids.own.issued (2 ^ 62) (and_parts (is_more (retirement_answer e.ids.own n e.ids.limit)) (nat_lt e.ids.own.issued (2 ^ 62)) may).1 in
+          let less = ltb-true e.ids.own.issued (2 ^ 62) (and_parts (is_more (retirement_answer e.ids.own n e.ids.limit)) (nat_lt e.ids.own.issued (2 ^ 62)) (issues_may n e may)).1 in
           let same = issued_same e.ids.own n in
           let own : OwnIds = left.ids.own in
           subst (λ (issued : ℕ). Issues (left.ids.living ++ with_number (undrawn_id own.issued) ∷ []) issued (left.ids.undrawn ++ length left.waiting.frames.new_cids ∷ []) (left.waiting.frames.new_cids ++ undrawn_id own.issued ∷ []))
@@ -224,13 +225,14 @@ module _ (Gone : ℕ → Type 0) (Others : NumberedId → Type 0) (old : ℕ) wh
       issues false may = there
 
       go : (r : Result Bool ErrorValue) → IssuesAt (retirement_judged r n e).end
-      go (Ok more) = issues (may_issue e.ids n) refl
+      go (Ok more) = issues (issues_for n e) refl
       go (Err error) = i
   apart_issues (path_response token) e apart says i = go (is_asked e.validation.challenge (word_of token))
     where
       go : (b : Bool) → IssuesAt (validated_if b e)
       go true = i
       go false = i
+  apart_issues (ack_frequency r) e apart says i = by_frequency IssuesAt r e (λ threshold reordering frequency. i)
   apart_issues f e apart says i = i
 
   -- a frame on streams

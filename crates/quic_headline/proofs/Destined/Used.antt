@@ -8,7 +8,7 @@ use Rattle.std.specs.declared.ops.Range.{Range}
 use Rattle.std.proofs.lemmas.Bool.{eqb-true, ltb-true}
 use Rattle.quic_wire_core.specs.TransportError.{ErrorValue}
 use Rattle.quic_wire_core.specs.declared.shared.IssuedCid.{IssuedCid}
-use Rattle.quic_wire.specs.Value.{FrameValue, AckValue, ack, stream, reset_stream, stop_sending, max_data, max_stream_data, max_streams, datagram, path_response, new_connection_id, retire_connection_id}
+use Rattle.quic_wire.specs.Value.{FrameValue, AckValue, ack, stream, reset_stream, stop_sending, max_data, max_stream_data, max_streams, datagram, path_response, new_connection_id, retire_connection_id, ack_frequency}
 use Rattle.quic_wire.specs.declared.frame.NewConnectionId.{NewConnectionId}
 use Rattle.quic_ids.specs.CidState.{retirement_answer}
 use Rattle.quic_ids.specs.CidQueue.{PeerIds, IsWindow, with_cid, known_with, first_used, brought, exceeds, retires_active, retired_for as retires_in, left_by, after_accepted, after_insert, after_next, insert_answer}
@@ -21,8 +21,8 @@ use Rattle.quic_machine.specs.declared.run.Answer.{Answer}
 use Rattle.quic_machine.specs.declared.run.Answer.TheVariants as answers
 use Rattle.quic_machine.specs.MessageCalls.{most_message}
 use Rattle.quic_machine.specs.Sizes.{without_longer_if, shortened}
-use Rattle.quic_machine.specs.Ids.{frame_of, retires_for, retired, may_issue, retires_for_next, next_used}
-use Rattle.quic_machine.specs.IdFrames.{retiring, with_taken_up, issued_if, next_id_taken, end_on_next_id}
+use Rattle.quic_machine.specs.Ids.{frame_of, retires_for, retired, retires_for_next, next_used}
+use Rattle.quic_machine.specs.IdFrames.{retiring, with_taken_up, issued_if, issues_for, next_id_taken, end_on_next_id}
 use Rattle.quic_machine.specs.Validation.{word_of, validated_if}
 use Rattle.quic_machine.specs.End.{End, with_ids}
 use Rattle.quic_machine.specs.Receive.{id_judged, retirement_judged, take_frame}
@@ -39,6 +39,7 @@ use Rattle.quic_headline.proofs.Packets.Ids.{SaysIds, Waits, SentSayIds, AnyNumb
 use Rattle.quic_headline.proofs.Halves.KnownIds.{range_below}
 use Rattle.quic_headline.proofs.Duties.OfIds.{AsksNone, next_range, insert_keeps}
 use Rattle.quic_headline.proofs.Destined.Issues.{AnyId}
+use Rattle.quic_headline.proofs.Packets.Apart.{by_frequency}
 
 -- below a number
 abbrev pub IsBelow : ℕ → ℕ → Type 0
@@ -169,13 +170,14 @@ module _ (T : ℕ → List ℕ → Type 0) (a : ℕ) where
       issues false = u
 
       go : (r : Result Bool ErrorValue) → UsesAt (retirement_judged r n e).end
-      go (Ok more) = issues (may_issue e.ids n)
+      go (Ok more) = issues (issues_for n e)
       go (Err error) = u
   apart_uses (path_response token) e apart none says u = go (is_asked e.validation.challenge (word_of token))
     where
       go : (b : Bool) → UsesAt (validated_if b e)
       go true = u
       go false = u
+  apart_uses (ack_frequency r) e apart none says u = by_frequency UsesAt r e (λ threshold reordering frequency. u)
   apart_uses f e apart none says u = u
 
   -- a frame on streams

@@ -117,7 +117,7 @@ number_new sents packets next below tracked n t i same =
 
 -- what is new is so where something waits for each probe
 pub ready_new : (e : End) (now number : ℕ) → IsNew e.tracking.packets number → IsNew (ready_at e now).end.tracking.packets number
-ready_new e now number new = by_ready (λ (x : End). IsNew x.tracking.packets number) e now new new (λ p among n t i. elim (in_put e.tracking.packets p.0 (without_record p.1) (n, t) i) [
+ready_new e now number new = by_ready (λ (x : End). IsNew x.tracking.packets number) e now new (λ ping immediate x i. i) (λ waits x i. i) (λ p among n t i. elim (in_put e.tracking.packets p.0 (without_record p.1) (n, t) i) [
   | inl old ↦ new n t old
   | inr same ↦ (λ is. new p.0 p.1 among (sym (ap (λ (x : ℕ × TrackedPacket). x.0) same) ∙ is))
 ]) (λ moment pacing discovery x i. i)

@@ -55,16 +55,19 @@ use Rattle.quic_headline.proofs.Duties.Stopped.{AreAsked, asked_more, asked_fram
 use Rattle.quic_headline.proofs.Duties.Lasting.{Knows, knows_lasts, call_lasts}
 use Rattle.quic_headline.proofs.Duties.Limits.{LimitStands, Stated, arrivals_stated}
 use Rattle.quic_headline.proofs.Duties.LimitsGo.{stands_more, polled_stands, polled_says, call_stated}
+use Rattle.quic_headline.proofs.Duties.Requests.{Requested, requested_on, requested_more, arrivals_requested, polled_requested, polled_asks, call_requested}
+use Rattle.quic_wire.specs.Value.{AckFrequencyValue, ack_frequency}
 
 -- what is in flight of the streams of x stands in packets that it tracks, and each of its resets is
--- somewhere, STOP_SENDING of each stream that it stopped and whose final size it doesn't know, and
--- each limit that it said
+-- somewhere, STOP_SENDING of each stream that it stopped and whose final size it doesn't know, each
+-- limit that it said, and each request of how often to acknowledge
 pub record Flying (x y : Party) : Type 0 where
   pub fly : Fly (wrote x.told) x.end
   pub resets : (id : ℕ) → IsSome (reset id x.told) → ListedStands (came_to y x).took (ResetOf id) x.end
   pub halts : Halts x y
   pub stops : AreAsked (λ id. ListedStands (came_to y x).took (StopOf id) x.end) x.end.streams
   pub limits : (what : Limited) (value : ℕ) → WasGiven x.sents (limit_frame what value) → Stated (came_to y x).took x.sents what value x.end
+  pub requests : (f : AckFrequencyValue) → WasGiven x.sents (ack_frequency f) → Requested (came_to y x).took x.sents f.sequence x.end
   -- what it owes of ids, where none of its frames asks for retirements
   pub ids : (what : Listed) → IdOwed what x.end.ids → ListedStands (came_to y x).took what x.end
   pub none_asked : NoneAsked x.sents
@@ -246,8 +249,53 @@ module _ (B : Way) (b : IsReadied B) (x y : Party) (call : Call) (a : Answer) (c
     | inr now ↦ new_limit what value call c.answer said.sent now said.carried
   ]
 
+  -- ---- requests
+
+  -- behind any call
+  old_request : (f : AckFrequencyValue) → WasGiven x.sents (ack_frequency f) → Requested took (x.sents ++ sends) f.sequence (called x y.given call a).end
+  old_request f said = by_coming x y a c.joined c.served (meets y x takes) (λ (e : End) (j : Intake). Requested took (x.sents ++ sends) f.sequence e) call c.answer (record {
+    apart = λ apart. go call apart c.answer;
+    none = λ delivery is. further_on x.end was;
+    comes = λ delivery is s among. (
+        let all = arrivals_requested took x.sents f.sequence (record { taken = gives.taken; rising = gives.gives.rising }) x.end delivery.now s.number s.frames (came_to x y) (λ ak carried k named. takes.named s ak k among carried named) was in
+        record {
+          ignored = λ reason. further_on _ (all.ignored reason);
+          noted = λ state reason. further_on _ (all.noted state reason);
+          takes = λ words state new none mark. further_on _ (all.takes words state new none mark);
+          drains = λ words state new close is. further_on _ (all.drains words state new close is);
+          refuses = λ words state new g is. further_on _ (all.refuses words state new g is);
+          exhausts = λ state. further_on _ (all.exhausts state);
+        });
+  })
+    where
+      was : Requested took x.sents f.sequence x.end
+      was = i.requests f said
+
+      further_on : (e : End) → Requested took x.sents f.sequence e → Requested took (x.sents ++ sends) f.sequence e
+      further_on e s = requested_more took x.sents sends f.sequence e s
+
+      go : (k : Call) → is_delivery k ≡ false → IsAnswer x.policy x.end y.given k a → Requested took (x.sents ++ sents_by x.policy x.end k a) f.sequence (after_call x.policy x.end y.given k a)
+      go (calls.Poll now) apart is = subst (λ (o : Answer). Requested took (x.sents ++ sent_if (gave o) (sent_by x.policy x.end now)) f.sequence (polled x.policy x.end now).end) (sym (poll_answer x.policy x.end now a is c.served))
+          (polled_requested took x.sents x.policy x.end now gives.ascends i.asked new f.sequence was)
+      go k apart is = requested_more took x.sents [] f.sequence (after_call x.policy x.end y.given k a) (call_requested took x.sents f.sequence x.policy x.end y.given k a apart refl was)
+
+  -- a new one is under way
+  new_request : (f : AckFrequencyValue) (k : Call) → IsAnswer x.policy x.end y.given k a → (t : Sent) → In t (sents_by x.policy x.end k a) → In (ack_frequency f) t.frames → Requested took (x.sents ++ sents_by x.policy x.end k a) f.sequence (after_call x.policy x.end y.given k a)
+  new_request f (calls.Poll now) is t among carried =
+      let same = poll_answer x.policy x.end now a is c.served in
+      subst (λ (o : Answer). Requested took (x.sents ++ sent_if (gave o) (sent_by x.policy x.end now)) f.sequence (polled x.policy x.end now).end) (sym same)
+      (polled_asks took x.sents x.policy x.end now gives.ascends i.asked new gives.owes t (subst (λ (o : Answer). In t (sent_if (gave o) (sent_by x.policy x.end now))) same among) f carried)
+  new_request f k is t among carried = absurd among
+
+  said_request : (f : AckFrequencyValue) → WasGiven (x.sents ++ sends) (ack_frequency f) → Requested took (x.sents ++ sends) f.sequence (called x y.given call a).end
+  said_request f said = elim (in_append said.sent x.sents sends said.among) [
+    | inl old ↦ old_request f (record { sent = said.sent; among = old; carried = said.carried })
+    | inr now ↦ new_request f call c.answer said.sent now said.carried
+  ]
+
   flying_call : Flying (called x y.given call a) y
   flying_call = record {
+    requests = said_request;
     fly = fly_call;
     limits = said_limit;
     ids = ids_call;
@@ -280,6 +328,7 @@ flying_first x y m =
       halts = halts_first x y;
       stops = asked_first (λ id. ListedStands (came_to (begun_as y x) (begun_as x y)).took (StopOf id) (begun_as x y).end) x y;
       limits = λ what value said. absurd said.among;
+      requests = λ f said. absurd said.among;
       ids = first_owed (came_to (begun_as y x) (begun_as x y)).took x y;
       none_asked = λ s among. absurd among;
       asked = λ s among. absurd among;
@@ -292,6 +341,7 @@ flying_group B b = record {
   writer = λ x y call a c i back. flying_call B b x y call a c i back;
   reader = λ x y call a c back i. record {
     fly = i.fly;
+    requests = λ f said. requested_on (came_to x y).took (came_to (called x y.given call a) y).took y.sents f.sequence y.end (took_more x.policy y.final x.told (told_of call a x.end.closing.state) nothing_came) (i.requests f said);
     ids = λ what owed. came_on (came_to x y).took (came_to (called x y.given call a) y).took what y.end (took_more x.policy y.final x.told (told_of call a x.end.closing.state) nothing_came) (i.ids what owed);
     none_asked = i.none_asked;
     asked = i.asked;
@@ -306,6 +356,7 @@ flying_group B b = record {
   };
   shows = λ x y here there above below i j. record {
     fly = i.fly;
+    requests = λ f said. (let was = i.requests f said in record { below = was.below; stand = was.stand });
     ids = i.ids;
     none_asked = i.none_asked;
     resets = i.resets;

@@ -21,13 +21,13 @@ use Rattle.quic_streams_parts.specs.Queue.{Place, place_cmp, is_any as is_any_qu
 use Rattle.quic_streams_parts.specs.SendHalf.{SendHalf, has_pending}
 use Rattle.quic_streams_parts.specs.RecvHalf.{RecvHalf, takes_limits}
 use Rattle.quic_retransmits.specs.declared.retransmits.ControlKind.TheVariants.{ResetStream, StopSending, MaxData, MaxStreamData, MaxStreams, NewConnectionId, RetireConnectionId}
-use Rattle.quic_retransmits.specs.Retransmits.{Retransmits, has_id, is_any}
+use Rattle.quic_retransmits.specs.Retransmits.{Retransmits, has_id, is_any, control_kinds}
 use Rattle.quic_streams_halves.specs.Halves.{status_from, has_place}
 use Rattle.quic_streams_state.specs.declared.state.StreamsState.{StreamsState}
 use Rattle.quic_streams_state.specs.State.{is_opened, sends_on, receives_on}
 use Rattle.quic_streams_state.specs.Limits.{takes_limits_of, can_send_flow_control}
 use Rattle.quic_streams_state.specs.ControlLaws.{fills}
-use Rattle.quic_streams_state.specs.Waiting.{is_empty, can_send_stream_data}
+use Rattle.quic_streams_state.specs.Waiting.{is_empty, can_send_stream_data, any_goes}
 use Rattle.quic_streams_laws.specs.Each.{HalfIs}
 use Rattle.quic_streams_laws.specs.Content.{AllReceiving}
 use Rattle.quic_streams_laws.specs.ToldLaws.{first_is}
@@ -41,7 +41,7 @@ use Rattle.quic_machine.specs.RunLaws.{one_run}
 use Rattle.quic_headline.specs.Runs.{Run, Packet, Intake, AreServed, until, written, ended, EndHasArrived}
 use Rattle.quic_headline.specs.Unread.{stopped}
 use Rattle.quic_headline.specs.Observer.{Sent, Watch, took, sents_until}
-use Rattle.quic_headline.specs.Duties.{Limited, AllData, StreamData, StreamCount, Duty, Offset, Fin, Reset, Stop, Retire, NewId, Limit, limit_frame, limit_waits, Matters, IsSaid, lacks_size, IsOwed, on_half, is_due, IsInFlight, IsSomewhere, DutiesStand}
+use Rattle.quic_headline.specs.Duties.{Limited, AllData, StreamData, StreamCount, Duty, Offset, Fin, Reset, Stop, Retire, NewId, Limit, limit_frame, limit_waits, Matters, IsSaid, lacks_size, IsOwed, on_half, is_due, IsInFlight, IsSomewhere, DutiesStand, Frequency, IsRequested, HasAsked}
 use Rattle.quic_headline.specs.Headline.{IsHonest}
 use Rattle.quic_headline.proofs.Packets.Group.{PacketsHold}
 use Rattle.quic_headline.proofs.Packets.Sight.{Sight}
@@ -60,6 +60,8 @@ use Rattle.quic_headline.proofs.Duties.Limits.{LimitStands}
 use Rattle.quic_headline.proofs.Duties.Listed.{Listed, ResetOf, StopOf, RetireOf, NewIdOf, listed_in, ListedStands, reset_has_come, stop_has_come, retirement_has_come, id_has_come}
 use Rattle.quic_headline.proofs.Duties.Halts.{IsHalted}
 use Rattle.quic_headline.proofs.Duties.Stopped.{IsAsked}
+use Rattle.quic_headline.specs.Duties as duties
+use Rattle.quic_headline.proofs.Duties.Requests.{RequestStands}
 use Rattle.quic_headline.proofs.Duties.Group.{Flying}
 use Rattle.quic_machine.specs.Parts.{signals_wait}
 
@@ -120,6 +122,16 @@ limit_queued e what matters waits =
     or_right (can_send e.acknowledging) (asks_to_go e)
     (or_right (signals_wait e.waiting.signals) (not (is_empty e.waiting.frames e.streams) || (message_waits e || can_send_stream_data e.streams))
     (or_left (not (is_empty e.waiting.frames e.streams)) (message_waits e || can_send_stream_data e.streams) (limit_any what e matters waits)))
+
+-- ACK_FREQUENCY that waits does too
+pub request_queued : (e : End) → e.waiting.frames.ack_frequency ≡ true → waits e ≡ true
+request_queued e is =
+    or_right (can_send e.acknowledging) (asks_to_go e)
+    (or_right (signals_wait e.waiting.signals) (not (is_empty e.waiting.frames e.streams) || (message_waits e || can_send_stream_data e.streams))
+    (or_left (not (is_empty e.waiting.frames e.streams)) (message_waits e || can_send_stream_data e.streams) (any_goes_too (list_any (λ kind. any_goes kind e.waiting.frames e.streams) control_kinds))))
+  where
+    any_goes_too : (b : Bool) → not (not (b || e.waiting.frames.ack_frequency)) ≡ true
+    any_goes_too b = ap (λ (d : Bool). not (not d)) (or_right b e.waiting.frames.ack_frequency is)
 
 -- a limit that matters isn't one that matters no more
 matters_still : (what : Limited) (e : End) → Matters e what → AllReceiving (Ends what) e.streams → ⊥
@@ -231,6 +243,15 @@ module _ (x y : Party) (writes : WritesHold x y) (packets : PacketsHold x y) (ar
           inr (inl (subst (λ n. IsInFlight x.sents x.end.tracking.packets (limit_frame what n)) same f))
       go (inr (inr (inr came))) = inr (inr came)
 
+  -- a request of how often to acknowledge
+  request_somewhere : (number : ℕ) → duties.IsAsked x.sents number → Somewhere (Frequency number)
+  request_somewhere number owed = go (flying.requests owed.frame owed.asked).stand
+    where
+      go : RequestStands (came_to y x).took x.sents owed.frame.sequence x.end → Somewhere (Frequency number)
+      go (inl waits) = inl (record { due = waits; queued = request_queued x.end waits })
+      go (inr (inl flies)) = inr (inl (subst (λ (n : ℕ). IsRequested x.sents x.end.tracking.packets n) owed.of_number flies))
+      go (inr (inr came)) = inr (inr (subst (λ (n : ℕ). HasAsked (came_to y x).took n) owed.of_number came))
+
   -- a reset
   reset_somewhere : (id : ℕ) → ListedStands (came_to y x).took (ResetOf id) x.end → Somewhere (Reset id)
   reset_somewhere id (inl waits) = inl (record { due = waits; queued = listed_queued x.end (ResetOf id) waits })
@@ -282,6 +303,7 @@ module _ (x y : Party) (writes : WritesHold x y) (packets : PacketsHold x y) (ar
   duty_somewhere (Retire number) owed = retirement_somewhere number (flying.ids (RetireOf number) owed)
   duty_somewhere (NewId number) owed = id_somewhere number (flying.ids (NewIdOf number) owed)
   duty_somewhere (Limit what value) owed = limit_somewhere what value owed
+  duty_somewhere (Frequency number) owed = request_somewhere number owed
 
 -- ---- the clause
 

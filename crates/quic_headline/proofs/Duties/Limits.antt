@@ -202,7 +202,7 @@ pub record Stated (took : List Packet) (own : List Sent) (what : Limited) (value
 
 -- ---- an ACK frame
 
-filter_has : {X : Type 0} (f : X → Bool) (x : X) (xs : List X) → In x xs → f x ≡ true → In x (filter f xs)
+pub filter_has : {X : Type 0} (f : X → Bool) (x : X) (xs : List X) → In x xs → f x ≡ true → In x (filter f xs)
 filter_has f x [] i on = absurd i
 filter_has f x (y ∷ xs) i on = go (f y) refl i (filter_has f x xs)
   where

@@ -42,7 +42,7 @@ use Rattle.quic_machine.specs.Closing.{ticked}
 use Rattle.quic_machine.specs.Tracking.{Tracking, TrackedPacket, is_behind, after_sent, without_record}
 use Rattle.quic_machine.specs.End.{End, with_closing, streams_at, number_of, closed_by}
 use Rattle.quic_machine.specs.Calls.{is_open}
-use Rattle.quic_machine.specs.Poll.{zeros_behind, Polled, Draft, no_frames, ack_of, with_signal_frames, with_control_frames, with_asking, with_ack, ack_fits, ack_if, composed_if, composed, asking, frame_room, lazied, packet_of, tracked, record_moved, polled, with_message_frames, goes, draft_as, whole, Leaving, nothing}
+use Rattle.quic_machine.specs.Poll.{zeros_behind, Polled, Draft, no_frames, ack_of, with_signal_frames, with_control_frames, with_asking, with_ack, ack_fits, ack_if, composed_if, composed, asking, frame_room, lazied, packet_of, tracked, record_moved, polled, with_message_frames, goes, draft_as, whole, Leaving, nothing, with_frequency_frame}
 use Rattle.quic_machine.specs.Poll as poll
 use Rattle.quic_machine.specs.DraftLaws.{Writing, by_streams, by_messages, by_leave, MayLeave, by_signals}
 use Rattle.quic_machine.specs.Puts.{with_half_frame}
@@ -57,7 +57,7 @@ use Rattle.quic_headline.specs.Duties.{Limited, AllData, StreamData, StreamCount
 use Rattle.quic_headline.proofs.Packets.Apart.{by_waits, by_next_id}
 use Rattle.quic_headline.proofs.Packets.Growth.{in_more}
 use Rattle.quic_headline.proofs.Packets.Ascending.{Ascends}
-use Rattle.quic_headline.proofs.Packets.Probes.{by_ready, ready_state, draft_streams, by_going}
+use Rattle.quic_headline.proofs.Packets.Probes.{by_ready, ready_state, draft_streams, by_going, with_asked}
 use Rattle.quic_headline.proofs.Packets.Given.{draft_number}
 use Rattle.quic_headline.proofs.Places.Told.{in_left, in_right, in_append}
 use Rattle.quic_headline.proofs.Places.Parties.{sent_by, sent_if, sent_as}
@@ -73,6 +73,7 @@ use Rattle.quic_headline.proofs.Duties.Limits.{limit_more, merged_left, merged_r
 use Rattle.quic_headline.proofs.Packets.Sends.{by_sends}
 use Rattle.quic_headline.proofs.Packets.Owing.{Owes, close_is, error_owes}
 use Rattle.quic_machine.specs.DraftLaws.{IsClose}
+use Rattle.quic_headline.proofs.Packets.Entries.{by_request}
 
 -- ---- frames of control
 
@@ -208,6 +209,12 @@ module _ (s : StreamsState) (p : Retransmits) (what : Limited) (value : ℕ) (to
 
 -- ---- a draft
 
+-- ACK_FREQUENCY is none of them
+asked_limit : (what : Limited) (r : Retransmits) (waits : Bool) → limit_waits (record r { ack_frequency = waits }) what ≡ limit_waits r what
+asked_limit AllData r waits = refl
+asked_limit (StreamData id) r waits = refl
+asked_limit (StreamCount dir) r waits = refl
+
 -- it waits still, matters no more, or stands in a frame
 abbrev IsMoved : Limited → ℕ → Draft → Type 0
 IsMoved what value d = (limit_waits d.end.waiting.frames what ≡ true) ⊎ AllReceiving (Ends what) d.end.streams ⊎ SaysFrom d.frames what value
@@ -220,15 +227,16 @@ moved_more what value d f (inr (inr said)) = inr (inr (says_left what value d.fr
 
 module _ (e : End) (what : Limited) (value : ℕ) (told : IsTold e.streams (limit_frame what value)) (may : Given e.streams (limit_frame what value)) (stays : Stays e.streams e.streams) (knows : AllReceiving (Knows what) e.streams)
     (was : limit_waits e.waiting.frames what ≡ true) where
-  -- no frame went but ACK and signals
+  -- no frame went but ACK, signals and ACK_FREQUENCY
   record Untouched (d : Draft) : Type 0 where
     streams : e.streams ≡ d.end.streams
-    waits : e.waiting.frames ≡ d.end.waiting.frames
+    waits : limit_waits d.end.waiting.frames what ≡ true
 
   -- what asks goes
   asking_moved : (d : Draft) → Untouched d → IsMoved what value (with_asking d)
-  asking_moved d u = by_streams (IsMoved what value) (λ x i h room found first left is counts m. stream_goes x i h room found m) (with_message_frames (with_control_frames (with_signal_frames d)))
-      (by_messages (IsMoved what value) (λ x m ms is fit moved. moved_more what value x (datagram m) moved) (with_control_frames (with_signal_frames d)) (controls (with_signal_frames d) (by_signals Untouched (λ x f left is v. record { streams = v.streams; waits = v.waits }) d u)))
+  asking_moved d u = by_streams (IsMoved what value) (λ x i h room found first left is counts m. stream_goes x i h room found m) (with_message_frames (with_control_frames (with_frequency_frame (with_signal_frames d))))
+      (by_messages (IsMoved what value) (λ x m ms is fit moved. moved_more what value x (datagram m) moved) (with_control_frames (with_frequency_frame (with_signal_frames d))) (controls (with_frequency_frame (with_signal_frames d))
+      (by_request Untouched (with_signal_frames d) (λ waits v. record { streams = v.streams; waits = asked_limit what (with_signal_frames d).end.waiting.frames false ∙ v.waits }) (by_signals Untouched (λ x f left is v. record { streams = v.streams; waits = v.waits }) d u))))
     where
       stream_goes : (x : Draft) (i : ℕ) (h : SendHalf) (room : ℕ) → at x.end.streams.sending.halves.live i ≡ Some h → IsMoved what value x → IsMoved what value (with_half_frame x i h room)
       stream_goes x i h room found (inl waits) = inl waits
@@ -241,7 +249,7 @@ module _ (e : End) (what : Limited) (value : ℕ) (told : IsTold e.streams (limi
           let c = control.control_frames (frame_room x.end) (length x.bytes) s x.end.waiting.frames nothing_waits in
           let moved = control_moved s x.end.waiting.frames what value (subst (λ t. IsTold t (limit_frame what value)) v.streams told) (subst (λ t. Given t (limit_frame what value)) v.streams may) (frame_room x.end) (length x.bytes)
           (subst (λ t. Stays t t) v.streams stays) (subst (AllReceiving (Knows what)) v.streams knows) in
-          elim (moved.moves (subst (λ p. limit_waits p what ≡ true) v.waits was)) [
+          elim (moved.moves v.waits) [
             | inl waits ↦ inl waits
             | inr more ↦ elim more [ inl ends ↦ inr (inl ends) | inr said ↦ inr (inr (says_right what value x.frames c.frames said)) ]
           ]
@@ -255,8 +263,8 @@ module _ (e : End) (what : Limited) (value : ℕ) (told : IsTold e.streams (limi
       late false d m = m
 
       go : (b : Bool) → IsMoved what value (composed_if b e)
-      go true = asking_moved (with_ack (no_frames e)) (record { streams = refl; waits = refl })
-      go false = late (ack_fits (with_asking (no_frames e))) (with_asking (no_frames e)) (asking_moved (no_frames e) (record { streams = refl; waits = refl }))
+      go true = asking_moved (with_ack (no_frames e)) (record { streams = refl; waits = was })
+      go false = late (ack_fits (with_asking (no_frames e))) (with_asking (no_frames e)) (asking_moved (no_frames e) (record { streams = refl; waits = was }))
 
 -- so it is of what goes, where that is composed, or is a due ACK, a probe of a size or a close
 -- alone, and where nothing goes
@@ -302,11 +310,11 @@ said_known (StreamCount dir) value d sees i = record { shape = sees.shape; each 
 -- ---- a datagram goes
 
 -- one that is equal to one of a list is among it
-same_in : {X : Type 0} (x : X) (xs : List X) → AnyIn (λ y. y ≡ x) xs → In x xs
+pub same_in : {X : Type 0} (x : X) (xs : List X) → AnyIn (λ y. y ≡ x) xs → In x xs
 same_in x xs i = let m = any_member (λ y. y ≡ x) xs i in subst (λ y. In y xs) m.2 m.1
 
 -- a packet that goes is tracked, and so is one that was, unless it is of the tail
-sent_has : (t : Tracking) (n : ℕ) (p : TrackedPacket) (q : ℕ × TrackedPacket) → IsNew t.packets n → ((r : ℕ × TrackedPacket) → In r t.packets → is_behind t.greatest_asking r.0 ≡ true → r ≡ q → ⊥) → (q ≡ (n, p)) ⊎ In q t.packets → In q (after_sent t n p).packets
+pub sent_has : (t : Tracking) (n : ℕ) (p : TrackedPacket) (q : ℕ × TrackedPacket) → IsNew t.packets n → ((r : ℕ × TrackedPacket) → In r t.packets → is_behind t.greatest_asking r.0 ≡ true → r ≡ q → ⊥) → (q ≡ (n, p)) ⊎ In q t.packets → In q (after_sent t n p).packets
 sent_has t n p q new none i = same_in q (after_sent t n p).packets (any_sent (λ y. y ≡ q) t n p new none (elim i [ inl same ↦ inl (sym same) | inr old ↦ inr (any_there (λ y. y ≡ q) q t.packets old refl) ]))
 
 -- frames that don't ask say no limit
@@ -381,9 +389,14 @@ module _ (took : List Packet) (own : List Sent) (what : Limited) (value : ℕ) w
   given_stands d x number frames before new (inr (inr came)) = inr (inr (inr came))
 
   module _ (p : Policy) (e : End) (now : ℕ) (ascends : Ascends e) (before : AskBefore own e.tracking.greatest_asking) (new : IsNew e.tracking.packets (number_of e)) where
+    asked_stands : (waits : Bool) (x : End) → LimitStands took own what value x → LimitStands took own what value (with_asked x waits)
+    asked_stands waits x (inl ends) = inl ends
+    asked_stands waits x (inr (inl set)) = inr (inl (asked_limit what x.waiting.frames waits ∙ set))
+    asked_stands waits x (inr (inr rest)) = inr (inr rest)
+
     -- where something waits for each probe: what a probe carries waits
     ready_stands : LimitStands took own what value e → LimitStands took own what value (ready_at e now).end
-    ready_stands i = by_ready (LimitStands took own what value) e now i i (λ q among. moved q among i) (λ moment pacing discovery x j. j)
+    ready_stands i = by_ready (LimitStands took own what value) e now i (λ ping immediate x j. j) (λ waits x j. asked_stands waits x j) (λ q among. moved q among i) (λ moment pacing discovery x j. j)
       where
         moved : (q : ℕ × TrackedPacket) → In q e.tracking.packets → LimitStands took own what value e → LimitStands took own what value (record_moved (Some q) (with_closing e (ticked e.closing now)))
         moved q among (inl ends) = inl ends

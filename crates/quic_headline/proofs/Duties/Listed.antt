@@ -9,7 +9,7 @@ use Rattle.std.specs.List.{list_any, range_with_len}
 use Rattle.std.proofs.lemmas.Bool.{both_ways, or_parts, or_cases, or_left, or_right, eqb-true, eq-eqb}
 use Rattle.std.proofs.lemmas.List.Folds.{list_any-append}
 use Rattle.std.proofs.lemmas.Option.{same_Some}
-use Rattle.quic_wire.specs.Value.{FrameValue, AckValue, ResetStreamValue, StopSendingValue, NewConnectionIdValue, ack, new_connection_id, retire_connection_id, path_response, stream, reset_stream, stop_sending, max_data, max_stream_data, max_streams, asks, datagram}
+use Rattle.quic_wire.specs.Value.{FrameValue, AckValue, ResetStreamValue, StopSendingValue, NewConnectionIdValue, ack, new_connection_id, retire_connection_id, path_response, stream, reset_stream, stop_sending, max_data, max_stream_data, max_streams, asks, datagram, ack_frequency}
 use Rattle.quic_send_buffer.specs.declared.stream_meta.StreamMeta.{StreamMeta}
 use Rattle.quic_streams_parts.specs.declared.answers.UpdateError.{UpdateError}
 use Rattle.quic_streams_parts.specs.declared.answers.UpdateError.TheVariants as update_errors
@@ -50,14 +50,14 @@ use Rattle.quic_machine.specs.Tracking.{Tracking, TrackedPacket, Carried, retran
 use Rattle.quic_machine.specs.End.{End, with_closing, with_streams, with_ids, with_frames, words_drawn, streams_at, number_of, closed_by}
 use Rattle.quic_machine.specs.Calls.{after_nexts, is_open}
 use Rattle.quic_machine.specs.StreamCalls.{IsStreamAnswer, if_ok, after_on_streams}
-use Rattle.quic_machine.specs.Acked.{without_known, reset_acked, resets_acked, stream_acked, streams_acked, packet_acked, packets_acked, stream_lost, streams_lost, carried_lost, packets_lost, verdict, losses_detected, measured, sampled, without_acked, after_named, losses_taken}
+use Rattle.quic_machine.specs.Acked.{without_known, reset_acked, resets_acked, stream_acked, streams_acked, packet_acked, packets_acked, stream_lost, streams_lost, carried_lost, packets_lost, verdict, losses_detected, measured, sampled, without_acked, after_named, losses_taken, request_acked}
 use Rattle.quic_machine.specs.Receive.{is_above, names_ungiven, take_frame, Outcome, after_taken, asks_in, drained_at, reason_of, retired_for, id_judged, retirement_judged}
 use Rattle.quic_machine.specs.MessageCalls.{most_message}
 use Rattle.quic_machine.specs.Sizes.{without_longer_if, shortened}
 use Rattle.quic_machine.specs.Validation.{word_of, validated_if}
-use Rattle.quic_machine.specs.Ids.{Drawing, words_behind, words_of_id, drawn_id, undrawn_id, drawn_one, drawn_places, retired, may_issue, frame_of as id_frame_of, retires_for, retires_for_next, next_used}
-use Rattle.quic_machine.specs.IdFrames.{retiring, with_taken_up, issued, issued_if, next_id_taken, end_on_next_id, drawn}
-use Rattle.quic_machine.specs.Poll.{Polled, Draft, no_frames, ack_of, with_signal_frames, with_control_frames, with_asking, with_ack, ack_fits, ack_if, composed_if, composed, asking, frame_room, lazied, packet_of, tracked, record_moved, polled, with_message, with_message_frames, goes, draft_as, whole, Leaving, nothing}
+use Rattle.quic_machine.specs.Ids.{Drawing, words_behind, words_of_id, drawn_id, undrawn_id, drawn_one, drawn_places, retired, frame_of as id_frame_of, retires_for, retires_for_next, next_used}
+use Rattle.quic_machine.specs.IdFrames.{retiring, with_taken_up, issued, issued_if, issues_for, next_id_taken, end_on_next_id, drawn}
+use Rattle.quic_machine.specs.Poll.{Polled, Draft, no_frames, ack_of, with_signal_frames, with_control_frames, with_asking, with_ack, ack_fits, ack_if, composed_if, composed, asking, frame_room, lazied, packet_of, tracked, record_moved, polled, with_message, with_message_frames, goes, draft_as, whole, Leaving, nothing, with_frequency_frame}
 use Rattle.quic_machine.specs.DraftLaws.{by_streams, by_messages, MayLeave, by_signals}
 use Rattle.quic_machine.specs.Puts.{with_half_frame}
 use Rattle.quic_machine.specs.PollCases.{ready_at, ready_leaves, draft_at, by_poll_to, composes, may_leave_at}
@@ -73,7 +73,7 @@ use Rattle.quic_headline.specs.Duties.{AnyIn, has_reset, has_stop, has_retiremen
 use Rattle.quic_headline.proofs.Packets.Searches.{by_losses}
 use Rattle.quic_headline.proofs.Packets.Invariant.{IsCarriedFrom, AreTracked, carried_again}
 use Rattle.quic_headline.proofs.Packets.Ascending.{Ascends}
-use Rattle.quic_headline.proofs.Packets.Probes.{by_ready, ready_tracked, by_going}
+use Rattle.quic_headline.proofs.Packets.Probes.{by_ready, ready_tracked, by_going, with_asked}
 use Rattle.quic_headline.proofs.Packets.Given.{draft_number}
 use Rattle.quic_headline.proofs.Packets.Carried.{again_is}
 use Rattle.quic_headline.proofs.Packets.Delivered.{Arrivals, arrived}
@@ -86,7 +86,8 @@ use Rattle.quic_headline.proofs.Duties.Carrier.{any_is, any_either, any_member, 
 use Rattle.quic_headline.proofs.Duties.Tail.{AskBefore, Quiet, tail_quiet, ready_before}
 use Rattle.quic_machine.specs.Sizes.{search_acked}
 use Rattle.quic_headline.proofs.Packets.Closes.{by_closes}
-use Rattle.quic_headline.proofs.Packets.Apart.{by_waits}
+use Rattle.quic_headline.proofs.Packets.Apart.{by_waits, by_frequency}
+use Rattle.quic_headline.proofs.Packets.Entries.{by_request}
 
 -- ---- what waits in a list
 
@@ -129,6 +130,17 @@ listed_in (ResetOf id) r = has_reset id r.reset_stream
 listed_in (StopOf id) r = has_stop id r.stop_sending
 listed_in (RetireOf number) r = has_retirement number r.retire_cids
 listed_in (NewIdOf number) r = has_new_id number r.new_cids
+
+-- ACK_FREQUENCY is none of them
+asked_listed : (what : Listed) (r : Retransmits) (waits : Bool) → listed_in what (record r { ack_frequency = waits }) ≡ listed_in what r
+asked_listed (ResetOf id) r waits = refl
+asked_listed (StopOf id) r waits = refl
+asked_listed (RetireOf number) r waits = refl
+asked_listed (NewIdOf number) r waits = refl
+
+-- nor has it to have a form there
+asked_ready : (live : Table SendHalf) (r : Retransmits) (waits : Bool) → AreReady live r → AreReady live (record r { ack_frequency = waits })
+asked_ready live r waits a = record { resets = a.resets; stops = a.stops; ids = a.ids; retired = a.retired }
 
 -- it stood in a packet that was taken
 pub record Came (took : List Packet) (what : Listed) : Type 0 where
@@ -342,8 +354,9 @@ module _ (what : Listed) where
   packets_wait [] e = refl
   packets_wait (p ∷ ps) e =
       let c : Carried = p.1.carried in
-      let knows : End = without_known c.largest_acked (search_acked p e) in
-      packets_wait ps (packet_acked p e) ∙ streams_wait c.stream_frames (resets_acked c.retransmits.reset_stream knows) ∙ resets_wait c.retransmits.reset_stream knows ∙ known_wait c.largest_acked (search_acked p e)
+      let asked : End = request_acked p.0 (search_acked p e) in
+      let knows : End = without_known c.largest_acked asked in
+      packets_wait ps (packet_acked p e) ∙ streams_wait c.stream_frames (resets_acked c.retransmits.reset_stream knows) ∙ resets_wait c.retransmits.reset_stream knows ∙ known_wait c.largest_acked asked
 
   lost_wait : (ms : List StreamMeta) (e : End) → (streams_lost ms e).waiting ≡ e.waiting
   lost_wait [] e = refl
@@ -446,13 +459,14 @@ module _ (took : List Packet) (what : Listed) where
       issues false = i
 
       go : (r : Result Bool ErrorValue) → ListedStands took what (retirement_judged r n e).end
-      go (Ok more) = issues (may_issue e.ids n)
+      go (Ok more) = issues (issues_for n e)
       go (Err error) = i
   apart_stands (path_response token) e apart i = go (is_asked e.validation.challenge (word_of token))
     where
       go : (b : Bool) → ListedStands took what (validated_if b e)
       go true = i
       go false = i
+  apart_stands (ack_frequency r) e apart i = by_frequency (ListedStands took what) r e (λ threshold reordering frequency. i)
   apart_stands f e apart i = i
 
   -- so does the change to the next id of the peer
@@ -648,10 +662,11 @@ module _ (e : End) (ready : AreReady e.streams.sending.halves.live e.waiting.fra
   abbrev IsMoved : Draft → Type 0
   IsMoved d = (listed_in what d.end.waiting.frames ≡ true) ⊎ (said what d.frames ≡ true)
 
-  -- no frame went but ACK and signals
+  -- no frame went but ACK, signals and ACK_FREQUENCY
   record Untouched (d : Draft) : Type 0 where
     streams : d.end.streams ≡ e.streams
-    waits : d.end.waiting.frames ≡ e.waiting.frames
+    waits : listed_in what d.end.waiting.frames ≡ true
+    forms : AreReady e.streams.sending.halves.live d.end.waiting.frames
 
   -- one frame more
   moved_more : (d : Draft) (f : FrameValue) (x : End) → x.waiting.frames ≡ d.end.waiting.frames → IsMoved d → (listed_in what x.waiting.frames ≡ true) ⊎ (said what (d.frames ++ f ∷ []) ≡ true)
@@ -660,14 +675,15 @@ module _ (e : End) (ready : AreReady e.streams.sending.halves.live e.waiting.fra
 
   -- what asks goes
   asking_moved : (d : Draft) → Untouched d → IsMoved (with_asking d)
-  asking_moved d u = by_streams IsMoved (λ x i h room found first left is counts m. moved_more x (stream (frame_of i h room)) (with_half_frame x i h room).end refl m) (with_message_frames (with_control_frames (with_signal_frames d)))
-      (by_messages IsMoved (λ x m ms is fit moved. moved_more x (datagram m) (with_message x m ms).end refl moved) (with_control_frames (with_signal_frames d)) (controls (with_signal_frames d) (by_signals Untouched (λ x f left is v. record { streams = v.streams; waits = v.waits }) d u)))
+  asking_moved d u = by_streams IsMoved (λ x i h room found first left is counts m. moved_more x (stream (frame_of i h room)) (with_half_frame x i h room).end refl m) (with_message_frames (with_control_frames (with_frequency_frame (with_signal_frames d))))
+      (by_messages IsMoved (λ x m ms is fit moved. moved_more x (datagram m) (with_message x m ms).end refl moved) (with_control_frames (with_frequency_frame (with_signal_frames d))) (controls (with_frequency_frame (with_signal_frames d))
+      (by_request Untouched (with_signal_frames d) (λ waits v. record { streams = v.streams; waits = asked_listed what (with_signal_frames d).end.waiting.frames false ∙ v.waits; forms = asked_ready _ (with_signal_frames d).end.waiting.frames false v.forms }) (by_signals Untouched (λ x f left is v. record { streams = v.streams; waits = v.waits; forms = v.forms }) d u))))
     where
       controls : (x : Draft) → Untouched x → IsMoved (with_control_frames x)
       controls x v =
           let c = control_frames (frame_room x.end) (length_of x) x.end.streams x.end.waiting.frames nothing_waits in
-          let here : AreReady x.end.streams.sending.halves.live x.end.waiting.frames = rw (v.streams, v.waits) ready in
-          elim ((control_moved x.end.streams x.end.waiting.frames here what (frame_room x.end) (length_of x)).moves (rw v.waits was)) [
+          let here : AreReady x.end.streams.sending.halves.live x.end.waiting.frames = rw v.streams v.forms in
+          elim ((control_moved x.end.streams x.end.waiting.frames here what (frame_room x.end) (length_of x)).moves v.waits) [
             | inl waits ↦ inl waits
             | inr went ↦ inr (said_behind what x.frames c.frames went)
           ]
@@ -684,8 +700,8 @@ module _ (e : End) (ready : AreReady e.streams.sending.halves.live e.waiting.fra
       late false d m = m
 
       go : (b : Bool) → IsMoved (composed_if b e)
-      go true = asking_moved (with_ack (no_frames e)) (record { streams = refl; waits = refl })
-      go false = late (ack_fits (with_asking (no_frames e))) (with_asking (no_frames e)) (asking_moved (no_frames e) (record { streams = refl; waits = refl }))
+      go true = asking_moved (with_ack (no_frames e)) (record { streams = refl; waits = was; forms = ready })
+      go false = late (ack_fits (with_asking (no_frames e))) (with_asking (no_frames e)) (asking_moved (no_frames e) (record { streams = refl; waits = was; forms = ready }))
 
 -- so it is of what goes, where that is composed, or is a due ACK, a probe of a size or a close
 -- alone, and where nothing goes
@@ -713,9 +729,13 @@ module _ (took : List Packet) (sents : List Sent) (what : Listed) where
       go (inr (inr came)) = inr (inr came)
 
   module _ (e : End) (now : ℕ) (ascends : Ascends e) (were : AreTracked sents e.tracking.packets) (before : AskBefore sents e.tracking.greatest_asking) (new : IsNew e.tracking.packets (number_of e)) where
+    asked_stands : (waits : Bool) (x : End) → ListedStands took what x → ListedStands took what (with_asked x waits)
+    asked_stands waits x (inl set) = inl (asked_listed what x.waiting.frames waits ∙ set)
+    asked_stands waits x (inr rest) = inr rest
+
     -- where something waits for each probe: what a probe carries waits
     ready_stands : ListedStands took what e → ListedStands took what (ready_at e now).end
-    ready_stands i = by_ready (ListedStands took what) e now i i (λ p among. moved p among i) (λ moment pacing discovery x j. j)
+    ready_stands i = by_ready (ListedStands took what) e now i (λ ping immediate x j. j) (λ waits x j. asked_stands waits x j) (λ p among. moved p among i) (λ moment pacing discovery x j. j)
       where
         again : (p : ℕ × TrackedPacket) → (listed_in what e.waiting.frames ≡ true) ⊎ HasIt what p → listed_in what (merged e.waiting.frames p.1.carried.retransmits) ≡ true
         again p (inl waits) = merged_listed what e.waiting.frames p.1.carried.retransmits ∙ or_left (listed_in what e.waiting.frames) (listed_in what p.1.carried.retransmits) waits

@@ -13,7 +13,7 @@ use Rattle.std.proofs.lemmas.List.Folds.{list_any-append}
 use Rattle.std.proofs.lemmas.Option.{same_Some}
 use Rattle.quic_wire_core.specs.TransportError.{ErrorValue}
 use Rattle.quic_wire_core.specs.declared.shared.IssuedCid.{IssuedCid}
-use Rattle.quic_wire.specs.Value.{FrameValue, AckValue, NewConnectionIdValue, ack, stream, reset_stream, stop_sending, max_data, max_stream_data, max_streams, datagram, new_connection_id, retire_connection_id, path_response, padding}
+use Rattle.quic_wire.specs.Value.{FrameValue, AckValue, NewConnectionIdValue, ack, stream, reset_stream, stop_sending, max_data, max_stream_data, max_streams, datagram, new_connection_id, retire_connection_id, path_response, padding, ack_frequency}
 use Rattle.quic_wire.specs.declared.frame.NewConnectionId.{NewConnectionId}
 use Rattle.quic_ids.specs.CidState.{OwnIds, is_in, below, without, is_wrong, after_retirement, retirement_answer}
 use Rattle.quic_ids.specs.CidQueue.{PeerIds, insert_answer, after_insert, after_accepted, retires_active, exceeds, left_by, first_used, known_with, with_cid, brought}
@@ -33,8 +33,8 @@ use Rattle.quic_machine.specs.Policy.{Policy}
 use Rattle.quic_machine.specs.Closing.{ticked}
 use Rattle.quic_machine.specs.MessageCalls.{most_message}
 use Rattle.quic_machine.specs.Sizes.{without_longer_if, shortened}
-use Rattle.quic_machine.specs.Ids.{Ids, Drawing, words_behind, words_of_id, drawn_ids, undrawn_id, most_ids, retired, may_issue, ids_drawn, frame_of, retires_for, retires_for_next, next_used}
-use Rattle.quic_machine.specs.IdFrames.{retiring, with_taken_up, issued, issued_if, next_id_taken, end_on_next_id, drawn, drawing}
+use Rattle.quic_machine.specs.Ids.{Ids, Drawing, words_behind, words_of_id, drawn_ids, undrawn_id, most_ids, retired, ids_drawn, frame_of, retires_for, retires_for_next, next_used}
+use Rattle.quic_machine.specs.IdFrames.{retiring, with_taken_up, issued, issued_if, issues_for, next_id_taken, end_on_next_id, drawn, drawing}
 use Rattle.quic_machine.specs.Validation.{word_of, validated_if}
 use Rattle.quic_machine.specs.End.{End, with_closing, with_ids, closed_by}
 use Rattle.quic_machine.specs.Receive.{Outcome, asks_in, after_taken, drained_at, reason_of, names_ungiven, is_above, retired_for, id_judged, retirement_judged, take_frame}
@@ -55,7 +55,7 @@ use Rattle.quic_headline.proofs.Packets.Growth.{in_more}
 use Rattle.quic_headline.proofs.Packets.Invariant.{AreTracked}
 use Rattle.quic_headline.proofs.Packets.Closes.{by_closes}
 use Rattle.quic_headline.proofs.Packets.Owing.{Owes, sent_fine}
-use Rattle.quic_headline.proofs.Packets.Apart.{by_waits}
+use Rattle.quic_headline.proofs.Packets.Apart.{by_waits, by_frequency}
 use Rattle.quic_headline.proofs.Packets.Probes.{may_leave}
 use Rattle.quic_headline.proofs.Packets.Delivered.{Arrivals, arrived}
 use Rattle.quic_headline.proofs.Packets.Named.{NamesTaken, Stands, by_frame, frame_fewer}
@@ -291,13 +291,14 @@ module _ (took : List Packet) where
       issues false owes = inl (retired_owed what n e owes)
 
       go : (r : Result Bool ErrorValue) → IdOwed what (retirement_judged r n e).end.ids → Or what e (retirement_judged r n e).end
-      go (Ok more) owes = issues (may_issue e.ids n) owes
+      go (Ok more) owes = issues (issues_for n e) owes
       go (Err error) owes = inl owes
   apart_owed what (path_response token) e apart none owed = go (is_asked e.validation.challenge (word_of token)) owed
     where
       go : (b : Bool) → IdOwed what (validated_if b e).ids → Or what e (validated_if b e)
       go true owes = inl owes
       go false owes = inl owes
+  apart_owed what (ack_frequency r) e apart none owed = by_frequency (λ (x : End). IdOwed what x.ids → Or what e x) r e (λ threshold reordering frequency owes. inl owes) owed
   apart_owed what f e apart none owed = inl owed
 
   -- any frame

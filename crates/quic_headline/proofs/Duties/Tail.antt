@@ -168,7 +168,7 @@ before_none sents greatest before u i = elim (in_append u sents [] i) [ inl old 
 
 -- an end that is ready to give leaves the greatest that asks
 pub ready_before : (sents : List Sent) (e : End) (now : ℕ) → AskBefore sents e.tracking.greatest_asking → AskBefore sents (ready_at e now).end.tracking.greatest_asking
-ready_before sents e now before = by_ready (λ (x : End). AskBefore sents x.tracking.greatest_asking) e now before before (λ q i. before) (λ moment pacing discovery x i. i)
+ready_before sents e now before = by_ready (λ (x : End). AskBefore sents x.tracking.greatest_asking) e now before (λ ping immediate x i. i) (λ waits x i. i) (λ q i. before) (λ moment pacing discovery x i. i)
 
 -- after a poll
 before_polled : (p : Policy) (e : End) (now : ℕ) (sents : List Sent) → Owes e → ((s : Sent) → In s sents → s.number < e.numbers.next) → AskBefore sents e.tracking.greatest_asking

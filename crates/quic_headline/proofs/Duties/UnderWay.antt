@@ -19,7 +19,7 @@ use Rattle.quic_machine.specs.Tracking.{Tracking, TrackedPacket, Carried, dir_na
 use Rattle.quic_machine.specs.End.{End, with_closing, streams_at, number_of, closed_by}
 use Rattle.quic_machine.specs.Calls.{is_open}
 use Rattle.quic_machine.specs.StreamCalls.{is_on_streams}
-use Rattle.quic_machine.specs.Acked.{without_known, resets_acked, stream_acked, streams_acked, packet_acked, packets_acked, stream_lost, streams_lost, carried_lost, packets_lost, verdict, losses_detected, measured, sampled, without_acked, after_named, losses_taken}
+use Rattle.quic_machine.specs.Acked.{without_known, resets_acked, stream_acked, streams_acked, packet_acked, packets_acked, stream_lost, streams_lost, carried_lost, packets_lost, verdict, losses_detected, measured, sampled, without_acked, after_named, losses_taken, request_acked}
 use Rattle.quic_machine.specs.Receive.{is_above, names_ungiven, take_frame, Outcome}
 use Rattle.quic_machine.specs.Poll.{Polled, Draft, asking, packet_of, tracked, polled, goes, draft_as, Leaving}
 use Rattle.quic_machine.specs.DraftLaws.{Writing, by_leave, MayLeave}
@@ -112,8 +112,9 @@ module _ (done : ℕ → Wrote) where
   one_acked F p e ends i =
       let c : Carried = p.1.carried in
       let G : Duty → Type 0 = λ u. InPacket p u ⊎ F u in
-      all_leave End Duty StreamMeta Carries Ends Stand stand_more stream_acked frame_acked streams_acked (λ x. refl) (λ m ms x. refl) F c.stream_frames (resets_acked c.retransmits.reset_stream (without_known c.largest_acked (search_acked p e))) ends
-      (resets_stand G c.retransmits.reset_stream (without_known c.largest_acked (search_acked p e)) (known_stands G c.largest_acked (search_acked p e) i))
+      let asked : End = request_acked p.0 (search_acked p e) in
+      all_leave End Duty StreamMeta Carries Ends Stand stand_more stream_acked frame_acked streams_acked (λ x. refl) (λ m ms x. refl) F c.stream_frames (resets_acked c.retransmits.reset_stream (without_known c.largest_acked asked)) ends
+      (resets_stand G c.retransmits.reset_stream (without_known c.largest_acked asked) (known_stands G c.largest_acked asked i))
 
   -- acknowledged packets
   packets_stand : (F : Duty → Type 0) (ps : Table TrackedPacket) (e : End) → ((p : ℕ × TrackedPacket) → In p ps → EndsIn p) → Stand (λ u. InPackets ps u ⊎ F u) e → Stand F (packets_acked ps e)
@@ -291,7 +292,7 @@ given_fly done sents d were before new i =
 module _ (done : ℕ → Wrote) (sents : List Sent) (e : End) (now : ℕ) (ascends : Ascends e) (were : AreTracked sents e.tracking.packets) (before : AskBefore sents e.tracking.greatest_asking) (new : IsNew e.tracking.packets (number_of e)) where
   -- where something waits for each probe
   ready_fly : Fly done e → Fly done (ready_at e now).end
-  ready_fly i = by_ready (Fly done) e now i i (λ p among. all_more (InPackets e.tracking.packets) (InPackets (put e.tracking.packets p.0 (without_record p.1))) done e.streams (λ u j.
+  ready_fly i = by_ready (Fly done) e now i (λ ping immediate x j. j) (λ waits x j. j) (λ p among. all_more (InPackets e.tracking.packets) (InPackets (put e.tracking.packets p.0 (without_record p.1))) done e.streams (λ u j.
       elim (any_put (λ q. InPacket q u) ⊥ e.tracking.packets p (without_record p.1) ascends among (λ here. inl here) j) [ inl there ↦ there | inr none ↦ absurd none ]) i) (λ moment pacing discovery x j. j)
 
   -- after a poll

@@ -9,7 +9,7 @@ use Rattle.std.proofs.lemmas.Bool.{cond_both, cases_eq, cases_Bool, or_cases, or
 use Rattle.std.proofs.lemmas.List.Folds.{list_any-append}
 use Rattle.quic_wire_core.specs.declared.stream_id.Side.{Side}
 use Rattle.quic_wire_core.specs.declared.stream_id.Dir.{Dir}
-use Rattle.quic_wire.specs.Value.{FrameValue, StreamLimitValue, ack, stream, reset_stream, stop_sending, max_data, max_stream_data, max_streams, datagram, new_connection_id, retire_connection_id, path_response}
+use Rattle.quic_wire.specs.Value.{FrameValue, StreamLimitValue, ack, stream, reset_stream, stop_sending, max_data, max_stream_data, max_streams, datagram, new_connection_id, retire_connection_id, path_response, ack_frequency}
 use Rattle.quic_send_buffer.specs.Buffered.{IsBuffered, is_fully_acked}
 use Rattle.quic_send_buffer.proofs.Buffered.Calls.{ack_lawful, loss_lawful}
 use Rattle.quic_streams_parts.specs.declared.answers.Breach.{Breach}
@@ -359,6 +359,7 @@ module _ (first : ℕ → ℕ) (id w : ℕ) where
   between_frame (new_connection_id g) e i = apart_leaves (λ (x : End). Between x.streams) (new_connection_id g) e tt (λ c. i) (λ c most. i)
   between_frame (retire_connection_id n) e i = apart_leaves (λ (x : End). Between x.streams) (retire_connection_id n) e tt (λ c. i) (λ c most. i)
   between_frame (path_response token) e i = apart_leaves (λ (x : End). Between x.streams) (path_response token) e tt (λ c. i) (λ c most. i)
+  between_frame (ack_frequency r) e i = apart_leaves (λ (x : End). Between x.streams) (ack_frequency r) e tt (λ c. i) (λ c most. i)
   between_frame f e i = i
 
   -- ---- the stream's limit grows

@@ -1,7 +1,7 @@
 -- The messages of an end that wait to be received, and how often it is to be told that they came.
 use Rattle.std.proofs.Common.{◌≡◌, ℕ, ◌+◌, ◌<◌, ◌≤◌, ◌⊎◌, inl, inr, Bool, true, false, nat_le, List, [], ◌∷◌, ◌++◌, length, Option, Some, None, Result, Ok, Err, refl, sym, ap, ◌∙◌, subst, arith}
 use Rattle.std.specs.Prelude.{◌==◌, if◌then◌else◌}
-use Rattle.quic_wire.specs.Value.{FrameValue, ack, datagram, new_connection_id, retire_connection_id, path_response}
+use Rattle.quic_wire.specs.Value.{FrameValue, ack, datagram, new_connection_id, retire_connection_id, path_response, ack_frequency}
 use Rattle.quic_messages.specs.declared.errors.ReceivedError.{ReceivedError}
 use Rattle.quic_messages.specs.declared.errors.ReceivedError.TheVariants as received_errors
 use Rattle.quic_messages.specs.Messages.{Messages, weight, bytes_of, left_for, with_message, is_taken, received_answer, after_received}
@@ -103,6 +103,7 @@ module _ (P : List (List ℕ) → ℕ → Type 0) where
   frame_leaves (new_connection_id f) e here takes = apart_leaves (λ (x : End). Of x) (new_connection_id f) e tt (λ c. here) (λ c most. here)
   frame_leaves (retire_connection_id n) e here takes = apart_leaves (λ (x : End). Of x) (retire_connection_id n) e tt (λ c. here) (λ c most. here)
   frame_leaves (path_response token) e here takes = apart_leaves (λ (x : End). Of x) (path_response token) e tt (λ c. here) (λ c most. here)
+  frame_leaves (ack_frequency r) e here takes = apart_leaves (λ (x : End). Of x) (ack_frequency r) e tt (λ c. here) (λ c most. here)
   frame_leaves f e here takes = here
 
 -- ---- messages that come

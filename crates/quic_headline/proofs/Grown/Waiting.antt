@@ -47,7 +47,7 @@ use Rattle.quic_machine.specs.End.{End, with_closing, streams_at}
 use Rattle.quic_machine.specs.Calls.{AreNexts, after_nexts, is_open}
 use Rattle.quic_machine.specs.StreamCalls.{if_ok, IsStreamAnswer, after_on_streams}
 use Rattle.quic_machine.specs.Receive.{take_frame}
-use Rattle.quic_machine.specs.Poll.{Draft, no_frames, with_signal_frames, with_control_frames, with_message_frames, with_asking, with_ack, ack_fits, ack_if, composed_if, composed, frame_room}
+use Rattle.quic_machine.specs.Poll.{Draft, no_frames, with_signal_frames, with_control_frames, with_message_frames, with_asking, with_ack, ack_fits, ack_if, composed_if, composed, frame_room, with_frequency_frame}
 use Rattle.quic_machine.specs.DraftLaws.{by_streams, by_messages, by_signals}
 use Rattle.quic_machine.specs.FrameCases.{OnStreams, Settling, named, acked_keeps, losses_keep, passed, frames_keep}
 use Rattle.quic_machine.specs.FrameCases as cases
@@ -62,6 +62,7 @@ use Rattle.quic_headline.proofs.Grown.Streams.{Grown, grown_more, grown_kept, fr
 use Rattle.quic_headline.proofs.Grown.Flags.{is_read, KeptIn, Decides, calls_keep, polled_keeps, reset_acked_keeps, lost_keeps, frame_keeps}
 use Rattle.quic_headline.proofs.Grown.Flags as flags
 use Rattle.quic_streams_laws.specs.Keeping as changes
+use Rattle.quic_headline.proofs.Packets.Entries.{by_request}
 
 -- ---- what waits
 
@@ -294,13 +295,20 @@ control_waits most used t w = by_control most (λ (c : control.Draft). Waits (st
 abbrev Drafted : Draft → Type 0
 Drafted d = Waits (streams_at d.end)
 
+-- ACK_FREQUENCY waits, or doesn't
+asked_waits : (waits : Bool) (t : Streams) → Waits t → Waits (streams_of t.state (record t.pending { ack_frequency = waits }))
+asked_waits waits t i = record { all = record { bytes = i.all.bytes; counts = i.all.counts }; each = i.each }
+
 -- what asks goes
 asking_waits : (d : Draft) → Drafted d → Drafted (with_asking d)
 asking_waits d w = by_streams Drafted (λ x id h room found first left is counts i. record {
   all = record { bytes = i.all.bytes; counts = i.all.counts };
   each = by_frame (Grown (IsListed x.end.waiting.frames.max_stream_data)) (grown_kept (IsListed x.end.waiting.frames.max_stream_data)) x.end.transport.send_fairness x.end.streams id room h found tt i.each;
-}) (with_message_frames (with_control_frames (with_signal_frames d))) (by_messages Drafted (λ x m ms is fit i. i) (with_control_frames (with_signal_frames d))
-    (control_waits (frame_room (with_signal_frames d).end) (length (with_signal_frames d).bytes) (streams_at (with_signal_frames d).end) (by_signals Drafted (λ x f left is i. i) d w)))
+}) (with_message_frames (with_control_frames begun)) (by_messages Drafted (λ x m ms is fit i. i) (with_control_frames begun)
+    (control_waits (frame_room begun.end) (length begun.bytes) (streams_at begun.end) (by_request Drafted (with_signal_frames d) (λ asked i. asked_waits false (streams_at (with_signal_frames d).end) i) (by_signals Drafted (λ x f left is i. i) d w))))
+  where
+    begun : Draft
+    begun = with_frequency_frame (with_signal_frames d)
 
 -- whichever frames go
 composed_waits : (e : End) → Waits (streams_at e) → Drafted (composed e)
@@ -327,7 +335,7 @@ call_grown p e theirs call a within apart is w = by_call p e theirs (λ (f : End
   waits = λ now b set. by_waits (λ (f : End). Waits (streams_at f)) b (with_closing e (ticked e.closing now)) w w;
   changes_id = λ uses answer. by_next_id (λ (f : End). Waits (streams_at f)) e a w (λ c. record { all = record { bytes = w.all.bytes; counts = w.all.counts }; each = w.each }) (λ c most. record { all = record { bytes = w.all.bytes; counts = w.all.counts }; each = w.each });
   times = λ now expiry set. by_expired p.words e now (λ (f : End). Waits (streams_at f)) (λ pending tracking timers waits asked runs packets. w) (λ pending timers waits asked runs. losses_keep (λ (f : End). Waits (streams_at f)) settles (with_closing e (ticked e.closing now)) w) (λ x j. j) expiry;
-  polls = λ now set. poll_streams Waits p e now composed_waits w (ready_streams Waits e now w (λ n t among. settles (steps.again t.carried) e w));
+  polls = λ now set. poll_streams Waits p e now composed_waits w (ready_streams Waits e now w asked_waits (λ n t among. settles (steps.again t.carried) e w));
   hears = λ arrival d set. cc;
   tells = λ asks. by_event e (λ (f : End). Waits (streams_at f)) w (λ told.
       (let ids : List ℕ = e.waiting.frames.max_stream_data in

@@ -6,7 +6,7 @@ use Rattle.std.specs.List.{range_with_len}
 use Rattle.std.specs.declared.ops.Range.{Range}
 use Rattle.quic_wire_core.specs.TransportError.{ErrorValue}
 use Rattle.quic_wire_core.specs.declared.shared.IssuedCid.{IssuedCid}
-use Rattle.quic_wire.specs.Value.{FrameValue, ack, datagram, new_connection_id, retire_connection_id, path_response}
+use Rattle.quic_wire.specs.Value.{FrameValue, ack, datagram, new_connection_id, retire_connection_id, path_response, ack_frequency}
 use Rattle.quic_wire.specs.declared.frame.NewConnectionId.{NewConnectionId}
 use Rattle.quic_ids.specs.CidState.{retirement_answer}
 use Rattle.quic_ids.specs.CidQueue.{PeerIds, from, with_cid, known_with, brought, exceeds, retires_active, left_by, first_used, after_insert, after_next, kept_ids, retired_up_to, retired_for, insert_answer}
@@ -18,8 +18,8 @@ use Rattle.quic_machine.specs.declared.run.Answer.{Answer}
 use Rattle.quic_machine.specs.declared.run.Answer.TheVariants as answers
 use Rattle.quic_machine.specs.Policy.{Policy}
 use Rattle.quic_machine.specs.Closing.{ticked}
-use Rattle.quic_machine.specs.Ids.{Ids, frame_of, retires_for, retired, may_issue, retires_for_next, next_used}
-use Rattle.quic_machine.specs.IdFrames.{retiring, with_taken_up, issued_if, next_id_taken, end_on_next_id}
+use Rattle.quic_machine.specs.Ids.{Ids, frame_of, retires_for, retired, retires_for_next, next_used}
+use Rattle.quic_machine.specs.IdFrames.{retiring, with_taken_up, issued_if, issues_for, next_id_taken, end_on_next_id}
 use Rattle.quic_machine.specs.MessageCalls.{most_message}
 use Rattle.quic_machine.specs.Sizes.{without_longer_if, shortened}
 use Rattle.quic_machine.specs.Validation.{word_of, validated_if}
@@ -35,7 +35,7 @@ use Rattle.quic_machine.specs.CallCases.{Plain, is_delivery, by_plain_call}
 use Rattle.quic_machine.specs.CallCases as cases
 use Rattle.quic_machine.specs.Machine.{after_call}
 use Rattle.quic_headline.specs.Runs.{In, Intake}
-use Rattle.quic_headline.proofs.Packets.Apart.{by_waits}
+use Rattle.quic_headline.proofs.Packets.Apart.{by_waits, by_frequency}
 use Rattle.quic_headline.proofs.Packets.Closes.{by_closes}
 use Rattle.quic_headline.proofs.Packets.Delivered.{Arrivals}
 use Rattle.quic_headline.proofs.Packets.Named.{in_filter}
@@ -185,13 +185,14 @@ frame_written (retire_connection_id n) e small w = judged (retirement_answer e.i
     issues false = w
 
     judged : (r : Result Bool ErrorValue) → AreWritten (retirement_judged r n e).end.ids.peer
-    judged (Ok more) = issues (may_issue e.ids n)
+    judged (Ok more) = issues (issues_for n e)
     judged (Err error) = w
 frame_written (path_response token) e small w = go (is_asked e.validation.challenge (word_of token))
   where
     go : (b : Bool) → AreWritten (validated_if b e).ids.peer
     go true = w
     go false = w
+frame_written (ack_frequency r) e small w = by_frequency (λ (x : End). AreWritten x.ids.peer) r e (λ threshold reordering frequency. w)
 frame_written f e small w = w
 
 -- what is so of frames that are left, and of the known ids, behind one of them

@@ -65,26 +65,25 @@ part_of live resets some stops few fewer among less p = record {
   small = λ s i. p.small s (less s i);
 }
 
--- nothing waits that has no frame, or whose frame has no form
+-- nothing waits whose frame has no form
 pub record NothingElse (p : Retransmits) : Type 0 where
   pub ids : (cid : IssuedCid) → In cid p.new_cids → Fits (new_connection_id (told_id cid))
   pub retired : (n : ℕ) → In n p.retire_cids → n < 2 ^ 62
-  pub no_frequency : p.ack_frequency ≡ false
 
 -- so it is of nothing at all
-pub nothing_else : (p : Retransmits) → p.new_cids ≡ [] → p.retire_cids ≡ [] → p.ack_frequency ≡ false → NothingElse p
-nothing_else p ids retired frequency = record { ids = λ cid i. absurd (subst (In cid) ids i); retired = λ n i. absurd (subst (In n) retired i); no_frequency = frequency }
+pub nothing_else : (p : Retransmits) → p.new_cids ≡ [] → p.retire_cids ≡ [] → NothingElse p
+nothing_else p ids retired = record { ids = λ cid i. absurd (subst (In cid) ids i); retired = λ n i. absurd (subst (In n) retired i) }
 
--- the same resets and stops wait
+-- the same resets and stops wait, the same of ids, and ACK_FREQUENCY does or doesn't as before
 pub record SamePile (p q : Retransmits) : Type 0 where
   pub resets : q.reset_stream ≡ p.reset_stream
   pub stops : q.stop_sending ≡ p.stop_sending
   pub ids : q.new_cids ≡ p.new_cids
   pub retired : q.retire_cids ≡ p.retire_cids
-  pub frequency : q.ack_frequency ≡ p.ack_frequency
+  pub requests : q.ack_frequency ≡ p.ack_frequency
 
 pub else_same : (p q : Retransmits) → SamePile p q → NothingElse p → NothingElse q
-else_same p q same n = record { ids = λ cid i. n.ids cid (subst (In cid) same.ids i); retired = λ m i. n.retired m (subst (In m) same.retired i); no_frequency = same.frequency ∙ n.no_frequency }
+else_same p q same n = record { ids = λ cid i. n.ids cid (subst (In cid) same.ids i); retired = λ m i. n.retired m (subst (In m) same.retired i) }
 
 -- ---- packets
 
@@ -144,15 +143,14 @@ pub record Moves (p q : Retransmits) (f : FrameValue) : Type 0 where
   pub stops : p.stop_sending ≡ stops_in (f ∷ []) ++ q.stop_sending
   pub ids : (cid : IssuedCid) → In cid q.new_cids → In cid p.new_cids
   pub retired : (n : ℕ) → In n q.retire_cids → In n p.retire_cids
-  pub frequency : q.ack_frequency ≡ p.ack_frequency
 
 -- once it went: RESET_STREAM and STOP_SENDING stood first, and no other frame resets or stops
 moves : (p : Retransmits) (s : StreamsState) (f : FrameValue) → Goes p s f → Moves p (without_of (kind_of f) p) f
-moves p s (reset_stream f) goes = record { resets = first_others p.reset_stream (f.id, f.code) goes.1; stops = refl; ids = λ cid i. i; retired = λ n i. i; frequency = refl }
-moves p s (stop_sending f) goes = record { resets = refl; stops = first_others p.stop_sending f goes; ids = λ cid i. i; retired = λ n i. i; frequency = refl }
-moves p s (new_connection_id f) goes = record { resets = refl; stops = refl; ids = λ cid i. others_in cid p.new_cids i; retired = λ n i. i; frequency = refl }
-moves p s (retire_connection_id m) goes = record { resets = refl; stops = refl; ids = λ cid i. i; retired = λ n i. others_in n p.retire_cids i; frequency = refl }
-moves p s f goes = record { resets = refl; stops = refl; ids = λ cid i. i; retired = λ n i. i; frequency = refl }
+moves p s (reset_stream f) goes = record { resets = first_others p.reset_stream (f.id, f.code) goes.1; stops = refl; ids = λ cid i. i; retired = λ n i. i }
+moves p s (stop_sending f) goes = record { resets = refl; stops = first_others p.stop_sending f goes; ids = λ cid i. i; retired = λ n i. i }
+moves p s (new_connection_id f) goes = record { resets = refl; stops = refl; ids = λ cid i. others_in cid p.new_cids i; retired = λ n i. i }
+moves p s (retire_connection_id m) goes = record { resets = refl; stops = refl; ids = λ cid i. i; retired = λ n i. others_in n p.retire_cids i }
+moves p s f goes = record { resets = refl; stops = refl; ids = λ cid i. i; retired = λ n i. i }
 
 -- the frame of the first that waits of a kind
 pub goes_moves : (kind : ControlKind) (p : Retransmits) (s : StreamsState) (f : FrameValue) → GoesFirst kind p s f → Moves p (without_first kind p) f
@@ -165,22 +163,21 @@ pub record Fewer (p q : Retransmits) : Type 0 where
   pub stops : (s : StopSendingValue) → In s q.stop_sending → In s p.stop_sending
   pub ids : (cid : IssuedCid) → In cid q.new_cids → In cid p.new_cids
   pub retired : (n : ℕ) → In n q.retire_cids → In n p.retire_cids
-  pub frequency : q.ack_frequency ≡ p.ack_frequency
 
 others_times : (id : ℕ) (rs : List (ℕ × ℕ)) → times id (others_of rs) ≤ times id rs
 others_times id [] = omega arith
 others_times id (r ∷ rs) = omega arith
 
 pub without_fewer : (kind : ControlKind) (p : Retransmits) → Fewer p (without_first kind p)
-without_fewer ResetStream p = record { times_less = λ id. others_times id p.reset_stream; resets = λ r i. others_in r p.reset_stream i; stops = λ s i. i; ids = λ cid i. i; retired = λ n i. i; frequency = refl }
-without_fewer StopSending p = record { times_less = λ id. omega arith; resets = λ r i. i; stops = λ s i. others_in s p.stop_sending i; ids = λ cid i. i; retired = λ n i. i; frequency = refl }
-without_fewer NewConnectionId p = record { times_less = λ id. omega arith; resets = λ r i. i; stops = λ s i. i; ids = λ cid i. others_in cid p.new_cids i; retired = λ n i. i; frequency = refl }
-without_fewer RetireConnectionId p = record { times_less = λ id. omega arith; resets = λ r i. i; stops = λ s i. i; ids = λ cid i. i; retired = λ n i. others_in n p.retire_cids i; frequency = refl }
-without_fewer kind p = record { times_less = λ id. omega arith; resets = λ r i. i; stops = λ s i. i; ids = λ cid i. i; retired = λ n i. i; frequency = refl }
+without_fewer ResetStream p = record { times_less = λ id. others_times id p.reset_stream; resets = λ r i. others_in r p.reset_stream i; stops = λ s i. i; ids = λ cid i. i; retired = λ n i. i }
+without_fewer StopSending p = record { times_less = λ id. omega arith; resets = λ r i. i; stops = λ s i. others_in s p.stop_sending i; ids = λ cid i. i; retired = λ n i. i }
+without_fewer NewConnectionId p = record { times_less = λ id. omega arith; resets = λ r i. i; stops = λ s i. i; ids = λ cid i. others_in cid p.new_cids i; retired = λ n i. i }
+without_fewer RetireConnectionId p = record { times_less = λ id. omega arith; resets = λ r i. i; stops = λ s i. i; ids = λ cid i. i; retired = λ n i. others_in n p.retire_cids i }
+without_fewer kind p = record { times_less = λ id. omega arith; resets = λ r i. i; stops = λ s i. i; ids = λ cid i. i; retired = λ n i. i }
 
 -- nothing else waits behind what went, or was dropped
 pub moved_else : (p q : Retransmits) (f : FrameValue) → Moves p q f → NothingElse p → NothingElse q
-moved_else p q f m n = record { ids = λ cid i. n.ids cid (m.ids cid i); retired = λ k i. n.retired k (m.retired k i); no_frequency = m.frequency ∙ n.no_frequency }
+moved_else p q f m n = record { ids = λ cid i. n.ids cid (m.ids cid i); retired = λ k i. n.retired k (m.retired k i) }
 
 pub fewer_else : (p q : Retransmits) → Fewer p q → NothingElse p → NothingElse q
-fewer_else p q f n = record { ids = λ cid i. n.ids cid (f.ids cid i); retired = λ k i. n.retired k (f.retired k i); no_frequency = f.frequency ∙ n.no_frequency }
+fewer_else p q f n = record { ids = λ cid i. n.ids cid (f.ids cid i); retired = λ k i. n.retired k (f.retired k i) }

@@ -118,7 +118,7 @@ module _ (r : ℕ × ℕ) (s : StreamsState) (p : Retransmits) (bounded : (id : 
 module _ (s : StreamsState) (p : Retransmits) where
   blocked_same : (o : Option SendHalf) (id : ℕ) → SamePile p (blocked_at o s p id).pending
   blocked_same None id = same_pile p
-  blocked_same (Some h) id = both p (room s.sending == 0) _ _ (record { resets = refl; stops = refl; ids = refl; retired = refl; frequency = refl }) (record { resets = refl; stops = refl; ids = refl; retired = refl; frequency = refl })
+  blocked_same (Some h) id = both p (room s.sending == 0) _ _ (record { resets = refl; stops = refl; ids = refl; retired = refl; requests = refl }) (record { resets = refl; stops = refl; ids = refl; retired = refl; requests = refl })
 
   written_same : (answer : Result ℕ WriteError) (id : ℕ) (bytes : List ℕ) → SamePile p (written_by answer s p id bytes).pending
   written_same (Ok n) id bytes = same_pile p
@@ -140,14 +140,14 @@ module _ (s : StreamsState) (p : Retransmits) where
   finalize_same id = go (stream_grew s id)
     where
       go : (b : Bool) → SamePile p (with_stream_if b id (decided s p))
-      go true = record { resets = refl; stops = refl; ids = refl; retired = refl; frequency = refl }
-      go false = record { resets = refl; stops = refl; ids = refl; retired = refl; frequency = refl }
+      go true = record { resets = refl; stops = refl; ids = refl; retired = refl; requests = refl }
+      go false = record { resets = refl; stops = refl; ids = refl; retired = refl; requests = refl }
 
   pub received_reset_same : (id : ℕ) → SamePile p (after_received_reset s p id).pending
   received_reset_same id = go (reset_of (receiving_half s id))
     where
       go : (r : Result (Option ℕ) ClosedStream) → SamePile p (reset_told r s p id).pending
-      go (Ok (Some code)) = record { resets = refl; stops = refl; ids = refl; retired = refl; frequency = refl }
+      go (Ok (Some code)) = record { resets = refl; stops = refl; ids = refl; retired = refl; requests = refl }
       go (Ok None) = same_pile p
       go (Err e) = same_pile p
 
@@ -183,7 +183,7 @@ module _ (e : End) (h : HoldsAll e) where
         ];
         small = h.holds.pile.small;
       });
-      others = rw is (let o = h.holds.others in record { ids = o.ids; retired = o.retired; no_frequency = o.no_frequency });
+      others = rw is (let o = h.holds.others in record { ids = o.ids; retired = o.retired });
     };
     carried = h.carried;
   }
@@ -278,8 +278,8 @@ module _ (e : End) (h : HoldsAll e) where
   stop_holds id code small opened = go (receiving_half e.streams id) refl (λ q u. by_stop (InUse q) (in_use_kept q) e.streams e.waiting.frames id code (λ half is. tt) u)
     where
       stopped : (half : RecvHalf) → receiving_half e.streams id ≡ Some half → (o : Option ℕ) → KeptBy e (settled (stopped_if (is_some half.final) e.streams id half) (with_stop o id code e.waiting.frames)) → HoldsAll (with_streams e (settled (stopped_if (is_some half.final) e.streams id half) (with_stop o id code e.waiting.frames)))
-      stopped half is (Some reset) kept = all_on e _ kept (record { resets = refl; stops = refl; ids = refl; retired = refl; frequency = refl }) h
-      stopped half is None kept = stop_added _ (record { id = id; code = code }) kept (opened half is, small) refl refl (let o = h.holds.others in record { ids = o.ids; retired = o.retired; no_frequency = o.no_frequency })
+      stopped half is (Some reset) kept = all_on e _ kept (record { resets = refl; stops = refl; ids = refl; retired = refl; requests = refl }) h
+      stopped half is None kept = stop_added _ (record { id = id; code = code }) kept (opened half is, small) refl refl (let o = h.holds.others in record { ids = o.ids; retired = o.retired })
 
       either : (half : RecvHalf) → receiving_half e.streams id ≡ Some half → (b : Bool) → KeptBy e (if b then streams_of e.streams e.waiting.frames else settled (stopped_if (is_some half.final) e.streams id half) (with_stop half.reset id code e.waiting.frames))
           → HoldsAll (with_streams e (if b then streams_of e.streams e.waiting.frames else settled (stopped_if (is_some half.final) e.streams id half) (with_stop half.reset id code e.waiting.frames)))
@@ -403,6 +403,6 @@ step_holds p e theirs call a wrote holds few small is other w ascends h = by_cal
 
     told_holds : (told : Bool) → HoldsAll (at_event e told)
     told_holds told = record {
-      holds = record { pile = record { once = h.holds.pile.once; reset = λ r i. by_polled (InUse r) (in_use_kept r) e.streams (h.holds.pile.reset r i); small = h.holds.pile.small }; others = record { ids = h.holds.others.ids; retired = h.holds.others.retired; no_frequency = h.holds.others.no_frequency } };
+      holds = record { pile = record { once = h.holds.pile.once; reset = λ r i. by_polled (InUse r) (in_use_kept r) e.streams (h.holds.pile.reset r i); small = h.holds.pile.small }; others = record { ids = h.holds.others.ids; retired = h.holds.others.retired } };
       carried = h.carried;
     }

@@ -7,7 +7,7 @@ use Rattle.std.specs.declared.cmp.Ordering.{Ordering}
 use Rattle.std.specs.declared.cmp.Ordering.TheVariants.{Less, Equal, Greater}
 use Rattle.std.proofs.lemmas.List.{append-nil}
 use Rattle.quic_wire_core.specs.declared.shared.IssuedCid.{IssuedCid}
-use Rattle.quic_wire.specs.Value.{FrameValue, NewConnectionIdValue, StopSendingValue, stream, reset_stream, stop_sending, new_connection_id, retire_connection_id}
+use Rattle.quic_wire.specs.Value.{FrameValue, NewConnectionIdValue, StopSendingValue, stream, reset_stream, stop_sending, new_connection_id, retire_connection_id, ack_frequency}
 use Rattle.quic_wire.specs.Writing.{Fits}
 use Rattle.quic_streams_parts.specs.Table.{Table, put, added, without}
 use Rattle.quic_streams_parts.specs.SendHalf.{SendHalf, frame_of}
@@ -19,9 +19,9 @@ use Rattle.quic_streams_laws.specs.KeepingLaws.{by_frame}
 use Rattle.quic_machine.specs.Policy.{Policy}
 use Rattle.quic_machine.specs.Tracking.{Tracking, TrackedPacket, Carried, without_packet, forgotten, without_record, carried_in}
 use Rattle.quic_machine.specs.Closing.{ticked}
-use Rattle.quic_machine.specs.End.{End, with_closing, with_ping, number_of, closed_by}
+use Rattle.quic_machine.specs.End.{End, with_closing, with_ping, with_immediate, number_of, closed_by}
 use Rattle.quic_machine.specs.Acked.{again}
-use Rattle.quic_machine.specs.Poll.{Polled, Draft, packet_of, tracked, record_moved, polled, goes, draft_as, Leaving}
+use Rattle.quic_machine.specs.Poll.{Polled, Draft, packet_of, tracked, record_moved, polled, goes, draft_as, Leaving, request_of, after_request}
 use Rattle.quic_machine.specs.PollCases.{ready_at, draft_at, by_poll_to, composes, may_leave_at}
 use Rattle.quic_streams_laws.specs.QuietLaws.{told_sending}
 use Rattle.quic_machine.specs.DraftLaws.{Writing, by_leave, MayLeave}
@@ -36,7 +36,7 @@ use Rattle.quic_headline.proofs.Packets.Ascending.{Splits, put_splits, Ascends}
 use Rattle.quic_headline.proofs.Places.Told.{in_left, in_right, in_append}
 use Rattle.quic_headline.proofs.Halves.InUse.{InUse, in_use_kept}
 use Rattle.quic_headline.proofs.Halves.Pile.{times, times_append, IsPile, part_of, NothingElse, nothing_else, resets_of, stops_of, Moves, goes_moves, moved_else, without_fewer, fewer_else}
-use Rattle.quic_headline.proofs.Halves.PileSteps.{CarryNothingElse, Holds, HoldsAll, holds_part, again_step, again_all}
+use Rattle.quic_headline.proofs.Halves.PileSteps.{CarryNothingElse, Holds, HoldsAll, holds_part, again_step, again_all, asked_holds}
 
 -- ---- frames
 
@@ -123,6 +123,7 @@ module _ (resets : List (ℕ × ℕ)) (stops : List StopSendingValue) where
         pile = record { once = g.pile.once; reset = λ r i. by_frame (InUse r) (in_use_kept r) d.end.transport.send_fairness d.end.streams id room h found (λ was. refl) (g.pile.reset r i); small = g.pile.small };
         others = g.others;
       })
+      keep puts.request d may g = other_frame d (ack_frequency (request_of d.end)) (after_request d.end) refl refl (record { pile = g.pile; others = (let o = g.others in record { ids = o.ids; retired = o.retired }) })
       keep p d may g = other_frame d _ _ refl refl (record { pile = g.pile; others = g.others })
 
 -- ---- ids that went
@@ -186,6 +187,7 @@ draft_tells leaving e alone n = by_leave TellsIds keep leaving e alone (record {
           ids = λ cid i. elim (in_append cid (new_ids_in d.frames) (new_ids_in (f ∷ [])) (subst (In cid) (new_ids_more d.frames (f ∷ [])) i)) [ inl old ↦ t.ids cid old | inr new ↦ id_told w d.end.streams f is.says t.waits cid new ];
           retired = λ m i. elim (in_append m (retirements_in d.frames) (retirements_in (f ∷ [])) (subst (In m) (retirements_more d.frames (f ∷ [])) i)) [ inl old ↦ t.retired m old | inr new ↦ retirement_told w d.end.streams f is.says t.waits m new ];
         }
+    keep puts.request d may t = let more = other_tells d (ack_frequency (request_of d.end)) refl refl t in record { waits = (let w = t.waits in record { ids = w.ids; retired = w.retired }); ids = more.0; retired = more.1 }
     keep p d may t = let more = other_tells d _ refl refl t in record { waits = t.waits; ids = more.0; retired = more.1 }
 
 -- ---- what is tracked
@@ -286,7 +288,7 @@ given_holds d h tells none = record {
     | inl old ↦ none n t old
     | inr new ↦ (
         let same : carried_in d.frames ≡ t.carried = ap (λ (x : ℕ × TrackedPacket). x.1.carried) (sym new) in
-        subst (λ (c : Carried). NothingElse c.retransmits) (carried_same d.frames ∙ same) (record { ids = tells.ids; retired = tells.retired; no_frequency = refl }))
+        subst (λ (c : Carried). NothingElse c.retransmits) (carried_same d.frames ∙ same) (record { ids = tells.ids; retired = tells.retired }))
   ];
 }
   where
@@ -384,7 +386,7 @@ moved_holds p e among ascends h = record {
   holds = record { pile = waits.pile; others = waits.others };
   carried = λ n t i. elim (in_put packets p.0 (without_record p.1) (n, t) i) [
     | inl old ↦ h.carried n t old
-    | inr new ↦ subst (λ (x : ℕ × TrackedPacket). NothingElse x.1.carried.retransmits) (sym new) (nothing_else _ refl refl refl)
+    | inr new ↦ subst (λ (x : ℕ × TrackedPacket). NothingElse x.1.carried.retransmits) (sym new) (nothing_else _ refl refl)
   ];
 }
   where
@@ -440,7 +442,7 @@ pub ready_holds : (e : End) (now : ℕ) → Ascends e → HoldsAll e → HoldsAl
 ready_holds e now ascends h =
     let begins : End = with_closing e (ticked e.closing now) in
     let here : HoldsAll begins = again_all e begins refl refl refl h in
-    by_ready HoldsAll e now here (again_all begins (with_ping begins true) refl refl refl here) (λ p among. moved_holds p begins among ascends here) (λ moment pacing discovery x i. again_all x (with_pacer x moment pacing discovery) refl refl refl i)
+    by_ready HoldsAll e now here (λ ping immediate x i. again_all x (with_ping (with_immediate x immediate) ping) refl refl refl i) asked_holds (λ p among. moved_holds p begins among ascends here) (λ moment pacing discovery x i. again_all x (with_pacer x moment pacing discovery) refl refl refl i)
 
 -- what a poll leaves
 pub polled_holds : (p : Policy) (e : End) (now : ℕ) → Ascends e → HoldsAll e → HoldsAll (polled p e now).end

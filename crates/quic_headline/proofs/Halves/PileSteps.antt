@@ -21,7 +21,7 @@ use Rattle.quic_machine.specs.declared.run.Answer.{Answer}
 use Rattle.quic_machine.specs.Tracking.{TrackedPacket, Carried, dir_named, acked_by, not_acked_by, is_lost, lost_by, kept_by}
 use Rattle.quic_machine.specs.End.{End, with_streams, with_told, with_marking, closed_by}
 use Rattle.quic_machine.specs.IdFrames.{drawn, end_on_next_id}
-use Rattle.quic_machine.specs.Acked.{without_known, reset_acked, resets_acked, stream_acked, streams_acked, packet_acked, packets_acked, stream_lost, streams_lost, again, carried_lost, packets_lost, verdict, losses_detected, measured, sampled, without_acked, after_named, losses_taken}
+use Rattle.quic_machine.specs.Acked.{without_known, reset_acked, resets_acked, stream_acked, streams_acked, packet_acked, packets_acked, stream_lost, streams_lost, again, carried_lost, packets_lost, verdict, losses_detected, measured, sampled, without_acked, after_named, losses_taken, request_acked}
 use Rattle.quic_machine.specs.Receive.{Outcome, reason_of, is_above, names_ungiven, take_frame, asks_in, after_taken, drained_at}
 use Rattle.quic_machine.specs.FrameCases.{OnStreams, IsApart, named, ack_taken, begun, passed, message_leaves, frames_leave, by_marks, apart_leaves}
 use Rattle.quic_headline.specs.Runs.{In, Intake, names}
@@ -37,6 +37,7 @@ use Rattle.quic_headline.proofs.Halves.KnownIds.{AreWritten, Left, frame_written
 use Rattle.quic_headline.proofs.Halves.ToldIds.{drawn_else, apart_else, next_else}
 use Rattle.quic_headline.proofs.Halves.Pile.{times, times_append, times_in, IsPile, part_of, NothingElse, SamePile, else_same, resets_of, stops_of, times_split, resets_among, stops_among}
 use Rattle.quic_machine.specs.Sizes.{search_acked}
+use Rattle.quic_headline.proofs.Packets.Probes.{with_asked}
 
 -- ---- an end
 
@@ -75,21 +76,21 @@ both p true x y on off = on
 both p false x y on off = off
 
 pub same_pile : (p : Retransmits) → SamePile p p
-same_pile p = record { resets = refl; stops = refl; ids = refl; retired = refl; frequency = refl }
+same_pile p = record { resets = refl; stops = refl; ids = refl; retired = refl; requests = refl }
 
 pub acked_same : (s : StreamsState) (p : Retransmits) (m : StreamMeta) → SamePile p (after_stream_acked s p m).pending
 acked_same s p m = go (sent_half s m.id)
   where
     go : (o : Option SendHalf) → SamePile p (acked_at o s p m).pending
     go None = same_pile p
-    go (Some h) = both p (is_some h.reset) _ _ (same_pile p) (both p (is_acked (half_acked h m)) _ _ (record { resets = refl; stops = refl; ids = refl; retired = refl; frequency = refl }) (same_pile p))
+    go (Some h) = both p (is_some h.reset) _ _ (same_pile p) (both p (is_acked (half_acked h m)) _ _ (record { resets = refl; stops = refl; ids = refl; retired = refl; requests = refl }) (same_pile p))
 
 pub reset_acked_same : (s : StreamsState) (p : Retransmits) (id : ℕ) → SamePile p (after_reset_acked s p id).pending
 reset_acked_same s p id = go (sent_half s id)
   where
     go : (o : Option SendHalf) → SamePile p (reset_acked_at o s p id).pending
     go None = same_pile p
-    go (Some h) = both p (is_some h.reset) _ _ (record { resets = refl; stops = refl; ids = refl; retired = refl; frequency = refl }) (same_pile p)
+    go (Some h) = both p (is_some h.reset) _ _ (record { resets = refl; stops = refl; ids = refl; retired = refl; requests = refl }) (same_pile p)
 
 -- RESET_STREAM of the first besides is acknowledged: the others are of other streams
 reset_step : (e : End) (r : ℕ × ℕ) (resets : List (ℕ × ℕ)) (stops : List StopSendingValue) → Holds e (r ∷ resets) stops → Holds (reset_acked r.0 e) resets stops
@@ -134,10 +135,11 @@ packets_step (p ∷ ps) e resets stops h =
     (λ id. rw (append_assoc c.retransmits.reset_stream (resets_of ps) resets) (omega arith))
     (λ q i. rw (append_assoc c.retransmits.reset_stream (resets_of ps) resets) i)
     (λ s i. rw (append_assoc c.retransmits.stop_sending (stops_of ps) stops) (in_right s c.retransmits.stop_sending (stops_of ps ++ stops) i)) h in
-    let knows : End = without_known c.largest_acked (search_acked p e) in
+    let asked : End = request_acked p.0 (search_acked p e) in
+    let knows : End = without_known c.largest_acked asked in
     let reset : End = resets_acked c.retransmits.reset_stream knows in
     packets_step ps (packet_acked p e) resets stops (streams_step c.stream_frames reset (resets_of ps ++ resets) (stops_of ps ++ stops)
-    (resets_step c.retransmits.reset_stream knows (resets_of ps ++ resets) (stops_of ps ++ stops) (known_step c.largest_acked (search_acked p e) _ _ (record { pile = rest.pile; others = rest.others }))))
+    (resets_step c.retransmits.reset_stream knows (resets_of ps ++ resets) (stops_of ps ++ stops) (known_step c.largest_acked asked _ _ (record { pile = rest.pile; others = rest.others }))))
 
 -- STREAM frames are lost
 lost_step : (ms : List StreamMeta) (e : End) (resets : List (ℕ × ℕ)) (stops : List StopSendingValue) → Holds e resets stops → Holds (streams_lost ms e) resets stops
@@ -158,7 +160,6 @@ again_step c e resets stops none h = record {
   others = (let o = h.others in record {
     ids = λ cid i. elim (in_append cid e.waiting.frames.new_cids c.retransmits.new_cids i) [ inl old ↦ o.ids cid old | inr new ↦ none.ids cid new ];
     retired = λ n i. elim (in_append n e.waiting.frames.retire_cids c.retransmits.retire_cids i) [ inl old ↦ o.retired n old | inr new ↦ none.retired n new ];
-    no_frequency = rw (o.no_frequency, none.no_frequency) refl;
   });
 }
 
@@ -266,7 +267,7 @@ stream_same s p f = go (taking.refusal s f.id _ f.fin)
   where
     half : (o : Option RecvHalf) → SamePile p (taking.stream_at o s p f).pending
     half None = same_pile p
-    half (Some h) = record { resets = refl; stops = refl; ids = refl; retired = refl; frequency = refl }
+    half (Some h) = record { resets = refl; stops = refl; ids = refl; retired = refl; requests = refl }
 
     go : (o : Option Breach) → SamePile p (taking.stream_unless o s p f).pending
     go (Some b) = same_pile p
@@ -277,7 +278,7 @@ reset_same s p f = go (taking.reset_breach s f)
   where
     half : (o : Option RecvHalf) → SamePile p (taking.reset_at o s p f).pending
     half None = same_pile p
-    half (Some h) = record { resets = refl; stops = refl; ids = refl; retired = refl; frequency = refl }
+    half (Some h) = record { resets = refl; stops = refl; ids = refl; retired = refl; requests = refl }
 
     go : (o : Option Breach) → SamePile p (taking.reset_unless o s p f).pending
     go (Some b) = same_pile p
@@ -310,6 +311,10 @@ else_all e f k none h = record {
   holds = record { pile = rw (k.streams, k.resets, k.stops, k.packets) h.holds.pile; others = none };
   carried = rw k.packets h.carried;
 }
+
+-- ACK_FREQUENCY waits, or doesn't
+pub asked_holds : (waits : Bool) (e : End) → HoldsAll e → HoldsAll (with_asked e waits)
+asked_holds waits e h = else_all e (with_asked e waits) (record { streams = refl; resets = refl; stops = refl; packets = refl }) (let o = h.holds.others in record { ids = o.ids; retired = o.retired }) h
 
 -- a frame apart from streams
 apart_holds : (f : FrameValue) (e : End) → IsApart f → IsSmallNumber f → AreWritten e.ids.peer → HoldsAll e → HoldsAll (take_frame f e).end

@@ -1,7 +1,7 @@
 -- Calls and frames that bring and read nothing leave a fact of streams that words about what an end
 -- sends leave.
 use Rattle.std.proofs.Common.{◌≡◌, ℕ, Bool, true, false, List, length, Result, Ok, Err, refl, sym, subst, inl, inr}
-use Rattle.quic_wire.specs.Value.{FrameValue, AckValue, StreamValue, ResetStreamValue, ack, stream, reset_stream, stop_sending, max_data, max_stream_data, max_streams, datagram, new_connection_id, retire_connection_id, path_response}
+use Rattle.quic_wire.specs.Value.{FrameValue, AckValue, StreamValue, ResetStreamValue, ack, stream, reset_stream, stop_sending, max_data, max_stream_data, max_streams, datagram, new_connection_id, retire_connection_id, path_response, ack_frequency}
 use Rattle.quic_streams_parts.specs.declared.answers.WriteError.TheVariants as write_errors
 use Rattle.quic_streams_state.specs.declared.state.StreamsState.{StreamsState}
 use Rattle.quic_streams_state.specs.State.{Streams}
@@ -24,7 +24,7 @@ use Rattle.quic_machine.specs.Calls.{is_open}
 use Rattle.quic_machine.specs.StreamCalls.{if_ok, after_on_streams, IsStreamAnswer}
 use Rattle.quic_machine.specs.Machine.{IsAnswer, after_call}
 use Rattle.quic_machine.specs.Receive.{is_above, names_ungiven, take_frame}
-use Rattle.quic_machine.specs.Poll.{Draft, Kind, signals, controls, messages, streams, order, put, with_asking, no_frames, with_ack, ack_if, ack_fits, composed, composed_if, polled, frame_room, left, no_stream_frames}
+use Rattle.quic_machine.specs.Poll.{Draft, Kind, signals, controls, messages, streams, order, put, with_asking, no_frames, with_ack, ack_if, ack_fits, composed, composed_if, polled, frame_room, left, no_stream_frames, frequency}
 use Rattle.quic_machine.specs.CallCases.{is_delivery, by_call}
 use Rattle.quic_machine.specs.DraftLaws.{by_messages, by_signals}
 use Rattle.quic_machine.specs.FrameCases.{Settling, acked_keeps, losses_keep, named, ack_taken, message_leaves, apart_leaves}
@@ -33,6 +33,7 @@ use Rattle.quic_machine.specs.LeaveCases.{by_expired, by_event}
 use Rattle.quic_headline.proofs.Packets.Apart.{by_waits, by_next_id}
 use Rattle.quic_headline.proofs.Packets.Kinds.{by_kinds}
 use Rattle.quic_headline.proofs.Packets.Probes.{poll_state}
+use Rattle.quic_headline.proofs.Packets.Entries.{by_request}
 
 -- a half counts no byte as sent that wasn't written
 pub sent_within : (done : ℕ → Wrote) (s : StreamsState) → HoldsWritten done s → (id : ℕ) → IsSentWithin s id
@@ -89,6 +90,7 @@ module _ (P : StreamsState → Type 0) (q : IsQuiet P) where
   -- one kind of what goes
   kind_quiet : (d : Draft) (kind : Kind) → P d.end.streams → P (put d kind).end.streams
   kind_quiet d signals i = by_signals (λ (x : Draft). P x.end.streams) (λ x f left is j. j) d i
+  kind_quiet d frequency i = by_request (λ (x : Draft). P x.end.streams) d (λ waits j. j) i
   kind_quiet d controls i = q.control_frames (frame_room d.end) (control.no_frames (length d.bytes) d.end.streams d.end.waiting.frames nothing_waits) i
   kind_quiet d messages i = by_messages (λ (x : Draft). P x.end.streams) (λ x m ms is fit j. j) d i
   kind_quiet d streams i = q.stream_frames d.end.transport.send_fairness (left d) (no_stream_frames d) i
@@ -161,4 +163,5 @@ module _ (P : StreamsState → Type 0) (q : IsQuiet P) where
       go (new_connection_id g) brings resets = apart_leaves (λ (x : End). P x.streams) (new_connection_id g) e tt (λ c. i) (λ c most. i)
       go (retire_connection_id n) brings resets = apart_leaves (λ (x : End). P x.streams) (retire_connection_id n) e tt (λ c. i) (λ c most. i)
       go (path_response token) brings resets = apart_leaves (λ (x : End). P x.streams) (path_response token) e tt (λ c. i) (λ c most. i)
+      go (ack_frequency r) brings resets = apart_leaves (λ (x : End). P x.streams) (ack_frequency r) e tt (λ c. i) (λ c most. i)
       go other brings resets = i

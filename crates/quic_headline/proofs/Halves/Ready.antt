@@ -45,7 +45,6 @@ waits_of e all =
       stops = λ s i. h.pile.small s (in_left s e.waiting.frames.stop_sending (stops_of e.tracking.packets) i);
       ids = h.others.ids;
       retired = h.others.retired;
-      no_frequency = h.others.no_frequency;
     }
 
 -- where something waits for each probe too
@@ -58,7 +57,7 @@ first_ready x y = (
   again_all e (new_as x y) refl refl refl (record {
     holds = record {
       pile = record { once = λ id. omega arith; reset = λ r i. absurd i; small = λ s i. absurd i };
-      others = record { ids = first_told (words_behind 1 x.making.words) theirs.active_connection_id_limit; retired = λ n i. absurd i; no_frequency = refl };
+      others = record { ids = first_told (words_behind 1 x.making.words) theirs.active_connection_id_limit; retired = λ n i. absurd i };
     };
     carried = λ n t i. absurd i;
   }),

@@ -1,7 +1,7 @@
 -- What an end composes says what was written on its streams, and leaves them holding it.
 use Rattle.std.proofs.Common.{ℕ, zero, suc, Bool, true, false, List, [], ◌∷◌, length, replicate, map, sym, subst, inl, inr, arith}
 use Rattle.std.specs.List.{AllByRecursion}
-use Rattle.quic_wire.specs.Value.{FrameValue, StreamValue, ping, padding, stream, datagram, reset_stream, connection_close, application_close, path_challenge, path_response}
+use Rattle.quic_wire.specs.Value.{FrameValue, StreamValue, ping, immediate_ack, padding, stream, datagram, reset_stream, connection_close, application_close, path_challenge, path_response, ack_frequency}
 use Rattle.quic_retransmits.specs.Retransmits.{nothing_waits}
 use Rattle.quic_streams_state.specs.Control as control
 use Rattle.quic_streams_state.specs.Frames as of_streams
@@ -14,15 +14,15 @@ use Rattle.quic_streams_laws.specs.WrittenHalves.{polled_holds}
 use Rattle.quic_streams_laws.specs.WrittenResets.{TellsResets, control_frames_say}
 use Rattle.quic_recovery_core.specs.PendingAcks.{can_send}
 use Rattle.quic_machine.specs.End.{End, streams_at}
-use Rattle.quic_machine.specs.Poll.{lazied, zeros_behind, Draft, frame_room, left, no_frames, no_stream_frames, with_signal_frames, with_ack, ack_if, ack_fits, with_control_frames, with_message_frames, with_stream_frames, Kind, signals, controls, messages, streams, order, put, with_asking, composed, composed_if, draft_as, probe, alone, whole, Leaving, nothing, closing}
+use Rattle.quic_machine.specs.Poll.{lazied, zeros_behind, Draft, frame_room, left, no_frames, no_stream_frames, with_signal_frames, with_ack, ack_if, ack_fits, with_control_frames, with_message_frames, with_stream_frames, Kind, signals, controls, messages, streams, order, put, with_asking, composed, composed_if, draft_as, probe, alone, whole, Leaving, nothing, closing, frequency, request_of}
 use Rattle.quic_machine.specs.DraftLaws.{by_messages, MayLeave, IsClose, IsSignal, by_signals}
 use Rattle.quic_machine.specs.PollCases.{frames_padded}
 use Rattle.quic_headline.specs.Runs.{In}
-use Rattle.quic_headline.proofs.Packets.Entries.{IsControl, control_of}
+use Rattle.quic_headline.proofs.Packets.Entries.{IsControl, control_of, by_request}
 use Rattle.quic_headline.proofs.Packets.Kinds.{by_kinds}
 use Rattle.quic_headline.proofs.Halves.Ghosts.{SaysOf}
 use Rattle.quic_headline.proofs.Halves.Kept.{Keeping, keeping_kept}
-use Rattle.quic_headline.proofs.Halves.Writes.{Writes}
+use Rattle.quic_headline.proofs.Halves.Writes.{Writes, asked_writes}
 use Rattle.quic_headline.proofs.Halves.Says.{AllSay}
 
 -- ---- frames that go
@@ -70,6 +70,7 @@ pub record Draws (done : ℕ → Wrote) (d : Draft) : Type 0 where
 module _ (done : ℕ → Wrote) where
   signal_says : (f : FrameValue) → IsSignal f → SaysOf done f
   signal_says ping is = tt
+  signal_says immediate_ack is = tt
   signal_says (path_challenge token) is = tt
   signal_says (path_response token) is = tt
   signal_says f is = absurd is
@@ -109,6 +110,7 @@ module _ (done : ℕ → Wrote) where
 
   kind_draws : (d : Draft) (kind : Kind) → Draws done d → Draws done (put d kind)
   kind_draws d signals w = signal_draws d w
+  kind_draws d frequency w = by_request (Draws done) d (λ waits w. record { writes = asked_writes done false (streams_at d.end) w.writes; says = all_append (SaysOf done) d.frames (ack_frequency (request_of d.end) ∷ []) w.says (tt, tt) }) w
   kind_draws d controls w = control_draws d w
   kind_draws d messages w = message_draws d w
   kind_draws d streams w = stream_draws d w

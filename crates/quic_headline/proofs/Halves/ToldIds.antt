@@ -7,7 +7,7 @@ use Rattle.std.specs.declared.ops.Range.{Range}
 use Rattle.std.proofs.lemmas.Bool.{and_parts, ltb-true}
 use Rattle.quic_wire_core.specs.TransportError.{ErrorValue}
 use Rattle.quic_wire_core.specs.declared.shared.IssuedCid.{IssuedCid}
-use Rattle.quic_wire.specs.Value.{FrameValue, ack, stream, reset_stream, stop_sending, max_data, max_stream_data, max_streams, datagram, new_connection_id, retire_connection_id, path_response}
+use Rattle.quic_wire.specs.Value.{FrameValue, ack, stream, reset_stream, stop_sending, max_data, max_stream_data, max_streams, datagram, new_connection_id, retire_connection_id, path_response, ack_frequency}
 use Rattle.quic_wire.specs.Writing.{Fits}
 use Rattle.quic_ids.specs.CidState.{OwnIds, is_wrong, without, after_retirement, retirement_answer}
 use Rattle.quic_ids.specs.CidQueue.{kept_ids, insert_answer}
@@ -18,19 +18,20 @@ use Rattle.quic_streams_state.specs.Control.{told_id}
 use Rattle.quic_paths.specs.Paths.{is_asked}
 use Rattle.quic_machine.specs.declared.run.Answer.{Answer}
 use Rattle.quic_machine.specs.declared.run.Answer.TheVariants as answers
-use Rattle.quic_machine.specs.Ids.{Drawing, words_behind, words_of_id, drawn_id, drawn_ids, undrawn_id, most_ids, later_numbers, retired, is_more, may_issue, drawn_one, drawn_places, frame_of, retires_for, retires_for_next, next_used}
-use Rattle.quic_machine.specs.IdFrames.{retiring, with_taken_up, issued, issued_if, drawn, next_id_taken, end_on_next_id}
+use Rattle.quic_machine.specs.Ids.{Drawing, words_behind, words_of_id, drawn_id, drawn_ids, undrawn_id, most_ids, later_numbers, retired, is_more, drawn_one, drawn_places, frame_of, retires_for, retires_for_next, next_used}
+use Rattle.quic_machine.specs.IdFrames.{retiring, with_taken_up, issued, issued_if, issues_for, drawn, next_id_taken, end_on_next_id}
 use Rattle.quic_machine.specs.MessageCalls.{most_message}
 use Rattle.quic_machine.specs.Sizes.{without_longer_if, shortened}
 use Rattle.quic_machine.specs.Validation.{word_of, validated_if}
 use Rattle.quic_machine.specs.End.{End, with_ids, words_drawn}
 use Rattle.quic_machine.specs.Receive.{retired_for, id_judged, retirement_judged, take_frame}
-use Rattle.quic_machine.specs.FrameCases.{IsApart}
+use Rattle.quic_machine.specs.FrameCases.{IsApart, issues_may}
 use Rattle.quic_headline.specs.Runs.{In}
 use Rattle.quic_headline.proofs.Places.Told.{in_append}
 use Rattle.quic_headline.proofs.Halves.Small.{IsSmallNumber}
 use Rattle.quic_headline.proofs.Halves.KnownIds.{AreWritten, range_in, range_below, retires_written, next_retires_written}
 use Rattle.quic_headline.proofs.Halves.Pile.{NothingElse}
+use Rattle.quic_headline.proofs.Packets.Apart.{by_frequency}
 
 -- ---- lists
 
@@ -100,7 +101,6 @@ retire_else p r little n = record {
     | inl old ↦ n.retired m old
     | inr new ↦ (let below = range_below r m new in omega arith)
   ];
-  no_frequency = n.no_frequency;
 }
 
 -- one is once more
@@ -115,7 +115,6 @@ late_else p number small n = go (nat_le most_retirements (length p.retire_cids) 
         | inl old ↦ n.retired m old
         | inr new ↦ elim new [ inl same ↦ omega arith | inr none ↦ absurd none ]
       ];
-      no_frequency = n.no_frequency;
     }
 
 -- an id is issued
@@ -129,7 +128,6 @@ issued_else e small n = record {
     ]
   ];
   retired = n.retired;
-  no_frequency = n.no_frequency;
 }
 
 -- ids are drawn
@@ -137,7 +135,6 @@ pub drawn_else : (words : ℕ → ℕ) (e : End) → NothingElse e.waiting.frame
 drawn_else words e n = record {
   ids = places_told e.ids.undrawn (words_behind (words_drawn e) words) (record { living = e.ids.living; waiting = e.waiting.frames.new_cids }) n.ids;
   retired = n.retired;
-  no_frequency = n.no_frequency;
 }
 
 -- messages are dropped
@@ -185,21 +182,22 @@ apart_else (retire_connection_id m) e apart small w n = judged (retirement_answe
     left : End
     left = with_ids e (retired m e.ids)
 
-    issues : (b : Bool) → may_issue e.ids m ≡ b → NothingElse (issued_if b left).waiting.frames
+    issues : (b : Bool) → issues_for m e ≡ b → NothingElse (issued_if b left).waiting.frames
     issues true may =
-        let below = ltb-true e.ids.own.issued (2 ^ 62) (and_parts (is_more (retirement_answer e.ids.own m e.ids.limit)) (nat_lt e.ids.own.issued (2 ^ 62)) may).1 in
+        let below = ltb-true e.ids.own.issued (2 ^ 62) (and_parts (is_more (retirement_answer e.ids.own m e.ids.limit)) (nat_lt e.ids.own.issued (2 ^ 62)) (issues_may m e may)).1 in
         let same = retirement_issued e.ids.own m in
         issued_else left (subst (λ (k : ℕ). k < 2 ^ 62) (sym same) below) n
     issues false may = n
 
     judged : (r : Result Bool ErrorValue) → NothingElse (retirement_judged r m e).end.waiting.frames
-    judged (Ok more) = issues (may_issue e.ids m) refl
+    judged (Ok more) = issues (issues_for m e) refl
     judged (Err error) = n
 apart_else (path_response token) e apart small w n = go (is_asked e.validation.challenge (word_of token))
   where
     go : (b : Bool) → NothingElse (validated_if b e).waiting.frames
     go true = n
     go false = n
+apart_else (ack_frequency r) e apart small w n = by_frequency (λ (x : End). NothingElse x.waiting.frames) r e (λ threshold reordering frequency. n)
 apart_else f e apart small w n = n
 
 -- ---- a call

@@ -45,7 +45,7 @@ use Rattle.quic_headline.proofs.Places.Parties.{sent_by, sent_if, sents_by, told
 use Rattle.quic_headline.proofs.Halves.Ghosts.{SaysOf, Saying}
 use Rattle.quic_headline.proofs.Halves.Kept.{Keeping, keeping_kept}
 use Rattle.quic_headline.proofs.Halves.Wrote.{wrote, done_by, ResetsFirst, wrote_more}
-use Rattle.quic_headline.proofs.Halves.Writes.{Writes, calls_leave, calls_grow, resets_first}
+use Rattle.quic_headline.proofs.Halves.Writes.{Writes, calls_leave, calls_grow, resets_first, asked_writes}
 use Rattle.quic_headline.proofs.Halves.Says.{AllSay, SentSay, says_grow, CarriedSays, sent_says, taken_says, tracked_says}
 use Rattle.quic_headline.proofs.Halves.Counts.{counts_in_range}
 use Rattle.quic_headline.proofs.Halves.Small.{IsSmallLimit, payload_small}
@@ -114,7 +114,7 @@ module _ (p : Policy) (e : End) (theirs : List (List ℕ)) (done : ℕ → Wrote
   losing says = record { lost = λ n t m x among inside v. lost_leaves done x v m ((says n t among).ends m inside); again = λ n t x among v. again_leaves done x v t.carried (says n t among) }
 
   ready_writes : Says → (now : ℕ) → Writes done (streams_at (ready_at e now).end)
-  ready_writes says now = ready_stays (Writes done) e now (losing says) w
+  ready_writes says now = ready_stays (Writes done) e now (losing says) w (asked_writes done)
 
   -- what it gives says what was written
   pub poll_says : Says → (now : ℕ) → AllSay done (frames_at e now)

@@ -44,6 +44,10 @@ pub record Writes (done : ℕ → Wrote) (t : Streams) : Type 0 where
   pub keeps : Keeping done t.state
   pub waits : SaysResets done t.pending
 
+-- ACK_FREQUENCY waits, or doesn't
+pub asked_writes : (done : ℕ → Wrote) (waits : Bool) (t : Streams) → Writes done t → Writes done (streams_of t.state (record t.pending { ack_frequency = waits }))
+asked_writes done waits t w = record { keeps = w.keeps; waits = w.waits }
+
 -- the same resets wait
 pub waits_same : (done : ℕ → Wrote) (p : Retransmits) (t : Streams) → SameResets p t → SaysResets done p → SaysResets done t.pending
 waits_same done p t same says = subst (λ (rs : List (ℕ × ℕ)). AllByRecursion (λ (r : ℕ × ℕ). (done r.0).reset ≡ Some r.1) rs) (sym same) says

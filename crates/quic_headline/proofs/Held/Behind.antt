@@ -122,11 +122,11 @@ module _ (r : Run) (side : Side) (i now : ℕ) (v : View) (w : World) (leads : L
   left : end_at side w ≡ (polled policy met now).end
   left = last.step.end
 
-  still : IsQuiet policy met now
+  pub still : IsQuiet policy met now
   still = quiet policy met now (none_answered (polled policy met now) last.step.answer) (sym (ap (λ (e : End). e.closing.state) left) ∙ open_now)
 
   -- it rests
-  at_rest : end_at side w ≡ rests (ready_at met now)
+  pub at_rest : end_at side w ≡ rests (ready_at met now)
   at_rest = left ∙ still.leaves
 
   -- whether the address was validated as the end was polled

@@ -11,7 +11,7 @@ use Rattle.quic_spaces.specs.Numbers.{can_number}
 use Rattle.quic_machine.specs.Policy.{Policy}
 use Rattle.quic_machine.specs.End.{End, with_closing, closed_by}
 use Rattle.quic_machine.specs.Control.{is_window_full, pacer_answer, if_later, pacer_asked, Gated, lets, holds, with_pacing_timer}
-use Rattle.quic_machine.specs.Poll.{Polled, probed, asks_to_go, gated, goes, rests, sends, polled_if, polled_in, polled, told_if, told_polled_in, told_polled, Ready, nothing, leaves, leaves_unless, waits, bounds}
+use Rattle.quic_machine.specs.Poll.{Polled, probed, asks_to_go, gated, goes, rests, sends, polled_if, polled_in, polled, told_if, told_polled_in, told_polled, Ready, nothing, leaves, leaves_unless, waits, bounds, request_queued}
 use Rattle.quic_machine.specs.PollCases.{ready_at, ready_leaves, probe_leaves, gate_leaves, by_gate, by_leaves}
 use Rattle.quic_machine.specs.declared.answers.LostReason.{LostReason}
 use Rattle.std.specs.Option.{is_none}
@@ -76,10 +76,10 @@ named_later now moment (Some m) is = go (nat_lt now m) refl is
     go true later is = let same : m ≡ moment = cc in let less = ltb-true now m later in omega arith
     go false later is = cc
 
--- an end that was made ready: its moment is taken over, the timer of its pacer is stopped, and
--- something waits for each probe
+-- an end that was made ready: its moment is taken over, the timer of its pacer is stopped,
+-- something waits for each probe, and ACK_FREQUENCY does, where the peer is to be asked
 abbrev pub begun : End → ℕ → End
-begun e now = probed (with_pacing_timer (with_closing e (ticked e.closing now)) None)
+begun e now = request_queued (probed (with_pacing_timer (with_closing e (ticked e.closing now)) None))
 
 -- it has read what it had of its address
 begun_reads : (e : End) (now : ℕ) → (begun e now).path.blocked ≡ e.path.blocked

@@ -1,7 +1,7 @@
 -- What leaves the messages of an end as they were: all frames but DATAGRAM, and all calls but
 -- polls, deliveries and those on messages.
 use Rattle.std.proofs.Common.{◌≡◌, ℕ, Bool, true, false, List, Result, Ok, Err, refl}
-use Rattle.quic_wire.specs.Value.{FrameValue, ack, datagram, new_connection_id, retire_connection_id, path_response}
+use Rattle.quic_wire.specs.Value.{FrameValue, ack, datagram, new_connection_id, retire_connection_id, path_response, ack_frequency}
 use Rattle.quic_messages.specs.declared.errors.ReceivedError.{ReceivedError}
 use Rattle.quic_messages.specs.Messages.{Messages, without_longer, received_answer, after_received}
 use Rattle.quic_machine.specs.declared.run.Call.{Call}
@@ -39,6 +39,7 @@ module _ (P : Messages → Type 0) (drops : (most : ℕ) (q : Messages) → P q 
   frame_messages (new_connection_id f) e same takes = apart_leaves (λ (x : End). P x.messages.queues) (new_connection_id f) e tt (λ c. same) (λ c most. drops most e.messages.queues same)
   frame_messages (retire_connection_id n) e same takes = apart_leaves (λ (x : End). P x.messages.queues) (retire_connection_id n) e tt (λ c. same) (λ c most. drops most e.messages.queues same)
   frame_messages (path_response token) e same takes = apart_leaves (λ (x : End). P x.messages.queues) (path_response token) e tt (λ c. same) (λ c most. drops most e.messages.queues same)
+  frame_messages (ack_frequency r) e same takes = apart_leaves (λ (x : End). P x.messages.queues) (ack_frequency r) e tt (λ c. same) (λ c most. drops most e.messages.queues same)
   frame_messages f e same takes = same
 
   -- what holds of the messages holds behind a call

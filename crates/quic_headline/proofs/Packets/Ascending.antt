@@ -158,7 +158,7 @@ ascends_received = by_received Ascends (record {
 
 -- an end that is ready to give
 pub ascends_ready : (e : End) (now : ℕ) → Ascends e → Ascends (ready_at e now).end
-ascends_ready e now a = by_ready Ascends e now a a (λ p i. ascends_put 0 e.tracking.packets p.0 (without_record p.1) a) (λ moment pacing discovery x b. b)
+ascends_ready e now a = by_ready Ascends e now a (λ ping immediate x b. b) (λ waits x b. b) (λ p i. ascends_put 0 e.tracking.packets p.0 (without_record p.1) a) (λ moment pacing discovery x b. b)
 
 -- one more is sent, before which the oldest may be forgotten
 ascends_sent : (t : Tracking) (n : ℕ) (p : TrackedPacket) → Ascending 0 t.packets → Ascending 0 (after_sent t n p).packets

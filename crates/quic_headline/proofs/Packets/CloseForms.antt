@@ -8,7 +8,7 @@ use Rattle.quic_wire_core.specs.Law.{length-shortest, varint_size_le}
 use Rattle.quic_wire_core.specs.declared.stream_id.Side.{Side}
 use Rattle.quic_wire_core.specs.declared.stream_id.Side.TheVariants.{Client, Server}
 use Rattle.quic_wire_core.specs.TransportError.{ErrorValue, plain_error, protocol_violation}
-use Rattle.quic_wire.specs.Value.{FrameValue, ack, stream, reset_stream, stop_sending, max_data, max_stream_data, max_streams, datagram, new_token, handshake_done, new_connection_id, retire_connection_id, path_challenge, path_response, connection_close, application_close}
+use Rattle.quic_wire.specs.Value.{FrameValue, ack, stream, reset_stream, stop_sending, max_data, max_stream_data, max_streams, datagram, new_token, handshake_done, new_connection_id, retire_connection_id, path_challenge, path_response, connection_close, application_close, immediate_ack, ack_frequency}
 use Rattle.quic_wire.specs.Writing.{Fits, frame_size}
 use Rattle.quic_wire.specs.NumbersWritten.{width_of}
 use Rattle.quic_streams_parts.specs.declared.answers.Breach.{Breach}
@@ -35,7 +35,7 @@ use Rattle.quic_machine.specs.Closing.{Closing, ticked, close_owed}
 use Rattle.quic_machine.specs.Ids.{frame_of, retires_for}
 use Rattle.quic_machine.specs.Calls.{closed_in}
 use Rattle.quic_machine.specs.End.{End, side_of, number_of, with_closing, closed_by}
-use Rattle.quic_machine.specs.Receive.{Fault, Outcome, reason_of, fault_of, fault_at, names_ungiven, message_judged, retired_for, id_judged, retirement_judged, take_frame, unless_fault, take_items}
+use Rattle.quic_machine.specs.Receive.{Fault, Outcome, reason_of, fault_of, fault_at, names_ungiven, message_judged, retired_for, id_judged, retirement_judged, take_frame, unless_fault, take_items, asks_too_soon, frequency_judged}
 use Rattle.quic_machine.specs.Poll.{Polled, frame_room, close_with, longest_fitting, fitted, may_seal, bounds, can_close, may_close, close_to_go, polled}
 use Rattle.quic_machine.specs.PollCases.{by_poll, at_poll, composes}
 use Rattle.quic_machine.specs.DraftLaws.{IsClose, HasRoom, room_most}
@@ -51,6 +51,7 @@ use Rattle.quic_headline.proofs.Packets.Apart.{by_waits, by_next_id}
 use Rattle.quic_headline.proofs.Packets.Closes.{by_closes}
 use Rattle.quic_headline.proofs.Packets.Delivered.{Arrivals, arrived}
 use Rattle.quic_headline.proofs.Packets.Probes.{may_leave}
+use Rattle.quic_recovery_core.specs.AckFrequency.{is_stale}
 
 -- ---- which closes can go
 
@@ -220,6 +221,13 @@ frame_small (retire_connection_id n) e = go (is_wrong e.ids.own n)
     go : (b : Bool) → SmallFault (retirement_judged (cond b (Err (plain_error protocol_violation)) (Ok (nat_lt (length (without n e.ids.own.living)) e.ids.limit))) n e).fault
     go true = omega arith
     go false = tt
+frame_small immediate_ack e = tt
+frame_small (ack_frequency f) e = go (is_stale e.frequency.last f.sequence) (asks_too_soon f)
+  where
+    go : (stale soon : Bool) → SmallFault (frequency_judged stale soon f e).fault
+    go true soon = tt
+    go false true = omega arith
+    go false false = tt
 frame_small f e = rule_small (broken e.streams (id_rule f))
 
 -- so has that of a packet

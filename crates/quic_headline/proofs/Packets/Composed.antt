@@ -5,7 +5,7 @@ use Rattle.std.specs.Prelude.{if◌then◌else◌, nat_le, nat_lt, ◌/◌}
 use Rattle.std.proofs.lemmas.Bool.{leb-true, ltb-false, and_parts}
 use Rattle.std.proofs.lemmas.List.{append-nil, append_assoc, length-append, length-take, length-drop}
 use Rattle.quic_wire_core.specs.Law.{length-shortest, varint_size_le}
-use Rattle.quic_wire.specs.Value.{FrameValue, StreamValue, ack, padding, ping, stream, datagram}
+use Rattle.quic_wire.specs.Value.{FrameValue, StreamValue, ack, padding, ping, immediate_ack, stream, datagram, ack_frequency}
 use Rattle.quic_wire.specs.Grammar.{Payload}
 use Rattle.quic_wire.specs.AckGrammar.{EcnFits, AckFits, has_ecn}
 use Rattle.quic_wire.specs.Writing.{spelling, stream_spelling, StreamFits, Fits, frame_size, width_of, offset_width}
@@ -24,7 +24,7 @@ use Rattle.quic_streams_state.specs.Frames.{after_frame_sent}
 use Rattle.quic_spaces.specs.Marks.{Counts, told_counts}
 use Rattle.quic_spaces.specs.Acknowledging.{written_delay, delay_at}
 use Rattle.quic_machine.specs.End.{End, streams_at, with_signals}
-use Rattle.quic_machine.specs.Poll.{asking, overhead, number_width, with_least, zeros_behind, Draft, no_frames, with_frame, frame_room, fits, left, ping_if, with_signal_frames, with_control_frames, with_message, with_message_frames, with_asking, ack_of, with_ack, ack_fits, ack_if, composed_if, payload_of, lazied, asks_to_go, waits, draft_as, draft_of, probe, alone, whole, Leaving, Ready, nothing, probing, composed, behind_control, least_left, closing, lazied_as, with_signal, least_behind, challenge_if, response_if, with_challenge_frame, with_response_frame}
+use Rattle.quic_machine.specs.Poll.{asking, overhead, number_width, with_least, zeros_behind, Draft, no_frames, with_frame, frame_room, fits, left, ping_if, immediate_if, with_signal_frames, with_control_frames, with_message, with_message_frames, with_asking, ack_of, with_ack, ack_fits, ack_if, composed_if, payload_of, lazied, asks_to_go, waits, draft_as, draft_of, probe, alone, whole, Leaving, Ready, nothing, probing, composed, behind_control, least_left, closing, lazied_as, with_signal, least_behind, challenge_if, response_if, with_challenge_frame, with_response_frame, with_ping_frame, request_of, after_request, request_if, with_frequency_frame}
 use Rattle.quic_machine.specs.Parts.{Signals, current_mtu}
 use Rattle.quic_machine.specs.Validation.{challenge_frame, response_frame, path_frames_size}
 use Rattle.quic_paths.specs.Responses.{Response}
@@ -46,6 +46,8 @@ pub record Spelling (K : Streams → Type 0) : Type 0 where
   pub drops : (t : Streams) (kind : ControlKind) → K t → K (streams_of t.state (without_first kind t.pending))
   -- its frame goes
   pub control : (t : Streams) (kind : ControlKind) (f : FrameValue) → GoesFirst kind t.pending t.state f → K t → Fits f × K (streams_of (frame_told f t.state) (without_first kind t.pending))
+  -- ACK_FREQUENCY waits, or doesn't
+  pub asked : (t : Streams) (waits : Bool) → K t → K (streams_of t.state (record t.pending { ack_frequency = waits }))
   -- the frame of a half goes
   pub stream : (fair : Bool) (t : Streams) (id : ℕ) (h : SendHalf) (room : ℕ) → at t.state.sending.halves.live id ≡ Some h → frame_counts h room ≡ true → K t → (id < 2 ^ 62) × HasFrame h room × K (streams_of (after_frame_sent fair t.state id h room) t.pending)
 
@@ -203,8 +205,8 @@ ack_some e =
     type true = let three : width_of 3 ≡ 1 = refl in omega arith
     type false = let two : width_of 2 ≡ 1 = refl in omega arith
 
--- it leaves room for one more frame of control
-pub ack_leaves : (e : End) → Acks e.acknowledging e.marks.came → is_filled e.acknowledging.runs ≡ true → 1159 ≤ frame_room e → length (spelling (ack (ack_of e))) + 54 ≤ frame_room e
+-- it leaves room for one more frame of control, or for all signals and ACK_FREQUENCY
+pub ack_leaves : (e : End) → Acks e.acknowledging e.marks.came → is_filled e.acknowledging.runs ≡ true → 1159 ≤ frame_room e → length (spelling (ack (ack_of e))) + 59 ≤ frame_room e
 ack_leaves e acks filled room =
     let form : AckFits (ack_of e) = ack_form e acks filled in
     let long = spelling_length (ack (ack_of e)) form in
@@ -213,6 +215,10 @@ ack_leaves e acks filled room =
     let few = acks.runs.few in
     let runs : most_ack_runs ≡ 64 = refl in
     omega arith
+
+-- what ACK_FREQUENCY says has a form
+request_fits : (e : End) → Fits (ack_frequency (request_of e))
+request_fits e = (omega arith, (omega arith, (omega arith, (omega arith, tt))))
 
 -- ---- drafts
 
@@ -310,7 +316,7 @@ module _ (K : Streams → Type 0) (k : Spelling K) where
       record { streams = g.streams; acks = g.acks; sized = g.sized; room = g.room; wide = g.wide; least = least; within = omega arith; stands = behind_fit d f (with_signals d.end left) g.stands form }
 
   -- each of them goes where it waits, and leaves room for the next
-  challenge_goes : (o : Option ℕ) (d : Draft) → length d.bytes + 25 ≤ frame_room d.end → Goes Behind d → Goes Behind (challenge_if o d) × (length (challenge_if o d).bytes + 16 ≤ frame_room (challenge_if o d).end)
+  challenge_goes : (o : Option ℕ) (d : Draft) → length d.bytes + 59 ≤ frame_room d.end → Goes Behind d → Goes Behind (challenge_if o d) × (length (challenge_if o d).bytes + 50 ≤ frame_room (challenge_if o d).end)
   challenge_goes None d left g = (g, omega arith)
   challenge_goes (Some word) d left g =
       let long = length-append d.bytes (spelling (challenge_frame word)) in
@@ -319,7 +325,7 @@ module _ (K : Streams → Type 0) (k : Spelling K) where
       let wide = g.wide in
       (signal_goes d (challenge_frame word) _ refl (omega arith) (omega arith) g, omega arith)
 
-  response_goes : (o : Option Response) (d : Draft) → length d.bytes + 16 ≤ frame_room d.end → Goes Behind d → Goes Behind (response_if o d) × (length (response_if o d).bytes + 7 ≤ frame_room (response_if o d).end)
+  response_goes : (o : Option Response) (d : Draft) → length d.bytes + 50 ≤ frame_room d.end → Goes Behind d → Goes Behind (response_if o d) × (length (response_if o d).bytes + 41 ≤ frame_room (response_if o d).end)
   response_goes None d left g = (g, omega arith)
   response_goes (Some r) d left g =
       let long = length-append d.bytes (spelling (response_frame r)) in
@@ -328,19 +334,48 @@ module _ (K : Streams → Type 0) (k : Spelling K) where
       let wide = g.wide in
       (signal_goes d (response_frame r) _ refl (omega arith) (omega arith) g, omega arith)
 
-  ping_goes : (b : Bool) (d : Draft) → length d.bytes + 7 ≤ frame_room d.end → Goes Behind d → Goes Behind (ping_if b d)
+  ping_goes : (b : Bool) (d : Draft) → length d.bytes + 41 ≤ frame_room d.end → Goes Behind d → Goes Behind (ping_if b d) × (length (ping_if b d).bytes + 40 ≤ frame_room (ping_if b d).end)
   ping_goes true d left g =
+      let long = length-append d.bytes (spelling ping) in
       let one : length (spelling ping) ≡ 1 = refl in
-      signal_goes d ping _ tt (omega arith) g.least g
-  ping_goes false d left g = g
+      (signal_goes d ping _ tt (omega arith) g.least g, omega arith)
+  ping_goes false d left g = (g, omega arith)
 
-  signals_go : (d : Draft) → length d.bytes + 25 ≤ frame_room d.end → Goes Behind d → Goes Behind (with_signal_frames d)
+  immediate_goes : (b : Bool) (d : Draft) → length d.bytes + 40 ≤ frame_room d.end → Goes Behind d → Goes Behind (immediate_if b d) × (length (immediate_if b d).bytes + 34 ≤ frame_room (immediate_if b d).end)
+  immediate_goes true d left g =
+      let long = length-append d.bytes (spelling immediate_ack) in
+      let one : length (spelling immediate_ack) ≡ 1 = refl in
+      (signal_goes d immediate_ack _ tt (omega arith) g.least g, omega arith)
+  immediate_goes false d left g = (g, omega arith)
+
+  signals_go : (d : Draft) → length d.bytes + 59 ≤ frame_room d.end → Goes Behind d → Goes Behind (with_signal_frames d) × (length (with_signal_frames d).bytes + 34 ≤ frame_room (with_signal_frames d).end)
   signals_go d left g =
       let asked : Draft = with_challenge_frame d in
       let answered : Draft = with_response_frame asked in
       let one = challenge_goes d.end.waiting.signals.challenge d left g in
       let two = response_goes asked.end.waiting.signals.response asked one.1 one.0 in
-      ping_goes answered.end.waiting.signals.ping answered two.1 two.0
+      let pinged : Draft = with_ping_frame answered in
+      let three = ping_goes answered.end.waiting.signals.ping answered two.1 two.0 in
+      immediate_goes pinged.end.waiting.signals.immediate pinged three.1 three.0
+
+  -- ACK_FREQUENCY goes, where there is room for it
+  asked_goes : (b : Bool) (d : Draft) → length d.bytes + 34 ≤ frame_room d.end → Goes Behind d → Goes Behind (request_if b d)
+  asked_goes true d left g =
+      let request : FrameValue = ack_frequency (request_of d.end) in
+      let long = length-append d.bytes (spelling request) in
+      let size = spelling_length request (request_fits d.end) in
+      let most = size_most request (request_fits d.end) in
+      record {
+        streams = k.asked (streams_at d.end) false g.streams;
+        acks = g.acks;
+        sized = g.sized;
+        room = g.room;
+        wide = g.wide;
+        least = g.least;
+        within = omega arith;
+        stands = behind_fit d request (after_request d.end) g.stands (request_fits d.end);
+      }
+  asked_goes false d left g = g
 
   -- ACK goes, where there are numbers, and room for it
   ack_goes : (d : Draft) → is_filled d.end.acknowledging.runs ≡ true → length d.bytes + length (spelling (ack (ack_of d.end))) ≤ frame_room d.end → Goes Behind d → Goes Behind (with_ack d)
@@ -410,10 +445,13 @@ module _ (K : Streams → Type 0) (k : Spelling K) where
       go (inr f) small has = let full = f.full in absurd (omega arith)
 
   -- what asks goes, where there is room
-  asking_goes : (d : Draft) → length d.bytes + 25 ≤ frame_room d.end → Goes Behind d → Goes Stands (with_asking d)
+  asking_goes : (d : Draft) → length d.bytes + 59 ≤ frame_room d.end → Goes Behind d → Goes Stands (with_asking d)
   asking_goes d left g =
-      let before = messages_go (with_control_frames (with_signal_frames d)) (entries_go (with_signal_frames d) (signals_go d left g)) in
-      by_streams (Goes Stands) half_goes (with_message_frames (with_control_frames (with_signal_frames d)))
+      let signalled = signals_go d left g in
+      let asked = asked_goes (with_signal_frames d).end.waiting.frames.ack_frequency (with_signal_frames d) signalled.1 signalled.0 in
+      let x : Draft = with_frequency_frame (with_signal_frames d) in
+      let before = messages_go (with_control_frames x) (entries_go x asked) in
+      by_streams (Goes Stands) half_goes (with_message_frames (with_control_frames x))
       (record { streams = before.streams; acks = before.acks; sized = before.sized; room = before.room; wide = before.wide; least = before.least; within = before.within; stands = inl before.stands })
 
   -- an ACK frame goes behind it where it fits

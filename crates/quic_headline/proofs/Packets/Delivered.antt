@@ -171,6 +171,29 @@ pub record Arrivals (e : End) (now n : ℕ) (frames : List FrameValue) (i : Inta
   -- it doesn't open, its number being too far off, and is the last that may not
   pub exhausts : e.closing.state ≡ states.Open → P (record { answer = Closed key_limit; end = exhausted now e }) i
 
+-- the same cases, of a delivery that bears this mark, or none
+pub record ArrivalsWith (mark : Option EcnCodepoint) (e : End) (now n : ℕ) (frames : List FrameValue) (i : Intake) (P : Outcome → Intake → Type 0) : Type 0 where
+  pub ignored : (reason : DropReason) → P (dropped reason e) i
+  pub noted : e.closing.state ≡ states.Closing → (reason : DropReason) → P (dropped reason (with_closing (with_numbers e (number_opened e.numbers n)) (close_asked e.closing))) i
+  pub takes : (words : ℕ → ℕ) → e.closing.state ≡ states.Open → is_again n i.opened ≡ false → (arrived e now n frames).fault ≡ None
+      → P (record { answer = Taken; end = drawn words (after_taken n (asks_in (map Ok frames)) mark (arrived e now n frames).end) }) (with_taken i n frames)
+  pub drains : (words : ℕ → ℕ) → e.closing.state ≡ states.Open → is_again n i.opened ≡ false → (close : CloseValue) → (arrived e now n frames).fault ≡ Some (closed_by_peer close)
+      → P (record { answer = Taken; end = drawn words (drained_at n close (arrived e now n frames).end) }) (with_taken i n frames)
+  pub refuses : (words : ℕ → ℕ) → e.closing.state ≡ states.Open → is_again n i.opened ≡ false → (f : Fault) → (arrived e now n frames).fault ≡ Some f
+      → P (record { answer = Closed (error_of f); end = drawn words (closed_by (reason_of f) (arrived e now n frames).end) }) (with_refused i n frames)
+  pub exhausts : e.closing.state ≡ states.Open → P (record { answer = Closed key_limit; end = exhausted now e }) i
+
+-- what holds whatever the mark does
+pub of_any : (mark : Option EcnCodepoint) (e : End) (now n : ℕ) (frames : List FrameValue) (i : Intake) (P : Outcome → Intake → Type 0) → Arrivals e now n frames i P → ArrivalsWith mark e now n frames i P
+of_any mark e now n frames i P c = record {
+  ignored = c.ignored;
+  noted = c.noted;
+  takes = λ words state new none. c.takes words state new none mark;
+  drains = c.drains;
+  refuses = c.refuses;
+  exhausts = c.exhausts;
+}
+
 -- what a packet comes to that opened, whose key phase is 0
 abbrev by_test : Bool → State → Opening → Arrival → End → Outcome
 by_test again s o arrival e = cond again (dropped drops.Duplicate e) (by_state s o arrival (with_numbers e (number_opened e.numbers o.number)))
@@ -210,7 +233,7 @@ abbrev handed_open : Policy → End → Intake → List ℕ → Outcome → Inta
 handed_open q e i d o = and_opened (came_open q i.took (answers.Deliver o.answer) d) (answers.Deliver o.answer) i
 
 module _ (p q : Policy) (id : List ℕ) (n reference : ℕ) (frames : List FrameValue) (d : List ℕ) (g : IsGiven p id n reference frames d) (mates : CanOpen p q) (lawful : IsLawful p)
-    (e : End) (arrival : Arrival) (i : Intake) (P : Outcome → Intake → Type 0) (cases : Arrivals e arrival.now n frames i P) where
+    (e : End) (arrival : Arrival) (i : Intake) (P : Outcome → Intake → Type 0) (cases : ArrivalsWith arrival.mark e arrival.now n frames i P) where
   -- the outcome, where its id is known or isn't
   abbrev headed_if : Bool → Outcome
   headed_if b = cond b (opened_as (shown_if (expands n reference (expected e.numbers)) n reference g.payload) q arrival e) (dropped drops.UnknownId e)
@@ -248,7 +271,7 @@ module _ (p q : Policy) (id : List ℕ) (n reference : ℕ) (frames : List Frame
 
   taken_or_refused : e.closing.state ≡ states.Open → is_again n i.opened ≡ false → (f : Option Fault) → (arrived e arrival.now n frames).fault ≡ f
       → P (with_ids_drawn q (ends_as f (asks_in (map Ok frames)) n arrival.mark (arrived e arrival.now n frames).end)) (came_by false n frames (answers.Deliver (ends_as f (asks_in (map Ok frames)) n arrival.mark (arrived e arrival.now n frames).end).answer) i)
-  taken_or_refused state new None is = cases.takes q.words state new is arrival.mark
+  taken_or_refused state new None is = cases.takes q.words state new is
   taken_or_refused state new (Some (closed_by_peer close)) is = cases.drains q.words state new close is
   taken_or_refused state new (Some (broke error)) is = cases.refuses q.words state new (broke error) is
   taken_or_refused state new (Some too_many_pieces) is = cases.refuses q.words state new too_many_pieces is
@@ -292,9 +315,16 @@ module _ (p q : Policy) (id : List ℕ) (n reference : ℕ) (frames : List Frame
   at_state states.Drained state k = cases.ignored drops.Drained
   at_state states.Failed state k = cases.ignored drops.Failed
 
--- every delivery of a datagram that an honest end gave is one of the cases
+-- every delivery of a datagram that an honest end gave is one of the cases, with its mark
+pub by_arrival_with : (p q : Policy) (id : List ℕ) (n reference : ℕ) (frames : List FrameValue) (d : List ℕ) (g : IsGiven p id n reference frames d) (e : End) (arrival : Arrival) (i : Intake) (P : Outcome → Intake → Type 0)
+    → CanOpen p q → IsLawful p → KnowsIn e.closing.state e.numbers i
+    → ArrivalsWith arrival.mark e arrival.now n frames i P
+    → P (received q e arrival d) (and_handed e.closing.state (Some d) q (answers.Deliver (received q e arrival d).answer) i)
+by_arrival_with p q id n reference frames d g e arrival i P mates lawful k cases = at_state p q id n reference frames d g mates lawful e arrival i P cases e.closing.state refl k
+
+-- so it is whatever its mark
 pub by_arrival : (p q : Policy) (id : List ℕ) (n reference : ℕ) (frames : List FrameValue) (d : List ℕ) (g : IsGiven p id n reference frames d) (e : End) (arrival : Arrival) (i : Intake) (P : Outcome → Intake → Type 0)
     → CanOpen p q → IsLawful p → KnowsIn e.closing.state e.numbers i
     → Arrivals e arrival.now n frames i P
     → P (received q e arrival d) (and_handed e.closing.state (Some d) q (answers.Deliver (received q e arrival d).answer) i)
-by_arrival p q id n reference frames d g e arrival i P mates lawful k cases = at_state p q id n reference frames d g mates lawful e arrival i P cases e.closing.state refl k
+by_arrival p q id n reference frames d g e arrival i P mates lawful k cases = by_arrival_with p q id n reference frames d g e arrival i P mates lawful k (of_any arrival.mark e arrival.now n frames i P cases)

@@ -6,7 +6,7 @@ use Rattle.std.specs.Option.{is_some}
 use Rattle.std.proofs.lemmas.Bool.{le-leb, leb-true, or_cases, and_parts, not-true}
 use Rattle.std.proofs.lemmas.List.{length-append, length-map}
 use Rattle.quic_wire_core.specs.Law.{length-shortest, varint_size_le}
-use Rattle.quic_wire.specs.Value.{FrameValue, ack, stream, datagram}
+use Rattle.quic_wire.specs.Value.{FrameValue, ack, stream, datagram, ack_frequency}
 use Rattle.quic_wire.specs.Writing.{frame_size, width_of}
 use Rattle.quic_recovery_core.specs.PendingAcks.{can_send}
 use Rattle.quic_retransmits.specs.Retransmits.{Retransmits, nothing_waits, first_of, control_kinds}
@@ -28,7 +28,7 @@ use Rattle.quic_messages.specs.Messages.{fitting, frame_bytes}
 use Rattle.quic_spaces.specs.Numbers.{cut_against}
 use Rattle.quic_machine.specs.Ids.{Ids}
 use Rattle.quic_machine.specs.End.{End, number_of, streams_at}
-use Rattle.quic_machine.specs.Poll.{Draft, no_frames, frame_room, least_room, fits, left, no_stream_frames, with_control_frames, with_message, with_messages_of, with_message_frames, with_stream_frames, with_asking, ack_of, with_ack, ack_fits, ack_if, composed_if, composed, lazied, lazied_as, message_waits, asks_to_go, waits, draft_as, goes, probe, alone, whole, Leaving, Ready, nothing, goes_as, closing, with_signal_frames}
+use Rattle.quic_machine.specs.Poll.{Draft, no_frames, frame_room, least_room, fits, left, no_stream_frames, with_control_frames, with_message, with_messages_of, with_message_frames, with_stream_frames, with_asking, ack_of, with_ack, ack_fits, ack_if, composed_if, composed, lazied, lazied_as, message_waits, asks_to_go, waits, draft_as, goes, probe, alone, whole, Leaving, Ready, nothing, goes_as, closing, with_signal_frames, with_request, request_if, with_frequency_frame, request_of}
 use Rattle.quic_machine.specs.PollCases.{ready_at, ready_leaves, whole_waits, may_leave_at}
 use Rattle.quic_machine.specs.Parts.{current_mtu, signals_wait}
 use Rattle.quic_machine.specs.DraftLaws.{Writing, drops_of, entry_of, half_of, message_of, HasRoom, room_most, left_least, by_entries, by_messages, by_streams, by_asking, by_some_signal, no_signal}
@@ -53,9 +53,8 @@ pub record BringsFirst (s : StreamsState) : Type 0 where
 
 -- a fact of streams, and of what waits beside their bytes, by which something of what waits can go
 pub record Bringing (K : Streams → Type 0) : Type 0 where
-  -- RESET_STREAM waits of halves that were reset, and what has no frame yet doesn't wait
+  -- RESET_STREAM waits of halves that were reset
   pub resets : (t : Streams) → K t → (r : ℕ × ℕ) → In r t.pending.reset_stream → is_some (reset_frame r (at t.state.sending.halves.live r.0)) ≡ true
-  pub others : (t : Streams) → K t → t.pending.ack_frequency ≡ false
   -- the queue has halves with something to send
   pub queued : (t : Streams) → K t → can_send_stream_data t.state ≡ true → BringsFirst t.state
 
@@ -200,10 +199,10 @@ first_brings e d room u b =
     omega arith
 
 module _ (K : Streams → Type 0) (k : Spelling K) (c : Bringing K) where
-  -- where something waits that counts, an entry is due
-  any_waits : (t : Streams) → K t → is_empty t.pending t.state ≡ false → any_of t.state t.pending control_kinds ≡ true
-  any_waits t i waits =
-      let some = filled t.pending t.state waits (c.others t i) in
+  -- where something waits that counts, and isn't ACK_FREQUENCY, an entry is due
+  any_waits : (t : Streams) → K t → is_empty t.pending t.state ≡ false → t.pending.ack_frequency ≡ false → any_of t.state t.pending control_kinds ≡ true
+  any_waits t i waits unasked =
+      let some = filled t.pending t.state waits unasked in
       listed (λ kind. any_due t.state (waiting kind t.pending)) some.0 (counts_due some.0 t.pending t.state (first_reset t.pending.reset_stream (c.resets t i)) some.1)
     where
       first_reset : (rs : List (ℕ × ℕ)) → ((r : ℕ × ℕ) → In r rs → is_some (reset_frame r (at t.state.sending.halves.live r.0)) ≡ true) → (r : ℕ × ℕ) → first_of rs ≡ Some r → is_due t.state (reset_entry r) ≡ true
@@ -285,12 +284,12 @@ module _ (K : Streams → Type 0) (k : Spelling K) (c : Bringing K) where
 
   -- ---- what is composed
 
-  -- where something waits beside the bytes of streams, a frame of control goes behind a draft that
-  -- leaves room for one
-  pub control_goes : (d : Draft) → length d.bytes + 54 ≤ frame_room d.end → K (streams_at d.end) → is_empty d.end.waiting.frames d.end.streams ≡ false
+  -- where something waits beside the bytes of streams, and isn't ACK_FREQUENCY, a frame of control
+  -- goes behind a draft that leaves room for one
+  pub control_goes : (d : Draft) → length d.bytes + 54 ≤ frame_room d.end → K (streams_at d.end) → is_empty d.end.waiting.frames d.end.streams ≡ false → d.end.waiting.frames.ack_frequency ≡ false
       → 0 < length (control.control_frames (frame_room d.end) (length d.bytes) d.end.streams d.end.waiting.frames nothing_waits).frames
-  control_goes d room i waits =
-      kinds_go (frame_room d.end) control_kinds (control.no_frames (length d.bytes) d.end.streams d.end.waiting.frames nothing_waits) kinds_apart (record { streams = i; room = room }) (any_waits (streams_at d.end) i waits)
+  control_goes d room i waits unasked =
+      kinds_go (frame_room d.end) control_kinds (control.no_frames (length d.bytes) d.end.streams d.end.waiting.frames nothing_waits) kinds_apart (record { streams = i; room = room }) (any_waits (streams_at d.end) i waits unasked)
 
   -- where something waits that asks, a frame goes
   pub asking_goes : (e : End) → 1159 ≤ frame_room e → K (streams_at e) → asks_to_go e ≡ true → HasFrames (with_asking (no_frames e))
@@ -311,20 +310,31 @@ module _ (K : Streams → Type 0) (k : Spelling K) (c : Bringing K) where
       behind (inl some) b = by_streams HasFrames (half_of HasFrames frames_stay) (with_message_frames (with_control_frames (no_frames e))) some
       behind (inr u) b = first_brings e (with_message_frames (with_control_frames (no_frames e))) room u b
 
-      quiet : (not (is_empty e.waiting.frames e.streams) || (message_waits e || can_send_stream_data e.streams)) ≡ true → HasFrames (with_stream_frames (with_message_frames (with_control_frames (no_frames e))))
-      quiet on = elim (or_cases (not (is_empty e.waiting.frames e.streams)) (message_waits e || can_send_stream_data e.streams) on) [
-        | inl some ↦ more (with_control_frames (no_frames e)) (control_goes (no_frames e) (omega arith) i (not-true (is_empty e.waiting.frames e.streams) some))
+      quiet : (not (is_empty e.waiting.frames e.streams) || (message_waits e || can_send_stream_data e.streams)) ≡ true → e.waiting.frames.ack_frequency ≡ false → HasFrames (with_stream_frames (with_message_frames (with_control_frames (no_frames e))))
+      quiet on unasked = elim (or_cases (not (is_empty e.waiting.frames e.streams)) (message_waits e || can_send_stream_data e.streams) on) [
+        | inl some ↦ more (with_control_frames (no_frames e)) (control_goes (no_frames e) (omega arith) i (not-true (is_empty e.waiting.frames e.streams) some) unasked)
         | inr others ↦ elim (or_cases (message_waits e) (can_send_stream_data e.streams) others) [
           | inl some ↦ told (touched_or_not e) some
           | inr some ↦ behind (untold_or_not e) (c.queued (streams_at e) i some)
         ]
       ]
 
+      -- ACK_FREQUENCY goes behind signals
+      behind_signals : (b : Bool) (d : Draft) → HasFrames d → HasFrames (request_if b d)
+      behind_signals true d some = one_more d (ack_frequency (request_of d.end))
+      behind_signals false d some = some
+
+      -- or before all others, if it waits
+      asked : (b : Bool) → e.waiting.frames.ack_frequency ≡ b → (not (is_empty e.waiting.frames e.streams) || (message_waits e || can_send_stream_data e.streams)) ≡ true → HasFrames (with_stream_frames (with_message_frames (with_control_frames (request_if b (no_frames e)))))
+      asked true is on = (let d : Draft = with_request (no_frames e) in more (with_control_frames d) (by_entries HasFrames (drops_of HasFrames frames_stay) (entry_of HasFrames frames_stay) d (one_more (no_frames e) (ack_frequency (request_of e)))))
+      asked false is on = quiet on is
+
       signalled : (b : Bool) → signals_wait e.waiting.signals ≡ b → (b || (not (is_empty e.waiting.frames e.streams) || (message_waits e || can_send_stream_data e.streams))) ≡ true → HasFrames (with_asking (no_frames e))
       signalled true some on =
           let d : Draft = with_signal_frames (no_frames e) in
-          more (with_control_frames d) (by_entries HasFrames (drops_of HasFrames frames_stay) (entry_of HasFrames frames_stay) d (by_some_signal HasFrames (λ x f left is. one_more x f) (no_frames e) some))
-      signalled false none on = subst (λ (x : Draft). HasFrames (with_stream_frames (with_message_frames (with_control_frames x)))) (sym (no_signal (no_frames e) none)) (quiet on)
+          let x : Draft = with_frequency_frame d in
+          more (with_control_frames x) (by_entries HasFrames (drops_of HasFrames frames_stay) (entry_of HasFrames frames_stay) x (behind_signals d.end.waiting.frames.ack_frequency d (by_some_signal HasFrames (λ x f left is. one_more x f) (no_frames e) some)))
+      signalled false none on = subst (λ (x : Draft). HasFrames (with_stream_frames (with_message_frames (with_control_frames (with_frequency_frame x))))) (sym (no_signal (no_frames e) none)) (asked e.waiting.frames.ack_frequency refl on)
 
   -- where something waits, a frame goes
   pub composed_some : (e : End) → HasRoom e → K (streams_at e) → waits e ≡ true → HasFrames (composed e)

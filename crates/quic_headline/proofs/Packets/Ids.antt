@@ -7,7 +7,7 @@ use Rattle.std.specs.Option.{is_some}
 use Rattle.std.specs.declared.ops.Range.{Range}
 use Rattle.quic_wire_core.specs.TransportError.{ErrorValue}
 use Rattle.quic_wire_core.specs.declared.shared.IssuedCid.{IssuedCid}
-use Rattle.quic_wire.specs.Value.{FrameValue, AckValue, ack, stream, reset_stream, stop_sending, max_data, max_stream_data, max_streams, datagram, path_response, new_connection_id, retire_connection_id, padding}
+use Rattle.quic_wire.specs.Value.{FrameValue, AckValue, ack, stream, reset_stream, stop_sending, max_data, max_stream_data, max_streams, datagram, path_response, new_connection_id, retire_connection_id, padding, ack_frequency}
 use Rattle.quic_wire.specs.declared.frame.NewConnectionId.{NewConnectionId}
 use Rattle.quic_ids.specs.CidState.{retirement_answer}
 use Rattle.quic_ids.specs.CidQueue.{PeerIds, with_cid, known_with, first_used, exceeds, retires_active, left_by, after_accepted, after_insert, after_next, insert_answer, from, brought}
@@ -28,7 +28,7 @@ use Rattle.quic_streams_state.specs.Sends.{reset_half}
 use Rattle.quic_streams_state.specs.Writing.{reset_at}
 use Rattle.quic_streams_state.specs.Reading.{told_bytes, after_read_begun, with_stop, stopped_if, stopped_at}
 use Rattle.quic_streams_state.specs.Limits.{settled}
-use Rattle.quic_streams_state.specs.Control.{without_first, issued_in, and_again, Goes}
+use Rattle.quic_streams_state.specs.Control.{without_first, issued_in, Goes}
 use Rattle.quic_machine.specs.declared.run.Call.{Call}
 use Rattle.quic_machine.specs.declared.run.Call.TheVariants as calls
 use Rattle.quic_machine.specs.declared.run.Answer.{Answer}
@@ -40,9 +40,9 @@ use Rattle.quic_machine.specs.CallCases.{is_delivery, uses_next_id, by_call}
 use Rattle.quic_machine.specs.LeaveCases.{by_expired, by_event}
 use Rattle.quic_machine.specs.Machine.{IsAnswer, after_call, fails, gave}
 use Rattle.quic_machine.specs.Closing.{ticked}
-use Rattle.quic_machine.specs.Tracking.{Carried}
-use Rattle.quic_machine.specs.Ids.{Ids, Drawing, own_id_length, most_ids, later_numbers, words_behind, words_of_id, drawn_id, drawn_ids, undrawn_id, retired, may_issue, frame_of, retires_for, retires_for_next, next_used, drawn_one, drawn_places}
-use Rattle.quic_machine.specs.IdFrames.{retiring, with_taken_up, issued_if, next_id_taken, end_on_next_id, drawn}
+use Rattle.quic_machine.specs.Tracking.{Carried, and_again}
+use Rattle.quic_machine.specs.Ids.{Ids, Drawing, own_id_length, most_ids, later_numbers, words_behind, words_of_id, drawn_id, drawn_ids, undrawn_id, retired, frame_of, retires_for, retires_for_next, next_used, drawn_one, drawn_places}
+use Rattle.quic_machine.specs.IdFrames.{retiring, with_taken_up, issued_if, issues_for, next_id_taken, end_on_next_id, drawn}
 use Rattle.quic_machine.specs.Validation.{word_of, validated_if}
 use Rattle.quic_machine.specs.Parts.{Windows}
 use Rattle.quic_machine.specs.End.{End, with_closing, with_ids, closed_by, words_drawn, streams_at, new_end}
@@ -53,7 +53,7 @@ use Rattle.quic_machine.specs.Sizes.{without_longer_if, shortened}
 use Rattle.quic_machine.specs.FrameCases.{OnStreams, IsApart, passed}
 use Rattle.quic_machine.specs.Steps as steps
 use Rattle.quic_machine.specs.Puts as puts
-use Rattle.quic_machine.specs.Poll.{Polled, Draft, zeros_behind, draft_as, polled, whole, Leaving, lazied_as}
+use Rattle.quic_machine.specs.Poll.{Polled, Draft, zeros_behind, draft_as, polled, whole, Leaving, lazied_as, request_of}
 use Rattle.quic_machine.specs.DraftLaws.{Writing, MayLeave, by_leave}
 use Rattle.quic_machine.specs.PollCases.{ready_at, draft_at, frames_at, frames_padded, by_poll_to, may_leave_at}
 use Rattle.quic_headline.specs.Runs.{In, Packet, Intake}
@@ -64,7 +64,7 @@ use Rattle.quic_headline.proofs.Packets.Invariant.{IsCarriedFrom, AreTracked, ca
 use Rattle.quic_headline.proofs.Packets.Closes.{by_closes}
 use Rattle.quic_headline.proofs.Packets.Owing.{Owes, sent_fine}
 use Rattle.quic_headline.proofs.Places.Steps.{poll_answer}
-use Rattle.quic_headline.proofs.Packets.Apart.{by_waits}
+use Rattle.quic_headline.proofs.Packets.Apart.{by_waits, by_frequency}
 use Rattle.quic_headline.proofs.Packets.OfPeer.{peer_settles, peer_frame, peer_call}
 use Rattle.quic_headline.proofs.Packets.Probes.{by_ready, by_going}
 use Rattle.quic_headline.proofs.Packets.Delivered.{Arrivals, arrived}
@@ -174,6 +174,7 @@ module _ (C : IssuedCid → Type 0) (R : ℕ → Type 0) where
   draws_keep : Writing Draws
   draws_keep (puts.drops kind) d may k = record { frames = k.frames; waits = waits_without kind d.end.waiting.frames k.waits }
   draws_keep (puts.control kind f) d is k = record { frames = says_more d.frames f k.frames (goes_says d.end.waiting.frames d.end.streams f k.waits is.says); waits = waits_without kind d.end.waiting.frames k.waits }
+  draws_keep puts.request d may k = record { frames = says_more d.frames (ack_frequency (request_of d.end)) k.frames tt; waits = record { tells = k.waits.tells; retires = k.waits.retires } }
   draws_keep p d may k = record { frames = says_more d.frames _ k.frames tt; waits = k.waits }
 
   draft_draws : (leaving : Leaving) (e : End) → MayLeave leaving e → Waits C R e.waiting.frames → Draws (draft_as leaving e)
@@ -196,7 +197,7 @@ module _ (C : IssuedCid → Type 0) (R : ℕ → Type 0) where
 
   module _ (e : End) (now : ℕ) (sents : List Sent) (say : SentSayIds sents) (tracked : AreTracked sents e.tracking.packets) (w : Waits C R e.waiting.frames) where
     ready_waits : Waits C R (ready_at e now).end.waiting.frames
-    ready_waits = by_ready (λ (x : End). Waits C R x.waiting.frames) e now w w
+    ready_waits = by_ready (λ (x : End). Waits C R x.waiting.frames) e now w (λ ping immediate x i. i) (λ waits x i. record { tells = i.tells; retires = i.retires })
         (λ p i. again_waits p.1.carried e w (let was = tracked_carried sents e.tracking.packets tracked p.0 p.1 i in carried_waits p.1.carried was.sent.frames was.is (λ f j. say was.sent f was.among j)))
         (λ moment pacing discovery x i. i)
 
@@ -333,13 +334,14 @@ apart_long (retire_connection_id n) e apart says i = go (retirement_answer e.ids
     issues false = record { waits = i.waits; peer = i.peer }
 
     go : (r : Result Bool ErrorValue) → LongIds (retirement_judged r n e).end
-    go (Ok more) = issues (may_issue e.ids n)
+    go (Ok more) = issues (issues_for n e)
     go (Err error) = i
 apart_long (path_response token) e apart says i = go (is_asked e.validation.challenge (word_of token))
   where
     go : (b : Bool) → LongIds (validated_if b e)
     go true = record { waits = i.waits; peer = i.peer }
     go false = i
+apart_long (ack_frequency r) e apart says i = by_frequency LongIds r e (λ threshold reordering frequency. record { waits = i.waits; peer = i.peer })
 apart_long f e apart says i = record { waits = i.waits; peer = i.peer }
 
 -- a frame on streams

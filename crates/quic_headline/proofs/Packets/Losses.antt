@@ -4,7 +4,7 @@ use Rattle.quic_send_buffer.specs.declared.stream_meta.StreamMeta.{StreamMeta}
 use Rattle.quic_streams_parts.specs.Table.{Table}
 use Rattle.quic_recovery_core.specs.PendingAcks.{Pending}
 use Rattle.quic_time.specs.Timers.{Timers}
-use Rattle.quic_streams_state.specs.State.{Streams}
+use Rattle.quic_streams_state.specs.State.{Streams, streams_of}
 use Rattle.quic_machine.specs.Closing.{ticked}
 use Rattle.quic_machine.specs.Tracking.{TrackedPacket, Carried, is_lost, lost_by}
 use Rattle.quic_machine.specs.End.{End, with_closing, streams_at}
@@ -47,6 +47,6 @@ module _ (P : Streams → Type 0) (e : End) (now : ℕ) (l : Losing e.tracking.p
   pub expiry_stays : (acks : Pending) (timers : Timers) (waits : Bool) (asked : Asked) → P (streams_at (at_losses e now acks timers waits asked))
   expiry_stays acks timers waits asked = losses_stay P (with_closing e (ticked e.closing now)) l i
 
-  -- where something waits for each probe
-  pub ready_stays : P (streams_at (ready_at e now).end)
-  ready_stays = ready_streams P e now i (λ n t among. l.again n t e among i)
+  -- where something waits for each probe, and whether or not ACK_FREQUENCY does
+  pub ready_stays : ((waits : Bool) (t : Streams) → P t → P (streams_of t.state (record t.pending { ack_frequency = waits }))) → P (streams_at (ready_at e now).end)
+  ready_stays asks = ready_streams P e now i asks (λ n t among. l.again n t e among i)

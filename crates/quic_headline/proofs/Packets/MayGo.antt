@@ -51,13 +51,12 @@ pub record WasReset (live : Table SendHalf) (r : ℕ × ℕ) : Type 0 where
   pub code : r.1 < 2 ^ 62
 
 -- what waits beside the bytes of streams may go: RESET_STREAM, STOP_SENDING, NEW_CONNECTION_ID and
--- RETIRE_CONNECTION_ID have a form, and what has no frame yet doesn't wait
+-- RETIRE_CONNECTION_ID have a form
 pub record AreReady (live : Table SendHalf) (p : Retransmits) : Type 0 where
   pub resets : (r : ℕ × ℕ) → In r p.reset_stream → WasReset live r
   pub stops : (r : StopSendingValue) → In r p.stop_sending → (r.id < 2 ^ 62) × (r.code < 2 ^ 62)
   pub ids : (cid : IssuedCid) → In cid p.new_cids → Fits (new_connection_id (told_id cid))
   pub retired : (n : ℕ) → In n p.retire_cids → n < 2 ^ 62
-  pub no_frequency : p.ack_frequency ≡ false
 
 -- what streams have to send may go: they hold what was written on them, and what waits beside their
 -- bytes may go
@@ -80,11 +79,11 @@ first_in x (y ∷ xs) is = let same : x ≡ y = cc in inl same
 
 -- it may go still once the first of a kind is gone
 ready_without : (kind : ControlKind) (live : Table SendHalf) (p : Retransmits) → AreReady live p → AreReady live (without_first kind p)
-ready_without ResetStream live p a = record { resets = λ r i. a.resets r (in_others r p.reset_stream i); stops = a.stops; ids = a.ids; retired = a.retired; no_frequency = a.no_frequency }
-ready_without StopSending live p a = record { resets = a.resets; stops = λ r i. a.stops r (in_others r p.stop_sending i); ids = a.ids; retired = a.retired; no_frequency = a.no_frequency }
-ready_without NewConnectionId live p a = record { resets = a.resets; stops = a.stops; ids = λ cid i. a.ids cid (in_others cid p.new_cids i); retired = a.retired; no_frequency = a.no_frequency }
-ready_without RetireConnectionId live p a = record { resets = a.resets; stops = a.stops; ids = a.ids; retired = λ n i. a.retired n (in_others n p.retire_cids i); no_frequency = a.no_frequency }
-ready_without kind live p a = record { resets = a.resets; stops = a.stops; ids = a.ids; retired = a.retired; no_frequency = a.no_frequency }
+ready_without ResetStream live p a = record { resets = λ r i. a.resets r (in_others r p.reset_stream i); stops = a.stops; ids = a.ids; retired = a.retired }
+ready_without StopSending live p a = record { resets = a.resets; stops = λ r i. a.stops r (in_others r p.stop_sending i); ids = a.ids; retired = a.retired }
+ready_without NewConnectionId live p a = record { resets = a.resets; stops = a.stops; ids = λ cid i. a.ids cid (in_others cid p.new_cids i); retired = a.retired }
+ready_without RetireConnectionId live p a = record { resets = a.resets; stops = a.stops; ids = a.ids; retired = λ n i. a.retired n (in_others n p.retire_cids i) }
+ready_without kind live p a = record { resets = a.resets; stops = a.stops; ids = a.ids; retired = a.retired }
 
 -- ---- one half
 
@@ -190,7 +189,7 @@ module _ (wrote : ℕ → Wrote) (s : StreamsState) (g : Holding wrote s) where
 
   -- a half that brings something wasn't reset, so what waits may go still once its frame went
   ready_behind : (p : Retransmits) → AreReady s.sending.halves.live p → (fair : Bool) (id room : ℕ) (h : SendHalf) → at s.sending.halves.live id ≡ Some h → frame_counts h room ≡ true → AreReady (after_frame_sent fair s id h room).sending.halves.live p
-  ready_behind p a fair id room h is counts = record { resets = resets; stops = a.stops; ids = a.ids; retired = a.retired; no_frequency = a.no_frequency }
+  ready_behind p a fair id room h is counts = record { resets = resets; stops = a.stops; ids = a.ids; retired = a.retired }
     where
       i : IsSendHalf (wrote id) h
       i = live_holds wrote s g.holds id h is
@@ -245,6 +244,7 @@ may_go_spells = record {
       waits = subst (λ (q : Sending). AreReady q.halves.live (without_first kind t.pending)) (sym (told_sending f t.state)) (ready_without kind t.state.sending.halves.live t.pending m.waits);
     },
   );
+  asked = λ t waits m. record { wrote = m.wrote; streams = m.streams; waits = (let w = m.waits in record { resets = w.resets; stops = w.stops; ids = w.ids; retired = w.retired }) };
   stream = λ fair t id h room found counts m. (
     sending_small m.wrote t.state m.streams id h found,
     half_frame (m.wrote id) h (live_holds m.wrote t.state m.streams.holds id h found) room,
@@ -260,7 +260,6 @@ may_go_spells = record {
 pub may_go_brings : Bringing MayGo
 may_go_brings = record {
   resets = λ t m r i. (let was = m.waits.resets r i in ap is_some (ap (reset_frame r) was.found) ∙ reset_there r was.half was.size was.reset);
-  others = λ t m. m.waits.no_frequency;
   queued = λ t m waits. first_pending m.wrote t.state m.streams waits;
 }
   where

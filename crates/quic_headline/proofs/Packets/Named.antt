@@ -13,7 +13,7 @@ use Rattle.quic_machine.specs.Tracking.{Tracking, TrackedPacket, Carried, acked_
 use Rattle.quic_machine.specs.LeaveCases.{at_losses}
 use Rattle.quic_machine.specs.Parts.{Messaging}
 use Rattle.quic_machine.specs.End.{End, with_closing, with_messages, with_ping}
-use Rattle.quic_machine.specs.Acked.{without_known, resets_acked, stream_acked, streams_acked, packet_acked, packets_acked, stream_lost, streams_lost, carried_lost, packets_lost, verdict, losses_detected, measured, sampled, without_acked, after_named, losses_taken}
+use Rattle.quic_machine.specs.Acked.{without_known, resets_acked, stream_acked, streams_acked, packet_acked, packets_acked, stream_lost, streams_lost, carried_lost, packets_lost, verdict, losses_detected, measured, sampled, without_acked, after_named, losses_taken, request_acked}
 use Rattle.quic_machine.specs.Receive.{Progress, is_above, names_ungiven, take_message, take_frame, received}
 use Rattle.quic_machine.specs.Steps.{Step, after}
 use Rattle.quic_machine.specs.Steps as steps
@@ -183,10 +183,11 @@ module _ (took : List Packet) (sents : List Sent) (P : End → Type 0) (s : Sett
       let c : Carried = p.1.carried in
       let here : WasCarried took c = was p.0 p.1 (inl refl) in
       let heard : End = search_acked p e in
-      let knows : End = without_known c.largest_acked heard in
+      let asked : End = request_acked p.0 heard in
+      let knows : End = without_known c.largest_acked asked in
       let reset : End = resets_acked c.retransmits.reset_stream knows in
       packets_on ps (packet_acked p e) (λ n t j. was n t (inr j))
-      (acked_on c here c.stream_frames reset (λ m j. j) (resets_acked_keep P (λ id x j. s (steps.reset id) x tt j) c.retransmits.reset_stream knows (known_on c.largest_acked heard (s (steps.searched heard.path.discovery) e tt i))))
+      (acked_on c here c.stream_frames reset (λ m j. j) (resets_acked_keep P (λ id x j. s (steps.reset id) x tt j) c.retransmits.reset_stream knows (known_on c.largest_acked asked (s (steps.answered p.0) heard tt (s (steps.searched heard.path.discovery) e tt i)))))
 
   -- and lost
   losses_on : (ps : Table TrackedPacket) (e : End) → ((n : ℕ) (t : TrackedPacket) → In (n, t) ps → IsCarriedBy sents t.carried) → P e → P (packets_lost ps e)

@@ -2,7 +2,7 @@
 -- that changes to the next.
 use Rattle.std.proofs.Common.{◌≡◌, ℕ, Bool, true, false, List, Option, Some, None, Result, Ok, Err, refl, sym, ◌∙◌, subst}
 use Rattle.quic_wire_core.specs.TransportError.{ErrorValue}
-use Rattle.quic_wire.specs.Value.{FrameValue, NewConnectionIdValue, ack, datagram, new_connection_id, retire_connection_id, path_response}
+use Rattle.quic_wire.specs.Value.{FrameValue, NewConnectionIdValue, ack, datagram, new_connection_id, retire_connection_id, path_response, ack_frequency}
 use Rattle.quic_ids.specs.CidState.{retirement_answer}
 use Rattle.quic_ids.specs.CidQueue.{PeerIds}
 use Rattle.quic_paths.specs.Paths.{is_asked}
@@ -12,8 +12,8 @@ use Rattle.quic_machine.specs.Closing.{ticked}
 use Rattle.quic_machine.specs.Policy.{Policy}
 use Rattle.quic_machine.specs.MessageCalls.{most_message}
 use Rattle.quic_machine.specs.Sizes.{without_longer_if, shortened}
-use Rattle.quic_machine.specs.Ids.{Ids, retired, may_issue}
-use Rattle.quic_machine.specs.IdFrames.{issued_if, end_on_next_id}
+use Rattle.quic_machine.specs.Ids.{Ids, retired}
+use Rattle.quic_machine.specs.IdFrames.{issued_if, issues_for, end_on_next_id}
 use Rattle.quic_machine.specs.Validation.{word_of, validated_if}
 use Rattle.quic_machine.specs.End.{End, with_ids, with_closing, closed_by}
 use Rattle.quic_machine.specs.Receive.{is_above, names_ungiven, retirement_judged, take_frame}
@@ -24,7 +24,7 @@ use Rattle.quic_machine.specs.PollCases.{at_poll, by_poll, composes}
 use Rattle.quic_machine.specs.LeaveCases.{by_expired, by_event}
 use Rattle.quic_machine.specs.CallCases.{is_delivery, uses_next_id, by_call}
 use Rattle.quic_machine.specs.Machine.{after_call}
-use Rattle.quic_headline.proofs.Packets.Apart.{by_waits}
+use Rattle.quic_headline.proofs.Packets.Apart.{by_waits, by_frequency}
 use Rattle.quic_headline.proofs.Packets.Closes.{by_closes}
 use Rattle.quic_headline.proofs.Packets.Probes.{may_leave}
 
@@ -62,13 +62,14 @@ module _ (P : PeerIds → Type 0) where
       issues false = i
 
       go : (r : Result Bool ErrorValue) → Of (retirement_judged r n e).end
-      go (Ok more) = issues (may_issue e.ids n)
+      go (Ok more) = issues (issues_for n e)
       go (Err error) = i
   peer_frame (path_response token) e brings i = go (is_asked e.validation.challenge (word_of token))
     where
       go : (b : Bool) → Of (validated_if b e)
       go true = i
       go false = i
+  peer_frame (ack_frequency r) e brings i = by_frequency Of r e (λ threshold reordering frequency. i)
   peer_frame f e brings i = i
 
   -- and a poll

@@ -8,7 +8,7 @@ use Rattle.quic_wire_core.specs.declared.stream_id.Side.TheVariants.{Client, Ser
 use Rattle.quic_wire_core.specs.TransportError.{ErrorValue}
 use Rattle.quic_wire.specs.Close.{CloseValue}
 use Rattle.std.specs.declared.ops.Range.{Range}
-use Rattle.quic_wire.specs.Value.{FrameValue, ConnectionCloseValue, ApplicationCloseValue, ack, stream, reset_stream, stop_sending, max_data, max_stream_data, max_streams, datagram, new_token, handshake_done, new_connection_id, retire_connection_id, path_challenge, path_response, connection_close, application_close, padding}
+use Rattle.quic_wire.specs.Value.{FrameValue, ConnectionCloseValue, ApplicationCloseValue, ack, stream, reset_stream, stop_sending, max_data, max_stream_data, max_streams, datagram, new_token, handshake_done, new_connection_id, retire_connection_id, path_challenge, path_response, connection_close, application_close, padding, immediate_ack, ack_frequency}
 use Rattle.quic_streams_parts.specs.declared.answers.Breach.{Breach}
 use Rattle.quic_streams_parts.specs.declared.answers.Breach.TheVariants.{FlowControl, StreamLimit, StreamState, FinalSize, FrameEncoding, Pieces}
 use Rattle.quic_messages.specs.declared.errors.ReceivedError.{ReceivedError}
@@ -37,7 +37,7 @@ use Rattle.quic_parameters.specs.Parameters.{ParameterValues}
 use Rattle.quic_config.specs.Transport.{Settings}
 use Rattle.quic_machine.specs.Parts.{Windows}
 use Rattle.quic_machine.specs.End.{End, side_of, with_closing, closed_by, new_end}
-use Rattle.quic_machine.specs.Receive.{Fault, Progress, closed_by_peer, fault_of, fault_of_breach, fault_at, names_ungiven, message_judged, retired_for, id_judged, retirement_judged, take_frame, unless_fault, take_items, received}
+use Rattle.quic_machine.specs.Receive.{Fault, Progress, closed_by_peer, fault_of, fault_of_breach, fault_at, names_ungiven, message_judged, retired_for, id_judged, retirement_judged, take_frame, unless_fault, take_items, received, asks_too_soon, frequency_judged}
 use Rattle.quic_machine.specs.Poll.{Polled, Draft, frame_room, zeros_behind, draft_as, may_close, fitted, close_to_go, polled}
 use Rattle.quic_machine.specs.Poll as poll
 use Rattle.quic_machine.specs.PollCases.{ready_at, draft_at, frames_at, frames_padded, by_poll, at_poll, composes}
@@ -56,6 +56,7 @@ use Rattle.quic_headline.proofs.Packets.Probes.{may_leave}
 use Rattle.quic_headline.proofs.Packets.Sends.{GivesClose, by_sends}
 use Rattle.quic_headline.proofs.Places.Steps.{poll_answer}
 use Rattle.quic_headline.proofs.Places.Parties.{sent_as, sent_by, sent_if, sents_by}
+use Rattle.quic_recovery_core.specs.AckFrequency.{is_stale}
 
 -- ---- what an end owes
 
@@ -298,6 +299,13 @@ closing_frame (retire_connection_id n) e close is = judged (retirement_answer e.
     judged : (r : Result Bool ErrorValue) → (retirement_judged r n e).fault ≡ Some (closed_by_peer close) → ⊥
     judged (Ok more) is = cc
     judged (Err error) is = cc
+closing_frame immediate_ack e close is = cc
+closing_frame (ack_frequency f) e close is = go (is_stale e.frequency.last f.sequence) (asks_too_soon f) is
+  where
+    go : (stale soon : Bool) → (frequency_judged stale soon f e).fault ≡ Some (closed_by_peer close) → ⊥
+    go true soon is = cc
+    go false true is = cc
+    go false false is = cc
 closing_frame f e close is = absurd (rule_closes_not (broken e.streams (id_rule f)) close is)
 
 -- so one stands among the frames of such a packet

@@ -1,23 +1,24 @@
 -- What a probe leaves (RFC 9002, section 6.2.4): what has to be sent again of a tracked packet
 -- waits again, and the packet stays tracked without it.
 use Rattle.std.proofs.Common.{◌≡◌, ℕ, Bool, true, false, cond, if◌then◌else◌, List, [], ◌∷◌, Option, Some, None, refl, sym, ap, ◌∙◌, subst, ◌⊎◌, inl, inr}
+use Rattle.std.specs.Prelude.{nat_lt}
 use Rattle.std.specs.Ordering.{nat_cmp, is_eq}
 use Rattle.std.proofs.lemmas.Cmp.{ranked}
 use Rattle.std.specs.declared.cmp.Ordering.{Ordering}
 use Rattle.std.specs.declared.cmp.Ordering.TheVariants.{Less, Equal, Greater}
 use Rattle.quic_streams_parts.specs.Table.{Table, put}
 use Rattle.quic_streams_state.specs.declared.state.StreamsState.{StreamsState}
-use Rattle.quic_streams_state.specs.State.{Streams}
+use Rattle.quic_streams_state.specs.State.{Streams, streams_of}
 use Rattle.quic_streams_state.specs.Waiting.{is_empty}
 use Rattle.quic_spaces.specs.Records.{first_record}
 use Rattle.quic_machine.specs.Closing.{ticked}
 use Rattle.quic_machine.specs.Tracking.{TrackedPacket, without_record}
 use Rattle.quic_congestion.specs.Pacer.{Pacing}
 use Rattle.quic_machine.specs.Idle.{agreed_timeout, idle_moment, alive_moment, keep_alive_reset, idle_reset_if, packet_given, idle_reset}
-use Rattle.quic_machine.specs.End.{End, words_drawn, with_closing, with_ping, with_number_given, with_loss_timer, streams_at, closed_by}
+use Rattle.quic_machine.specs.End.{End, words_drawn, with_closing, with_ping, with_immediate, with_number_given, with_loss_timer, streams_at, closed_by, with_frames}
 use Rattle.quic_machine.specs.Acked.{again}
 use Rattle.quic_machine.specs.Control.{Gated, pacer_asked, paid, with_pacing_timer, with_app_limited}
-use Rattle.quic_machine.specs.Poll.{Polled, Draft, asking, datagram_size, tracked, paid_if, after_given, record_moved, probed, gated, composed, lazied, draft_as, polled, alone, whole, Leaving, Ready, nothing, leaves, leaves_unless}
+use Rattle.quic_machine.specs.Poll.{Polled, Draft, asking, datagram_size, tracked, paid_if, after_given, record_moved, probed, gated, composed, lazied, draft_as, polled, alone, whole, Leaving, Ready, nothing, leaves, leaves_unless, request_queued}
 use Rattle.quic_machine.specs.Policy.{Policy}
 use Rattle.quic_machine.specs.PollCases.{ready_at, draft_at, by_probed, by_gate, search_leaves, ready_leaves, by_poll_to, may_leave_at}
 use Rattle.quic_machine.specs.DraftLaws.{MayLeave}
@@ -28,6 +29,10 @@ use Rattle.quic_congestion.specs.Search.{Discovery}
 use Rattle.quic_headline.proofs.Packets.Invariant.{IsCarriedFrom, AreTracked, carried_without}
 
 -- ---- the pacer
+
+-- an end where ACK_FREQUENCY waits, or doesn't
+abbrev pub with_asked : End → Bool → End
+with_asked e waits = with_frames e (record e.waiting.frames { ack_frequency = waits })
 
 -- an end with another pacer, whose timer may be set, and another search for a size
 abbrev pub with_pacer : End → Option ℕ → Pacing → Discovery → End
@@ -59,19 +64,23 @@ in_put {A} (e ∷ es) id v x i = go (nat_cmp id e.0) refl i (in_put es id v x)
 
 -- ---- an end that is ready to give
 
--- What holds of an end at a moment holds where it is made ready, if it holds whether or not PING
--- waits, where the record of a tracked packet waits again, and whatever its pacer and its search
--- hold and its timer is set to.
-pub by_ready : (P : End → Type 0) (e : End) (now : ℕ) → P (with_closing e (ticked e.closing now)) → P (with_ping (with_closing e (ticked e.closing now)) true)
+-- What holds of an end at a moment holds where it is made ready, if it holds whichever of PING and
+-- IMMEDIATE_ACK wait, where ACK_FREQUENCY does if the peer is to be asked, where the record of a
+-- tracked packet waits again, and whatever its pacer and its search hold and its timer is set to.
+pub by_readied : (P : End → Type 0) (e : End) (now : ℕ) → P (with_closing e (ticked e.closing now)) → ((ping immediate : Bool) (x : End) → P x → P (with_ping (with_immediate x immediate) ping))
+    → (let y : End = probed (with_pacing_timer (with_closing e (ticked e.closing now)) None) in P y → P (request_queued y))
     → ((p : ℕ × TrackedPacket) → In p e.tracking.packets → P (record_moved (Some p) (with_closing e (ticked e.closing now))))
     → ((moment : Option ℕ) (pacing : Pacing) (discovery : Discovery) (x : End) → P x → P (with_pacer x moment pacing discovery)) → P (ready_at e now).end
-by_ready P e now same pings moves paces = goes x.path.blocked
+by_readied P e now same signals asks moves paces = goes x.path.blocked
   where
     begun : End
     begun = with_closing e (ticked e.closing now)
 
+    y : End
+    y = probed (with_pacing_timer begun None)
+
     x : End
-    x = probed (with_pacing_timer begun None)
+    x = request_queued y
 
     g : Gated
     g = gated x
@@ -80,8 +89,18 @@ by_ready P e now same pings moves paces = goes x.path.blocked
     stops : (f : End) → P f → P (with_pacing_timer f None)
     stops f i = paces None f.path.pacing f.path.discovery f i
 
+    -- the record of a packet waits again
+    says : (immediate : Bool) (p : ℕ × TrackedPacket) → nat_lt 0 e.tracking.probes ≡ true → first_record e.streams e.tracking.packets ≡ Some p → P (record_moved (Some p) (with_immediate (with_pacing_timer begun None) immediate))
+    says immediate p probes is =
+        let moved : End = record_moved (Some p) begun in
+        stops (with_immediate moved immediate) (signals moved.waiting.signals.ping immediate moved (moves p (first_record_in e.streams e.tracking.packets p is)))
+
+    filled : P y
+    filled = by_probed (with_pacing_timer begun None) P (stops begun same) (λ immediate. stops (with_immediate begun immediate) (signals begun.waiting.signals.ping immediate begun same))
+        (λ immediate. stops (with_ping (with_immediate begun immediate) true) (signals true immediate begun same)) says
+
     waits : P x
-    waits = by_probed (with_pacing_timer begun None) P (stops begun same) (stops (with_ping begun true) pings) (λ p probes is. stops (record_moved (Some p) begun) (moves p (first_record_in e.streams e.tracking.packets p is)))
+    waits = asks filled
 
     -- nothing goes to an address that isn't validated, or window and pacer were asked
     goes : (b : Bool) → P (leaves_unless b x).end
@@ -93,10 +112,19 @@ by_ready P e now same pings moves paces = goes x.path.blocked
       holds = λ moment asks room is. paces (Some moment) (pacer_asked x).path.pacing x.path.discovery x waits;
     })))
 
--- what holds of streams and of what waits beside their bytes, if it stays where what has to be sent
--- again of a tracked packet waits again
-pub ready_streams : (P : Streams → Type 0) (e : End) (now : ℕ) → P (streams_at e) → ((n : ℕ) (t : TrackedPacket) → In (n, t) e.tracking.packets → P (streams_at (again t.carried e))) → P (streams_at (ready_at e now).end)
-ready_streams P e now same moves = by_ready (λ (x : End). P (streams_at x)) e now same same (λ p i. moves p.0 p.1 i) (λ moment pacing discovery x i. i)
+-- so it is if it holds whether or not ACK_FREQUENCY waits
+pub by_ready : (P : End → Type 0) (e : End) (now : ℕ) → P (with_closing e (ticked e.closing now)) → ((ping immediate : Bool) (x : End) → P x → P (with_ping (with_immediate x immediate) ping)) → ((waits : Bool) (x : End) → P x → P (with_asked x waits))
+    → ((p : ℕ × TrackedPacket) → In p e.tracking.packets → P (record_moved (Some p) (with_closing e (ticked e.closing now))))
+    → ((moment : Option ℕ) (pacing : Pacing) (discovery : Discovery) (x : End) → P x → P (with_pacer x moment pacing discovery)) → P (ready_at e now).end
+by_ready P e now same signals asks moves paces = by_readied P e now same signals (λ i. asks (request_queued y).waiting.frames.ack_frequency y i) moves paces
+  where
+    y : End
+    y = probed (with_pacing_timer (with_closing e (ticked e.closing now)) None)
+
+-- what holds of streams and of what waits beside their bytes, if it stays whether or not
+-- ACK_FREQUENCY waits, and where what has to be sent again of a tracked packet waits again
+pub ready_streams : (P : Streams → Type 0) (e : End) (now : ℕ) → P (streams_at e) → ((waits : Bool) (t : Streams) → P t → P (streams_of t.state (record t.pending { ack_frequency = waits }))) → ((n : ℕ) (t : TrackedPacket) → In (n, t) e.tracking.packets → P (streams_at (again t.carried e))) → P (streams_at (ready_at e now).end)
+ready_streams P e now same asks moves = by_ready (λ (x : End). P (streams_at x)) e now same (λ ping immediate x i. i) (λ waits x i. asks waits (streams_at x) i) (λ p i. moves p.0 p.1 i) (λ moment pacing discovery x i. i)
 
 -- the streams themselves stay
 pub ready_state : (e : End) (now : ℕ) → (ready_at e now).end.streams ≡ e.streams
@@ -169,7 +197,7 @@ ready_acks e now = ap (λ (x : End). x.acknowledging) (ready_leaves e now)
 
 -- each tracked packet was given still, and carries what its frames say
 pub ready_tracked : (sents : List Sent) (e : End) (now : ℕ) → AreTracked sents e.tracking.packets → AreTracked sents (ready_at e now).end.tracking.packets
-ready_tracked sents e now tracked = by_ready (λ (x : End). AreTracked sents x.tracking.packets) e now tracked tracked moved (λ moment pacing discovery x i. i)
+ready_tracked sents e now tracked = by_ready (λ (x : End). AreTracked sents x.tracking.packets) e now tracked (λ ping immediate x i. i) (λ waits x i. i) moved (λ moment pacing discovery x i. i)
   where
     moved : (p : ℕ × TrackedPacket) → In p e.tracking.packets → AreTracked sents (put e.tracking.packets p.0 (without_record p.1))
     moved p among n t i = elim (in_put e.tracking.packets p.0 (without_record p.1) (n, t) i) [

@@ -13,7 +13,7 @@ use Rattle.quic_machine.specs.End.{End, number_of, with_closing, with_tracking, 
 use Rattle.quic_machine.specs.Acked.{packets_lost, verdict, losses_detected}
 use Rattle.quic_machine.specs.FrameCases.{packets_lost_keep, by_searched}
 use Rattle.quic_machine.specs.Control.{Gated, with_pacing_timer}
-use Rattle.quic_machine.specs.Poll.{probed, gated, Ready}
+use Rattle.quic_machine.specs.Poll.{probed, gated, Ready, request_queued}
 
 -- ---- where packets are lost
 
@@ -63,7 +63,7 @@ losses_search e =
 
 -- what stays where it is asked stays where an end is made ready
 pub ready_searched : (Q : Discovery → Type 0) → ((now number : ℕ) (d : Discovery) → Q d → Q (after_poll now number d)) → (e : End) (now : ℕ) → Q e.path.discovery → Q (ready_at e now).end.path.discovery
-ready_searched Q asks e now i = by_ready (probed x) (λ (r : Ready). Q r.end.path.discovery) (λ blocked. begins) (λ free. record {
+ready_searched Q asks e now i = by_ready (request_queued (probed x)) (λ (r : Ready). Q r.end.path.discovery) (λ blocked. begins) (λ free. record {
   acks = λ held due. before;
   held = λ held none. before;
   all = λ free some. before;
@@ -76,13 +76,13 @@ ready_searched Q asks e now i = by_ready (probed x) (λ (r : Ready). Q r.end.pat
     x = with_pacing_timer (with_closing e (ticked e.closing now)) None
 
     g : Gated
-    g = gated (probed x)
+    g = gated (request_queued (probed x))
 
-    begins : Q (probed x).path.discovery
+    begins : Q (request_queued (probed x)).path.discovery
     begins = subst Q (sym (ap (λ (z : End). z.path.discovery) (probe_leaves x))) i
 
     before : Q g.end.path.discovery
-    before = subst Q (sym (ap (λ (z : End). z.path.discovery) (gate_leaves (probed x)))) begins
+    before = subst Q (sym (ap (λ (z : End). z.path.discovery) (gate_leaves (request_queued (probed x))))) begins
 
     after : Q (search_asked g.end).path.discovery
     after = asks g.end.closing.clock (number_of g.end) g.end.path.discovery before

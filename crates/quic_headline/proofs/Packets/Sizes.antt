@@ -20,7 +20,7 @@ use Rattle.quic_machine.specs.Arrival.{Arrival}
 use Rattle.quic_machine.specs.Timeouts.{Expiry}
 use Rattle.quic_machine.specs.Closing.{ticked}
 use Rattle.quic_machine.specs.End.{End, with_closing, with_tracking, closed_by}
-use Rattle.quic_machine.specs.Acked.{without_known, resets_acked, carried_acked, packet_acked, packets_acked, packets_lost, verdict, losses_detected, measured, sampled, without_acked, losses_taken, after_named}
+use Rattle.quic_machine.specs.Acked.{without_known, resets_acked, carried_acked, packet_acked, packets_acked, packets_lost, verdict, losses_detected, measured, sampled, without_acked, losses_taken, after_named, request_acked}
 use Rattle.quic_machine.specs.Receive.{is_above, names_ungiven, message_judged, take_frame, received}
 use Rattle.quic_machine.specs.Poll.{Polled, polled}
 use Rattle.quic_machine.specs.Machine.{after_call}
@@ -91,7 +91,7 @@ carried_same carried e = streams_acked_keep (λ (x : End). sizing x ≡ sizing e
 module _ (Q : Sizing → Type 0) (c : Searching Q) where
   packets_size : (ps : Table TrackedPacket) (e : End) → Q (sizing e) → Q (sizing (packets_acked ps e))
   packets_size [] e i = i
-  packets_size (p ∷ ps) e i = packets_size ps (packet_acked p e) (subst Q (sym (carried_same p.1.carried (search_acked p e))) (c.acks p e i))
+  packets_size (p ∷ ps) e i = packets_size ps (packet_acked p e) (subst Q (sym (carried_same p.1.carried (request_acked p.0 (search_acked p e)))) (c.acks p e i))
 
   -- losses are detected
   pub losses_size : (e : End) → Q (sizing e) → Q (sizing (losses_detected e))

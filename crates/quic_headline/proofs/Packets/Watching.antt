@@ -51,14 +51,14 @@ use Rattle.quic_headline.proofs.Packets.Owing.{Owes, close_is, error_owes}
 use Rattle.quic_headline.proofs.Packets.References.{cut_before, reference_read, moment_read}
 use Rattle.quic_headline.proofs.Packets.Waited.{AreWaited}
 use Rattle.quic_headline.proofs.Packets.Closeless.{sent_closeless}
-use Rattle.quic_headline.proofs.Packets.Flying.{Held, held, IsAsked, Waits, Loses, detected_held, timer_is, frames_wait, sent_read, draft_waits, ticked_waits, numbers_wait, ready_waits, expired_waits, expired_flies}
+use Rattle.quic_headline.proofs.Packets.Flying.{Held, held, request_in, IsAsked, Waits, Loses, detected_held, timer_is, frames_wait, sent_read, draft_waits, ticked_waits, numbers_wait, ready_waits, expired_waits, expired_flies}
 use Rattle.quic_headline.proofs.Timers.LossTimers.{OpenStands, LossStands, ready_stands}
 use Rattle.quic_headline.proofs.Places.Parties.{close_if, close_draft, given_in, draft_given, sent_as as draft_sent, sent_by, sent_if, told_of}
 use Rattle.quic_machine.specs.DraftLaws.{IsClose, MayLeave}
 use Rattle.quic_machine.specs.LeaveCases.{Expired, by_expiring, by_busy}
 use Rattle.quic_machine.specs.LeaveCases as expiring
 use Rattle.quic_machine.specs.IdFrames.{drawn}
-use Rattle.quic_headline.proofs.Packets.Apart.{by_waits, by_next_id}
+use Rattle.quic_headline.proofs.Packets.Apart.{AsksOn, next_frequency, by_waits, by_next_id}
 
 -- ---- the observer
 
@@ -455,11 +455,11 @@ expired_path true e = go e.tracking.loss_time
     go (Some moment) = ap (λ (h : Held). h.generation) (detected_held e)
 
 -- the observer says with the end whether its timer of losses expires
-pub timer_expires : (t : Terms) (w : Watch) (e : End) (now : ℕ) → OpenStands e → Waits t w.clock w.flight (held e) → has_come e.timers.loss_detection (max e.closing.clock now) ≡ is_past (loss_due t w.flight) (max w.clock now)
+pub timer_expires : (t : Terms) (w : Watch) (e : End) (now : ℕ) → OpenStands e → Waits t w.clock w.flight (held e) → has_come e.timers.loss_detection (max e.closing.clock now) ≡ is_past (loss_due w.flight) (max w.clock now)
 timer_expires t w e now s i =
     past_same e.timers.loss_detection (max e.closing.clock now)
     ∙ ap (λ (o : Option ℕ). is_past o (max e.closing.clock now)) (timer_is t w.clock w.flight e s i)
-    ∙ ap (λ (n : ℕ). is_past (loss_due t w.flight) (max n now)) (sym i.tells.clock)
+    ∙ ap (λ (n : ℕ). is_past (loss_due w.flight) (max n now)) (sym i.tells.clock)
 
 -- what the observer of an open end knows at a moment that a timeout tells
 abbrev pub at_time : Terms → Watch → ℕ → Watch
@@ -580,6 +580,8 @@ pub record Leaves (e f : End) : Type 0 where
   pub peer : f.peer_params ≡ e.peer_params
   pub path : f.path.generation ≡ e.path.generation
   pub rtt : f.path.rtt ≡ e.path.rtt
+  pub delay : f.frequency.peer_delay ≡ e.frequency.peer_delay
+  pub request : f.frequency.in_flight ≡ e.frequency.in_flight
 
 -- an end that was left so is watched as it was
 pub leaves_watched : (t : Terms) (w : Watch) (e f : End) → Leaves e f → IsWatched t w e → IsWatched t w f
@@ -596,6 +598,8 @@ leaves_watched t w e f l i = record {
           waits = subst (λ (x : Tracking). AreWaited w.flight.flying x.packets) (sym l.tracking) told.waits;
           asked = subst (λ (x : Tracking). IsAsked w.flight.asked x) (sym l.tracking) told.asked;
           rtt = told.rtt ∙ sym l.rtt;
+          delay = told.delay ∙ sym l.delay;
+          request = told.request ∙ ap request_in (sym l.request);
         };
         loss_time = before.loss_time ∙ ap (λ (x : Tracking). x.loss_time) (sym l.tracking);
         expiries = before.expiries ∙ ap (λ (x : Tracking). min x.timeouts 16) (sym l.tracking);
@@ -620,5 +624,5 @@ quiet_watched t w p e theirs call a apart silent other i = by_plain_call p e the
     cases_keep (cases.hears arrival d) is = cc
     cases_keep (cases.waits now b) is = cc
     cases_keep (cases.closes reason f now) may = closed_watched t w _ i.path (λ still. cc)
-    cases_keep (cases.changes_id b) may = by_next_id (IsWatched t w) e b i (λ c. record { path = i.path; flight = i.flight }) (λ c most. record { path = i.path; flight = i.flight })
-    cases_keep c may = leaves_watched t w e _ (record { state = refl; clock = refl; numbers = refl; tracking = refl; transport = refl; peer = refl; path = refl; rtt = refl }) i
+    cases_keep (cases.changes_id b) may = by_next_id (λ (x : End). AsksOn e.frequency x.frequency → IsWatched t w x) e b (λ on. i) (λ c on. leaves_watched t w e _ (record { state = refl; clock = refl; numbers = refl; tracking = refl; transport = refl; peer = refl; path = refl; rtt = refl; delay = on.peer_delay; request = on.in_flight }) i) (λ c most on. leaves_watched t w e _ (record { state = refl; clock = refl; numbers = refl; tracking = refl; transport = refl; peer = refl; path = refl; rtt = refl; delay = on.peer_delay; request = on.in_flight }) i) (next_frequency e b)
+    cases_keep c may = leaves_watched t w e _ (record { state = refl; clock = refl; numbers = refl; tracking = refl; transport = refl; peer = refl; path = refl; rtt = refl; delay = refl; request = refl }) i

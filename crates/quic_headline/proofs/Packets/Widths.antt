@@ -5,7 +5,7 @@ use Rattle.std.specs.Prelude.{nat_lt}
 use Rattle.std.specs.declared.ops.Range.{Range}
 use Rattle.std.proofs.lemmas.Bool.{le-ltb}
 use Rattle.quic_wire_core.specs.TransportError.{ErrorValue}
-use Rattle.quic_wire.specs.Value.{FrameValue, ack, stream, reset_stream, stop_sending, max_data, max_stream_data, max_streams, datagram, new_connection_id, retire_connection_id, path_response}
+use Rattle.quic_wire.specs.Value.{FrameValue, ack, stream, reset_stream, stop_sending, max_data, max_stream_data, max_streams, datagram, new_connection_id, retire_connection_id, path_response, ack_frequency}
 use Rattle.quic_paths.specs.Paths.{is_asked}
 use Rattle.quic_retransmits.specs.Retransmits.{can_retire}
 use Rattle.quic_ids.specs.CidState.{retirement_answer}
@@ -14,8 +14,8 @@ use Rattle.quic_ids.specs.declared.cid_queue.InsertError.{InsertError}
 use Rattle.quic_ids.specs.declared.cid_queue.InsertError.TheVariants as inserts
 use Rattle.quic_machine.specs.declared.run.Answer.{Answer}
 use Rattle.quic_machine.specs.declared.run.Answer.TheVariants as answers
-use Rattle.quic_machine.specs.Ids.{own_id_length, frame_of, retires_for, retired, may_issue, retires_for_next, next_used}
-use Rattle.quic_machine.specs.IdFrames.{retiring, with_taken_up, issued_if, next_id_taken, end_on_next_id}
+use Rattle.quic_machine.specs.Ids.{own_id_length, frame_of, retires_for, retired, retires_for_next, next_used}
+use Rattle.quic_machine.specs.IdFrames.{retiring, with_taken_up, issued_if, issues_for, next_id_taken, end_on_next_id}
 use Rattle.quic_machine.specs.MessageCalls.{most_message}
 use Rattle.quic_machine.specs.Sizes.{without_longer_if, shortened}
 use Rattle.quic_machine.specs.Validation.{word_of, validated_if}
@@ -27,6 +27,7 @@ use Rattle.quic_headline.specs.Runs.{In, Intake}
 use Rattle.quic_headline.proofs.Packets.Delivered.{Arrivals}
 use Rattle.quic_headline.proofs.Packets.Ids.{SaysIds, AllSayIds, IsLong, AnyNumber, KnownLong, insert_long, next_long}
 use Rattle.quic_headline.proofs.Packets.Sizes.{Sizing, sizing, Searching, taken_size}
+use Rattle.quic_headline.proofs.Packets.Apart.{by_frequency}
 
 -- ---- the ids that are known
 
@@ -72,13 +73,14 @@ frame_known (retire_connection_id n) e says k = judged (retirement_answer e.ids.
     issues false = k
 
     judged : (r : Result Bool ErrorValue) → KnownLong (retirement_judged r n e).end.ids.peer
-    judged (Ok more) = issues (may_issue e.ids n)
+    judged (Ok more) = issues (issues_for n e)
     judged (Err error) = k
 frame_known (path_response token) e says k = go (is_asked e.validation.challenge (word_of token))
   where
     go : (b : Bool) → KnownLong (validated_if b e).ids.peer
     go true = k
     go false = k
+frame_known (ack_frequency r) e says k = by_frequency (λ (x : End). KnownLong x.ids.peer) r e (λ threshold reordering frequency. k)
 frame_known f e says k = k
 
 -- ---- how long messages may be
@@ -129,13 +131,14 @@ apart_same (retire_connection_id n) e apart says k = judged (retirement_answer e
     issues false = refl
 
     judged : (r : Result Bool ErrorValue) → sizing (retirement_judged r n e).end ≡ sizing e
-    judged (Ok more) = issues (may_issue e.ids n)
+    judged (Ok more) = issues (issues_for n e)
     judged (Err error) = refl
 apart_same (path_response token) e apart says k = go (is_asked e.validation.challenge (word_of token))
   where
     go : (b : Bool) → sizing (validated_if b e) ≡ sizing e
     go true = refl
     go false = refl
+apart_same (ack_frequency r) e apart says k = by_frequency (λ (x : End). sizing x ≡ sizing e) r e (λ threshold reordering frequency. refl)
 apart_same f e apart says k = refl
 
 -- so does the next id of the peer, where it is used

@@ -16,7 +16,7 @@ use Rattle.quic_headline.specs.Observer.{Sent}
 use Rattle.quic_headline.proofs.Packets.Invariant.{InStep, IsSent, KnowsIn}
 use Rattle.quic_headline.proofs.Packets.Growth.{get_front, step_at}
 use Rattle.quic_headline.proofs.Packets.Intakes.{folded_more, nothing_handed, none_handed}
-use Rattle.quic_headline.proofs.Packets.Delivered.{Arrivals, by_arrival}
+use Rattle.quic_headline.proofs.Packets.Delivered.{Arrivals, ArrivalsWith, of_any, by_arrival_with}
 use Rattle.quic_headline.proofs.Places.Parties.{told_of, Party, called, came_to, AreJoined}
 
 -- ---- calls at which nothing comes
@@ -49,11 +49,18 @@ pub record Comes (x y : Party) (call : Call) (a : Answer) (P : End → Intake �
   -- a datagram that y sent
   pub comes : (delivery : Delivery) → call ≡ calls.Deliver delivery → (s : Sent) → In s y.sents → Arrivals x.end delivery.now s.number s.frames (came_to x y) (λ (o : Outcome) (i : Intake). P o.end i)
 
-module _ (x y : Party) (a : Answer) (joined : AreJoined x y) (served : fails a ≡ false) (meets : Meets y x) (P : End → Intake → Type 0) where
+-- the same, with its mark and how it is answered: P of the answer, of the end and of what came
+pub record ComesWith (x y : Party) (call : Call) (a : Answer) (P : Answer → End → Intake → Type 0) : Type 0 where
+  pub apart : is_delivery call ≡ false → P a (after_call x.policy x.end y.given call a) (came_to x y)
+  pub none : (delivery : Delivery) → call ≡ calls.Deliver delivery → P a x.end (came_to x y)
+  pub comes : (delivery : Delivery) → call ≡ calls.Deliver delivery → (s : Sent) → In s y.sents
+      → ArrivalsWith delivery.ecn x.end delivery.now s.number s.frames (came_to x y) (λ (o : Outcome) (i : Intake). P (answers.Deliver o.answer) o.end i)
+
+module _ (x y : Party) (a : Answer) (joined : AreJoined x y) (served : fails a ≡ false) (meets : Meets y x) (P : Answer → End → Intake → Type 0) where
   -- a delivery, by whether there is such a datagram
-  delivered : (delivery : Delivery) (o : Option (List ℕ)) → slice_get y.given delivery.index ≡ o → IsDelivered x.policy x.end delivery o a → Comes x y (calls.Deliver delivery) a P
-      → P (after_delivered x.policy x.end (delivered_by (says_last a) delivery) o) (came_to (called x y.given (calls.Deliver delivery) a) y)
-  delivered delivery None at is c = subst (λ (i : Intake). P x.end i) (sym (came_same x y (calls.Deliver delivery) a (ap (λ (b : Answer). handed y.final (calls.Deliver delivery) b) is))) (c.none delivery refl)
+  delivered : (delivery : Delivery) (o : Option (List ℕ)) → slice_get y.given delivery.index ≡ o → IsDelivered x.policy x.end delivery o a → ComesWith x y (calls.Deliver delivery) a P
+      → P a (after_delivered x.policy x.end (delivered_by (says_last a) delivery) o) (came_to (called x y.given (calls.Deliver delivery) a) y)
+  delivered delivery None at is c = subst (λ (i : Intake). P a x.end i) (sym (came_same x y (calls.Deliver delivery) a (ap (λ (b : Answer). handed y.final (calls.Deliver delivery) b) is))) (c.none delivery refl)
   delivered delivery (Some d) at (inr is) c = cc
   delivered delivery (Some d) at (inl is) c =
       let o : Outcome = received x.policy x.end (delivered_by (says_last a) delivery) d in
@@ -65,10 +72,19 @@ module _ (x y : Party) (a : Answer) (joined : AreJoined x y) (served : fails a �
       came_more x y (calls.Deliver delivery) a
       ∙ ap (λ (b : Answer). and_handed x.end.closing.state (handed y.final (calls.Deliver delivery) b) x.policy b (came_to x y)) is
       ∙ ap (λ (h : Option (List ℕ)). and_handed x.end.closing.state h x.policy (answers.Deliver o.answer) (came_to x y)) there in
-      subst (λ (i : Intake). P o.end i) (sym came)
-      (by_arrival y.policy x.policy s.id s.number s.reference s.frames d found.2 x.end (delivered_by (says_last a) delivery) (came_to x y) (λ (r : Outcome) (i : Intake). P r.end i) joined.to_x joined.y_lawful meets.knows (c.comes delivery refl s found.1))
+      subst (λ (b : Answer). P b o.end (came_to (called x y.given (calls.Deliver delivery) a) y)) (sym is)
+      (subst (λ (i : Intake). P (answers.Deliver o.answer) o.end i) (sym came)
+      (by_arrival_with y.policy x.policy s.id s.number s.reference s.frames d found.2 x.end (delivered_by (says_last a) delivery) (came_to x y) (λ (r : Outcome) (i : Intake). P (answers.Deliver r.answer) r.end i) joined.to_x joined.y_lawful meets.knows (c.comes delivery refl s found.1)))
 
-  -- what holds in each case holds of the end behind its call, and of what came
-  pub by_coming : (call : Call) → IsAnswer x.policy x.end y.given call a → Comes x y call a P → P (called x y.given call a).end (came_to (called x y.given call a) y)
-  by_coming (calls.Deliver delivery) is c = delivered delivery (slice_get y.given delivery.index) refl is c
-  by_coming call is c = subst (λ (i : Intake). P (after_call x.policy x.end y.given call a) i) (sym (came_same x y call a (none_handed y.final call a refl))) (c.apart refl)
+  -- what holds in each case holds of the answer, of the end behind its call, and of what came
+  pub by_coming_with : (call : Call) → IsAnswer x.policy x.end y.given call a → ComesWith x y call a P → P a (called x y.given call a).end (came_to (called x y.given call a) y)
+  by_coming_with (calls.Deliver delivery) is c = delivered delivery (slice_get y.given delivery.index) refl is c
+  by_coming_with call is c = subst (λ (i : Intake). P a (after_call x.policy x.end y.given call a) i) (sym (came_same x y call a (none_handed y.final call a refl))) (c.apart refl)
+
+-- so it is whatever the mark, and however it is answered
+pub by_coming : (x y : Party) (a : Answer) → AreJoined x y → fails a ≡ false → Meets y x → (P : End → Intake → Type 0) (call : Call) → IsAnswer x.policy x.end y.given call a → Comes x y call a P → P (called x y.given call a).end (came_to (called x y.given call a) y)
+by_coming x y a joined served meets P call is c = by_coming_with x y a joined served meets (λ (b : Answer) (e : End) (i : Intake). P e i) call is (record {
+  apart = c.apart;
+  none = c.none;
+  comes = λ delivery same s among. of_any delivery.ecn x.end delivery.now s.number s.frames (came_to x y) (λ (o : Outcome) (i : Intake). P o.end i) (c.comes delivery same s among);
+})

@@ -85,28 +85,29 @@ beside B G H g h = record {
   shows = λ x y here there b back gives takes. (g.shows x y here there b back gives.0 takes.0, h.shows x y here there b back gives.1 takes.1);
 }
 
+-- a call where less is said
+pub less_calls : (C B : Way) → ((x y : Party) → C x y → B x y) → (x y : Party) (call : Call) (a : Answer) → Calls C x y call a → Calls B x y call a
+less_calls C B less x y call a c = record {
+  joined = c.joined;
+  answer = c.answer;
+  served = c.served;
+  uses = c.uses;
+  codes = c.codes;
+  joined_behind = c.joined_behind;
+  gives = less x y c.gives;
+  takes = less y x c.takes;
+  gives_behind = less (called x y.given call a) y c.gives_behind;
+  takes_behind = less y (called x y.given call a) c.takes_behind;
+}
+
 -- a group stands over whatever says more
 pub over : (B C G : Way) → ((x y : Party) → C x y → B x y) → Group B G → Group C G
 over B C G less g = record {
   first = λ x y m there back. g.first x y m (less (begun_as x y) (begun_as y x) there) (less (begun_as y x) (begun_as x y) back);
-  writer = λ x y call a c gives takes. g.writer x y call a (weaker x y call a c) gives takes;
-  reader = λ x y call a c gives takes. g.reader x y call a (weaker x y call a c) gives takes;
+  writer = λ x y call a c gives takes. g.writer x y call a (less_calls C B less x y call a c) gives takes;
+  reader = λ x y call a c gives takes. g.reader x y call a (less_calls C B less x y call a c) gives takes;
   shows = λ x y here there b back gives takes. g.shows x y here there (less (showing x here) (showing y there) b) (less (showing y there) (showing x here) back) gives takes;
 }
-  where
-    weaker : (x y : Party) (call : Call) (a : Answer) → Calls C x y call a → Calls B x y call a
-    weaker x y call a c = record {
-      joined = c.joined;
-      answer = c.answer;
-      served = c.served;
-      uses = c.uses;
-      codes = c.codes;
-      joined_behind = c.joined_behind;
-      gives = less x y c.gives;
-      takes = less y x c.takes;
-      gives_behind = less (called x y.given call a) y c.gives_behind;
-      takes_behind = less y (called x y.given call a) c.takes_behind;
-    }
 
 -- ---- groups that rest on one another
 

@@ -1,6 +1,6 @@
 -- The two ends of a run at a place, each with what it gave and what was told at it; and what a call
 -- adds.
-use Rattle.std.specs.Prelude.{ℕ, ◌≡◌, max, Bool, if◌then◌else◌, List, [], ◌∷◌, ◌++◌, length, Option, Some, None}
+use Rattle.std.specs.Prelude.{ℕ, ◌≡◌, max, Bool, if◌then◌else◌, List, [], ◌∷◌, ◌++◌, length, Option, Some, None, ◌*◌}
 use Rattle.std.specs.List.{list_any}
 use Rattle.quic_wire_core.specs.declared.stream_id.Side.{Side}
 use Rattle.quic_wire_core.specs.StreamId.{other_side}
@@ -74,15 +74,17 @@ told_of call a state = record { call = call; answer = a; state = state }
 -- ---- one end
 
 -- one end of a run: its side, its keys, the id that it is known by, the moment at which it was
--- made, how long a round trip was taken to last then, by what losses are judged at it, the
--- datagrams that it gives in all, and the end as it was made; and, at a place: the end, the
--- datagrams that it gave, how they were sent, and what was told at it
+-- made, how long a round trip was taken to last then, and how long its peer told to hold
+-- acknowledgements back, by what losses are judged at it, the datagrams that it gives in all, and
+-- the end as it was made; and, at a place: the end, the datagrams that it gave, how they were sent,
+-- and what was told at it
 pub record Party : Type 0 where
   pub side : Side
   pub policy : Policy
   pub id : List ℕ
   pub began : ℕ
   pub initial_rtt : ℕ
+  pub initial_delay : ℕ
   pub terms : Terms
   pub final : List (List ℕ)
   pub made : End
@@ -132,7 +134,7 @@ lens x y = record { taker = y.policy; own = x.policy; peer_gave = y.final; terms
 
 -- what the observer of an end knows
 abbrev pub watch_of : Party → Party → Watch
-watch_of x y = folded (watch_told (lens x y)) x.told (first_watch x.final x.began x.initial_rtt)
+watch_of x y = folded (watch_told (lens x y)) x.told (first_watch x.final x.began x.initial_rtt x.initial_delay)
 
 -- ---- two ends
 
@@ -186,6 +188,7 @@ begun_as x y = record {
   id = x.making.id;
   began = x.making.moment;
   initial_rtt = (new_as x y).transport.initial_rtt;
+  initial_delay = (new_as x y).peer_params.max_ack_delay * 1000000;
   terms = terms_of (new_as x y);
   final = x.final;
   made = new_as x y;

@@ -1,5 +1,5 @@
 -- A group holds at each place of an honest run, both ways.
-use Rattle.std.proofs.Common.{◌≡◌, ℕ, zero, suc, List, [], ◌∷◌, ◌++◌, drop, length, Bool, false, Some, refl, sym, ap, ◌∙◌, subst, inl, inr}
+use Rattle.std.proofs.Common.{◌≡◌, ℕ, zero, suc, List, [], ◌∷◌, ◌++◌, drop, length, Bool, false, Some, refl, sym, ap, ◌∙◌, subst, inl, inr, ◌*◌}
 use Rattle.std.specs.Prelude.{slice_get, Result, Ok}
 use Rattle.std.proofs.lemmas.List.{append-nil}
 use Rattle.quic_wire_core.specs.declared.stream_id.Side.{Side}
@@ -58,6 +58,7 @@ party r side w sents told = record {
   id = first_id r side;
   began = (end_at side r.start).closing.clock;
   initial_rtt = (end_at side r.start).transport.initial_rtt;
+  initial_delay = (end_at side r.start).peer_params.max_ack_delay * 1000000;
   terms = terms_of (end_at side r.start);
   final = given_of r side;
   made = end_at side r.start;
@@ -166,7 +167,7 @@ module _ (G : Way) (g : Group Nothing G) (r : Run) (end : World) (honest : IsHon
 
   -- an end that has given these, before anything was told
   abbrev fresh : Side → End → List (List ℕ) → Party
-  fresh side e ds = record { side = side; policy = policy_at side r.keys; id = own_id e.ids.living; began = e.closing.clock; initial_rtt = e.transport.initial_rtt; terms = terms_of e; final = given_of r side; made = e; end = e; given = ds; sents = []; told = [] }
+  fresh side e ds = record { side = side; policy = policy_at side r.keys; id = own_id e.ids.living; began = e.closing.clock; initial_rtt = e.transport.initial_rtt; initial_delay = e.peer_params.max_ack_delay * 1000000; terms = terms_of e; final = given_of r side; made = e; end = e; given = ds; sents = []; told = [] }
 
   gave_nothing : (side : Side) → given_by side r.start ≡ []
   gave_nothing Client = honest.start.client_gave

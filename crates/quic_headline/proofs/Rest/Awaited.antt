@@ -1,6 +1,6 @@
 -- At an open end where a packet that asks came since the last acknowledgement went, one is due, or
 -- the timer of acknowledgements is set: each call keeps that.
-use Rattle.std.proofs.Common.{◌≡◌, ℕ, ◌<◌, ◌⊎◌, Bool, true, false, not, ◌||◌, ◌&&◌, cond, List, Option, Some, None, refl, sym, ap, ◌∙◌, subst, inl, inr, arith, ◌≤◌, max}
+use Rattle.std.proofs.Common.{◌≡◌, ℕ, ◌<◌, ◌⊎◌, Bool, true, false, not, ◌||◌, ◌&&◌, cond, List, Option, Some, None, refl, sym, ap, ◌∙◌, subst, inl, inr, arith}
 use Rattle.quic_wire.specs.Value.{FrameValue}
 use Rattle.std.specs.Prelude.{if◌then◌else◌, nat_lt, is_none}
 use Rattle.std.specs.Option.{is_some}
@@ -32,7 +32,7 @@ use Rattle.quic_machine.specs.LeaveCases.{at_expiry, Expired, by_timers}
 use Rattle.quic_machine.specs.CallCases.{Plain, by_plain_call}
 use Rattle.quic_machine.specs.CallCases as cases
 use Rattle.quic_machine.specs.FrameCases.{Settling, Receives, named, acked_keeps, losses_keep, frame_keeps, frame_leaves, by_received, IsApart, apart_leaves, with_apart}
-use Rattle.quic_headline.proofs.Packets.Apart.{apart_acks, by_waits, by_next_id, next_acks}
+use Rattle.quic_headline.proofs.Packets.Apart.{AsksAnew, apart_acks, by_waits, by_next_id, next_acks}
 use Rattle.quic_machine.specs.Steps as steps
 use Rattle.quic_machine.specs.PollCases.{ready_at, ready_leaves, by_poll_to, draft_at, may_leave_at}
 use Rattle.quic_headline.proofs.Places.Placed.{start_is}
@@ -43,24 +43,19 @@ use Rattle.quic_headline.proofs.Packets.Closes.{by_closes}
 use Rattle.quic_headline.proofs.Packets.Heard.{by_taken}
 
 -- Where packets that ask were counted, an acknowledgement is due or the timer is set; it was set
--- only for such a packet, and to 25 ms behind the clock at the latest.
-pub record Comes (due : Bool) (asking : ℕ) (since timer : Option ℕ) (clock : ℕ) : Type 0 where
+-- only for such a packet.
+pub record Comes (due : Bool) (asking : ℕ) (since timer : Option ℕ) : Type 0 where
   pub waits : 0 < asking → (due ≡ true) ⊎ (is_some timer ≡ true)
   pub counted : is_some since ≡ true → 0 < asking
   pub known : is_some timer ≡ true → is_some since ≡ true
-  pub soon : (moment : ℕ) → timer ≡ Some moment → moment ≤ ack_due clock
 
--- so it is of what is to be acknowledged, a timer and a clock
-abbrev pub AckComes : Pending → Option ℕ → ℕ → Type 0
-AckComes p timer clock = Comes p.due p.asking p.since timer clock
+-- so it is of what is to be acknowledged, and a timer
+abbrev pub AckComes : Pending → Option ℕ → Type 0
+AckComes p timer = Comes p.due p.asking p.since timer
 
 -- and at an open end
 abbrev pub IsAwaited : End → Type 0
-IsAwaited e = e.closing.state ≡ states.Open → AckComes e.acknowledging e.timers.max_ack_delay e.closing.clock
-
--- a clock may go on
-later : (p : Pending) (timer : Option ℕ) (clock now : ℕ) → AckComes p timer clock → AckComes p timer (max clock now)
-later p timer clock now c = record { waits = c.waits; counted = c.counted; known = c.known; soon = λ moment set. (let before = c.soon moment set in omega arith) }
+IsAwaited e = e.closing.state ≡ states.Open → AckComes e.acknowledging e.timers.max_ack_delay
 
 -- an end that closed isn't open
 closed_awaited : (reason : LostReason) (e : End) → IsAwaited (closed_by reason e)
@@ -69,15 +64,15 @@ closed_awaited reason e opened = cc
 -- ---- a datagram
 
 -- an acknowledgement may become due
-more_due : (b : Bool) (p : Pending) (timer : Option ℕ) (clock : ℕ) → AckComes p timer clock → AckComes (record p { due = p.due || b }) timer clock
-more_due b p timer clock c = record { waits = λ some. elim (c.waits some) [ inl due ↦ inl (or_left p.due b due) | inr set ↦ inr set ]; counted = c.counted; known = c.known; soon = c.soon }
+more_due : (b : Bool) (p : Pending) (timer : Option ℕ) → AckComes p timer → AckComes (record p { due = p.due || b }) timer
+more_due b p timer c = record { waits = λ some. elim (c.waits some) [ inl due ↦ inl (or_left p.due b due) | inr set ↦ inr set ]; counted = c.counted; known = c.known }
 
 -- a packet that asks: the timer is set, or an acknowledgement was due or is now, or the timer was
 -- set before
-asking_comes : (t : Timers) (p : Pending) (now n : ℕ) (s : Seen) (b : Bool) → starts_wait (asking_counted p n s) ≡ b → AckComes p t.max_ack_delay now
-    → AckComes (cond b (record (asking_counted p n s) { since = Some now }) (asking_counted p n s)) (if b then with_ack_timer t (Some (ack_due now)) else t).max_ack_delay now
-asking_comes t p now n s true is c = record { waits = λ some. inr refl; counted = λ some. omega arith; known = λ set. refl; soon = λ moment set. (let same : ack_due now ≡ moment = cc in omega arith) }
-asking_comes t p now n s false is c = record { waits = λ some. go p.since refl is; counted = λ some. omega arith; known = c.known; soon = c.soon }
+asking_comes : (delay : ℕ) (t : Timers) (p : Pending) (now n : ℕ) (s : Seen) (b : Bool) → starts_wait (asking_counted p n s) ≡ b → AckComes p t.max_ack_delay
+    → AckComes (cond b (record (asking_counted p n s) { since = Some now }) (asking_counted p n s)) (if b then with_ack_timer t (Some (ack_due delay now)) else t).max_ack_delay
+asking_comes delay t p now n s true is c = record { waits = λ some. inr refl; counted = λ some. omega arith; known = λ set. refl }
+asking_comes delay t p now n s false is c = record { waits = λ some. go p.since refl is; counted = λ some. omega arith; known = c.known }
   where
     counted : Pending
     counted = asking_counted p n s
@@ -90,29 +85,37 @@ asking_comes t p now n s false is c = record { waits = λ some. go p.since refl 
     go None none quiet = inl (send_case (counted.due && is_filled counted.runs) refl quiet)
     go (Some moment) set quiet = elim (c.waits (c.counted (ap (λ (o : Option ℕ). is_some o) set))) [ inl due ↦ inl (or_left p.due _ due) | inr timer ↦ inr timer ]
 
-packet_comes : (asks : Bool) (t : Timers) (p : Pending) (now n : ℕ) (s : Seen) → AckComes p t.max_ack_delay now → AckComes (after_packet p now n asks s) (timers_after t p now n asks s).max_ack_delay now
-packet_comes true t p now n s c = asking_comes t p now n s (starts_wait (asking_counted p n s)) refl c
-packet_comes false t p now n s c = c
+packet_comes : (delay : ℕ) (asks : Bool) (t : Timers) (p : Pending) (now n : ℕ) (s : Seen) → AckComes p t.max_ack_delay → AckComes (after_packet p now n asks s) (timers_after delay t p now n asks s).max_ack_delay
+packet_comes delay true t p now n s c = asking_comes delay t p now n s (starts_wait (asking_counted p n s)) refl c
+packet_comes delay false t p now n s c = c
 
 -- acknowledged and lost packets change neither
 settling : Settling IsAwaited
 settling (steps.known n) e i = i
 settling s e i = i
 
--- a frame apart from streams leaves what is to be acknowledged, and its timer
+-- an end that is asked anew how often to acknowledge, or to do so at once, counts on
+anew_comes : (p q : Pending) (timer : Option ℕ) → AsksAnew p q → AckComes p timer → AckComes q timer
+anew_comes p q timer anew c = record {
+  waits = λ some. elim (c.waits (subst (λ (k : ℕ). 0 < k) (ap (λ (a : Pending). a.asking) anew.others) some)) [ inl due ↦ inl (anew.due due) | inr set ↦ inr set ];
+  counted = λ set. subst (λ (k : ℕ). 0 < k) (sym (ap (λ (a : Pending). a.asking) anew.others)) (c.counted (ap (λ (a : Pending). is_some a.since) (sym anew.others) ∙ set));
+  known = λ set. ap (λ (a : Pending). is_some a.since) anew.others ∙ c.known set;
+}
+
+-- a frame apart from streams leaves what is counted, and the timer
 apart_awaited : (f : FrameValue) (e : End) → IsApart f → IsAwaited e → IsAwaited (take_frame f e).end
-apart_awaited f e is i = apart_leaves (λ (x : End). x.acknowledging ≡ e.acknowledging → IsAwaited x) f e is (λ c same. still same) (λ c most same. still same) (apart_acks f e is)
+apart_awaited f e is i = apart_leaves (λ (x : End). AsksAnew e.acknowledging x.acknowledging → IsAwaited x) f e is (λ c anew. still anew) (λ c most anew. still anew) (apart_acks f e is)
   where
-    still : {p : Pending} → p ≡ e.acknowledging → e.closing.state ≡ states.Open → AckComes p e.timers.max_ack_delay e.closing.clock
-    still same opened = subst (λ (a : Pending). AckComes a e.timers.max_ack_delay e.closing.clock) (sym same) (i opened)
+    still : {p : Pending} → AsksAnew e.acknowledging p → e.closing.state ≡ states.Open → AckComes p e.timers.max_ack_delay
+    still {p = p} anew opened = anew_comes e.acknowledging p e.timers.max_ack_delay anew (i opened)
 
 receives : Receives IsAwaited
 receives = record {
   notes = λ n e i. i;
-  begins = λ now n e i opened. later e.acknowledging e.timers.max_ack_delay e.closing.clock now (i opened);
+  begins = λ now n e i. i;
   frame = frame_keeps IsAwaited (record { ack = λ rises a e i. acked_keeps IsAwaited settling rises a (named a e) i; on_streams = λ f e on i. frame_leaves IsAwaited f e on (λ t. i); apart = apart_awaited; message = λ m e i. i });
   takes = λ n asks mark e i. by_taken IsAwaited n asks mark e (λ idle alive opened.
-      packet_comes asks e.timers (with_due (is_congested mark) (after_insert e.acknowledging n e.closing.clock)) e.closing.clock n e.numbers.opened (more_due (is_congested mark) e.acknowledging e.timers.max_ack_delay e.closing.clock (i opened)));
+      packet_comes e.frequency.own_delay asks e.timers (with_due (is_congested mark) (after_insert e.acknowledging n e.closing.clock)) e.closing.clock n e.numbers.opened (more_due (is_congested mark) e.acknowledging e.timers.max_ack_delay (i opened)));
   closes = λ reason e i. closed_awaited reason e;
   drains = λ close e i opened. cc;
   asks_close = λ e i. i;
@@ -124,8 +127,8 @@ receives = record {
 
 -- an acknowledgement may become due where something goes
 lazied_awaited : (leaving : Leaving) (e : End) → IsAwaited e → IsAwaited (lazied_as leaving e)
-lazied_awaited whole e i opened = more_due (nat_lt lazy_threshold e.acknowledging.silent) e.acknowledging e.timers.max_ack_delay e.closing.clock (i opened)
-lazied_awaited alone e i opened = more_due (nat_lt lazy_threshold e.acknowledging.silent) e.acknowledging e.timers.max_ack_delay e.closing.clock (i opened)
+lazied_awaited whole e i opened = more_due (nat_lt lazy_threshold e.acknowledging.silent) e.acknowledging e.timers.max_ack_delay (i opened)
+lazied_awaited alone e i opened = more_due (nat_lt lazy_threshold e.acknowledging.silent) e.acknowledging e.timers.max_ack_delay (i opened)
 lazied_awaited other e i opened = i opened
 
 -- an ACK that goes answers all, and no other frame changes what is awaited
@@ -133,11 +136,11 @@ draft_awaited : (leaving : Leaving) (e : End) → MayLeave leaving e → IsAwait
 draft_awaited leaving e due i = by_leave (λ (d : Draft). IsAwaited d.end) keep leaving e due (lazied_awaited leaving e i)
   where
     keep : Writing (λ (d : Draft). IsAwaited d.end)
-    keep puts.ack d may i = λ opened. record { waits = λ some. absurd (omega arith); counted = λ some. cc; known = λ set. cc; soon = λ moment set. cc }
+    keep puts.ack d may i = λ opened. record { waits = λ some. absurd (omega arith); counted = λ some. cc; known = λ set. cc }
     keep p d may i = i
 
 ready_awaited : (e : End) (now : ℕ) → IsAwaited e → IsAwaited (ready_at e now).end
-ready_awaited e now i = subst (λ (x : End). IsAwaited x) (sym (ready_leaves e now)) (λ opened. later e.acknowledging e.timers.max_ack_delay e.closing.clock now (i opened))
+ready_awaited e now i = subst (λ (x : End). IsAwaited x) (sym (ready_leaves e now)) i
 
 polled_awaited : (p : Policy) (e : End) (now : ℕ) → IsAwaited e → IsAwaited (polled p e now).end
 polled_awaited p e now i = by_poll_to p e now (λ (q : Polled). IsAwaited q.end) (record {
@@ -158,12 +161,12 @@ judged_awaited (Some moment) e i = losses_keep IsAwaited settling e i
 
 -- where the timer of acknowledgements expires, one is due
 expires_awaited : (s : Expired) (e : End) → IsAwaited e → IsAwaited (expiring.after s e)
-expires_awaited expiring.of_acks e i opened = record { waits = λ some. inl (lt-ltb 0 e.acknowledging.asking some); counted = (i opened).counted; known = λ set. cc; soon = λ moment set. cc }
+expires_awaited expiring.of_acks e i opened = record { waits = λ some. inl (lt-ltb 0 e.acknowledging.asking some); counted = (i opened).counted; known = λ set. cc }
 expires_awaited s e i opened = i opened
 
 expired_awaited : (words : ℕ → ℕ) (e : End) (now : ℕ) (expiry : Expiry) → IsAwaited e → IsAwaited (at_expiry words e now expiry)
 expired_awaited words e now expiry i =
-    by_timers words IsAwaited IsAwaited judged_awaited expires_awaited (λ f j. j) (λ f j opened. cc) expiry (with_closing e (ticked e.closing now)) (λ opened. later e.acknowledging e.timers.max_ack_delay e.closing.clock now (i opened))
+    by_timers words IsAwaited IsAwaited judged_awaited expires_awaited (λ f j. j) (λ f j opened. cc) expiry (with_closing e (ticked e.closing now)) i
 
 pub call_awaited : (p : Policy) (e : End) (theirs : List (List ℕ)) (call : Call) (a : Answer) → IsAwaited e → IsAwaited (after_call p e theirs call a)
 call_awaited p e theirs call a i = by_plain_call p e theirs IsAwaited call a cases_keep
@@ -173,22 +176,22 @@ call_awaited p e theirs call a i = by_plain_call p e theirs IsAwaited call a cas
     cases_keep (cases.polls now) may = polled_awaited p e now i
     cases_keep (cases.hears arrival d) may = by_received IsAwaited receives p e arrival d i
     cases_keep (cases.closes reason f now) may = λ opened. cc
-    cases_keep (cases.waits now b) may = by_waits IsAwaited b (with_closing e (ticked e.closing now)) (λ opened. cc) (λ opened. later e.acknowledging e.timers.max_ack_delay e.closing.clock now (i opened))
+    cases_keep (cases.waits now b) may = by_waits IsAwaited b (with_closing e (ticked e.closing now)) (λ opened. cc) i
     cases_keep (cases.changes_id b) may =
-        let comes : (p : Pending) → p ≡ e.acknowledging → e.closing.state ≡ states.Open → AckComes p e.timers.max_ack_delay e.closing.clock = λ p same opened. subst (λ (q : Pending). AckComes q e.timers.max_ack_delay e.closing.clock) (sym same) (i opened) in
+        let comes : (p : Pending) → p ≡ e.acknowledging → e.closing.state ≡ states.Open → AckComes p e.timers.max_ack_delay = λ p same opened. subst (λ (q : Pending). AckComes q e.timers.max_ack_delay) (sym same) (i opened) in
         by_next_id (λ (x : End). x.acknowledging ≡ e.acknowledging → IsAwaited x) e b (λ same. i) (λ c same. comes (with_apart e c).acknowledging same) (λ c most same. comes (with_apart e c).acknowledging same) (next_acks e b)
     cases_keep c may = i
 
 -- ---- a run
 
 -- nothing came yet
-pub first_comes : (clock : ℕ) → AckComes none_pending None clock
-first_comes clock = record { waits = λ some. absurd (omega arith); counted = λ some. cc; known = λ set. cc; soon = λ moment set. cc }
+pub first_comes : AckComes none_pending None
+first_comes = record { waits = λ some. absurd (omega arith); counted = λ some. cc; known = λ set. cc }
 
 starts_awaited : (w : World) → AreStarted w → AtBoth IsAwaited w
 starts_awaited w s = (
-  subst (λ (e : End). IsAwaited e) (sym (start_is w s Client)) (λ opened. first_comes _),
-  subst (λ (e : End). IsAwaited e) (sym (start_is w s Server)) (λ opened. first_comes _),
+  subst (λ (e : End). IsAwaited e) (sym (start_is w s Client)) (λ opened. first_comes),
+  subst (λ (e : End). IsAwaited e) (sym (start_is w s Server)) (λ opened. first_comes),
 )
 
 -- so it is at both ends, wherever a run leads

@@ -10,7 +10,7 @@ use Rattle.quic_recovery_core.proofs.AckRunSteps.{with_one_runs, with_one_in, at
 use Rattle.quic_streams_parts.specs.Table.{Table}
 use Rattle.quic_machine.specs.Tracking.{TrackedPacket, Carried, acked_in, acked_by, lost_by}
 use Rattle.quic_machine.specs.End.{End}
-use Rattle.quic_machine.specs.Acked.{without_known, resets_acked, packet_acked, packets_acked, verdict, measured, sampled, without_acked, losses_taken, after_named}
+use Rattle.quic_machine.specs.Acked.{request_acked, without_known, resets_acked, packet_acked, packets_acked, verdict, measured, sampled, without_acked, losses_taken, after_named}
 use Rattle.quic_machine.specs.Sizes.{search_acked}
 use Rattle.quic_machine.specs.Receive.{is_above, names_ungiven, take_frame}
 use Rattle.quic_machine.specs.FrameCases.{named, ack_taken, passed, streams_acked_keep, resets_acked_keep, packets_lost_keep, by_marks, frame_leaves, frames_leave, apart_leaves}
@@ -118,9 +118,10 @@ module _ (sents : List Sent) (took : List Packet) (number : ℕ) (frames : List 
   acked_reached (q ∷ ps) e acked i =
       let c : Carried = q.1.carried in
       let heard : End = search_acked q e in
-      let knows : End = without_known c.largest_acked heard in
+      let asked : End = request_acked q.0 heard in
+      let knows : End = without_known c.largest_acked asked in
       acked_reached ps (packet_acked q e) (λ x j. acked x (inr j))
-      (streams_acked_keep Here (λ m x j. j) c.stream_frames (resets_acked c.retransmits.reset_stream knows) (resets_acked_keep Here (λ id x j. j) c.retransmits.reset_stream knows (known_reached q (acked q (inl refl)) c.largest_acked refl heard i)))
+      (streams_acked_keep Here (λ m x j. j) c.stream_frames (resets_acked c.retransmits.reset_stream knows) (resets_acked_keep Here (λ id x j. j) c.retransmits.reset_stream knows (known_reached q (acked q (inl refl)) c.largest_acked refl asked i)))
 
   sampled_reached : (o : Option TrackedPacket) (a : AckValue) (e : End) → Here e → Here (sampled o a e)
   sampled_reached None a e i = i

@@ -1,13 +1,13 @@
--- What stays of what is to be acknowledged: frames that come change no more than the numbers; and
--- behind a call that is no delivery, and gives no ACK frame, as many packets that ask are counted,
--- and an acknowledgement that was due for them is due still.
+-- What stays of what is to be acknowledged: frames that come leave what is counted; and behind a
+-- call that is no delivery, and gives no ACK frame, as many packets that ask are counted, and an
+-- acknowledgement that was due for them is due still.
 use Rattle.std.proofs.Common.{◌≡◌, ℕ, ◌<◌, Bool, true, false, ◌||◌, List, [], ◌∷◌, ◌++◌, replicate, Option, Some, None, refl, sym, ap, ◌∙◌, subst}
 use Rattle.std.specs.Prelude.{if◌then◌else◌, nat_lt, not, ◌&&◌}
 use Rattle.std.specs.List.{list_any}
 use Rattle.std.proofs.lemmas.Bool.{or_parts, or_left, lt-ltb}
 use Rattle.std.proofs.lemmas.List.Folds.{list_any-append}
 use Rattle.quic_wire.specs.Value.{FrameValue, padding}
-use Rattle.quic_recovery_core.specs.PendingAcks.{lazy_threshold, Pending, above, after_timeout, after_lazy}
+use Rattle.quic_recovery_core.specs.PendingAcks.{lazy_threshold, Pending, after_timeout, after_lazy}
 use Rattle.quic_machine.specs.declared.run.Call.{Call}
 use Rattle.quic_machine.specs.declared.run.Call.TheVariants as calls
 use Rattle.quic_machine.specs.declared.run.Answer.{Answer}
@@ -16,7 +16,7 @@ use Rattle.quic_machine.specs.Policy.{Policy}
 use Rattle.quic_machine.specs.Closing.{ticked}
 use Rattle.quic_machine.specs.Tracking.{lost_by}
 use Rattle.quic_machine.specs.Acked.{verdict}
-use Rattle.quic_machine.specs.End.{End, with_closing, closed_by}
+use Rattle.quic_machine.specs.End.{End, with_closing}
 use Rattle.quic_machine.specs.Poll.{Polled, Draft, polled, draft_as, lazied_as, Leaving, whole, alone, nothing, Ready}
 use Rattle.quic_machine.specs.Receive.{take_frame}
 use Rattle.quic_machine.specs.Timeouts.{Expiry, loss_judged, loss_expired, unless_idle}
@@ -25,43 +25,67 @@ use Rattle.quic_machine.specs.CallCases.{Plain, is_delivery, is_poll, by_plain_c
 use Rattle.quic_machine.specs.CallCases as cases
 use Rattle.quic_machine.specs.LeaveCases.{at_expiry, busy_acknowledge}
 use Rattle.quic_machine.specs.FrameCases.{Settling, named, passed, acked_keeps, frame_keeps, frame_leaves, frames_keep, packets_lost_keep}
-use Rattle.quic_headline.proofs.Packets.Apart.{apart_acks, by_waits, by_next_id, next_acks}
+use Rattle.quic_headline.proofs.Packets.Apart.{AsksAnew, apart_acks, by_waits, next_acks}
 use Rattle.quic_machine.specs.Steps as steps
-use Rattle.quic_machine.specs.PollCases.{ready_at, draft_at, frames_at, by_poll_to, may_leave_at}
+use Rattle.quic_machine.specs.PollCases.{ready_at, draft_at, frames_at, may_leave_at}
 use Rattle.quic_machine.specs.DraftLaws.{Writing, by_leave, MayLeave}
 use Rattle.quic_machine.specs.Puts as puts
-use Rattle.quic_headline.proofs.Packets.Closes.{by_closes}
 use Rattle.quic_headline.specs.Moments.{is_ack, acknowledges}
 use Rattle.quic_headline.proofs.Packets.Searches.{losses_searched}
 use Rattle.quic_headline.proofs.Packets.Probes.{by_going, ready_acks}
 use Rattle.quic_headline.proofs.Places.Steps.{poll_answer}
-use Rattle.quic_headline.proofs.Places.Parties.{sent_by, sent_if, sents_by, sent_as}
+use Rattle.quic_headline.proofs.Places.Parties.{sent_by, sent_if, sents_by}
 use Rattle.quic_headline.proofs.Packets.Sends.{by_sends}
 use Rattle.quic_headline.specs.Observer.{Sent}
 
 -- ---- frames that come
 
--- of what is to be acknowledged, the numbers alone are others
-abbrev pub OnlyRuns : End → End → Type 0
-OnlyRuns e f = f.acknowledging ≡ record e.acknowledging { runs = f.acknowledging.runs }
+-- Packets are counted as before, the timer is set for the same one, and the greatest numbers of
+-- those that ask are the same; and what was due is so still.
+pub record SameCounts (p q : Pending) : Type 0 where
+  pub asking : q.asking ≡ p.asking
+  pub silent : q.silent ≡ p.silent
+  pub since : q.since ≡ p.since
+  pub greatest : q.greatest ≡ p.greatest
+  pub acked : q.acked ≡ p.acked
+  pub due : p.due ≡ true → q.due ≡ true
+
+-- so it is of what two ends have to acknowledge
+abbrev pub CountsOn : End → End → Type 0
+CountsOn e f = SameCounts e.acknowledging f.acknowledging
+
+-- nothing changed
+pub counts_same : (e : End) → CountsOn e e
+counts_same e = record { asking = refl; silent = refl; since = refl; greatest = refl; acked = refl; due = λ due. due }
+
+-- an end may be asked anew how often to acknowledge, and that at once
+anew_counts : (p q r : Pending) → SameCounts p q → AsksAnew q r → SameCounts p r
+anew_counts p q r c anew = record {
+  asking = ap (λ (a : Pending). a.asking) anew.others ∙ c.asking;
+  silent = ap (λ (a : Pending). a.silent) anew.others ∙ c.silent;
+  since = ap (λ (a : Pending). a.since) anew.others ∙ c.since;
+  greatest = ap (λ (a : Pending). a.greatest) anew.others ∙ c.greatest;
+  acked = ap (λ (a : Pending). a.acked) anew.others ∙ c.acked;
+  due = λ due. anew.due (c.due due);
+}
 
 -- so it is where packets are acknowledged or lost
-settling : (e : End) → Settling (OnlyRuns e)
-settling e (steps.known n) x i = ap (λ (p : Pending). record p { runs = above x.acknowledging.runs n }) i
-settling e s x i = i
+settling : (e : End) → Settling (CountsOn e)
+settling e (steps.known n) x c = record { asking = c.asking; silent = c.silent; since = c.since; greatest = c.greatest; acked = c.acked; due = c.due }
+settling e s x c = c
 
 -- so it is behind a frame
-pub frame_acks : (e : End) (f : FrameValue) (x : End) → OnlyRuns e x → OnlyRuns e (take_frame f x).end
-frame_acks e = frame_keeps (OnlyRuns e) (record {
-  ack = λ rises a x i. acked_keeps (OnlyRuns e) (settling e) rises a (named a x) i;
-  on_streams = λ f x on i. frame_leaves (OnlyRuns e) f x on (λ t. i);
-  apart = λ f x is i. subst (λ (a : Pending). a ≡ record e.acknowledging { runs = a.runs }) (sym (apart_acks f x is)) i;
-  message = λ m x i. i;
+pub frame_acks : (e : End) (f : FrameValue) (x : End) → CountsOn e x → CountsOn e (take_frame f x).end
+frame_acks e = frame_keeps (CountsOn e) (record {
+  ack = λ rises a x c. acked_keeps (CountsOn e) (settling e) rises a (named a x) c;
+  on_streams = λ f x on c. frame_leaves (CountsOn e) f x on (λ t. c);
+  apart = λ f x is c. anew_counts e.acknowledging x.acknowledging (take_frame f x).end.acknowledging c (apart_acks f x is);
+  message = λ m x c. c;
 })
 
 -- and so it is behind all frames of a packet
-pub frames_acks : (fs : List FrameValue) (e : End) → (passed fs e).end.acknowledging ≡ record e.acknowledging { runs = (passed fs e).end.acknowledging.runs }
-frames_acks fs e = frames_keep (OnlyRuns e) (frame_acks e) fs e refl
+pub frames_acks : (fs : List FrameValue) (e : End) → CountsOn e (passed fs e).end
+frames_acks fs e = frames_keep (CountsOn e) (frame_acks e) fs e (counts_same e)
 
 -- ---- a timeout
 

@@ -12,7 +12,7 @@ use Rattle.quic_streams_laws.specs.FinishedLaws.{finished_kept, finished_stream_
 use Rattle.quic_streams_parts.specs.Table.{Table}
 use Rattle.quic_machine.specs.Tracking.{TrackedPacket, Carried}
 use Rattle.quic_machine.specs.End.{End}
-use Rattle.quic_machine.specs.Acked.{without_known, reset_acked, resets_acked, stream_acked, streams_acked, packet_acked, packets_acked, stream_lost}
+use Rattle.quic_machine.specs.Acked.{request_acked, without_known, reset_acked, resets_acked, stream_acked, streams_acked, packet_acked, packets_acked, stream_lost}
 use Rattle.quic_machine.specs.FrameCases.{resets_acked_keep}
 use Rattle.quic_headline.specs.Runs.{In}
 use Rattle.quic_headline.specs.Observer.{Sent, HoldsOffset, HoldsEnd}
@@ -163,10 +163,11 @@ module _ (arrived : ℕ → ℕ → Type 0) (end_arrived : ℕ → Type 0) (n : 
   packet_holds : (s : Sent) (p : ℕ × TrackedPacket) → IsWaited s p → (k : Known) (e : End) → ((m : StreamMeta) → In m (all_offsets s.frames) → MetaSent k m) → Holds k e → Holds (with_metas (all_offsets s.frames) k) (packet_acked p e)
   packet_holds s p waited k e sent i =
       let c : Carried = p.1.carried in
-      let known : End = without_known c.largest_acked (search_acked p e) in
+      let asked : End = request_acked p.0 (search_acked p e) in
+      let known : End = without_known c.largest_acked asked in
       let resets : End = resets_acked c.retransmits.reset_stream known in
       subst (λ (ms : List StreamMeta). Holds (with_metas (all_offsets s.frames) k) (streams_acked ms resets)) (sym (waited_offsets s p waited))
-      (metas_hold (all_offsets s.frames) k resets sent (resets_acked_keep (Holds k) (reset_holds k) c.retransmits.reset_stream known (knows_holds k c.largest_acked (search_acked p e) i)))
+      (metas_hold (all_offsets s.frames) k resets sent (resets_acked_keep (Holds k) (reset_holds k) c.retransmits.reset_stream known (knows_holds k c.largest_acked asked i)))
 
   -- datagrams are
   pub sents_hold : (ss : List Sent) (ps : Table TrackedPacket) → AreWaited ss ps → (k : Known) (e : End) → ((s : Sent) → In s ss → (m : StreamMeta) → In m (all_offsets s.frames) → MetaSent k m) → Holds k e → Holds (with_sents ss k) (packets_acked ps e)

@@ -11,7 +11,7 @@ use Rattle.quic_streams_parts.specs.Table.{Table}
 use Rattle.quic_wire.specs.Value.{FrameValue}
 use Rattle.quic_machine.specs.Tracking.{TrackedPacket}
 use Rattle.quic_machine.specs.End.{End}
-use Rattle.quic_machine.specs.Acked.{packet_acked, packets_acked}
+use Rattle.quic_machine.specs.Acked.{packet_acked, packets_acked, request_acked}
 use Rattle.quic_machine.specs.Sizes.{after_lost, search_acked}
 use Rattle.quic_machine.specs.FrameCases.{packets_lost_keep, by_searched, frame_leaves, apart_leaves}
 use Rattle.quic_headline.specs.Runs.{In}
@@ -116,7 +116,7 @@ module _ (flew : List Sent) (least before : ℕ) where
   all_moving flying acked [] [] e inside w m = rw (append-nil acked) m
   all_moving flying acked (s ∷ ss) (p ∷ ps) e inside w m =
       let d : Discovery = e.path.discovery in
-      let left : (packet_acked p e).path.discovery ≡ after_ack p.0 p.1.size d = ap (λ (x : Sizing). x.discovery) (carried_same p.1.carried (search_acked p e)) in
+      let left : (packet_acked p e).path.discovery ≡ after_ack p.0 p.1.size d = ap (λ (x : Sizing). x.discovery) (carried_same p.1.carried (request_acked p.0 (search_acked p e))) in
       let one : Moves flying (acked ++ s ∷ []) (packet_acked p e) = subst (λ (f : Discovery). Moving flew least before flying (acked ++ s ∷ []) f) (sym left) (acked_moving s p.0 p.1.size flying acked d w.0.number (inside s (inl refl)) m) in
       subst (λ (bs : List Sent). Moves flying bs (packets_acked ps (packet_acked p e))) (append_assoc acked (s ∷ []) ss)
       (all_moving flying (acked ++ s ∷ []) ss ps (packet_acked p e) (λ t i. inside t (inr i)) w.1 one)

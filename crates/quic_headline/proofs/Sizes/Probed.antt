@@ -19,7 +19,7 @@ use Rattle.quic_machine.specs.Closing.{ticked}
 use Rattle.quic_machine.specs.End.{End, number_of, with_closing, closed_by}
 use Rattle.quic_machine.specs.Control.{Gated, with_pacing_timer}
 use Rattle.quic_machine.specs.Sizes.{after_lost, may_search, search_names, search_asked}
-use Rattle.quic_machine.specs.Poll.{Polled, datagram_size, after_given, probed, gated, waits, probe, Ready, probe_named, searched_if, free_if, held_if, leaves_if, leaves, leaves_unless, goes_as, draft_as, polled}
+use Rattle.quic_machine.specs.Poll.{Polled, datagram_size, after_given, probed, gated, waits, probe, Ready, probe_named, searched_if, free_if, held_if, leaves_if, leaves, leaves_unless, goes_as, draft_as, polled, request_queued}
 use Rattle.quic_machine.specs.Machine.{after_call, gave}
 use Rattle.quic_machine.specs.DraftLaws.{HasRoom}
 use Rattle.quic_machine.specs.FrameCases.{by_searched, apart_leaves}
@@ -121,20 +121,20 @@ leaves_fewer g = go g.held
     go false = waits_case (waits g.end)
 
 ready_fewer : (e : End) (now : ℕ) → Fewer e.path.discovery (ready_at e now).end.path.discovery ⊎ ((size : ℕ) × ((ready_at e now).leaving ≡ probe size))
-ready_fewer e now = go (probed x).path.blocked
+ready_fewer e now = go (request_queued (probed x)).path.blocked
   where
     x : End
     x = with_pacing_timer (with_closing e (ticked e.closing now)) None
 
-    carried : (probed x).path.discovery ≡ e.path.discovery
+    carried : (request_queued (probed x)).path.discovery ≡ e.path.discovery
     carried = ap (λ (z : End). z.path.discovery) (probe_leaves x)
 
-    same : (gated (probed x)).end.path.discovery ≡ e.path.discovery
-    same = ap (λ (z : End). z.path.discovery) (gate_leaves (probed x)) ∙ carried
+    same : (gated (request_queued (probed x))).end.path.discovery ≡ e.path.discovery
+    same = ap (λ (z : End). z.path.discovery) (gate_leaves (request_queued (probed x))) ∙ carried
 
-    go : (b : Bool) → Fewer e.path.discovery (leaves_unless b (probed x)).end.path.discovery ⊎ ((size : ℕ) × ((leaves_unless b (probed x)).leaving ≡ probe size))
+    go : (b : Bool) → Fewer e.path.discovery (leaves_unless b (request_queued (probed x))).end.path.discovery ⊎ ((size : ℕ) × ((leaves_unless b (request_queued (probed x))).leaving ≡ probe size))
     go true = inl (subst (λ (d : Discovery). Fewer e.path.discovery d) (sym carried) (λ n size is. is))
-    go false = subst (λ (d : Discovery). Fewer d (leaves (gated (probed x))).end.path.discovery ⊎ ((size : ℕ) × ((leaves (gated (probed x))).leaving ≡ probe size))) same (leaves_fewer (gated (probed x)))
+    go false = subst (λ (d : Discovery). Fewer d (leaves (gated (request_queued (probed x)))).end.path.discovery ⊎ ((size : ℕ) × ((leaves (gated (request_queued (probed x)))).leaving ≡ probe size))) same (leaves_fewer (gated (request_queued (probed x))))
 
 module _ (p : Policy) (e : End) (now : ℕ) (sents : List Sent) (room : HasRoom e) (sized : IsSized 1200 MAX_UDP_PAYLOAD e.path.discovery) (under : (s : Sent) → In s sents → s.number < e.numbers.next) (i : IsProbed sents e.numbers.next e.path.discovery) where
   -- nothing goes

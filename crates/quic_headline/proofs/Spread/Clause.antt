@@ -209,6 +209,8 @@ module _ (r : Run) (end : World) (honest : IsHonest r) (run : IsRun r end) (quie
           gives = h.gives.0.0.0;
           takes = h.takes.0.0.0;
           behind = h.behind.0.0.0;
+          behind_back = h.behind_back.0.0.0;
+          calls = h.calls;
           seen = h.seen;
           seen_behind = h.seen_behind;
         })))

@@ -9,41 +9,46 @@ use Rattle.quic_machine.specs.Parts.{Path, current_mtu}
 use Rattle.quic_machine.specs.End.{End}
 use Rattle.quic_machine.specs.Control.{is_window_full, paced_rtt, paced_until, pacer_asked, with_pacing_timer, Gated, lets, holds}
 use Rattle.quic_machine.specs.Sizes.{may_search, search_names, search_asked}
-use Rattle.quic_machine.specs.Poll.{waits, asking, probed, lazied, composed, asks_to_go, is_gated, whole, probe, Ready, leaves, leaves_unless, goes, draft_of}
+use Rattle.quic_machine.specs.Poll.{waits, asking, probed, lazied, composed, asks_to_go, is_gated, whole, probe, Ready, leaves, leaves_unless, goes, draft_of, request_queued}
 use Rattle.quic_machine.specs.DraftLaws.{lazy_due}
 use Rattle.quic_machine.specs.PollCases.{ready_at, by_probed, probe_leaves, by_gate, by_leaves}
 use Rattle.quic_headline.specs.Spread.{names_for}
 use Rattle.quic_headline.proofs.Packets.Invariant.{Acks}
 use Rattle.quic_headline.proofs.Steps.Probes.{begun}
 use Rattle.quic_headline.proofs.Steps.Idle.{mute_composed}
-use Rattle.quic_headline.proofs.Steps.Probing.{IsProbing, unprobed}
+use Rattle.quic_headline.proofs.Steps.Probing.{IsProbing, unprobed, unasked}
 
 -- what the pacer of an end is asked in a poll at a moment
 abbrev pub ask : End → ℕ → Ask
 ask e now = record { rtt = paced_rtt e; bytes = current_mtu e.path; size = current_mtu e.path; window = e.path.window; moment = max e.closing.clock now }
+
+-- an end at a moment, with the timer of its pacer stopped, where ACK_FREQUENCY waits if the peer is
+-- to be asked
+abbrev pub asked_at : End → ℕ → End
+asked_at e now = request_queued (begun e now)
 
 -- An end was made ready so.
 pub data IsReadied (e : End) (now : ℕ) (g : Ready) : Type 0 where
   -- the pacer names a later moment
   held : (moment : ℕ) → names_for e.path.pacing (ask e now) ≡ Some moment → g.end.timers.pacing ≡ Some moment → g.end.path.pacing ≡ after_ask e.path.pacing (ask e now) → asking (draft_of g).frames ≡ false → IsReadied e now g
   -- window and pacer let what waits go
-  passes : names_for e.path.pacing (ask e now) ≡ None → e.tracking.probes ≡ 0 → is_window_full e ≡ false → asks_to_go e ≡ true → g ≡ record { leaving = whole; end = pacer_asked (begun e now) } → IsReadied e now g
+  passes : names_for e.path.pacing (ask e now) ≡ None → e.tracking.probes ≡ 0 → is_window_full e ≡ false → asks_to_go (asked_at e now) ≡ true → g ≡ record { leaving = whole; end = pacer_asked (asked_at e now) } → IsReadied e now g
   -- the window is full
   full : g.end.timers.pacing ≡ None → g.end.path.pacing ≡ e.path.pacing → e.tracking.probes ≡ 0 → is_window_full e ≡ true → asking (draft_of g).frames ≡ false → IsReadied e now g
   -- neither was asked: a probe of losses waits, or nothing that asks; then what asks is a probe of
   -- a size
-  free : g.end.timers.pacing ≡ None → g.end.path.pacing ≡ e.path.pacing → (e.tracking.probes ≡ 0 → (asks_to_go e ≡ false) × (asking (draft_of g).frames ≡ true → IsProbing (begun e now) g)) → IsReadied e now g
+  free : g.end.timers.pacing ≡ None → g.end.path.pacing ≡ e.path.pacing → (e.tracking.probes ≡ 0 → (asks_to_go (asked_at e now) ≡ false) × (asking (draft_of g).frames ≡ true → IsProbing (begun e now) g)) → IsReadied e now g
   -- nothing more may go to an address that isn't validated
   limited : g.end.timers.pacing ≡ None → g.end.path.pacing ≡ e.path.pacing → goes g ≡ false → IsReadied e now g
 
 module _ (e : End) (now : ℕ) where
   -- the end that asks
   abbrev x : End
-  x = probed (begun e now)
+  x = request_queued (probed (begun e now))
 
   -- as many probes wait, and its pacer and its clock are the same
   same_probes : x.tracking.probes ≡ e.tracking.probes
-  same_probes = by_probed (begun e now) (λ (z : End). z.tracking.probes ≡ e.tracking.probes) refl refl (λ q probes is. refl)
+  same_probes = by_probed (begun e now) (λ (z : End). z.tracking.probes ≡ e.tracking.probes) refl (λ immediate. refl) (λ immediate. refl) (λ immediate q probes is. refl)
 
   same_path : x.path ≡ e.path
   same_path = ap (λ (z : End). z.path) (probe_leaves (begun e now))
@@ -61,10 +66,10 @@ module _ (e : End) (now : ℕ) where
   no_probe : is_gated x ≡ true → e.tracking.probes ≡ 0
   no_probe is = sym same_probes ∙ eqb-true x.tracking.probes 0 (and_parts (asks_to_go x) (x.tracking.probes == 0) is).1
 
-  bare : is_gated x ≡ true → x ≡ begun e now
-  bare is = unprobed (begun e now) (no_probe is)
+  bare : is_gated x ≡ true → x ≡ asked_at e now
+  bare is = ap request_queued (unprobed (begun e now) (no_probe is))
 
-  wants : is_gated x ≡ true → asks_to_go e ≡ true
+  wants : is_gated x ≡ true → asks_to_go (asked_at e now) ≡ true
   wants is = sym (ap asks_to_go (bare is)) ∙ (and_parts (asks_to_go x) (x.tracking.probes == 0) is).0
 
   -- ---- what is held back
@@ -137,11 +142,12 @@ module _ (e : End) (now : ℕ) where
         | inr probes ↦ absurd (both_ways (x.tracking.probes == 0) probes (eq-eqb x.tracking.probes 0 (same_probes ∙ none)))
       ]
 
-      there : e.tracking.probes ≡ 0 → asks_to_go e ≡ false
-      there none = sym (ap asks_to_go (unprobed (begun e now) none)) ∙ quiet none
+      there : e.tracking.probes ≡ 0 → asks_to_go (asked_at e now) ≡ false
+      there none = sym (ap (λ (z : End). asks_to_go (request_queued z)) (unprobed (begun e now) none)) ∙ quiet none
 
       found : e.tracking.probes ≡ 0 → (size : ℕ) → waits x ≡ false → may_search x ≡ true → search_names x ≡ Some size → IsProbing (begun e now) (record { leaving = probe size; end = search_asked x })
-      found none size idle may named = subst (λ (z : End). IsProbing z (record { leaving = probe size; end = search_asked x })) (unprobed (begun e now) none) (record { size = size; is = refl; idle = idle; may = may; named = named })
+      found none size idle may named = subst (λ (z : End). IsProbing z (record { leaving = probe size; end = search_asked x })) (unasked (begun e now) (subst (λ (z : End). waits (request_queued z) ≡ false) (unprobed (begun e now) none) idle))
+          (subst (λ (z : End). IsProbing (request_queued z) (record { leaving = probe size; end = search_asked x })) (unprobed (begun e now) none) (record { size = size; is = refl; idle = idle; may = may; named = named }))
 
   pub readied : Acks e.acknowledging e.marks.came → IsReadied e now (ready_at e now)
   readied acks = go x.path.blocked

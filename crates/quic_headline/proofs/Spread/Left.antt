@@ -6,7 +6,7 @@ use Rattle.std.specs.List.{list_any}
 use Rattle.std.proofs.lemmas.Bool.{or_cases, or_left, or_right, and_parts, both_ways}
 use Rattle.std.proofs.lemmas.List.Folds.{list_any-append}
 use Rattle.quic_wire_core.specs.Law.{length-shortest, varint_size_le}
-use Rattle.quic_wire.specs.Value.{StreamValue, ack, stream, datagram, asks}
+use Rattle.quic_wire.specs.Value.{StreamValue, ack, stream, datagram, asks, ack_frequency}
 use Rattle.quic_wire.specs.AckGrammar.{AckFits}
 use Rattle.quic_wire.specs.Writing.{width_of, spelling}
 use Rattle.quic_wire.proofs.AckSet.{set_length}
@@ -20,11 +20,11 @@ use Rattle.quic_streams_state.specs.Frames as of_streams
 use Rattle.quic_streams_state.specs.Frames.{Sent}
 use Rattle.quic_machine.specs.Parts.{signals_wait}
 use Rattle.quic_machine.specs.End.{End, streams_at}
-use Rattle.quic_machine.specs.Poll.{Draft, no_frames, frame_room, left, no_stream_frames, with_signal_frames, with_control_frames, with_message_frames, with_stream_frames, with_asking, ack_of, with_ack, composed_if, composed, lazied, asking, message_waits, asks_to_go}
+use Rattle.quic_machine.specs.Poll.{Draft, no_frames, frame_room, left, no_stream_frames, with_signal_frames, with_control_frames, with_message_frames, with_stream_frames, with_asking, ack_of, with_ack, composed_if, composed, lazied, asking, message_waits, asks_to_go, with_frequency_frame, request_of}
 use Rattle.quic_machine.specs.DraftLaws.{HasRoom, signal_asks, half_of, room_most, by_signals, by_entries, by_messages, by_streams}
 use Rattle.quic_machine.specs.Puts.{without_entry}
 use Rattle.quic_headline.proofs.Packets.Invariant.{Acks}
-use Rattle.quic_headline.proofs.Packets.Entries.{control_of}
+use Rattle.quic_headline.proofs.Packets.Entries.{control_of, by_request}
 use Rattle.quic_headline.proofs.Packets.Composed.{Spelling, ack_form}
 use Rattle.quic_headline.proofs.Packets.Going.{Bringing, BringsFirst, first_goes}
 use Rattle.quic_headline.proofs.Steps.Moved.{has_probe}
@@ -69,9 +69,10 @@ abbrev AsksOrBare : Draft → Draft → Type 0
 AsksOrBare d x = Asks x ⊎ IsBare d x
 
 -- so it is behind what goes but for the bytes of streams
-before_streams : (d : Draft) → AsksOrBare d (with_message_frames (with_control_frames (with_signal_frames d)))
-before_streams d = by_messages (AsksOrBare d) (λ x m ms is fit before. inl (last_asks x (datagram m) refl)) (with_control_frames (with_signal_frames d))
-    (by_entries (AsksOrBare d) drops (λ x kind f is before. inl (last_asks x f (control_asks f (control_of f kind is.of_kind)))) (with_signal_frames d) signals)
+before_streams : (d : Draft) → AsksOrBare d (with_message_frames (with_control_frames (with_frequency_frame (with_signal_frames d))))
+before_streams d = by_messages (AsksOrBare d) (λ x m ms is fit before. inl (last_asks x (datagram m) refl)) (with_control_frames (with_frequency_frame (with_signal_frames d)))
+    (by_entries (AsksOrBare d) drops (λ x kind f is before. inl (last_asks x f (control_asks f (control_of f kind is.of_kind)))) (with_frequency_frame (with_signal_frames d))
+    (by_request (AsksOrBare d) (with_signal_frames d) (λ waits before. inl (last_asks (with_signal_frames d) (ack_frequency (request_of (with_signal_frames d).end)) refl)) signals))
   where
     drops : (x : Draft) (kind : ControlKind) → AsksOrBare d x → AsksOrBare d (without_entry x kind)
     drops x kind (inl is) = inl is
@@ -86,7 +87,7 @@ with_asking_asks : (d : Draft) → length d.bytes + 33 ≤ frame_room d.end → 
 with_asking_asks d room b = go (before_streams d)
   where
     x : Draft
-    x = with_message_frames (with_control_frames (with_signal_frames d))
+    x = with_message_frames (with_control_frames (with_frequency_frame (with_signal_frames d)))
 
     go : AsksOrBare d x → Asks (with_stream_frames x)
     go (inl is) = by_streams Asks (half_of Asks asks_stay) x is

@@ -5,7 +5,7 @@ use Rattle.std.specs.Prelude.{if◌then◌else◌}
 use Rattle.std.specs.List.{list_any}
 use Rattle.std.proofs.lemmas.Bool.{or_cases, or_left, or_right, or_from, both_ways}
 use Rattle.std.proofs.lemmas.List.Folds.{list_any-append}
-use Rattle.quic_wire.specs.Value.{FrameValue, ack, ping, padding, stream, datagram}
+use Rattle.quic_wire.specs.Value.{FrameValue, ack, ping, padding, stream, datagram, immediate_ack, ack_frequency}
 use Rattle.quic_recovery_core.specs.PendingAcks.{can_send}
 use Rattle.quic_streams_parts.specs.SendHalf.{frame_of}
 use Rattle.quic_machine.specs.declared.answers.State.TheVariants as states
@@ -16,16 +16,15 @@ use Rattle.quic_machine.specs.declared.run.Answer.TheVariants as answers
 use Rattle.quic_machine.specs.Policy.{Policy}
 use Rattle.quic_machine.specs.Parts.{Waiting}
 use Rattle.quic_machine.specs.End.{End}
-use Rattle.quic_machine.specs.Poll.{Polled, Draft, asking, no_frames, zeros_behind, with_signal_frames, closing, ping_if, with_control_frames, with_message_frames, with_asking, ack_of, with_ack, ack_fits, ack_if, composed_if, composed, lazied, draft_as, whole, alone, probe, nothing, Leaving, Ready, goes, goes_as, polled}
-use Rattle.quic_machine.specs.DraftLaws.{Writing, drops_of, entry_of, half_of, message_of, by_entries, by_messages, by_streams}
-use Rattle.quic_machine.specs.Puts as puts
+use Rattle.quic_machine.specs.Poll.{Polled, Draft, asking, no_frames, zeros_behind, with_signal_frames, closing, ping_if, with_control_frames, with_message_frames, with_asking, ack_of, with_ack, ack_fits, ack_if, composed_if, composed, lazied, draft_as, whole, alone, probe, nothing, Leaving, Ready, goes, goes_as, polled, immediate_if, with_ping_frame, with_frequency_frame, request_of}
+use Rattle.quic_machine.specs.DraftLaws.{by_entries, by_messages, by_streams}
 use Rattle.quic_machine.specs.PollCases.{ready_at, draft_at, by_probed, ready_closes_not}
 use Rattle.quic_machine.specs.Machine.{gave}
 use Rattle.quic_machine.specs.CallCases.{is_poll}
 use Rattle.quic_machine.specs.Validation.{challenge_frame, response_frame}
 use Rattle.quic_headline.specs.Observer.{Sent, asks_of}
 use Rattle.quic_headline.specs.Waited.{stands, is_ping, asks_ping, wakes, Wants}
-use Rattle.quic_headline.proofs.Packets.Entries.{IsControl, control_of}
+use Rattle.quic_headline.proofs.Packets.Entries.{IsControl, control_of, by_request}
 use Rattle.quic_headline.proofs.Packets.Flying.{asking_padded}
 use Rattle.quic_headline.proofs.Packets.Probes.{by_going}
 use Rattle.quic_headline.proofs.Places.Parties.{sent_by, sent_if, sents_by, told_of, Party, called, sent_as}
@@ -38,40 +37,26 @@ use Rattle.quic_headline.proofs.Waited.Alive.{wakes_at}
 use Rattle.quic_headline.proofs.Waited.Pings.{by_ping, none_padded, ready_waiting, call_pinged}
 use Rattle.quic_headline.proofs.Waited.Group.{wants_of, wants_watch, IsWanted, Wanting, wants_next, calm, woken}
 use Rattle.quic_headline.proofs.Packets.Sends.{by_sends}
+use Rattle.quic_headline.proofs.Spread.Along.{Has, still_has, signals_stay, composed_has}
 
 -- ---- what is composed
 
 -- PING is one of the frames of a draft
 abbrev HasPing : Draft → Type 0
-HasPing d = list_any is_ping d.frames ≡ true
-
-still_has : (d : Draft) (f : FrameValue) → HasPing d → list_any is_ping (d.frames ++ f ∷ []) ≡ true
-still_has d f is = list_any-append is_ping d.frames (f ∷ []) ∙ or_left (list_any is_ping d.frames) (list_any is_ping (f ∷ [])) is
-
--- it stays, whichever frames go behind
-ping_stays : Writing HasPing
-ping_stays (puts.drops kind) d may is = is
-ping_stays p d may is = still_has d _ is
+HasPing = Has is_ping
 
 -- where it waits, it goes before what is to be told of streams
 signals_have : (d : Draft) → d.end.waiting.signals.ping ≡ true → HasPing (with_signal_frames d)
 signals_have d waits = by_ping (λ (x : Draft). x.end.waiting.signals.ping ≡ true) HasPing (λ x word i. i) (λ x r i. i)
-    (λ x i. ap (λ (b : Bool). list_any is_ping (ping_if b x).frames) i ∙ list_any-append is_ping x.frames (ping ∷ []) ∙ or_right (list_any is_ping x.frames) (list_any is_ping (ping ∷ [])) refl) d waits
-
-asking_has : (d : Draft) → d.end.waiting.signals.ping ≡ true → HasPing (with_asking d)
-asking_has d waits = by_streams HasPing (half_of HasPing ping_stays) (with_message_frames (with_control_frames (with_signal_frames d)))
-    (by_messages HasPing (message_of HasPing ping_stays) (with_control_frames (with_signal_frames d)) (by_entries HasPing (drops_of HasPing ping_stays) (entry_of HasPing ping_stays) (with_signal_frames d) (signals_have d waits)))
-
-composed_has : (e : End) → e.waiting.signals.ping ≡ true → HasPing (composed e)
-composed_has e waits = go (can_send e.acknowledging)
+    (λ x i. behind (with_ping_frame x).end.waiting.signals.immediate (with_ping_frame x)
+    (ap (λ (b : Bool). list_any is_ping (ping_if b x).frames) i ∙ list_any-append is_ping x.frames (ping ∷ []) ∙ or_right (list_any is_ping x.frames) (list_any is_ping (ping ∷ [])) refl)) d waits
   where
-    late : (b : Bool) (d : Draft) → HasPing d → HasPing (ack_if b d)
-    late true d is = still_has d (ack (ack_of d.end)) is
-    late false d is = is
+    behind : (b : Bool) (x : Draft) → HasPing x → HasPing (immediate_if b x)
+    behind true x is = still_has is_ping x immediate_ack is
+    behind false x is = is
 
-    go : (b : Bool) → HasPing (composed_if b e)
-    go true = asking_has (with_ack (no_frames e)) waits
-    go false = late (ack_fits (with_asking (no_frames e))) (with_asking (no_frames e)) (asking_has (no_frames e) waits)
+pinged_has : (e : End) → e.waiting.signals.ping ≡ true → HasPing (composed e)
+pinged_has e waits = composed_has is_ping e (λ d same. signals_stay is_ping d (signals_have d (ap (λ (w : Waiting). w.signals.ping) same ∙ waits)))
 
 -- ---- where none waits, none goes
 
@@ -89,11 +74,16 @@ control_other f is = refl
 
 signals_none : (d : Draft) → d.end.waiting.signals.ping ≡ false → HasNone d → HasNone (with_signal_frames d)
 signals_none d waits none = by_ping (λ (x : Draft). (x.end.waiting.signals.ping ≡ false) × HasNone x) HasNone (λ x word i. (i.0, still_none x (challenge_frame word) refl i.1)) (λ x r i. (i.0, still_none x (response_frame r) refl i.1))
-    (λ x i. ap (λ (b : Bool). list_any is_ping (ping_if b x).frames) i.0 ∙ i.1) d (waits, none)
+    (λ x i. behind (with_ping_frame x).end.waiting.signals.immediate (with_ping_frame x) (ap (λ (b : Bool). list_any is_ping (ping_if b x).frames) i.0 ∙ i.1)) d (waits, none)
+  where
+    behind : (b : Bool) (x : Draft) → HasNone x → HasNone (immediate_if b x)
+    behind true x is = still_none x immediate_ack refl is
+    behind false x is = is
 
 asking_none : (d : Draft) → d.end.waiting.signals.ping ≡ false → HasNone d → HasNone (with_asking d)
-asking_none d waits none = by_streams HasNone (λ x id h room found first left is counts i. still_none x (stream (frame_of id h room)) refl i) (with_message_frames (with_control_frames (with_signal_frames d)))
-    (by_messages HasNone (λ x m ms is fit i. still_none x (datagram m) refl i) (with_control_frames (with_signal_frames d)) (by_entries HasNone (λ x kind i. i) (λ x kind f is i. still_none x f (control_other f (control_of f kind is.of_kind)) i) (with_signal_frames d) (signals_none d waits none)))
+asking_none d waits none = by_streams HasNone (λ x id h room found first left is counts i. still_none x (stream (frame_of id h room)) refl i) (with_message_frames (with_control_frames (with_frequency_frame (with_signal_frames d))))
+    (by_messages HasNone (λ x m ms is fit i. still_none x (datagram m) refl i) (with_control_frames (with_frequency_frame (with_signal_frames d))) (by_entries HasNone (λ x kind i. i) (λ x kind f is i. still_none x f (control_other f (control_of f kind is.of_kind)) i) (with_frequency_frame (with_signal_frames d))
+    (by_request HasNone (with_signal_frames d) (λ asks i. still_none (with_signal_frames d) (ack_frequency (request_of (with_signal_frames d).end)) refl i) (signals_none d waits none))))
 
 composed_none : (e : End) → e.waiting.signals.ping ≡ false → HasNone (composed e)
 composed_none e waits = go (can_send e.acknowledging)
@@ -123,11 +113,11 @@ module _ (p : Policy) (e : End) (now : ℕ) (waits : e.waiting.signals.ping ≡ 
 
   -- it waits at an end that is ready
   ready_has : g.end.waiting.signals.ping ≡ true
-  ready_has = ap (λ (w : Waiting). w.signals.ping) (ready_waiting e now) ∙ by_probed (begun e now) (λ (x : End). x.waiting.signals.ping ≡ true) waits refl (λ q probes is. waits)
+  ready_has = ap (λ (w : Waiting). w.signals.ping) (ready_waiting e now) ∙ by_probed (begun e now) (λ (x : End). x.waiting.signals.ping ≡ true) waits (λ immediate. waits) (λ immediate. refl) (λ immediate q probes is. waits)
 
   -- what goes has it, or leaves it
   draft_has : (leaving : Leaving) → (HasPing (draft_as leaving g.end)) ⊎ ((draft_as leaving g.end).end.waiting.signals.ping ≡ true)
-  draft_has whole = inl (composed_has (lazied g.end) ready_has)
+  draft_has whole = inl (pinged_has (lazied g.end) ready_has)
   draft_has alone = inr ready_has
   draft_has (probe size) = inr ready_has
   draft_has (closing f) = inr ready_has
@@ -143,7 +133,7 @@ module _ (p : Policy) (e : End) (now : ℕ) (waits : e.waiting.signals.ping ≡ 
 
   -- what asks has it
   asking_frames : (leaving : Leaving) → g.leaving ≡ leaving → goes g ≡ true → asking (draft_as leaving g.end).frames ≡ true → HasPing (draft_as leaving g.end)
-  asking_frames whole is some asks = composed_has (lazied g.end) ready_has
+  asking_frames whole is some asks = pinged_has (lazied g.end) ready_has
   asking_frames alone is some asks = absurd (both_ways (asking (draft_as alone g.end).frames) refl asks)
   asking_frames (probe size) is some asks = refl
   asking_frames (closing f) is some asks = absurd (ready_closes_not e now f is)

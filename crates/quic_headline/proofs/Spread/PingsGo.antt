@@ -55,7 +55,8 @@ Streams = everything.Streams Ready ready
 ping_asks : (e : End) → e.waiting.signals.ping ≡ true → asks_to_go e ≡ true
 ping_asks e waits =
     or_left (signals_wait e.waiting.signals) (not (is_empty e.waiting.frames e.streams) || (message_waits e || can_send_stream_data e.streams))
-    (or_right (is_some e.waiting.signals.challenge) (is_some e.waiting.signals.response || e.waiting.signals.ping) (or_right (is_some e.waiting.signals.response) e.waiting.signals.ping waits))
+    (or_right (is_some e.waiting.signals.challenge) (is_some e.waiting.signals.response || (e.waiting.signals.ping || e.waiting.signals.immediate))
+    (or_right (is_some e.waiting.signals.response) (e.waiting.signals.ping || e.waiting.signals.immediate) (or_left e.waiting.signals.ping e.waiting.signals.immediate waits)))
 
 module _ (r : Run) (end : World) (honest : IsHonest r) (run : IsRun r end) where
   -- a datagram that asks has it

@@ -51,7 +51,7 @@ use Rattle.quic_headline.proofs.Sizes.Apart.{IsApart, named_apart}
 use Rattle.quic_headline.proofs.Waited.Pings.{idle_unpinged}
 use Rattle.quic_headline.proofs.Spread.Pings.{whole_pinged}
 use Rattle.quic_headline.proofs.Spread.Left.{message_left}
-use Rattle.quic_headline.proofs.Spread.Gates.{ask, IsReadied, held, passes, full, free, limited, readied}
+use Rattle.quic_headline.proofs.Spread.Gates.{ask, IsReadied, held, passes, full, free, limited, readied, asked_at}
 
 -- What is known of an end behind the first so many answers, by what the lists say of it.
 pub record Knows (r : Run) (side : Side) (i : ℕ) (e : End) : Type 0 where
@@ -198,7 +198,7 @@ module _ (K : Streams → Type 0) (spelling : Spelling K) (bringing : Bringing K
   -- ---- by how the end was made ready
 
   -- what goes with leave has at most the current size
-  whole_short : g ≡ record { leaving = whole; end = pacer_asked (begun e now) } → nat_lt (seen_at r side i).current_mtu s.size ≡ false
+  whole_short : g ≡ record { leaving = whole; end = pacer_asked (asked_at e now) } → nat_lt (seen_at r side i).current_mtu s.size ≡ false
   whole_short is = false_from_ne_true (nat_lt (seen_at r side i).current_mtu s.size) (λ long.
       let over = ltb-true (seen_at r side i).current_mtu s.size long in
       let most = leaving_size e now short (spellable_next K spelling bringing e acks short streams now (ap goes is)) whole (ap (λ (x : Ready). x.leaving) is) whole_least in
@@ -206,7 +206,7 @@ module _ (K : Streams → Type 0) (spelling : Spelling K) (bringing : Bringing K
       omega (arith, over, most, size))
 
   -- where it goes with leave, its pacer was asked
-  pass_one : gone_at r side i ≡ s ∷ [] → is_window_full e ≡ false → asks_to_go e ≡ true → g ≡ record { leaving = whole; end = pacer_asked (begun e now) } → (b : Bool) → asks_of s ≡ b → is_paced b r side i s ≡ true
+  pass_one : gone_at r side i ≡ s ∷ [] → is_window_full e ≡ false → asks_to_go (asked_at e now) ≡ true → g ≡ record { leaving = whole; end = pacer_asked (asked_at e now) } → (b : Bool) → asks_of s ≡ b → is_paced b r side i s ≡ true
   pass_one gone room asks is true loud = ap not (go (list_any is_ping s.frames) refl)
     where
       longer : Bool
@@ -219,12 +219,12 @@ module _ (K : Streams → Type 0) (spelling : Spelling K) (bringing : Bringing K
           and_right (not (wants r side i).pinged) (not (wants r side i).probed || longer) (or_from (not (wants r side i).probed) longer (ap not probed) (whole_short is))
 
       go : (c : Bool) → list_any is_ping s.frames ≡ c → probes_size r side i s ≡ false
-      go true has = and_right (list_any is_ping s.frames) (not (wants r side i).pinged && (not (wants r side i).probed || longer)) (by_asked (wants r side i).pinged refl (whole_pinged (pacer_asked (begun e now)) (zeros_behind (draft_of (record { leaving = whole; end = pacer_asked (begun e now) })))
+      go true has = and_right (list_any is_ping s.frames) (not (wants r side i).pinged && (not (wants r side i).probed || longer)) (by_asked (wants r side i).pinged refl (whole_pinged (pacer_asked (asked_at e now)) (zeros_behind (draft_of (record { leaving = whole; end = pacer_asked (asked_at e now) })))
           (subst (λ (x : Ready). list_any is_ping ((draft_of x).frames ++ replicate (zeros_behind (draft_of x)) padding) ≡ true) is has)))
       go false none = and_left (list_any is_ping s.frames) (not (wants r side i).pinged && (not (wants r side i).probed || longer)) none
   pass_one gone room asks is false quiet =
-      let silent : asking (draft_of (record { leaving = whole; end = pacer_asked (begun e now) })).frames ≡ false = sym (ap (λ (x : Ready). asking (draft_of x).frames) is) ∙ sym asks_alike ∙ quiet in
-      let waits : message_waits e ≡ true = message_left K spelling bringing (pacer_asked (begun e now)) (record { runs = acks.runs; small = acks.small; counts = acks.counts }) short (subst (λ (x : Ready). K (streams_at x.end)) is (streams now)) asks silent in
+      let silent : asking (draft_of (record { leaving = whole; end = pacer_asked (asked_at e now) })).frames ≡ false = sym (ap (λ (x : Ready). asking (draft_of x).frames) is) ∙ sym asks_alike ∙ quiet in
+      let waits : message_waits e ≡ true = message_left K spelling bringing (pacer_asked (asked_at e now)) (record { runs = acks.runs; small = acks.small; counts = acks.counts }) short (subst (λ (x : Ready). K (streams_at x.end)) is (streams now)) asks silent in
       and_from some_wait has_space (lt-ltb 0 (length (waiting_messages r side i)) (subst (λ (ms : List (List ℕ)). 0 < length ms) (sym k.messages) (some e.messages.queues.outgoing waits))) (room_is room)
     where
       some : (ms : List (List ℕ)) → is_some (fitting (least_room e) ms) ≡ true → 0 < length ms
@@ -232,7 +232,7 @@ module _ (K : Streams → Type 0) (spelling : Spelling K) (bringing : Bringing K
       some (m ∷ ms) waits = omega arith
 
   -- where neither was, what asks is a probe of a size
-  free_one : e.tracking.probes ≡ 0 → asks_to_go e ≡ false → (asking (draft_of g).frames ≡ true → IsProbing (begun e now) g) → (b : Bool) → asks_of s ≡ b → is_paced b r side i s ≡ false
+  free_one : e.tracking.probes ≡ 0 → asks_to_go (asked_at e now) ≡ false → (asking (draft_of g).frames ≡ true → IsProbing (begun e now) g) → (b : Bool) → asks_of s ≡ b → is_paced b r side i s ≡ false
   free_one none silent probes true loud =
       let q : IsProbing (begun e now) g = probes (sym asks_alike ∙ loud) in
       let has : list_any is_ping s.frames ≡ true = ap (λ (x : Ready). list_any is_ping ((draft_of x).frames ++ replicate (zeros_behind (draft_of x)) padding)) q.is in
@@ -243,10 +243,10 @@ module _ (K : Streams → Type 0) (spelling : Spelling K) (bringing : Bringing K
       let longer : nat_lt (seen_at r side i).current_mtu s.size ≡ true = lt-ltb (seen_at r side i).current_mtu s.size (omega (arith, above, size, seen)) in
       ap not (and_from (list_any is_ping s.frames) (not (wants r side i).pinged && (not (wants r side i).probed || nat_lt (seen_at r side i).current_mtu s.size)) has
       (and_from (not (wants r side i).pinged) (not (wants r side i).probed || nat_lt (seen_at r side i).current_mtu s.size) (ap not unasked) (or_right (not (wants r side i).probed) (nat_lt (seen_at r side i).current_mtu s.size) longer)))
-  free_one none silent probes false quiet = none_left (message_none (or_parts (signals_wait e.waiting.signals) (not (is_empty e.waiting.frames e.streams) || (message_waits e || can_send_stream_data e.streams)) silent).1)
+  free_one none silent probes false quiet = none_left (message_none (or_parts (signals_wait e.waiting.signals) (not (is_empty (asked_at e now).waiting.frames e.streams) || (message_waits e || can_send_stream_data e.streams)) silent).1)
     where
-      message_none : (not (is_empty e.waiting.frames e.streams) || (message_waits e || can_send_stream_data e.streams)) ≡ false → message_waits e ≡ false
-      message_none is = (or_parts (message_waits e) (can_send_stream_data e.streams) (or_parts (not (is_empty e.waiting.frames e.streams)) (message_waits e || can_send_stream_data e.streams) is).1).0
+      message_none : (not (is_empty (asked_at e now).waiting.frames e.streams) || (message_waits e || can_send_stream_data e.streams)) ≡ false → message_waits e ≡ false
+      message_none is = (or_parts (message_waits e) (can_send_stream_data e.streams) (or_parts (not (is_empty (asked_at e now).waiting.frames e.streams)) (message_waits e || can_send_stream_data e.streams) is).1).0
 
   -- ---- nothing goes
 

@@ -11,7 +11,7 @@ use Rattle.quic_machine.specs.declared.run.EndView.{EndView}
 use Rattle.quic_machine.specs.Parts.{current_mtu}
 use Rattle.quic_machine.specs.End.{End}
 use Rattle.quic_machine.specs.Control.{bytes_in_flight, paced_until, pacer_asked, with_pacing_timer, Gated, lets, holds}
-use Rattle.quic_machine.specs.Poll.{zeros_behind, waits, asking, probed, lazied, composed, asks_to_go, is_gated, gated, Ready, leaves, leaves_unless, goes, draft_of, polled}
+use Rattle.quic_machine.specs.Poll.{zeros_behind, waits, asking, probed, lazied, composed, asks_to_go, is_gated, gated, Ready, leaves, leaves_unless, goes, draft_of, polled, request_queued}
 use Rattle.quic_machine.specs.Machine.{World, end_at, control_at, policy_at}
 use Rattle.quic_machine.specs.DraftLaws.{lazy_due}
 use Rattle.quic_machine.specs.PollCases.{ready_at, draft_at, by_gate, by_leaves}
@@ -28,7 +28,7 @@ use Rattle.quic_headline.proofs.Steps.Made.{one_behind, served_before, made_at}
 use Rattle.quic_headline.proofs.Steps.Probes.{begun}
 use Rattle.quic_headline.proofs.Steps.Idle.{mute_composed}
 use Rattle.quic_headline.proofs.Steps.Pacing.{names_shown}
-use Rattle.quic_headline.proofs.Steps.Probing.{IsGiving, IsProbing, unprobed}
+use Rattle.quic_headline.proofs.Steps.Probing.{IsGiving, IsProbing, unprobed, probe_goes}
 use Rattle.quic_headline.proofs.Steps.Probing as probing
 use Rattle.quic_wire_core.specs.declared.stream_id.Side.{Side}
 use Rattle.quic_headline.proofs.Places.Parties.{with_shown, shown_at}
@@ -119,8 +119,13 @@ module _ (H : Way) (g : Group Nothing (And (And PacketsHold H) Sight)) (r : Run)
     acks = (probing.h H g r end honest run side i now gave.one w next m).takes.0.0.acks
 
     free : IsLet (begun e now) ⊎ IsProbing (begun e now) (ready_at e now)
-    free = subst (λ (z : End). IsLet z ⊎ IsProbing z (ready_at e now)) quiet
-        (let_leave (probed (begun e now)) (subst (λ (z : End). Acks z.acknowledging z.marks.came) (sym quiet) (record { runs = acks.runs; small = acks.small; counts = acks.counts })) (ap (λ (z : End). z.tracking.probes) quiet ∙ no_probe) (probed (begun e now)).path.blocked gives.some asks)
+    free = elim (let_leave x (subst (λ (z : End). Acks z.acknowledging z.marks.came) (sym quiet) (record { runs = acks.runs; small = acks.small; counts = acks.counts })) (ap (λ (z : End). z.tracking.probes) quiet ∙ no_probe) x.path.blocked gives.some asks) [
+      | inl let_it ↦ inl (subst IsLet quiet (record { room = let_it.room; unpaced = let_it.unpaced }))
+      | inr sizes ↦ inr (probe_goes e now sizes.size (ap (λ (g : Ready). g.leaving) sizes.is))
+    ]
+      where
+        x : End
+        x = request_queued (probed (begun e now))
 
     -- what lets the end give it, is seen before
     lets_it : IsLet (begun e now) → AreLetting r side i now

@@ -2,7 +2,7 @@
 use Rattle.std.proofs.Common.{◌≡◌, ℕ, ◌+◌, ◌-◌, ◌<◌, ◌≤◌, List, [], ◌∷◌, length, Bool, true, false, Some, None, refl, sym, ap, ◌∙◌, subst, arith}
 use Rattle.std.specs.Prelude.{not, ◌||◌, ◌==◌, ◌*◌, nat_lt, nat_le, if◌then◌else◌}
 use Rattle.std.specs.Option.{is_some}
-use Rattle.std.proofs.lemmas.Bool.{or_left, or_parts, and_parts, both_ways, not-false, leb-true, leb-false}
+use Rattle.std.proofs.lemmas.Bool.{or_left, or_parts, and_parts, both_ways, not-false, leb-true, leb-false, not-true}
 use Rattle.quic_wire_core.specs.Law.{length-shortest, varint_size_positive}
 use Rattle.quic_wire.specs.Value.{FrameValue, AckValue, ack, datagram}
 use Rattle.quic_wire.specs.AckGrammar.{GoDown, AckFits, ack_numbers}
@@ -11,21 +11,22 @@ use Rattle.quic_wire.specs.Writing.{frame_size}
 use Rattle.quic_wire.proofs.FrameWritten.{spelling_length}
 use Rattle.quic_recovery_core.specs.PendingAcks.{is_filled, can_send}
 use Rattle.quic_messages.specs.Messages.{fitting, frame_bytes}
-use Rattle.quic_retransmits.specs.Retransmits.{Retransmits, others_of}
+use Rattle.quic_retransmits.specs.Retransmits.{Retransmits, others_of, control_kinds}
 use Rattle.quic_streams_parts.specs.Queue.{Place, first_of, first_queued}
 use Rattle.quic_streams_parts.specs.Queue as queue
 use Rattle.quic_streams_state.specs.declared.state.StreamsState.{StreamsState}
 use Rattle.quic_retransmits.specs.declared.retransmits.ControlKind.{ControlKind}
-use Rattle.quic_streams_state.specs.Waiting.{is_empty, can_send_stream_data}
+use Rattle.quic_streams_state.specs.Waiting.{is_empty, can_send_stream_data, any_goes}
 use Rattle.quic_streams_state.specs.Control.{Entry, waiting, without_first, frame_of_first}
 use Rattle.quic_streams_state.specs.ControlLaws.{is_due, any_due, none_due, others_wait, others_same, place, same_place}
 use Rattle.quic_spaces.specs.Numbers.{cut_against}
 use Rattle.quic_machine.specs.End.{End, number_of}
 use Rattle.quic_machine.specs.Parts.{current_mtu, signals_wait}
-use Rattle.quic_machine.specs.Poll.{Draft, no_frames, frame_room, least_room, fits, with_control_frames, with_message_frames, with_stream_frames, ack_of, with_ack, composed_if, composed, asking, message_waits, asks_to_go}
+use Rattle.quic_machine.specs.Poll.{Draft, no_frames, frame_room, least_room, fits, with_control_frames, with_message_frames, with_stream_frames, ack_of, with_ack, composed_if, composed, asking, message_waits, asks_to_go, request_if, with_frequency_frame}
 use Rattle.quic_machine.specs.DraftLaws.{by_entries, by_messages, by_streams, no_signal}
 use Rattle.quic_headline.proofs.Packets.Invariant.{Acks}
 use Rattle.quic_headline.proofs.Packets.Composed.{ack_form}
+use Rattle.std.specs.List.{list_any}
 
 -- ---- what waits beside the bytes of streams
 
@@ -135,6 +136,10 @@ room_more e =
 
 -- ---- what is composed
 
+-- where nothing waits beside the bytes of streams, ACK_FREQUENCY doesn't
+pub unasked_empty : (p : Retransmits) (s : StreamsState) → is_empty p s ≡ true → p.ack_frequency ≡ false
+unasked_empty p s none = (or_parts (list_any (λ kind. any_goes kind p s) control_kinds) p.ack_frequency (not-true _ none)).1
+
 -- where nothing waits that asks, a due ACK goes alone
 pub mute_composed : (e : End) → Acks e.acknowledging e.marks.came → can_send e.acknowledging ≡ true → asks_to_go e ≡ false → asking (composed e).frames ≡ false
 mute_composed e acks due none =
@@ -145,7 +150,8 @@ mute_composed e acks due none =
     let second = mute_messages e others.0 (with_control_frames (with_ack (no_frames e))) first in
     let third = mute_streams e others.1 (with_message_frames (with_control_frames (with_ack (no_frames e)))) second in
     ap (λ (b : Bool). asking (composed_if b e).frames) due
-    ∙ ap (λ (d : Draft). asking (with_stream_frames (with_message_frames (with_control_frames d))).frames) (no_signal (with_ack (no_frames e)) signal.0)
+    ∙ ap (λ (d : Draft). asking (with_stream_frames (with_message_frames (with_control_frames (with_frequency_frame d)))).frames) (no_signal (with_ack (no_frames e)) signal.0)
+    ∙ ap (λ (b : Bool). asking (with_stream_frames (with_message_frames (with_control_frames (request_if b (with_ack (no_frames e)))))).frames) (unasked_empty e.waiting.frames e.streams (not-false (is_empty e.waiting.frames e.streams) empty.0))
     ∙ third.asks
   where
     alone : NoneDue e.waiting.frames e.streams → IsMute e (with_ack (no_frames e))

@@ -114,9 +114,27 @@ pub record CallHolds (G : Way) (r : Run) (i : ℕ) (side : Side) (call : Call) (
   pub gives : G (calling r i w side call sents) (party_at r i w (other_side side) theirs)
   pub takes : G (party_at r i w (other_side side) theirs) (calling r i w side call sents)
   pub behind : G (called (calling r i w side call sents) (given_by (other_side side) w) call a) (party_at r i w (other_side side) theirs)
+  pub behind_back : G (party_at r i w (other_side side) theirs) (called (calling r i w side call sents) (given_by (other_side side) w) call a)
+  -- how it is called
+  pub calls : Calls Nothing (calling r i w side call sents) (party_at r i w (other_side side) theirs) call a
   -- the observer of the end is that of the run
   pub seen : watch r side i ≡ watch_of (calling r i w side call sents) (party_at r i w (other_side side) theirs)
   pub seen_behind : watch r side (suc i) ≡ watch_of (called (calling r i w side call sents) (given_by (other_side side) w) call a) (party_at r i w (other_side side) theirs)
+
+-- what holds before such a call, and behind it, holds at it
+pub whole : (G : Way) (r : Run) (i : ℕ) (side : Side) (call : Call) (a : Answer) (w : World) (h : CallHolds G r i side call a w) → Calls G (calling r i w side call h.sents) (party_at r i w (other_side side) h.theirs) call a
+whole G r i side call a w h = record {
+  joined = h.calls.joined;
+  answer = h.calls.answer;
+  served = h.calls.served;
+  uses = h.calls.uses;
+  codes = h.calls.codes;
+  joined_behind = h.calls.joined_behind;
+  gives = h.gives;
+  takes = h.takes;
+  gives_behind = h.behind;
+  takes_behind = h.behind_back;
+}
 
 -- that reads the window leaves the state
 reads_state : (control : Control) (heard : Heard) (call : Call) (e : End) → (reads_window control heard call e).closing.state ≡ e.closing.state
@@ -147,6 +165,8 @@ observed_poll H r i side now a w h = record {
   gives = (h.gives.0.0, h.gives.1);
   takes = (h.takes.0.0, h.takes.1);
   behind = (h.behind.0.0, h.behind.1);
+  behind_back = (h.behind_back.0.0, h.behind_back.1);
+  calls = h.calls;
   seen = h.seen;
   seen_behind = h.seen_behind;
 }
@@ -185,8 +205,10 @@ module _ (G : Way) (g : Group Nothing G) (r : Run) (end : World) (honest : IsHon
     gives = gives_now;
     takes = takes_now;
     behind = g.writer x y call a c gives_now takes_now;
+    behind_back = g.reader x y call a c gives_now takes_now;
+    calls = c;
     seen = watch_is r honest w i side at.sents at.theirs;
-    seen_behind = watch_is r honest w (suc i) side at.sents at.theirs ∙ ap (λ (ts : List Told). folded (watch_told (lens x y)) ts (first_watch x.final x.began x.initial_rtt)) told_more;
+    seen_behind = watch_is r honest w (suc i) side at.sents at.theirs ∙ ap (λ (ts : List Told). folded (watch_told (lens x y)) ts (first_watch x.final x.began x.initial_rtt x.initial_delay)) told_more;
   }
     where
       event : RunEvent

@@ -1,19 +1,21 @@
--- Where a probe waits, something waits for it to carry: PING, or what has to be told of streams
--- (RFC 9002, section 6.2.4).
+-- Where a probe waits, something waits for it to carry: PING, IMMEDIATE_ACK, or what has to be told
+-- of streams (RFC 9002, section 6.2.4).
 use Rattle.std.proofs.Common.{◌≡◌, ℕ, [], ◌∷◌, Bool, true, false, Option, Some, None, refl, sym, ap, subst}
 use Rattle.std.specs.Prelude.{not, ◌||◌, nat_lt, if◌then◌else◌}
 use Rattle.std.proofs.lemmas.Bool.{or_left, or_right}
 use Rattle.std.specs.Option.{is_some}
 use Rattle.quic_streams_parts.specs.Table.{Table}
-use Rattle.quic_retransmits.specs.Retransmits.{merged}
+use Rattle.quic_retransmits.specs.Retransmits.{merged, control_kinds}
 use Rattle.quic_streams_state.specs.declared.state.StreamsState.{StreamsState}
 use Rattle.quic_streams_state.specs.ControlLaws.{merged_fills}
-use Rattle.quic_streams_state.specs.Waiting.{is_empty}
+use Rattle.quic_streams_state.specs.Waiting.{is_empty, any_goes}
 use Rattle.quic_spaces.specs.Records.{first_record}
 use Rattle.quic_machine.specs.Tracking.{TrackedPacket}
 use Rattle.quic_machine.specs.End.{End}
-use Rattle.quic_machine.specs.Poll.{record_moved, probe_filled, probe_if, probed}
-use Rattle.quic_machine.specs.Parts.{signals_wait}
+use Rattle.quic_machine.specs.Poll.{hastened, ping_unless, record_moved, probe_filled, probe_if, probed}
+use Rattle.quic_machine.specs.Parts.{Signals, signals_wait}
+use Rattle.quic_headline.proofs.Packets.Probes.{with_asked}
+use Rattle.std.specs.List.{list_any}
 
 -- ---- a probe
 
@@ -31,14 +33,36 @@ first_has s (q ∷ ps) p is = go (is_empty q.1.carried.retransmits s) refl is (f
 abbrev pub has_probe : End → Bool
 has_probe e = signals_wait e.waiting.signals || not (is_empty e.waiting.frames e.streams)
 
--- where a probe waits, one of them does
-pub probe_has : (e : End) → nat_lt 0 e.tracking.probes ≡ true → has_probe (probed e) ≡ true
-probe_has e waits = subst (λ (b : Bool). has_probe (probe_if b e) ≡ true) (sym waits) (filled (is_empty e.waiting.frames e.streams) refl)
+-- PING or IMMEDIATE_ACK is a signal
+signal_waits : (s : Signals) → s.ping || s.immediate ≡ true → signals_wait s ≡ true
+signal_waits s some = or_right (is_some s.challenge) (is_some s.response || (s.ping || s.immediate)) (or_right (is_some s.response) (s.ping || s.immediate) some)
+
+-- where one waits that is filled, one of them does
+filled_has : (e : End) → has_probe (probe_filled (is_empty e.waiting.frames e.streams) e) ≡ true
+filled_has e = filled (is_empty e.waiting.frames e.streams) refl
   where
+    unless : (b : Bool) → e.waiting.signals.immediate ≡ b → has_probe (ping_unless b e) ≡ true
+    unless true is = or_left (signals_wait e.waiting.signals) (not (is_empty e.waiting.frames e.streams)) (signal_waits e.waiting.signals (or_right e.waiting.signals.ping e.waiting.signals.immediate is))
+    unless false is = or_left (signals_wait (record e.waiting.signals { ping = true })) (not (is_empty e.waiting.frames e.streams)) (signal_waits (record e.waiting.signals { ping = true }) refl)
+
     moved : (o : Option (ℕ × TrackedPacket)) → first_record e.streams e.tracking.packets ≡ o → has_probe (record_moved o e) ≡ true
-    moved None is = or_left (signals_wait (record e.waiting.signals { ping = true })) (not (is_empty e.waiting.frames e.streams)) (or_right (is_some e.waiting.signals.challenge) (is_some e.waiting.signals.response || true) (or_right (is_some e.waiting.signals.response) true refl))
+    moved None is = unless e.waiting.signals.immediate refl
     moved (Some p) is = or_right (signals_wait e.waiting.signals) (not (is_empty (merged e.waiting.frames p.1.carried.retransmits) e.streams)) (ap not (merged_fills e.waiting.frames p.1.carried.retransmits e.streams (first_has e.streams e.tracking.packets p is)))
 
     filled : (b : Bool) → is_empty e.waiting.frames e.streams ≡ b → has_probe (probe_filled b e) ≡ true
     filled true is = moved (first_record e.streams e.tracking.packets) refl
     filled false is = or_right (signals_wait e.waiting.signals) (not (is_empty e.waiting.frames e.streams)) (ap not is)
+
+-- where a probe waits, one of them does
+pub probe_has : (e : End) → nat_lt 0 e.tracking.probes ≡ true → has_probe (probed e) ≡ true
+probe_has e waits = subst (λ (b : Bool). has_probe (probe_if b e) ≡ true) (sym waits) (filled_has (hastened e))
+
+-- so it is whether or not ACK_FREQUENCY waits besides
+pub asked_has : (e : End) (waits : Bool) → has_probe e ≡ true → has_probe (with_asked e (waits || e.waiting.frames.ack_frequency)) ≡ true
+asked_has e waits some = more (signals_wait e.waiting.signals) (list_any (λ kind. any_goes kind e.waiting.frames e.streams) control_kinds) e.waiting.frames.ack_frequency some
+  where
+    more : (a b c : Bool) → (a || not (not (b || c))) ≡ true → (a || not (not (b || (waits || c)))) ≡ true
+    more true b c is = refl
+    more false true c is = refl
+    more false false true is = ap (λ (d : Bool). not (not d)) (or_right waits true refl)
+    more false false false is = cc

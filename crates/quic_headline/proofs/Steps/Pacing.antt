@@ -19,7 +19,7 @@ use Rattle.quic_spaces.specs.Numbers.{can_number}
 use Rattle.quic_machine.specs.End.{End, with_closing, with_ack_timer, with_window, closed_by}
 use Rattle.quic_machine.specs.Control.{Gated, paced_until, with_pacing_timer}
 use Rattle.quic_machine.specs.Timeouts.{loss_judged}
-use Rattle.quic_machine.specs.Poll.{gated, probed, goes, sends, polled_if, polled_in, polled, Ready, leaves_unless, bounds}
+use Rattle.quic_machine.specs.Poll.{gated, probed, goes, sends, polled_if, polled_in, polled, Ready, leaves_unless, bounds, request_queued}
 use Rattle.quic_machine.specs.Receive.{timers_after}
 use Rattle.quic_spaces.specs.Acknowledging.{with_due}
 use Rattle.quic_wire_core.specs.declared.stream_id.Side.{Side}
@@ -48,15 +48,15 @@ Paces o e = (e.timers.pacing ≡ None) ⊎ (e.timers.pacing ≡ o)
 
 -- the end that asks its pacer
 abbrev asking_end : End → ℕ → End
-asking_end e now = probed (with_pacing_timer (with_closing e (ticked e.closing now)) None)
+asking_end e now = request_queued (probed (with_pacing_timer (with_closing e (ticked e.closing now)) None))
 
 -- the moment that the pacer names
 abbrev names : End → ℕ → Option ℕ
 names e now = paced_until (asking_end e now)
 
--- what waits for a probe to carry names no other
-probed_names : (x : End) → paced_until (probed x) ≡ paced_until x
-probed_names x = by_probed x (λ (z : End). paced_until z ≡ paced_until x) refl refl (λ q probes is. refl)
+-- what waits for a probe to carry names no other, nor does ACK_FREQUENCY
+probed_names : (x : End) → paced_until (request_queued (probed x)) ≡ paced_until x
+probed_names x = by_probed x (λ (z : End). paced_until z ≡ paced_until x) refl (λ immediate. refl) (λ immediate. refl) (λ immediate q probes is. refl)
 
 -- nor does whether more may go to the address
 pub names_shown : (side : Side) (w : World) (now : ℕ) → names (with_shown (end_at side w) (shown_at side w)) now ≡ pacer_names side w now
@@ -106,10 +106,10 @@ polled_paces p e now opened = subst (λ (s : State). Paces (names e now) (polled
 -- ---- any other call
 
 -- a packet that is taken leaves the timer
-pacing_after : (t : Timers) (p : Pending) (now n : ℕ) (asks : Bool) (s : Seen) → (timers_after t p now n asks s).pacing ≡ t.pacing
-pacing_after t p now n asks s = go (packet_starts_wait p n asks s)
+pacing_after : (delay : ℕ) (t : Timers) (p : Pending) (now n : ℕ) (asks : Bool) (s : Seen) → (timers_after delay t p now n asks s).pacing ≡ t.pacing
+pacing_after delay t p now n asks s = go (packet_starts_wait p n asks s)
   where
-    go : (b : Bool) → (if b then with_ack_timer t (Some (ack_due now)) else t).pacing ≡ t.pacing
+    go : (b : Bool) → (if b then with_ack_timer t (Some (ack_due delay now)) else t).pacing ≡ t.pacing
     go true = refl
     go false = refl
 
@@ -125,7 +125,7 @@ module _ (o : Option ℕ) where
     notes = λ n e i. i;
     begins = λ now n e i. i;
     frame = frame_keeps (Paces o) (record { ack = λ rises a e i. acked_keeps (Paces o) settling rises a (named a e) i; on_streams = λ f e on i. frame_leaves (Paces o) f e on (λ t. i); apart = λ f e is i. apart_leaves (Paces o) f e is (λ c. i) (λ c most. i); message = λ m e i. i });
-    takes = λ n asks mark e i. subst (λ (q : Option ℕ). (q ≡ None) ⊎ (q ≡ o)) (sym (pacing_after e.timers (with_due (is_congested mark) (after_insert e.acknowledging n e.closing.clock)) e.closing.clock n asks e.numbers.opened)) i;
+    takes = λ n asks mark e i. subst (λ (q : Option ℕ). (q ≡ None) ⊎ (q ≡ o)) (sym (pacing_after e.frequency.own_delay e.timers (with_due (is_congested mark) (after_insert e.acknowledging n e.closing.clock)) e.closing.clock n asks e.numbers.opened)) i;
     closes = λ reason e i. inl refl;
     drains = λ close e i. inl refl;
     asks_close = λ e i. i;

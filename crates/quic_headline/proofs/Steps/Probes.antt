@@ -7,7 +7,7 @@ use Rattle.std.proofs.lemmas.List.{length-append}
 use Rattle.std.proofs.lemmas.List.Folds.{list_any-append}
 use Rattle.quic_wire_core.specs.declared.stream_id.Side.{Side}
 use Rattle.quic_wire_core.specs.StreamId.{other_side}
-use Rattle.quic_wire.specs.Value.{FrameValue, padding, ack, connection_close, application_close, asks}
+use Rattle.quic_wire.specs.Value.{FrameValue, padding, ack, connection_close, application_close, asks, ack_frequency}
 use Rattle.quic_recovery_core.specs.PendingAcks.{Pending, is_filled, can_send}
 use Rattle.quic_retransmits.specs.Retransmits.{nothing_waits}
 use Rattle.quic_streams_parts.specs.Table.{added}
@@ -29,7 +29,7 @@ use Rattle.quic_machine.specs.Ids.{Ids}
 use Rattle.quic_machine.specs.Tracking.{Tracking, TrackedPacket, forgotten, without_packet, asking_sent, after_sent}
 use Rattle.quic_machine.specs.End.{End, number_of, with_closing, with_window, streams_at, closed_by}
 use Rattle.quic_machine.specs.Control.{Gated, lets, gated_if, with_pacing_timer}
-use Rattle.quic_machine.specs.Poll.{gated, mark_of, Polled, Draft, no_frames, frame_room, with_control_frames, with_message_frames, with_stream_frames, with_asking, ack_of, with_ack, ack_fits, ack_if, composed_if, composed, datagram_of, asking, packet_of, probed, lazied, message_waits, asks_to_go, draft_of, sends, polled_if, polled_in, polled, whole, Ready, leaves, free_if, waits, goes, with_signal_frames, bounds}
+use Rattle.quic_machine.specs.Poll.{gated, mark_of, Polled, Draft, no_frames, frame_room, with_control_frames, with_message_frames, with_stream_frames, with_asking, ack_of, with_ack, ack_fits, ack_if, composed_if, composed, datagram_of, asking, packet_of, probed, lazied, message_waits, asks_to_go, draft_of, sends, polled_if, polled_in, polled, whole, Ready, leaves, free_if, waits, goes, with_signal_frames, bounds, request_of, with_request, request_if, with_frequency_frame, request_queued}
 use Rattle.quic_machine.specs.Machine.{World, end_at, control_at, policy_at}
 use Rattle.quic_machine.specs.DraftLaws.{Writing, drops_of, entry_of, half_of, message_of, HasRoom, room_most, by_entries, by_messages, by_streams, signal_asks, by_some_signal, no_signal}
 use Rattle.quic_machine.specs.Puts as puts
@@ -57,7 +57,7 @@ use Rattle.quic_headline.proofs.Timers.Watched.{open_behind}
 use Rattle.quic_headline.proofs.Timers.Still.{was_open}
 use Rattle.quic_headline.proofs.Steps.Made.{made_served, made_end, MadeAt, made_at, polling, PollHolds, poll_holds, observed_poll, sents_more}
 use Rattle.quic_headline.proofs.Held.Silent.{may_go}
-use Rattle.quic_headline.proofs.Steps.Moved.{has_probe, probe_has}
+use Rattle.quic_headline.proofs.Steps.Moved.{has_probe, probe_has, asked_has}
 
 -- ---- drafts that ask
 
@@ -98,14 +98,14 @@ more_ask d is = by_streams Asks (half_of Asks asks_stay) (with_message_frames d)
 module _ (K : Streams → Type 0) (k : Spelling K) (c : Bringing K) where
   -- frames of control go behind a draft that leaves room for one, where something waits beside the
   -- bytes of streams
-  control_frames_ask : (d : Draft) → length d.bytes + 54 ≤ frame_room d.end → K (streams_at d.end) → is_empty d.end.waiting.frames d.end.streams ≡ false → Asks (with_control_frames d)
-  control_frames_ask d room i waits = go (control_or_none d)
+  control_frames_ask : (d : Draft) → length d.bytes + 54 ≤ frame_room d.end → K (streams_at d.end) → is_empty d.end.waiting.frames d.end.streams ≡ false → d.end.waiting.frames.ack_frequency ≡ false → Asks (with_control_frames d)
+  control_frames_ask d room i waits unasked = go (control_or_none d)
     where
       go : Asks (with_control_frames d) ⊎ (length (with_control_frames d).frames ≡ length d.frames) → Asks (with_control_frames d)
       go (inl is) = is
       go (inr same) =
           let gone = (control.control_frames (frame_room d.end) (length d.bytes) d.end.streams d.end.waiting.frames nothing_waits).frames in
-          let some : 0 < length gone = control_goes K k c d room i waits in
+          let some : 0 < length gone = control_goes K k c d room i waits unasked in
           let all : length (with_control_frames d).frames ≡ length d.frames + length gone = length-append d.frames gone in
           absurd (omega arith)
 
@@ -113,11 +113,22 @@ module _ (K : Streams → Type 0) (k : Spelling K) (c : Bringing K) where
   with_asking_asks : (d : Draft) → length d.bytes + 54 ≤ frame_room d.end → K (streams_at d.end) → has_probe d.end ≡ true → Asks (with_asking d)
   with_asking_asks d room i waits = signalled (signals_wait d.end.waiting.signals) refl waits
     where
+      -- ACK_FREQUENCY goes behind signals
+      behind : (b : Bool) (x : Draft) → Asks x → Asks (request_if b x)
+      behind true x is = still_asks x _ is
+      behind false x is = is
+
+      -- or before frames of control, if it waits
+      asked : (b : Bool) → d.end.waiting.frames.ack_frequency ≡ b → is_empty d.end.waiting.frames d.end.streams ≡ false → Asks (with_stream_frames (with_message_frames (with_control_frames (request_if b d))))
+      asked true is on = (let x : Draft = with_request d in more_ask (with_control_frames x) (by_entries Asks (drops_of Asks asks_stay) (entry_of Asks asks_stay) x (last_asks d (ack_frequency (request_of d.end)) refl)))
+      asked false is on = more_ask (with_control_frames d) (control_frames_ask d room i on is)
+
       signalled : (b : Bool) → signals_wait d.end.waiting.signals ≡ b → (b || not (is_empty d.end.waiting.frames d.end.streams)) ≡ true → Asks (with_asking d)
       signalled true some on =
-          let x : Draft = with_signal_frames d in
-          more_ask (with_control_frames x) (by_entries Asks (drops_of Asks asks_stay) (entry_of Asks asks_stay) x (by_some_signal Asks (λ y f left is. last_asks y f (signal_asks f is)) d some))
-      signalled false none on = subst (λ (x : Draft). Asks (with_stream_frames (with_message_frames (with_control_frames x)))) (sym (no_signal d none)) (more_ask (with_control_frames d) (control_frames_ask d room i (not-true _ on)))
+          let y : Draft = with_signal_frames d in
+          let x : Draft = with_frequency_frame y in
+          more_ask (with_control_frames x) (by_entries Asks (drops_of Asks asks_stay) (entry_of Asks asks_stay) x (behind y.end.waiting.frames.ack_frequency y (by_some_signal Asks (λ y f left is. last_asks y f (signal_asks f is)) d some)))
+      signalled false none on = subst (λ (x : Draft). Asks (with_stream_frames (with_message_frames (with_control_frames (with_frequency_frame x))))) (sym (no_signal d none)) (asked d.end.waiting.frames.ack_frequency refl (not-true _ on))
 
   -- and what is composed
   pub composed_asks : (e : End) → Acks e.acknowledging e.marks.came → HasRoom e → K (streams_at e) → has_probe e ≡ true → Asks (composed e)
@@ -128,7 +139,7 @@ module _ (K : Streams → Type 0) (k : Spelling K) (c : Bringing K) where
       late false d is = is
 
       go : (b : Bool) → can_send e.acknowledging ≡ b → Asks (composed_if b e)
-      go true due = with_asking_asks (with_ack (no_frames e)) (ack_leaves e acks (and_parts e.acknowledging.due (is_filled e.acknowledging.runs) due).1 (room_most e short)) i waits
+      go true due = with_asking_asks (with_ack (no_frames e)) (let left = ack_leaves e acks (and_parts e.acknowledging.due (is_filled e.acknowledging.runs) due).1 (room_most e short) in omega arith) i waits
       go false due = late (ack_fits (with_asking (no_frames e))) (with_asking (no_frames e)) (with_asking_asks (no_frames e) (let room = room_most e short in omega arith) i waits)
 
 -- ---- a poll where a probe waits
@@ -144,14 +155,14 @@ begun e now = with_pacing_timer (with_closing e (ticked e.closing now)) None
 module _ (e : End) (now : ℕ) (probes : 0 < e.tracking.probes) where
   -- the end where something waits for each probe
   abbrev readied : End
-  readied = probed (begun e now)
+  readied = request_queued (probed (begun e now))
 
   readied_has : has_probe readied ≡ true
-  readied_has = probe_has (begun e now) (lt-ltb 0 e.tracking.probes probes)
+  readied_has = asked_has (probed (begun e now)) _ (probe_has (begun e now) (lt-ltb 0 e.tracking.probes probes))
 
   -- as many probes wait
   readied_probes : readied.tracking.probes ≡ e.tracking.probes
-  readied_probes = by_probed (begun e now) (λ (z : End). z.tracking.probes ≡ e.tracking.probes) refl refl (λ q probes is. refl)
+  readied_probes = by_probed (begun e now) (λ (z : End). z.tracking.probes ≡ e.tracking.probes) refl (λ immediate. refl) (λ immediate. refl) (λ immediate q probes is. refl)
 
   readied_waits : waits readied ≡ true
   readied_waits =
@@ -179,23 +190,23 @@ record GivesProbe (p : Policy) (e : End) (now : ℕ) : Type 0 where
 module _ (K : Streams → Type 0) (k : Spelling K) (c : Bringing K) (p : Policy) (e : End) (now : ℕ) (probes : 0 < e.tracking.probes) (acks : Acks e.acknowledging e.marks.came) (short : HasRoom e) (streams : K (streams_at (ready_at e now).end)) (free : e.path.blocked ≡ false) where
   -- the end where something waits for each probe
   abbrev x : End
-  x = probed (begun e now)
+  x = request_queued (probed (begun e now))
 
   -- what is to be acknowledged stays
   same_acks : x.acknowledging ≡ e.acknowledging
-  same_acks = by_probed (begun e now) (λ (z : End). z.acknowledging ≡ e.acknowledging) refl refl (λ q probes is. refl)
+  same_acks = by_probed (begun e now) (λ (z : End). z.acknowledging ≡ e.acknowledging) refl (λ immediate. refl) (λ immediate. refl) (λ immediate q probes is. refl)
 
   -- and so do the ids
   same_ids : x.ids ≡ e.ids
-  same_ids = by_probed (begun e now) (λ (z : End). z.ids ≡ e.ids) refl refl (λ q probes is. refl)
+  same_ids = by_probed (begun e now) (λ (z : End). z.ids ≡ e.ids) refl (λ immediate. refl) (λ immediate. refl) (λ immediate q probes is. refl)
 
   -- and the marks with which packets came
   same_came : x.marks.came ≡ e.marks.came
-  same_came = by_probed (begun e now) (λ (z : End). z.marks.came ≡ e.marks.came) refl refl (λ q probes is. refl)
+  same_came = by_probed (begun e now) (λ (z : End). z.marks.came ≡ e.marks.came) refl (λ immediate. refl) (λ immediate. refl) (λ immediate q probes is. refl)
 
   -- and the size of datagrams
   same_size : current_mtu x.path ≡ current_mtu e.path
-  same_size = by_probed (begun e now) (λ (z : End). current_mtu z.path ≡ current_mtu e.path) refl refl (λ q probes is. refl)
+  same_size = by_probed (begun e now) (λ (z : End). current_mtu z.path ≡ current_mtu e.path) refl (λ immediate. refl) (λ immediate. refl) (λ immediate q probes is. refl)
 
   -- all that waits goes of it
   abbrev all_goes : Ready

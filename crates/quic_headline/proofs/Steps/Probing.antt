@@ -2,7 +2,7 @@
 -- size that the search names (RFC 8899, section 5.3).
 use Rattle.std.proofs.Common.{◌≡◌, ◌⊎◌, inl, inr, ℕ, suc, ◌+◌, ◌-◌, ◌<◌, ◌≤◌, ◌^◌, max, List, [], ◌∷◌, length, replicate, Bool, true, false, Some, None, Ok, refl, sym, ap, ◌∙◌, subst, arith, zero}
 use Rattle.std.specs.Prelude.{Option, Result, ◌==◌, ◌&&◌, if◌then◌else◌, ◌||◌, not}
-use Rattle.std.proofs.lemmas.Bool.{le-ltb, ltb-true, and_parts, both_ways, or_parts, or_left, lt-ltb}
+use Rattle.std.proofs.lemmas.Bool.{le-ltb, ltb-true, and_parts, both_ways, or_parts, or_left, lt-ltb, not-true, not-false}
 use Rattle.std.proofs.lemmas.List.{append_cancel_left, length-append, length-replicate}
 use Rattle.quic_wire_core.specs.StreamId.{other_side}
 use Rattle.quic_wire.specs.Value.{FrameValue, padding, ping, connection_close, application_close}
@@ -24,10 +24,10 @@ use Rattle.quic_machine.specs.Policy.{Policy}
 use Rattle.quic_machine.specs.Parts.{current_mtu, signals_wait}
 use Rattle.quic_machine.specs.Closing.{Closing, ticked}
 use Rattle.quic_machine.specs.Ids.{Ids}
-use Rattle.quic_machine.specs.End.{End, number_of, with_closing, closed_by}
+use Rattle.quic_machine.specs.End.{End, number_of, with_closing, closed_by, with_frames}
 use Rattle.quic_machine.specs.Control.{bytes_in_flight, pacer_asked, with_pacing_timer, Gated, lets, holds}
 use Rattle.quic_machine.specs.Sizes.{has_window, may_search, search_names, search_asked}
-use Rattle.quic_machine.specs.Poll.{waits, Polled, Draft, probing, asking, number_width, overhead, zeros_behind, datagram_size, after_given, probe_if, probed, asks_to_go, probe, Ready, leaves, leaves_unless, goes, draft_as, draft_of, close_to_go, after_close, polled, datagram_of, mark_of, message_waits}
+use Rattle.quic_machine.specs.Poll.{waits, Polled, Draft, probing, asking, number_width, overhead, zeros_behind, datagram_size, after_given, probe_if, probed, asks_to_go, probe, Ready, leaves, leaves_unless, goes, draft_as, draft_of, close_to_go, after_close, polled, datagram_of, mark_of, message_waits, request_queued, asks_anew}
 use Rattle.quic_machine.specs.Poll as poll
 use Rattle.quic_machine.specs.Machine.{World, end_at, control_at, given_by, policy_at, gave as gave_one}
 use Rattle.quic_machine.specs.DraftLaws.{IsClose, HasRoom, width_few}
@@ -54,9 +54,10 @@ use Rattle.quic_headline.specs.Telling.{bytes_asking}
 use Rattle.quic_headline.proofs.Held.Flight.{bytes_of_end}
 use Rattle.quic_headline.proofs.Steps.Made.{made_served, made_end, one_behind, served_before, polling, PollHolds, poll_holds, observed_poll, sents_more}
 use Rattle.quic_headline.proofs.Steps.Probes.{begun}
-use Rattle.quic_streams_state.specs.Waiting.{is_empty, can_send_stream_data}
-use Rattle.quic_headline.proofs.Steps.Moved.{probe_has}
+use Rattle.quic_streams_state.specs.Waiting.{is_empty, can_send_stream_data, any_goes}
+use Rattle.quic_headline.proofs.Steps.Moved.{probe_has, asked_has}
 use Rattle.quic_wire_core.specs.declared.stream_id.Side.{Side}
+use Rattle.quic_retransmits.specs.Retransmits.{control_kinds}
 
 -- ---- a poll that gives a datagram
 
@@ -174,12 +175,25 @@ pub record IsProbing (e : End) (g : Ready) : Type 0 where
 pub unprobed : (e : End) → e.tracking.probes ≡ 0 → probed e ≡ e
 unprobed e none = ap (λ (b : Bool). probe_if b e) (le-ltb 0 e.tracking.probes (omega arith))
 
+-- where nothing waits, the peer isn't to be asked
+pub unasked : (e : End) → waits (request_queued e) ≡ false → request_queued e ≡ e
+unasked e none = ap (λ (b : Bool). with_frames e (record e.waiting.frames { ack_frequency = b })) (off ∙ sym (or_parts (asks_anew e.transport.ack_frequency_config e) e.waiting.frames.ack_frequency off).1)
+  where
+    x : End
+    x = request_queued e
+
+    quiet : (not (is_empty x.waiting.frames x.streams) || (message_waits x || can_send_stream_data x.streams)) ≡ false
+    quiet = (or_parts (signals_wait x.waiting.signals) _ (or_parts (can_send x.acknowledging) (asks_to_go x) none).1).1
+
+    off : x.waiting.frames.ack_frequency ≡ false
+    off = (or_parts (list_any (λ kind. any_goes kind x.waiting.frames x.streams) control_kinds) x.waiting.frames.ack_frequency (not-true _ (not-false (is_empty x.waiting.frames x.streams) (or_parts (not (is_empty x.waiting.frames x.streams)) _ quiet).0))).1
+
 -- one goes only where nothing waits, so that no probe of losses does
 pub probe_goes : (e : End) (now size : ℕ) → (ready_at e now).leaving ≡ probe size → IsProbing (begun e now) (ready_at e now)
 probe_goes e now size is = go e.tracking.probes refl
   where
     y : End
-    y = probed (begun e now)
+    y = request_queued (probed (begun e now))
 
     Goes : Ready → Type 0
     Goes g = g.leaving ≡ probe size → IsProbing y g
@@ -221,10 +235,11 @@ probe_goes e now size is = go e.tracking.probes refl
     more false b c is = or_left b c is
 
     go : (n : ℕ) → e.tracking.probes ≡ n → IsProbing (begun e now) (ready_at e now)
-    go zero none = subst (λ (z : End). IsProbing z (ready_at e now)) (unprobed (begun e now) none) found
+    go zero none = subst (λ (z : End). IsProbing z (ready_at e now)) (unasked (begun e now) (subst (λ (z : End). waits (request_queued z) ≡ false) (unprobed (begun e now) none) found.idle))
+        (subst (λ (z : End). IsProbing (request_queued z) (ready_at e now)) (unprobed (begun e now) none) found)
     go (suc n) some =
         let one : 0 < e.tracking.probes = omega arith in
-        absurd (waiting y (more (signals_wait y.waiting.signals) (not (is_empty y.waiting.frames y.streams)) (message_waits y || can_send_stream_data y.streams) (probe_has (begun e now) (lt-ltb 0 e.tracking.probes one))) found.idle)
+        absurd (waiting y (more (signals_wait y.waiting.signals) (not (is_empty y.waiting.frames y.streams)) (message_waits y || can_send_stream_data y.streams) (asked_has (probed (begun e now)) _ (probe_has (begun e now) (lt-ltb 0 e.tracking.probes one)))) found.idle)
 
 -- a probe of a size has that size
 pub probe_size : (size : ℕ) (e : End) → HasRoom e → current_mtu e.path ≤ size → datagram_size (probing size e) ≡ size

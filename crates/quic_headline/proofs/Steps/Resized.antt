@@ -8,7 +8,7 @@ use Rattle.std.proofs.lemmas.List.Elements.{All-nil, All-cons, All-head, All-tai
 use Rattle.quic_wire_core.specs.declared.stream_id.Side.{Side}
 use Rattle.quic_wire_core.specs.declared.stream_id.Side.TheVariants.{Client, Server}
 use Rattle.quic_wire_core.specs.declared.shared.EcnCodepoint.{EcnCodepoint}
-use Rattle.quic_wire.specs.Value.{FrameValue, AckValue, ack, datagram, new_connection_id, retire_connection_id, path_response}
+use Rattle.quic_wire.specs.Value.{FrameValue, AckValue, ack, datagram, new_connection_id, retire_connection_id, path_response, ack_frequency}
 use Rattle.quic_wire.specs.Items.{items}
 use Rattle.quic_wire.specs.declared.frame.InvalidFrame.{InvalidFrame}
 use Rattle.quic_packet.specs.Header.{key_phase, reserved_bits}
@@ -47,7 +47,7 @@ use Rattle.quic_machine.specs.Arrival.{Arrival, delivered_by}
 use Rattle.quic_machine.specs.End.{End, with_closing, with_numbers}
 use Rattle.quic_machine.specs.Control.{Control, flies, told_sent, told_packet, told_acks_ended, last_sent}
 use Rattle.quic_machine.specs.Sizes.{is_resized, told_if_resized, told_size, with_acked, search_acked, told_packets, others_of, after_lost, is_persistent, told_congested, told_losses}
-use Rattle.quic_machine.specs.Acked.{packet_acked, packets_acked, losses_detected, after_named, verdict, told_detected, told_grown, told_taken, told_seen, told_marks, told_of_losses, told_named, told_acked, counts_answer, sampled, measured, without_acked, losses_taken}
+use Rattle.quic_machine.specs.Acked.{packet_acked, packets_acked, losses_detected, after_named, verdict, told_detected, told_grown, told_taken, told_seen, told_marks, told_of_losses, told_named, told_acked, counts_answer, sampled, measured, without_acked, losses_taken, request_acked}
 use Rattle.quic_machine.specs.Receive.{Fault, violation, Progress, message_judged, take_frame, unless_fault, take_items, take_payload, ends_as, asks_in, dropped, by_state, opened_to, opened_as, headed, received_in, is_above, names_ungiven, is_empty, take_item, told_ack, told_item, told_unless, told_items, told_payload, told_by_state, told_opened, told_opened_as, told_headed, told_received_in, opening, broke, too_many_pieces, closed_by_peer, unopened_in, is_read, drawn_if}
 use Rattle.quic_machine.specs.Poll.{Ready, polled, ready, goes, asking, datagram_size, draft_of, told_if, told_polled_in}
 use Rattle.quic_machine.specs.Poll as poll
@@ -211,7 +211,7 @@ packets_tell [] e x same = subst (λ (f : Discovery). Tells e.path.discovery [] 
 packets_tell (p ∷ ps) e x same =
     let d : Discovery = e.path.discovery in
     let f : Discovery = with_acked p d in
-    let left : (packet_acked p x).path.discovery ≡ f = ap (λ (s : Sizing). s.discovery) (carried_same p.1.carried (search_acked p x)) ∙ ap (λ (g : Discovery). with_acked p g) same in
+    let left : (packet_acked p x).path.discovery ≡ f = ap (λ (s : Sizing). s.discovery) (carried_same p.1.carried (request_acked p.0 (search_acked p x))) ∙ ap (λ (g : Discovery). with_acked p g) same in
     both d f (packets_acked ps (packet_acked p x)).path.discovery (told_packet e p ++ told_size d f) (told_packets (search_acked p e) ps)
     (both d d f (told_packet e p) (told_size d f) (still d (told_packet e p) (none_packet e p)) (resized d f (λ h. (sized_acked 1200 MAX_UDP_PAYLOAD p.0 p.1.size d h).0)))
     (packets_tell ps (search_acked p e) (packet_acked p x) left)
@@ -265,6 +265,7 @@ item_tells (Ok (datagram m)) e = go (received_answer e.transport.datagram_receiv
 item_tells (Ok (new_connection_id f)) e = apart_leaves (λ (x : End). Tells e.path.discovery [] x.path.discovery) (new_connection_id f) e tt (λ c. still e.path.discovery [] tt) (λ c most. still e.path.discovery [] tt)
 item_tells (Ok (retire_connection_id n)) e = apart_leaves (λ (x : End). Tells e.path.discovery [] x.path.discovery) (retire_connection_id n) e tt (λ c. still e.path.discovery [] tt) (λ c most. still e.path.discovery [] tt)
 item_tells (Ok (path_response token)) e = apart_leaves (λ (x : End). Tells e.path.discovery [] x.path.discovery) (path_response token) e tt (λ c. still e.path.discovery [] tt) (λ c most. still e.path.discovery [] tt)
+item_tells (Ok (ack_frequency r)) e = apart_leaves (λ (x : End). Tells e.path.discovery [] x.path.discovery) (ack_frequency r) e tt (λ c. still e.path.discovery [] tt) (λ c most. still e.path.discovery [] tt)
 item_tells (Ok f) e = still e.path.discovery [] tt
 item_tells (Err x) e = still e.path.discovery [] tt
 

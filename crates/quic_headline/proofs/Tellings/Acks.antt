@@ -176,7 +176,7 @@ IsSet j e = IsJudged j (setting e)
 
 -- packets that are acknowledged leave whether the end had nothing more to send
 acked_limited : (ps : Table TrackedPacket) (e : End) → (packets_acked ps e).path.app_limited ≡ e.path.app_limited
-acked_limited ps e = acked_keep (λ (x : End). x.path.app_limited ≡ e.path.app_limited) (λ d x i. i) (λ n x i. i) (λ id x i. i) (λ m x i. i) ps e refl
+acked_limited ps e = acked_keep (λ (x : End). x.path.app_limited ≡ e.path.app_limited) (λ d x i. i) (λ n x i. i) (λ n x i. i) (λ id x i. i) (λ m x i. i) ps e refl
 
 -- a sample is smoothed
 sample_smoothed : (r : Rtt) (delay rtt : ℕ) → (smoothed : ℕ) × ((with_sample r delay rtt).smoothed ≡ Some smoothed)
@@ -200,7 +200,7 @@ timed_set j ps rises a e i = go (measured rises a ps)
     left = without_acked ps a e
 
     stays : IsSet j left
-    stays = acked_keep (IsSet j) (λ d x k. k) (λ n x k. k) (λ id x k. k) (λ m x k. k) ps e i
+    stays = acked_keep (IsSet j) (λ d x k. k) (λ n x k. k) (λ n x k. k) (λ id x k. k) (λ m x k. k) ps e i
 
     go : (o : Option TrackedPacket) → IsSet j (sampled o a left)
     go None = stays

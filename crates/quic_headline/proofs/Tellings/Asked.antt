@@ -4,7 +4,7 @@ use Rattle.std.proofs.Common.{◌≡◌, ℕ, Bool, true, false, List, Option, S
 use Rattle.std.specs.declared.ops.Range.{Range}
 use Rattle.quic_wire_core.specs.declared.stream_id.Side.{Side}
 use Rattle.quic_wire_core.specs.TransportError.{ErrorValue}
-use Rattle.quic_wire.specs.Value.{FrameValue, ack, stream, reset_stream, stop_sending, max_data, max_stream_data, max_streams, datagram, path_response, new_connection_id, retire_connection_id}
+use Rattle.quic_wire.specs.Value.{FrameValue, ack, stream, reset_stream, stop_sending, max_data, max_stream_data, max_streams, datagram, path_response, new_connection_id, retire_connection_id, ack_frequency}
 use Rattle.quic_parameters.specs.Parameters.{ParameterValues}
 use Rattle.quic_config.specs.Transport.{Settings}
 use Rattle.quic_time.specs.Timers.{Timers, has_come}
@@ -31,8 +31,8 @@ use Rattle.quic_machine.specs.MessageCalls.{most_message}
 use Rattle.quic_machine.specs.Sizes.{without_longer_if, shortened}
 use Rattle.quic_machine.specs.Closing.{ticked}
 use Rattle.quic_machine.specs.Idle.{keep_alive_expired}
-use Rattle.quic_machine.specs.Ids.{frame_of, retires_for, retired, may_issue, retires_for_next, next_used}
-use Rattle.quic_machine.specs.IdFrames.{retiring, with_taken_up, issued_if, next_id_taken, end_on_next_id}
+use Rattle.quic_machine.specs.Ids.{frame_of, retires_for, retired, retires_for_next, next_used}
+use Rattle.quic_machine.specs.IdFrames.{retiring, with_taken_up, issued_if, issues_for, next_id_taken, end_on_next_id}
 use Rattle.quic_machine.specs.Validation.{word_of, validated_if, path_expired}
 use Rattle.quic_machine.specs.End.{End, new_end, with_ids, with_closing, with_ack_timer, closed_by}
 use Rattle.quic_machine.specs.Receive.{timers_after, retired_for, id_judged, retirement_judged, take_frame}
@@ -46,7 +46,7 @@ use Rattle.quic_machine.specs.Puts as puts
 use Rattle.quic_machine.specs.PollCases.{ready_at, ready_leaves, draft_at, may_leave_at, by_poll_to}
 use Rattle.quic_machine.specs.CallCases.{Plain, is_timeout, by_plain_call}
 use Rattle.quic_machine.specs.CallCases as cases
-use Rattle.quic_headline.proofs.Packets.Apart.{by_waits}
+use Rattle.quic_headline.proofs.Packets.Apart.{by_waits, by_frequency}
 use Rattle.quic_headline.proofs.Packets.Closes.{by_closes}
 use Rattle.quic_headline.proofs.Packets.Heard.{by_taken}
 use Rattle.quic_headline.proofs.Packets.Probes.{by_going}
@@ -101,23 +101,24 @@ apart_unasked (retire_connection_id n) e apart i = go (retirement_answer e.ids.o
     issues false = i
 
     go : (r : Result Bool ErrorValue) → IsUnasked (retirement_judged r n e).end
-    go (Ok more) = issues (may_issue e.ids n)
+    go (Ok more) = issues (issues_for n e)
     go (Err error) = i
 apart_unasked (path_response token) e apart i = go (is_asked e.validation.challenge (word_of token))
   where
     go : (b : Bool) → IsUnasked (validated_if b e)
     go true = (refl, refl)
     go false = i
+apart_unasked (ack_frequency r) e apart i = by_frequency IsUnasked r e (λ threshold reordering frequency. i)
 apart_unasked f e apart i = i
 
 pub frame_unasked : (f : FrameValue) (e : End) → IsUnasked e → IsUnasked (take_frame f e).end
 frame_unasked = frame_keeps IsUnasked (record { ack = λ rises a e i. acked_keeps IsUnasked settling rises a (named a e) i; on_streams = λ f e on i. frame_leaves IsUnasked f e on (λ t. i); apart = apart_unasked; message = λ m e i. i })
 
 -- a number that is noted may let the timer of acknowledgements run
-noted_unasked : (t : Timers) (p : Pending) (now n : ℕ) (asking : Bool) (seen : Seen) → t.path_validation ≡ None → (timers_after t p now n asking seen).path_validation ≡ None
-noted_unasked t p now n asking seen is = go (packet_starts_wait p n asking seen)
+noted_unasked : (delay : ℕ) (t : Timers) (p : Pending) (now n : ℕ) (asking : Bool) (seen : Seen) → t.path_validation ≡ None → (timers_after delay t p now n asking seen).path_validation ≡ None
+noted_unasked delay t p now n asking seen is = go (packet_starts_wait p n asking seen)
   where
-    go : (b : Bool) → (if b then with_ack_timer t (Some (ack_due now)) else t).path_validation ≡ None
+    go : (b : Bool) → (if b then with_ack_timer t (Some (ack_due delay now)) else t).path_validation ≡ None
     go true = is
     go false = is
 
@@ -126,7 +127,7 @@ receives = record {
   notes = λ n e i. i;
   begins = λ now n e i. i;
   frame = frame_unasked;
-  takes = λ n asks mark e i. by_taken IsUnasked n asks mark e (λ idle alive. (i.0, noted_unasked e.timers (with_due (is_congested mark) (after_insert e.acknowledging n e.closing.clock)) e.closing.clock n asks e.numbers.opened i.1));
+  takes = λ n asks mark e i. by_taken IsUnasked n asks mark e (λ idle alive. (i.0, noted_unasked e.frequency.own_delay e.timers (with_due (is_congested mark) (after_insert e.acknowledging n e.closing.clock)) e.closing.clock n asks e.numbers.opened i.1));
   closes = λ reason e i. (i.0, refl);
   drains = λ close e i. (i.0, refl);
   asks_close = λ e i. i;

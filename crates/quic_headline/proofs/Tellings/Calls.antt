@@ -67,7 +67,7 @@ use Rattle.quic_headline.proofs.Tellings.Hearing.{AreSent, Hearings, by_hearing,
 
 -- what is told by one
 plain_call : (l : Lens) (c : TransportSettings) (validated : Bool) (first : Option ℕ) (limited : Bool) (w : Watch) (t : Told) (late : List congestion.Told) (went : List Sent) → and_told l.own l.peer_gave t w.intake ≡ w.intake
-    → (let clock = clock_behind w.clock (moment_of t.state false t.call) in TellsMoment (is_timely t.state t.call && is_past (loss_due l.terms w.flight) clock) (judging l c validated first limited w) clock w.flight late)
+    → (let clock = clock_behind w.clock (moment_of t.state false t.call) in TellsMoment (is_timely t.state t.call && is_past (loss_due w.flight) clock) (judging l c validated first limited w) clock w.flight late)
     → (watch_told l t w).own ≡ w.own ++ went → TellsCall l c validated first limited w t (late ++ told_gone went)
 plain_call l c validated first limited w t late went same told own = record {
   after = w.intake;
@@ -79,7 +79,7 @@ plain_call l c validated first limited w t late went same told own = record {
   refused = [];
   refuses = subst (λ (b : Bool). TellsPart (judging l c validated first limited w) clock (b && is_refused t.answer) w.intake.part w.flight []) (sym (none_opened w.intake)) refl;
   late = late;
-  expires = subst (λ (ps : List Packet). let f = after_packets l.terms clock ps w.flight in TellsMoment (is_timely t.state t.call && is_past (loss_due l.terms f) clock) (judging l c validated first limited w) clock f late) (sym (none_new w.intake)) told;
+  expires = subst (λ (ps : List Packet). let f = after_packets l.terms clock ps w.flight in TellsMoment (is_timely t.state t.call && is_past (loss_due f) clock) (judging l c validated first limited w) clock f late) (sym (none_new w.intake)) told;
   went = went;
   gave = own;
   is = refl;
@@ -92,7 +92,7 @@ plain_call l c validated first limited w t late went same told own = record {
 pub quiet_call : (l : Lens) (c : TransportSettings) (validated : Bool) (first : Option ℕ) (limited : Bool) (w : Watch) (t : Told) → and_told l.own l.peer_gave t w.intake ≡ w.intake → is_timely t.state t.call ≡ false → gave t.answer ≡ false → TellsCall l c validated first limited w t []
 quiet_call l c validated first limited w t same untimed none =
     let clock : ℕ = clock_behind w.clock (moment_of t.state false t.call) in
-    plain_call l c validated first limited w t [] [] same (subst (λ (b : Bool). TellsMoment (b && is_past (loss_due l.terms w.flight) clock) (judging l c validated first limited w) clock w.flight []) (sym untimed) refl) (told_own l t w none ∙ sym (append-nil w.own))
+    plain_call l c validated first limited w t [] [] same (subst (λ (b : Bool). TellsMoment (b && is_past (loss_due w.flight) clock) (judging l c validated first limited w) clock w.flight []) (sym untimed) refl) (told_own l t w none ∙ sym (append-nil w.own))
 
 -- ---- a poll
 
@@ -259,7 +259,7 @@ module _ (x y : Party) (joined : AreJoined x y) (meets : Meets y x) (sight : Sig
       let told : told_polled x.policy x.end now ≡ told_gone went = poll_told x.policy x.end now owes ∙ ap (λ (b : Answer). told_gone (sent_if (gave b) (sent_by x.policy x.end now))) (sym (poll_answer x.policy x.end now a is served)) in
       subst (λ (ts : List congestion.Told). TellsCall (lens x y) c validated first limited seen t ts) (sym told)
       (plain_call (lens x y) c validated first limited seen t [] went (none_comes (lens x y) t seen.intake refl)
-      (subst (λ (b : Bool). TellsMoment (b && is_past (loss_due x.terms seen.flight) clock) j clock seen.flight []) (sym (untimely t.state t.call refl)) refl)
+      (subst (λ (b : Bool). TellsMoment (b && is_past (loss_due seen.flight) clock) j clock seen.flight []) (sym (untimely t.state t.call refl)) refl)
       (sym (ap (λ (w : Watch). w.own) (folded_more (watch_told (lens x y)) x.told t _)) ∙ behind ∙ ap (λ (ss : List Sent). ss ++ went) (sym sight.own)))
 
   -- ---- a delivery

@@ -119,7 +119,7 @@ module _ (j : Judging) (now : ℕ) (flew : List Sent) (before : ℕ) where
       second = waited_filter (λ s. not (names a s.number)) (λ p. not (names a p.0)) (λ s p w. ap (λ (n : ℕ). not (names a n)) (sym w.number)) x.flying e.tracking.packets r.waits.tells.waits
 
       counts : Tells j.terms now (counted a x) (held (named a e))
-      counts = let w = r.waits.tells in record { terms = w.terms; clock = w.clock; named = ap (λ (o : Option ℕ). Some (greatest_of o a.largest)) w.named; waits = w.waits; asked = w.asked; rtt = w.rtt }
+      counts = let w = r.waits.tells in record { terms = w.terms; clock = w.clock; named = ap (λ (o : Option ℕ). Some (greatest_of o a.largest)) w.named; waits = w.waits; asked = w.asked; rtt = w.rtt; delay = w.delay; request = w.request }
 
       set : IsSet j (named a e)
       set = r.set

@@ -6,6 +6,7 @@ use Rattle.std.specs.List.{list_any}
 use Rattle.std.proofs.lemmas.Bool.{eq-eqb}
 use Rattle.std.proofs.lemmas.List.Sums.{sum_by-cons}
 use Rattle.quic_time.specs.Rtt.{Rtt}
+use Rattle.quic_recovery_core.specs.AckFrequency.{longest_delay}
 use Rattle.quic_time.specs.Clocks.{saturated}
 use Rattle.quic_config.specs.Transport.{TransportSettings}
 use Rattle.quic_congestion.specs.Congestion.{Told, Congested, Resized}
@@ -19,11 +20,11 @@ use Rattle.quic_machine.specs.Control.{flies, last_sent, persistent_period}
 use Rattle.quic_machine.specs.Sizes.{is_resized, told_if_resized, told_size, is_probe, others_of, after_lost, loss_of, is_persistent, told_congested}
 use Rattle.quic_machine.specs.Acked.{verdict, told_detected}
 use Rattle.quic_headline.specs.Runs.{In}
-use Rattle.quic_headline.specs.Observer.{Sent, asks_of, Terms, terms_of, Flight, latest, is_lost, waited}
+use Rattle.quic_headline.specs.Observer.{Sent, asks_of, Terms, Flight, latest, is_lost}
 use Rattle.quic_headline.specs.Telling.{Judging, measured_first, told_if, MayProbe, lost_at, but_for_probe, bytes_asking, last_moment, lasting, loss_as, TellsLosses}
 use Rattle.quic_headline.proofs.Packets.Named.{in_filter}
 use Rattle.quic_headline.proofs.Packets.Waited.{IsWaited, AreWaited, waited_filter, waited_any}
-use Rattle.quic_headline.proofs.Packets.Flying.{Tells, held, lost_waited}
+use Rattle.quic_headline.proofs.Packets.Flying.{Tells, held, reckoned, longest_same, lost_waited}
 use Rattle.quic_headline.proofs.Held.Flight.{flies_same}
 use Rattle.quic_headline.proofs.Sizes.Search.{lost_falls}
 
@@ -100,15 +101,15 @@ open_shown n d = go (search_of d)
 once : (n : ℕ) → min n latest ≡ min (min n latest * 1) latest
 once n = omega arith
 
-waited_once : (e : End) → probe_timeout e ≡ waited (terms_of e) e.path.rtt 0
+waited_once : (e : End) → probe_timeout e ≡ reckoned e.path.rtt (longest_delay e.frequency) 0
 waited_once e = once _
 
 -- so far apart both want what shows it to have gone
-lasting_same : (t : Terms) (now : ℕ) (f : Flight) (e : End) → Tells t now f (held e) → persistent_period e ≡ lasting t e.transport f.rtt
+lasting_same : (t : Terms) (now : ℕ) (f : Flight) (e : End) → Tells t now f (held e) → persistent_period e ≡ lasting e.transport f
 lasting_same t now f e w =
     ap (λ (n : ℕ). saturated (e.transport.persistent_congestion_threshold * n)) (waited_once e)
-    ∙ ap (λ (r : Rtt). lasting (terms_of e) e.transport r) (sym w.rtt)
-    ∙ ap (λ (u : Terms). lasting u e.transport f.rtt) (sym w.terms)
+    ∙ ap (λ (r : Rtt). saturated (e.transport.persistent_congestion_threshold * reckoned r (longest_delay e.frequency) 0)) (sym w.rtt)
+    ∙ ap (λ (d : ℕ). saturated (e.transport.persistent_congestion_threshold * reckoned f.rtt d 0)) (longest_same t now f e w)
 
 -- only an ACK shows it
 by_both : (b c : Bool) (P : Type 0) → (c ≡ true) ↔ P → (b && c ≡ true) ↔ ((b ≡ true) × P)
@@ -128,7 +129,7 @@ losses_told j now by_ack f e w first settings measured floor probes = record {
   pinged = λ s among is. (let shown = open_shown s.number d is in probes s (in_filter (λ u. is_lost j.terms _ now _ u) s f.flying among) shown.0 shown.1);
   falls = is_resized d g;
   persists = persists;
-  persistent = by_both by_ack (is_persistent e lost) (IsPersistent (lasting j.terms j.settings f.rtt) sampled (map (loss_as probe) gone)) found;
+  persistent = by_both by_ack (is_persistent e lost) (IsPersistent (lasting j.settings f) sampled (map (loss_as probe) gone)) found;
   is =
       ap (λ (ts : List Told). ts ++ told_congested by_ack e lost) (size_told d g j.settings.min_mtu fell)
       ∙ ap (λ (ts : List Told). told_if (is_resized d g) (Resized j.settings.min_mtu) ++ ts) congested;
@@ -170,9 +171,9 @@ losses_told j now by_ack f e w first settings measured floor probes = record {
       | inr least ↦ inr (least.0 ∙ floor)
     ]
 
-    found : (is_persistent e lost ≡ true) ↔ IsPersistent (lasting j.terms j.settings f.rtt) sampled (map (loss_as probe) gone)
+    found : (is_persistent e lost ≡ true) ↔ IsPersistent (lasting j.settings f) sampled (map (loss_as probe) gone)
     found =
-        subst (λ (n : ℕ). (is_persistent e lost ≡ true) ↔ IsPersistent n sampled (map (loss_as probe) gone)) (lasting_same j.terms now f e w ∙ ap (λ (x : TransportSettings). lasting j.terms x f.rtt) settings)
+        subst (λ (n : ℕ). (is_persistent e lost ≡ true) ↔ IsPersistent n sampled (map (loss_as probe) gone)) (lasting_same j.terms now f e w ∙ ap (λ (x : TransportSettings). lasting x f) settings)
         (subst (λ (o : Option ℕ). (is_persistent e lost ≡ true) ↔ IsPersistent (persistent_period e) o (map (loss_as probe) gone)) measured
         (subst (λ (ls : List Loss). (is_persistent e lost ≡ true) ↔ IsPersistent (persistent_period e) e.path.first_after_rtt ls) (losses_same d gone lost both) (finds_persistent (persistent_period e) e.path.first_after_rtt (map (loss_of d) lost))))
 

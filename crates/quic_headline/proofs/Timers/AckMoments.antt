@@ -36,7 +36,6 @@ use Rattle.quic_machine.specs.Puts as puts
 use Rattle.quic_headline.specs.Runs.{Told, Packet, Intake, folded}
 use Rattle.quic_headline.specs.Observer.{Sent, first_watch, news, Lens, watch_told}
 use Rattle.quic_headline.specs.Moments.{is_ack, acknowledges, Debt, debt_told, first_debt}
-use Rattle.quic_headline.specs.Waited.{one_asks}
 use Rattle.quic_headline.proofs.Packets.Entries.{IsControl, control_of}
 use Rattle.quic_headline.proofs.Packets.Delivered.{Arrivals, arrived, with_taken}
 use Rattle.quic_headline.proofs.Packets.Watching.{one_new}
@@ -52,7 +51,7 @@ use Rattle.quic_headline.proofs.Packets.Closes.{by_closes}
 use Rattle.quic_headline.proofs.Packets.Apart.{by_waits, by_next_id}
 use Rattle.quic_headline.proofs.Packets.Sends.{by_sends}
 use Rattle.quic_headline.proofs.Packets.Bare.{one_bare}
-use Rattle.quic_headline.proofs.Rest.Standing.{frames_acks}
+use Rattle.quic_headline.proofs.Rest.Standing.{CountsOn, frames_acks}
 use Rattle.quic_headline.proofs.Packets.Owing as owing
 use Rattle.quic_machine.specs.DraftLaws.{IsClose}
 
@@ -193,11 +192,15 @@ call_none p e theirs call a apart = by_plain_call p e theirs (SetsNone e) call a
 
 -- ---- a delivery
 
--- the timer was set, or it is set to 25 ms behind the clock for a packet that came and asks, where
--- none was waited for, and no acknowledgement was due
+-- whether one of these packets asks for an acknowledgement
+abbrev pub one_asks : List Packet → Bool
+one_asks ps = list_any (λ p. list_any asks p.frames) ps
+
+-- the timer was set, or it is set for a packet that came and asks, as far behind the clock as an
+-- acknowledgement may wait, where none was waited for, and no acknowledgement was due
 abbrev pub SetBy : End → Intake → End → Intake → Type 0
 SetBy e i f j = (moment : ℕ) → f.timers.max_ack_delay ≡ Some moment
-    → (e.timers.max_ack_delay ≡ Some moment) ⊎ ((moment ≡ ack_due f.closing.clock) × (one_asks (news i j) ≡ true) × (is_none e.acknowledging.since ≡ true) × (e.acknowledging.due ≡ false))
+    → (e.timers.max_ack_delay ≡ Some moment) ⊎ ((moment ≡ ack_due f.frequency.own_delay f.closing.clock) × (one_asks (news i j) ≡ true) × (is_none e.acknowledging.since ≡ true) × (e.acknowledging.due ≡ false))
 
 -- frames leave the timer
 pub frames_timer : (fs : List FrameValue) (e : End) → HasTimer e.timers.max_ack_delay (passed fs e).end
@@ -255,18 +258,23 @@ starts_anew mark p now n s starts =
     let quiet = none_due counted.due (is_filled counted.runs) (most_filled (with_one p.runs n) (one_filled p.runs n)) parts.1 in
     (parts.0, (or_parts p.due mark (or_parts noted.due _ quiet).0).0)
 
+-- what isn't so then wasn't before
+was_not : (before after : Bool) → (before ≡ true → after ≡ true) → after ≡ false → before ≡ false
+was_not true after stays none = (let clash : true ≡ false = sym (stays refl) ∙ none in cc)
+was_not false after stays none = refl
+
 -- a packet sets it only where it asks, and starts it so
-taken_set : (e f : End) (n : ℕ) (asking : Bool) (mark : Option EcnCodepoint) → f.timers.max_ack_delay ≡ e.timers.max_ack_delay → f.acknowledging ≡ record e.acknowledging { runs = f.acknowledging.runs } → (moment : ℕ) → (after_taken n asking mark f).timers.max_ack_delay ≡ Some moment
-    → (e.timers.max_ack_delay ≡ Some moment) ⊎ ((moment ≡ ack_due f.closing.clock) × (asking ≡ true) × (is_none e.acknowledging.since ≡ true) × (e.acknowledging.due ≡ false))
-taken_set e f n false mark same acks moment set = inl (sym same ∙ set)
-taken_set e f n true mark same acks moment set = go (starts_wait (asking_counted (with_due (is_congested mark) (after_insert f.acknowledging n f.closing.clock)) n f.numbers.opened)) refl set
+taken_set : (e f : End) (n : ℕ) (asking : Bool) (mark : Option EcnCodepoint) → f.timers.max_ack_delay ≡ e.timers.max_ack_delay → CountsOn e f → (moment : ℕ) → (after_taken n asking mark f).timers.max_ack_delay ≡ Some moment
+    → (e.timers.max_ack_delay ≡ Some moment) ⊎ ((moment ≡ ack_due f.frequency.own_delay f.closing.clock) × (asking ≡ true) × (is_none e.acknowledging.since ≡ true) × (e.acknowledging.due ≡ false))
+taken_set e f n false mark same counts moment set = inl (sym same ∙ set)
+taken_set e f n true mark same counts moment set = go (starts_wait (asking_counted (with_due (is_congested mark) (after_insert f.acknowledging n f.closing.clock)) n f.numbers.opened)) refl set
   where
-    go : (b : Bool) → starts_wait (asking_counted (with_due (is_congested mark) (after_insert f.acknowledging n f.closing.clock)) n f.numbers.opened) ≡ b → (if b then with_ack_timer f.timers (Some (ack_due f.closing.clock)) else f.timers).max_ack_delay ≡ Some moment
-        → (e.timers.max_ack_delay ≡ Some moment) ⊎ ((moment ≡ ack_due f.closing.clock) × (true ≡ true) × (is_none e.acknowledging.since ≡ true) × (e.acknowledging.due ≡ false))
+    go : (b : Bool) → starts_wait (asking_counted (with_due (is_congested mark) (after_insert f.acknowledging n f.closing.clock)) n f.numbers.opened) ≡ b → (if b then with_ack_timer f.timers (Some (ack_due f.frequency.own_delay f.closing.clock)) else f.timers).max_ack_delay ≡ Some moment
+        → (e.timers.max_ack_delay ≡ Some moment) ⊎ ((moment ≡ ack_due f.frequency.own_delay f.closing.clock) × (true ≡ true) × (is_none e.acknowledging.since ≡ true) × (e.acknowledging.due ≡ false))
     go true starts is =
-        let due : ack_due f.closing.clock ≡ moment = cc in
+        let due : ack_due f.frequency.own_delay f.closing.clock ≡ moment = cc in
         let anew = starts_anew (is_congested mark) f.acknowledging f.closing.clock n f.numbers.opened starts in
-        inr (sym due, refl, ap (λ (p : Pending). is_none p.since) (sym acks) ∙ anew.0, ap (λ (p : Pending). p.due) (sym acks) ∙ anew.1)
+        inr (sym due, refl, ap (λ (o : Option ℕ). is_none o) (sym counts.since) ∙ anew.0, was_not e.acknowledging.due f.acknowledging.due counts.due anew.1)
     go false starts is = inl (sym same ∙ is)
 
 or_false : (b : Bool) → (b || false) ≡ b
@@ -284,8 +292,8 @@ arrivals_set e now n frames i = record {
   exhausts = λ state moment set. cc;
 }
   where
-    taken : (moment : ℕ) → (e.timers.max_ack_delay ≡ Some moment) ⊎ ((moment ≡ ack_due (arrived e now n frames).end.closing.clock) × (asks_in (map Ok frames) ≡ true) × (is_none e.acknowledging.since ≡ true) × (e.acknowledging.due ≡ false))
-        → (e.timers.max_ack_delay ≡ Some moment) ⊎ ((moment ≡ ack_due (arrived e now n frames).end.closing.clock) × (one_asks (news i (with_taken i n frames)) ≡ true) × (is_none e.acknowledging.since ≡ true) × (e.acknowledging.due ≡ false))
+    taken : (moment : ℕ) → (e.timers.max_ack_delay ≡ Some moment) ⊎ ((moment ≡ ack_due (arrived e now n frames).end.frequency.own_delay (arrived e now n frames).end.closing.clock) × (asks_in (map Ok frames) ≡ true) × (is_none e.acknowledging.since ≡ true) × (e.acknowledging.due ≡ false))
+        → (e.timers.max_ack_delay ≡ Some moment) ⊎ ((moment ≡ ack_due (arrived e now n frames).end.frequency.own_delay (arrived e now n frames).end.closing.clock) × (one_asks (news i (with_taken i n frames)) ≡ true) × (is_none e.acknowledging.since ≡ true) × (e.acknowledging.due ≡ false))
     taken moment (inl was) = inl was
     taken moment (inr due) = inr (due.0, ap (λ (ps : List Packet). one_asks ps) (one_new i n frames) ∙ or_false (list_any asks frames) ∙ sym (asks_same frames) ∙ due.1, due.2, due.3)
 
@@ -297,15 +305,15 @@ call_set x y call a c = by_coming x y a c.joined c.served (meets y x c.takes.0) 
   comes = λ delivery is s among. arrivals_set x.end delivery.now s.number s.frames (came_to x y);
 })
 
--- ---- the observer's arrivals
+-- ---- the observer's deadlines
 
 -- nothing came to an end that gives these datagrams in all, and was made at a moment
-abbrev pub debt_first : List (List ℕ) → ℕ → ℕ → Debt
-debt_first final start initial_rtt = first_debt (first_watch final start initial_rtt)
+abbrev pub debt_first : List (List ℕ) → ℕ → ℕ → ℕ → Debt
+debt_first final start initial_rtt initial_delay = first_debt (first_watch final start initial_rtt initial_delay)
 
 -- what the observer of x knows
 abbrev pub debt_of : Party → Party → Debt
-debt_of x y = folded (debt_told (lens x y)) x.told (debt_first x.final x.began x.initial_rtt)
+debt_of x y = folded (debt_told (lens x y)) x.told (debt_first x.final x.began x.initial_rtt x.initial_delay)
 
 -- the watch within the debt is the observer's
 pub owed_watch : (l : Lens) (told : List Told) (d : Debt) → (folded (debt_told l) told d).watch ≡ folded (watch_told l) told d.watch

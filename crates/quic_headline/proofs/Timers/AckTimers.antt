@@ -29,7 +29,7 @@ use Rattle.quic_machine.specs.LeaveCases.{at_expiry, Expired, by_timers}
 use Rattle.quic_machine.specs.CallCases.{Plain, by_plain_call}
 use Rattle.quic_machine.specs.CallCases as cases
 use Rattle.quic_machine.specs.FrameCases.{Settling, Receives, named, acked_keeps, losses_keep, frame_keeps, frame_leaves, by_received, IsApart, apart_leaves}
-use Rattle.quic_headline.proofs.Packets.Apart.{apart_acks, by_waits, by_next_id, next_acks}
+use Rattle.quic_headline.proofs.Packets.Apart.{AsksAnew, apart_acks, by_waits, by_next_id, next_acks}
 use Rattle.quic_machine.specs.Steps as steps
 use Rattle.quic_machine.specs.PollCases.{ready_at, ready_leaves, by_poll_to, draft_at, may_leave_at}
 use Rattle.quic_headline.proofs.Timers.BothEnds.{run_keeps}
@@ -59,26 +59,26 @@ wait_counts true p now = refl
 wait_counts false p now = refl
 
 -- a packet that asks counts, and where none asks the timer stays
-packet_counts : (asks : Bool) (t : Timers) (p : Pending) (now n : ℕ) (s : Seen) → (is_some t.max_ack_delay ≡ true → 0 < p.asking) → is_some (timers_after t p now n asks s).max_ack_delay ≡ true → 0 < (after_packet p now n asks s).asking
-packet_counts true t p now n s i set =
+packet_counts : (delay : ℕ) (asks : Bool) (t : Timers) (p : Pending) (now n : ℕ) (s : Seen) → (is_some t.max_ack_delay ≡ true → 0 < p.asking) → is_some (timers_after delay t p now n asks s).max_ack_delay ≡ true → 0 < (after_packet p now n asks s).asking
+packet_counts delay true t p now n s i set =
     let counted = asking_counted p n s in
     let is : (after_packet p now n true s).asking ≡ min (p.asking + 1) (2 ^ 64 - 1) = wait_counts (starts_wait counted) counted now in
     omega (arith, is)
-packet_counts false t p now n s i set = i set
+packet_counts delay false t p now n s i set = i set
 
--- a frame apart from streams leaves what is to be acknowledged, and its timer
+-- a frame apart from streams leaves what is counted, and the timer
 apart_follows : (f : FrameValue) (e : End) → IsApart f → AckTimerFollows e → AckTimerFollows (take_frame f e).end
-apart_follows f e is i = apart_leaves (λ (x : End). x.acknowledging ≡ e.acknowledging → AckTimerFollows x) f e is (λ c same. still same) (λ c most same. still same) (apart_acks f e is)
+apart_follows f e is i = apart_leaves (λ (x : End). AsksAnew e.acknowledging x.acknowledging → AckTimerFollows x) f e is (λ c anew. still anew) (λ c most anew. still anew) (apart_acks f e is)
   where
-    still : {p : Pending} → p ≡ e.acknowledging → e.closing.state ≡ states.Open → is_some e.timers.max_ack_delay ≡ true → 0 < p.asking
-    still same opened set = subst (λ (a : Pending). 0 < a.asking) (sym same) (i opened set)
+    still : {p : Pending} → AsksAnew e.acknowledging p → e.closing.state ≡ states.Open → is_some e.timers.max_ack_delay ≡ true → 0 < p.asking
+    still anew opened set = subst (λ (k : ℕ). 0 < k) (sym (ap (λ (a : Pending). a.asking) anew.others)) (i opened set)
 
 receives : Receives AckTimerFollows
 receives = record {
   notes = λ n e i. i;
   begins = λ now n e i. i;
   frame = frame_keeps AckTimerFollows (record { ack = λ rises a e i. acked_keeps AckTimerFollows settling rises a (named a e) i; on_streams = λ f e on i. frame_leaves AckTimerFollows f e on (λ t. i); apart = apart_follows; message = λ m e i. i });
-  takes = λ n asks mark e i. by_taken AckTimerFollows n asks mark e (λ idle alive opened. packet_counts asks e.timers (with_due (is_congested mark) (after_insert e.acknowledging n e.closing.clock)) e.closing.clock n e.numbers.opened (i opened));
+  takes = λ n asks mark e i. by_taken AckTimerFollows n asks mark e (λ idle alive opened. packet_counts e.frequency.own_delay asks e.timers (with_due (is_congested mark) (after_insert e.acknowledging n e.closing.clock)) e.closing.clock n e.numbers.opened (i opened));
   closes = λ reason e i. closed_follows reason e;
   drains = λ close e i opened. cc;
   asks_close = λ e i. i;

@@ -51,7 +51,7 @@ use Rattle.quic_headline.proofs.Timers.Closed.{Turns, stays_open, stays_so, clos
 abbrev close_due : Option ℕ → End → ℕ
 close_due told e = saturated (clock_behind e.closing.clock told + three_timeouts e)
 
-due_told : (told : Option ℕ) (t : Terms) (now : ℕ) (f : Flight) (e : End) → Tells t now f (held e) → close_due told e ≡ moment_behind (clock_behind now told) (three_waits t f.rtt)
+due_told : (told : Option ℕ) (t : Terms) (now : ℕ) (f : Flight) (e : End) → Tells t now f (held e) → close_due told e ≡ moment_behind (clock_behind now told) (three_waits f)
 due_told told t now f e w =
     ap (λ (n : ℕ). saturated (clock_behind n told + three_timeouts e)) (sym w.clock)
     ∙ ap (λ (n : ℕ). saturated (clock_behind now told + n)) (sym (three_waited t now f e w))
@@ -174,17 +174,17 @@ module _ (r : Run) (end : World) (honest : IsHonest r) (run : IsRun r end) (side
   reason_behind = ap (λ (u : View). reason_in u side) (shown r at.world i v at.leads there) ∙ reason_there side at.world
 
   -- the observer of an open end knows when it is drained that closes now
-  due_before : state_at r side i ≡ states.Open → close_due (moment_told call) before ≡ moment_behind (clock_behind (watch r side i).clock (moment_told call)) (three_waits (terms_of (end_at side r.start)) (watch r side i).flight.rtt)
+  due_before : state_at r side i ≡ states.Open → close_due (moment_told call) before ≡ moment_behind (clock_behind (watch r side i).clock (moment_told call)) (three_waits (watch r side i).flight)
   due_before opened =
       let here = placed (everything.All Ready ready) (everything.all Ready ready) r end honest run side i (served_before r.answers i served) in
       let same : here.world ≡ last.before = one_behind r i here.world last.before (served_before r.answers i served) here.leads last.leads in
       let tells = (here.gives.1.watched.flight (here.state ∙ opened)).tells in
       let seen = watch_is r honest here.world i side here.sents here.theirs in
-      subst (λ (w : World). close_due (moment_told call) (end_at side w) ≡ moment_behind (clock_behind (watch r side i).clock (moment_told call)) (three_waits (terms_of (end_at side r.start)) (watch r side i).flight.rtt)) same
-      (due_told (moment_told call) (terms_of (end_at side r.start)) _ _ (end_at side here.world) tells ∙ ap (λ (u : Watch). moment_behind (clock_behind u.clock (moment_told call)) (three_waits (terms_of (end_at side r.start)) u.flight.rtt)) (sym seen))
+      subst (λ (w : World). close_due (moment_told call) (end_at side w) ≡ moment_behind (clock_behind (watch r side i).clock (moment_told call)) (three_waits (watch r side i).flight)) same
+      (due_told (moment_told call) (terms_of (end_at side r.start)) _ _ (end_at side here.world) tells ∙ ap (λ (u : Watch). moment_behind (clock_behind u.clock (moment_told call)) (three_waits u.flight)) (sym seen))
 
   pub closes_then : state_at r side i ≡ states.Open → state_in v side ≡ states.Closing → IsOfItself (reason_in v side)
-      → timer_in Close v side ≡ Some (Some (moment_behind (clock_behind (watch r side i).clock (moment_told call)) (three_waits (terms_of (end_at side r.start)) (watch r side i).flight.rtt)))
+      → timer_in Close v side ≡ Some (Some (moment_behind (clock_behind (watch r side i).clock (moment_told call)) (three_waits (watch r side i).flight)))
   closes_then opened closing own =
       let set : behind.timers.close ≡ Some (close_due (moment_told call) before) =
       does_close (moment_told call) (fails a) before behind does (sym state_before ∙ opened) (sym state_behind ∙ closing) (subst (λ (o : Option LostReason). IsOfItself o) reason_behind own) in

@@ -159,7 +159,7 @@ taken_restarts n asks mark e = record { over = set; armed = refl }
     set : (after_taken n asks mark e).timers.idle ≡ idle_again agreed e.closing.clock (three_timeouts e) e.timers.idle
     set =
         moment_is agreed (record (number_noted n asks mark e) { idle_armed = true })
-        ∙ ap (λ (o : Option ℕ). idle_again agreed e.closing.clock (three_timeouts e) o) (noted_idle (packet_starts_wait pending n asks e.numbers.opened) e.timers (Some (ack_due e.closing.clock)))
+        ∙ ap (λ (o : Option ℕ). idle_again agreed e.closing.clock (three_timeouts e) o) (noted_idle (packet_starts_wait pending n asks e.numbers.opened) e.timers (Some (ack_due e.frequency.own_delay e.closing.clock)))
 
 -- by a datagram that is given
 given_restarts : (p : Policy) (d : Draft) → Restarts (idling d.end) false (asking d.frames) (after_given p d)
@@ -324,7 +324,7 @@ time_of x y = option_map nanos (lesser_of (told_timeout x.made.transport.max_idl
 
 -- what the observer of x knows of its silence
 abbrev silence_of : Party → Party → Silence
-silence_of x y = folded (silence_told (time_of x y) (lens x y)) x.told (first_silence (first_watch x.final x.began x.initial_rtt))
+silence_of x y = folded (silence_told (time_of x y) (lens x y)) x.told (first_silence (first_watch x.final x.began x.initial_rtt x.initial_delay))
 
 -- the watch within it is the observer's
 same_watch : (time : Option ℕ) (l : Lens) (told : List Told) (s : Silence) → (folded (silence_told time l) told s).watch ≡ folded (watch_told l) told s.watch
@@ -332,7 +332,7 @@ same_watch time l [] s = refl
 same_watch time l (t ∷ told) s = same_watch time l told (silence_told time l t s)
 
 silence_watch : (x y : Party) → (silence_of x y).watch ≡ watch_of x y
-silence_watch x y = same_watch (time_of x y) (lens x y) x.told (first_silence (first_watch x.final x.began x.initial_rtt))
+silence_watch x y = same_watch (time_of x y) (lens x y) x.told (first_silence (first_watch x.final x.began x.initial_rtt x.initial_delay))
 
 -- what both ends agree on, by what an end was set to and what its peer told
 abbrev agreed_at : End → Option ℕ
@@ -380,12 +380,12 @@ module _ (x y : Party) (call : Call) (a : Answer) (c : Calls Observed x y call a
   after = watch_behind x y call a c s.watch watched
 
   -- what the observer knows behind the call
-  silence_next : silence_of next y ≡ silence_behind (time_of x y) x.terms sents came after s
+  silence_next : silence_of next y ≡ silence_behind (time_of x y) sents came after s
   silence_next =
-      folded_more (silence_told (time_of x y) (lens x y)) x.told t (first_silence (first_watch x.final x.began x.initial_rtt))
-      ∙ ap (λ (ss : List Sent). silence_behind (time_of x y) x.terms ss (news s.watch.intake after.intake) after s) (went_behind x y call a c s.watch watched)
-      ∙ ap (λ (j : Intake). silence_behind (time_of x y) x.terms sents (news j after.intake) after s) (came_before x y call a c s.watch watched)
-      ∙ ap (λ (j : Intake). silence_behind (time_of x y) x.terms sents (news (came_to x y) j) after s) (came_behind x y call a c s.watch watched)
+      folded_more (silence_told (time_of x y) (lens x y)) x.told t (first_silence (first_watch x.final x.began x.initial_rtt x.initial_delay))
+      ∙ ap (λ (ss : List Sent). silence_behind (time_of x y) ss (news s.watch.intake after.intake) after s) (went_behind x y call a c s.watch watched)
+      ∙ ap (λ (j : Intake). silence_behind (time_of x y) sents (news j after.intake) after s) (came_before x y call a c s.watch watched)
+      ∙ ap (λ (j : Intake). silence_behind (time_of x y) sents (news (came_to x y) j) after s) (came_behind x y call a c s.watch watched)
 
   left : Restarts (idling x.end) (nat_lt 0 (length came)) (list_any asks_of sents) next.end
   left = call_restarts x y a call c still
@@ -394,25 +394,25 @@ module _ (x y : Party) (call : Call) (a : Answer) (c : Calls Observed x y call a
   tells : Tells x.terms after.clock after.flight (held next.end)
   tells = ((watched_behind x y call a c s.watch watched).flight still).tells
 
-  three : three_waits x.terms after.flight.rtt ≡ three_timeouts next.end
+  three : three_waits after.flight ≡ three_timeouts next.end
   three = three_waited x.terms after.clock after.flight next.end tells
 
   -- so the time that begins now is over when it knows
   abbrev begun_now : Option ℕ
   begun_now = idle_again (agreed_at x.end) next.end.closing.clock (three_timeouts next.end) x.end.timers.idle
 
-  from_is : idle_from (time_of x y) x.terms after ≡ begun_now
+  from_is : idle_from (time_of x y) after ≡ begun_now
   from_is =
-      ap (λ (o : Option ℕ). idle_from o x.terms after) time
-      ∙ again_is (agreed_at x.end) after.clock next.end.closing.clock (three_waits x.terms after.flight.rtt) (three_timeouts next.end) x.end.timers.idle i.untimed tells.clock three
+      ap (λ (o : Option ℕ). idle_from o after) time
+      ∙ again_is (agreed_at x.end) after.clock next.end.closing.clock (three_waits after.flight) (three_timeouts next.end) x.end.timers.idle i.untimed tells.clock three
 
   -- whether it does
   abbrev anew : Bool
   anew = nat_lt 0 (length came) || (list_any asks_of sents && x.end.idle_armed)
 
-  over_next : (if begins_anew came sents s.quiet then idle_from (time_of x y) x.terms after else s.over) ≡ next.end.timers.idle
+  over_next : (if begins_anew came sents s.quiet then idle_from (time_of x y) after else s.over) ≡ next.end.timers.idle
   over_next =
-      ap (λ (b : Bool). if begins_anew came sents b then idle_from (time_of x y) x.terms after else s.over) i.quiet
+      ap (λ (b : Bool). if begins_anew came sents b then idle_from (time_of x y) after else s.over) i.quiet
       ∙ ap (λ (o : Option ℕ). if anew then o else s.over) from_is
       ∙ ap (λ (o : Option ℕ). if anew then begun_now else o) i.over
       ∙ sym left.over

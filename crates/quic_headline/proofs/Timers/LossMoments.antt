@@ -23,4 +23,4 @@ loss_moments r end honest all side i v served there opened =
     let y : Party = party_at r (suc i) at.world (other_side side) at.theirs in
     let now_open : x.end.closing.state ≡ states.Open = open_behind r at.world i v side at.leads there opened in
     ap (λ (ts : List (Option ℕ)). slice_get ts 0) (timers_behind r at.world i v side at.leads there)
-    ∙ ap (λ (o : Option ℕ). Some o) (timer_is x.terms (watch_of x y).clock (watch_of x y).flight x.end (at.gives.stands now_open) (at.gives.watched.flight now_open) ∙ ap (λ (w : Watch). loss_due x.terms w.flight) (sym (watch_is r honest at.world (suc i) side at.sents at.theirs)))
+    ∙ ap (λ (o : Option ℕ). Some o) (timer_is x.terms (watch_of x y).clock (watch_of x y).flight x.end (at.gives.stands now_open) (at.gives.watched.flight now_open) ∙ ap (λ (w : Watch). loss_due w.flight) (sym (watch_is r honest at.world (suc i) side at.sents at.theirs)))

@@ -9,6 +9,8 @@ use Rattle.std.proofs.lemmas.Bool.{le-ltb}
 use Rattle.quic_wire_core.specs.declared.shared.EcnCodepoint.{EcnCodepoint}
 use Rattle.quic_recovery_core.specs.Duplicates.{is_duplicate}
 use Rattle.quic_time.specs.Clocks.{saturated}
+use Rattle.quic_time.specs.Rtt as rtt
+use Rattle.quic_recovery_core.specs.AckFrequency.{Frequency, longest_delay}
 use Rattle.quic_packet.specs.Header.{key_phase, reserved_bits}
 use Rattle.quic_packet.specs.Destination.{decoded, fixed_length_id}
 use Rattle.quic_packet.specs.Datagram.{Opening}
@@ -33,7 +35,7 @@ use Rattle.quic_machine.specs.Opens.{own_id_length}
 use Rattle.quic_machine.specs.Closing.{Closing, ticked, close_asked}
 use Rattle.quic_spaces.specs.Numbers.{Numbers, number_opened}
 use Rattle.quic_machine.specs.Tracking.{after_answered, Tracking, TrackedPacket, asks_any, without_record, is_behind, tail_of, forgets, forgotten, oldest, without_packet, asking_sent, after_sent, Verdict, is_lost, kept_by, loss_moment, moment_or, probe_moment, after_detection, acked_by, not_acked_by, names}
-use Rattle.quic_machine.specs.End.{End, with_closing, closed_by, with_numbers, number_of, with_ping, probe_timeout, with_window}
+use Rattle.quic_machine.specs.End.{End, with_closing, closed_by, with_numbers, number_of, with_ping, with_immediate, probe_timeout, with_window}
 use Rattle.quic_machine.specs.Acked.{verdict, losses_detected, measured, sampled, without_acked, after_named, after_acked, losses_taken}
 use Rattle.quic_machine.specs.Receive.{Fault, broke, too_many_pieces, closed_by_peer, drained_at, exhausted, unopened_in, is_read, drawn_if, violation, reason_of, take_frame, take_items, take_payload, is_empty, asks_in, after_taken, dropped, ends_as, by_state, opened_to, opened_as, opening, headed, received_in, received}
 use Rattle.quic_machine.specs.Poll.{Polled, Draft, packet_of, after_given, record_moved, draft_as, polled, Leaving, Ready}
@@ -49,7 +51,7 @@ use Rattle.quic_headline.specs.Runs.{In}
 use Rattle.quic_headline.specs.Headline.{LossTimerFollows, LossTimersFollow}
 use Rattle.quic_headline.proofs.Packets.Searches.{by_losses}
 use Rattle.quic_headline.proofs.Packets.Named.{in_filter, filter_chose}
-use Rattle.quic_headline.proofs.Packets.Probes.{in_put, by_ready, by_going}
+use Rattle.quic_headline.proofs.Packets.Probes.{in_put, by_ready, by_going, with_asked}
 use Rattle.quic_headline.proofs.Packets.Given.{allocated_near}
 use Rattle.quic_headline.proofs.Packets.Growth.{in_more}
 use Rattle.quic_headline.proofs.Packets.Numbered.{Lies, lies_below, lies_filter, lies_remove, lies_put, lies_push, one_key, added_last, in_remove, oldest_in, asks_last, asks_remove, asks_put, late_asks, is_at_same}
@@ -60,7 +62,7 @@ use Rattle.quic_machine.specs.Validation.{with_blocked}
 use Rattle.quic_machine.specs.IdFrames.{drawn}
 use Rattle.quic_wire.specs.Close.{CloseValue}
 use Rattle.quic_headline.proofs.Packets.Closes.{by_closes}
-use Rattle.quic_headline.proofs.Packets.Apart.{by_waits, by_next_id}
+use Rattle.quic_headline.proofs.Packets.Apart.{AsksOn, longest_on, by_waits, by_next_id, next_frequency}
 use Rattle.quic_headline.proofs.Packets.Heard.{by_taken}
 
 -- ---- a datagram, where frames keep less
@@ -338,13 +340,16 @@ moved_stands next p t i s = (
 
 -- an end is ready
 pub ready_stands : (e : End) (now : ℕ) → LossStands e → LossStands (ready_at e now).end
-ready_stands e now i = by_ready LossStands e now same pings moves (λ moment pacing discovery x j opened. (let s = j opened in record { stands = s.stands; set = s.set }))
+ready_stands e now i = by_ready LossStands e now same signals asks moves (λ moment pacing discovery x j opened. (let s = j opened in record { stands = s.stands; set = s.set }))
   where
     same : LossStands (with_closing e (ticked e.closing now))
     same opened = let s = i opened in record { stands = s.stands; set = s.set }
 
-    pings : LossStands (with_ping (with_closing e (ticked e.closing now)) true)
-    pings opened = let s = i opened in record { stands = s.stands; set = s.set }
+    signals : (ping immediate : Bool) (x : End) → LossStands x → LossStands (with_ping (with_immediate x immediate) ping)
+    signals ping immediate x j opened = let s = j opened in record { stands = s.stands; set = s.set }
+
+    asks : (waits : Bool) (x : End) → LossStands x → LossStands (with_asked x waits)
+    asks waits x j opened = let s = j opened in record { stands = s.stands; set = s.set }
 
     moves : (p : ℕ × TrackedPacket) → In p e.tracking.packets → LossStands (record_moved (Some p) (with_closing e (ticked e.closing now)))
     moves p among opened =
@@ -398,6 +403,10 @@ expired_stands words e now expiry i = by_timers words FrameStands LossStands (λ
 pub call_stands : (p : Policy) (e : End) (theirs : List (List ℕ)) (call : Call) (a : Answer) → LossStands e → LossStands (after_call p e theirs call a)
 call_stands p e theirs call a i = by_plain_call p e theirs LossStands call a cases_keep
   where
+    -- how long is waited for an acknowledgement is as it was
+    same : (f : Frequency) → AsksOn e.frequency f → loss_moment (probe_timeout e) e.tracking ≡ loss_moment (saturated (rtt.probe_timeout e.path.rtt + longest_delay f)) e.tracking
+    same f on = ap (λ (d : ℕ). loss_moment (saturated (rtt.probe_timeout e.path.rtt + d)) e.tracking) (sym (longest_on e.frequency f on))
+
     cases_keep : Plain p e call LossStands
     cases_keep cases.same may = i
     cases_keep (cases.times now expiry) may = expired_stands p.words e now expiry i
@@ -405,7 +414,8 @@ call_stands p e theirs call a i = by_plain_call p e theirs LossStands call a cas
     cases_keep (cases.hears arrival d) may = by_hearing LossStands FrameStands hears p e arrival d i
     cases_keep (cases.closes reason f now) may = λ opened. cc
     cases_keep (cases.waits now b) may = by_waits LossStands b (with_closing e (ticked e.closing now)) (λ opened. cc) (λ opened. (let s = i opened in record { stands = s.stands; set = s.set }))
-    cases_keep (cases.changes_id a) may = by_next_id LossStands e a (λ opened. (let s = i opened in record { stands = s.stands; set = s.set })) (λ c. λ opened. (let s = i opened in record { stands = s.stands; set = s.set })) (λ c most. λ opened. (let s = i opened in record { stands = s.stands; set = s.set }))
+    cases_keep (cases.changes_id a) may = by_next_id (λ (x : End). AsksOn e.frequency x.frequency → LossStands x) e a (λ on. i) (λ c on opened. (let s = i opened in record { stands = s.stands; set = s.set ∙ same c.frequency on }))
+        (λ c most on opened. (let s = i opened in record { stands = s.stands; set = s.set ∙ same c.frequency on })) (next_frequency e a)
     cases_keep c may = λ opened. (let s = i opened in record { stands = s.stands; set = s.set })
 
 -- whichever window is shown

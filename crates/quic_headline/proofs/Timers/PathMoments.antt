@@ -1,7 +1,7 @@
 -- The timer of path validation of an open end is set to the moment at which it asks its peer anew,
 -- as an observer of the run's lists reckons it, while the address of the peer isn't validated: each
 -- call keeps that.
-use Rattle.std.proofs.Common.{◌≡◌, ℕ, suc, ◌+◌, max, Bool, true, false, ◌&&◌, List, [], ◌∷◌, map, Option, Some, None, Ok, refl, sym, ap, ◌∙◌, subst}
+use Rattle.std.proofs.Common.{◌≡◌, ℕ, suc, ◌+◌, max, Bool, true, false, ◌&&◌, List, [], ◌∷◌, map, Option, Some, None, Ok, refl, sym, ap, ◌∙◌, subst, ◌*◌}
 use Rattle.std.specs.Prelude.{if◌then◌else◌, nat_lt, slice_get}
 use Rattle.std.proofs.lemmas.Bool.{both_ways}
 use Rattle.quic_wire_core.specs.declared.stream_id.Side.{Side}
@@ -61,8 +61,8 @@ use Rattle.quic_headline.proofs.Validated.Went.{polled_left}
 -- ---- how long is waited
 
 -- the moment three probe timeouts on is that which its observer reckons
-moment_reckoned : (t : Terms) (now : ℕ) (f : Flight) (e : End) → Tells t now f (held e) → moment_behind now (three_waits t f.rtt) ≡ validation_moment e
-moment_reckoned t now f e w = ap (λ (n : ℕ). moment_behind n (three_waits t f.rtt)) w.clock ∙ ap (λ (n : ℕ). moment_behind e.closing.clock n) (three_waited t now f e w)
+moment_reckoned : (t : Terms) (now : ℕ) (f : Flight) (e : End) → Tells t now f (held e) → moment_behind now (three_waits f) ≡ validation_moment e
+moment_reckoned t now f e w = ap (λ (n : ℕ). moment_behind n (three_waits f)) w.clock ∙ ap (λ (n : ℕ). moment_behind e.closing.clock n) (three_waited t now f e w)
 
 -- ---- how often, and until when, an end asks
 
@@ -172,13 +172,13 @@ module _ (n : ℕ) (o : Option ℕ) where
 -- ---- a timeout
 
 -- an end that asks its peer anew, or that asked as often as it may, as its observer reckons it
-anew_due : (words : ℕ → ℕ) (f : End) (t : Terms) (w : Watch) (n : ℕ) → f.path.validated ≡ false → n ≡ f.validation.drawn → moment_behind w.clock (three_waits t w.flight.rtt) ≡ validation_moment f
-    → DueSo (one_more t w n).count (one_more t w n).due (standing (challenged_anew words (nat_lt f.validation.drawn most_challenges) f))
-anew_due words f t w n unvalidated count moment =
-    subst (λ (b : Bool). DueSo (one_more t w n).count (one_more t w n).due (standing (challenged_anew words b f))) (ap (λ (k : ℕ). nat_lt k most_questions) count) (go (nat_lt n most_questions))
+anew_due : (words : ℕ → ℕ) (f : End) (w : Watch) (n : ℕ) → f.path.validated ≡ false → n ≡ f.validation.drawn → moment_behind w.clock (three_waits w.flight) ≡ validation_moment f
+    → DueSo (one_more w n).count (one_more w n).due (standing (challenged_anew words (nat_lt f.validation.drawn most_challenges) f))
+anew_due words f w n unvalidated count moment =
+    subst (λ (b : Bool). DueSo (one_more w n).count (one_more w n).due (standing (challenged_anew words b f))) (ap (λ (k : ℕ). nat_lt k most_questions) count) (go (nat_lt n most_questions))
   where
     due : Option ℕ
-    due = Some (moment_behind w.clock (three_waits t w.flight.rtt))
+    due = Some (moment_behind w.clock (three_waits w.flight))
 
     reckoned : Bool → Questions
     reckoned b = if b then record { watch = w; count = n + 1; due = due } else record { watch = w; count = n; due = None }
@@ -269,10 +269,10 @@ module _ (l : Lens) (p : Policy) (e : End) (now : ℕ) (a : Answer) (q : Questio
           ∙ ap (λ (n : ℕ). is_past q.due n) (sym clock)
 
       reckoned : Bool → Questions
-      reckoned b = if b then one_more l.terms w q.count else record q { watch = w }
+      reckoned b = if b then one_more w q.count else record q { watch = w }
 
       by_past : e.path.validated ≡ false → (b : Bool) → DueSo (reckoned b).count (reckoned b).due (standing (path_expired p.words b lost))
-      by_past unvalidated true = anew_due p.words lost l.terms w q.count (ap (λ (s : Standing). s.validated) lost_is ∙ unvalidated) (i.asked unvalidated ∙ ap (λ (s : Standing). s.asked.validation.drawn) (sym lost_is)) (moment_reckoned l.terms w.clock w.flight lost tells)
+      by_past unvalidated true = anew_due p.words lost w q.count (ap (λ (s : Standing). s.validated) lost_is ∙ unvalidated) (i.asked unvalidated ∙ ap (λ (s : Standing). s.asked.validation.drawn) (sym lost_is)) (moment_reckoned l.terms w.clock w.flight lost tells)
       by_past unvalidated false = subst (λ (s : Standing). DueSo q.count q.due s) (sym lost_is) i
 
       go : (b : Bool) → e.path.validated ≡ b → DueSo (told states.Open).count (told states.Open).due (standing f)
@@ -292,11 +292,11 @@ module _ (l : Lens) (p : Policy) (e : End) (now : ℕ) (a : Answer) (q : Questio
 -- ---- the observer
 
 -- asked once more, the observer knows what it did
-one_more_watch : (t : Terms) (w : Watch) (n : ℕ) → (one_more t w n).watch ≡ w
-one_more_watch t w n = go (nat_lt n most_questions)
+one_more_watch : (w : Watch) (n : ℕ) → (one_more w n).watch ≡ w
+one_more_watch w n = go (nat_lt n most_questions)
   where
     reckoned : Bool → Questions
-    reckoned b = if b then record { watch = w; count = n + 1; due = Some (moment_behind w.clock (three_waits t w.flight.rtt)) } else record { watch = w; count = n; due = None }
+    reckoned b = if b then record { watch = w; count = n + 1; due = Some (moment_behind w.clock (three_waits w.flight)) } else record { watch = w; count = n; due = None }
 
     go : (b : Bool) → (reckoned b).watch ≡ w
     go true = refl
@@ -306,10 +306,10 @@ pub told_watch : (l : Lens) (t : Told) (q : Questions) → (questions_told l t q
 told_watch l t q = go (is_timely t.state t.call && is_past q.due (watch_told l t q.watch).clock)
   where
     reckoned : Bool → Questions
-    reckoned b = if b then one_more l.terms (watch_told l t q.watch) q.count else record q { watch = watch_told l t q.watch }
+    reckoned b = if b then one_more (watch_told l t q.watch) q.count else record q { watch = watch_told l t q.watch }
 
     go : (b : Bool) → (reckoned b).watch ≡ watch_told l t q.watch
-    go true = one_more_watch l.terms (watch_told l t q.watch) q.count
+    go true = one_more_watch (watch_told l t q.watch) q.count
     go false = refl
 
 -- the watch within it is the observer's
@@ -317,26 +317,26 @@ same_watch : (l : Lens) (told : List Told) (q : Questions) → (folded (question
 same_watch l [] q = refl
 same_watch l (t ∷ told) q = same_watch l told (questions_told l t q) ∙ ap (λ (w : Watch). folded (watch_told l) told w) (told_watch l t q)
 
-first_is_watch : (validated : Bool) (t : Terms) (w : Watch) → (first_questions validated t w).watch ≡ w
-first_is_watch true t w = refl
-first_is_watch false t w = one_more_watch t w 0
+first_is_watch : (validated : Bool) (w : Watch) → (first_questions validated w).watch ≡ w
+first_is_watch true w = refl
+first_is_watch false w = one_more_watch w 0
 
 -- a call that is no timeout leaves how often, and until when, was asked
 pub quiet_told : (l : Lens) (t : Told) (q : Questions) → is_timeout t.call ≡ false → questions_told l t q ≡ record q { watch = watch_told l t q.watch }
-quiet_told l t q other = ap (λ (b : Bool). if b && is_past q.due (watch_told l t q.watch).clock then one_more l.terms (watch_told l t q.watch) q.count else record q { watch = watch_told l t q.watch }) (untimely t.state t.call other)
+quiet_told l t q other = ap (λ (b : Bool). if b && is_past q.due (watch_told l t q.watch).clock then one_more (watch_told l t q.watch) q.count else record q { watch = watch_told l t q.watch }) (untimely t.state t.call other)
 
 -- ---- the group
 
 -- how the end asked, as the observer of x knows it
 abbrev pub first_of : Party → Questions
-first_of x = first_questions x.made.path.validated x.terms (first_watch x.final x.began x.initial_rtt)
+first_of x = first_questions x.made.path.validated (first_watch x.final x.began x.initial_rtt x.initial_delay)
 
 abbrev pub questions_of : Party → Party → Questions
 questions_of x y = folded (questions_told (lens x y)) x.told (first_of x)
 
 -- what is watched of it is what its observer watches
 pub own_watch : (x y : Party) → (questions_of x y).watch ≡ watch_of x y
-own_watch x y = same_watch (lens x y) x.told (first_of x) ∙ ap (λ (w : Watch). folded (watch_told (lens x y)) x.told w) (first_is_watch x.made.path.validated x.terms (first_watch x.final x.began x.initial_rtt))
+own_watch x y = same_watch (lens x y) x.told (first_of x) ∙ ap (λ (w : Watch). folded (watch_told (lens x y)) x.told w) (first_is_watch x.made.path.validated (first_watch x.final x.began x.initial_rtt x.initial_delay))
 
 -- While x is open, it asks as its observer reckons it.
 pub record Asks (x y : Party) : Type 0 where
@@ -377,12 +377,12 @@ module _ (x y : Party) (a : Answer) (i : Asks x y) where
 -- one that is made asks its first word, where the address of its peer isn't validated
 first_due : (side : Side) (settings : Settings) (windows : Windows) (theirs : ParameterValues) (own_id peer_id : List ℕ) (now : ℕ) (validated : Bool) (words : ℕ → ℕ) (final : List (List ℕ))
     → (let e = new_end side settings windows theirs own_id peer_id now validated words in
-    let r = first_questions e.path.validated (terms_of e) (first_watch final now e.transport.initial_rtt) in
+    let r = first_questions e.path.validated (first_watch final now e.transport.initial_rtt (e.peer_params.max_ack_delay * 1000000)) in
     DueSo r.count r.due (standing e))
 first_due side settings windows theirs own_id peer_id now true words final = record { asked = λ unvalidated. cc; set = refl }
 first_due side settings windows theirs own_id peer_id now false words final = record {
   asked = λ unvalidated. refl;
-  set = ap (λ (k : ℕ). Some k) (sym (moment_reckoned (terms_of e) now (first_watch final now e.transport.initial_rtt).flight e (record { terms = refl; clock = refl; named = refl; waits = tt; asked = refl; rtt = refl })));
+  set = ap (λ (k : ℕ). Some k) (sym (moment_reckoned (terms_of e) now (first_watch final now e.transport.initial_rtt (e.peer_params.max_ack_delay * 1000000)).flight e (record { terms = refl; clock = refl; named = refl; waits = tt; asked = refl; rtt = refl; delay = refl; request = refl })));
 }
   where
     e : End

@@ -107,7 +107,7 @@ packets_leave t clock (p ∷ ps) f s i =
 -- a moment leaves no more in flight
 moment_leaves : (b : Bool) (t : Terms) (w : Watch) (s : Sent) → In s (watch_moment b t w).flight.flying → In s w.flight.flying
 moment_leaves false t w s i = i
-moment_leaves true t w s i = go (is_past (loss_due t w.flight) w.clock) w.flight.loss_time i
+moment_leaves true t w s i = go (is_past (loss_due w.flight) w.clock) w.flight.loss_time i
   where
     go : (past : Bool) (o : Option ℕ) → In s (if past then expired_for o t w.clock w.flight else w.flight).flying → In s w.flight.flying
     go false o j = j
@@ -285,7 +285,7 @@ quiet_step x y call a c before = record { quiet = subst (λ (v : Watch). IsQuiet
     ])
 
     came : after.intake ≡ came_to (called x y.given call a) y
-    came = ap (λ (v : Watch). v.intake) (sym (behind_is x y call a c w refl)) ∙ watched_intake (lens x y) (x.told ++ t ∷ []) (first_watch x.final x.began x.initial_rtt)
+    came = ap (λ (v : Watch). v.intake) (sym (behind_is x y call a c w refl)) ∙ watched_intake (lens x y) (x.told ++ t ∷ []) (first_watch x.final x.began x.initial_rtt x.initial_delay)
 
     unnamed : (s : Sent) → In s after.flight.flying → IsNamed after.intake.took s.number → ⊥
     unnamed s i named = elim (leaves.flying s i) [

@@ -7,7 +7,7 @@ use Rattle.std.proofs.lemmas.Bool.{cond_both}
 use Rattle.quic_wire_core.specs.declared.stream_id.Dir.{Dir}
 use Rattle.quic_wire_core.specs.declared.stream_id.Dir.TheVariants.{Bi, Uni}
 use Rattle.quic_wire_core.specs.StreamId.{dir_of, index_of}
-use Rattle.quic_wire.specs.Value.{FrameValue, StopSendingValue, StreamCountValue, AckValue, ack, stream, reset_stream, stop_sending, max_data, max_stream_data, max_streams, datagram, new_connection_id, retire_connection_id, path_response}
+use Rattle.quic_wire.specs.Value.{FrameValue, StopSendingValue, StreamCountValue, AckValue, ack, stream, reset_stream, stop_sending, max_data, max_stream_data, max_streams, datagram, new_connection_id, retire_connection_id, path_response, ack_frequency}
 use Rattle.quic_assembler.specs.declared.assembler.Chunk.{Chunk}
 use Rattle.quic_send_buffer.specs.declared.stream_meta.StreamMeta.{StreamMeta}
 use Rattle.quic_streams_parts.specs.declared.answers.Breach.{Breach}
@@ -333,4 +333,5 @@ module _ (P : Counts → Counts → Type 0) where
       go (new_connection_id g) is = apart_leaves (λ (x : End). Own x.streams) (new_connection_id g) e tt (λ c. i) (λ c most. i)
       go (retire_connection_id n) is = apart_leaves (λ (x : End). Own x.streams) (retire_connection_id n) e tt (λ c. i) (λ c most. i)
       go (path_response token) is = apart_leaves (λ (x : End). Own x.streams) (path_response token) e tt (λ c. i) (λ c most. i)
+      go (ack_frequency r) is = apart_leaves (λ (x : End). Own x.streams) (ack_frequency r) e tt (λ c. i) (λ c most. i)
       go other is = i

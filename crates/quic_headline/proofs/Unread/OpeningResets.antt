@@ -30,7 +30,7 @@ use Rattle.quic_machine.specs.Tracking.{TrackedPacket, Carried, dir_named, names
 use Rattle.quic_machine.specs.End.{End, streams_at, number_of}
 use Rattle.quic_machine.specs.Calls.{is_open}
 use Rattle.quic_machine.specs.StreamCalls.{is_on_streams}
-use Rattle.quic_machine.specs.Acked.{without_known, reset_acked, resets_acked, stream_acked, streams_acked, packet_acked, packets_acked, stream_lost, streams_lost, carried_lost, packets_lost, verdict, losses_detected, measured, sampled, without_acked, after_named, losses_taken}
+use Rattle.quic_machine.specs.Acked.{without_known, reset_acked, resets_acked, stream_acked, streams_acked, packet_acked, packets_acked, stream_lost, streams_lost, carried_lost, packets_lost, verdict, losses_detected, measured, sampled, without_acked, after_named, losses_taken, request_acked}
 use Rattle.quic_machine.specs.Sizes.{search_acked}
 use Rattle.quic_machine.specs.Receive.{is_above, names_ungiven, take_frame}
 use Rattle.quic_machine.specs.FrameCases.{OnStreams, Settling, named, ack_taken, begun, passed, frames_keep, by_marks, resets_acked_keep, streams_acked_keep, packets_lost_keep, losses_keep, apart_leaves}
@@ -105,8 +105,9 @@ packets_wait : (ps : Table TrackedPacket) (e : End) → waiting_of (packets_acke
 packets_wait [] e = refl
 packets_wait (p ∷ ps) e =
     let c : Carried = p.1.carried in
-    let knows : End = without_known c.largest_acked (search_acked p e) in
-    packets_wait ps (packet_acked p e) ∙ streams_wait c.stream_frames (resets_acked c.retransmits.reset_stream knows) ∙ resets_wait c.retransmits.reset_stream knows ∙ known_wait c.largest_acked (search_acked p e)
+    let asked : End = request_acked p.0 (search_acked p e) in
+    let knows : End = without_known c.largest_acked asked in
+    packets_wait ps (packet_acked p e) ∙ streams_wait c.stream_frames (resets_acked c.retransmits.reset_stream knows) ∙ resets_wait c.retransmits.reset_stream knows ∙ known_wait c.largest_acked asked
 
 lost_wait : (ms : List StreamMeta) (e : End) → (streams_lost ms e).waiting ≡ e.waiting
 lost_wait [] e = refl
@@ -223,9 +224,10 @@ module _ (id : ℕ) where
     packet_on : (p : ℕ × TrackedPacket) (e : End) → P e → P (packet_acked p e)
     packet_on p e i =
         let learned : End = search_acked p e in
-        let knows : End = without_known p.1.carried.largest_acked learned in
+        let asked : End = request_acked p.0 learned in
+        let knows : End = without_known p.1.carried.largest_acked asked in
         streams_acked_keep P (λ m. c (steps.acked m)) p.1.carried.stream_frames (resets_acked p.1.carried.retransmits.reset_stream knows)
-        (resets_acked_keep P (λ q. c (steps.reset q)) p.1.carried.retransmits.reset_stream knows (known_on p.1.carried.largest_acked learned (c (steps.searched learned.path.discovery) e i)))
+        (resets_acked_keep P (λ q. c (steps.reset q)) p.1.carried.retransmits.reset_stream knows (known_on p.1.carried.largest_acked asked (c (steps.answered p.0) learned (c (steps.searched learned.path.discovery) e i))))
 
     packets_on : (ps : Table TrackedPacket) (e : End) → P e → P (packets_acked ps e)
     packets_on [] e i = i
@@ -251,10 +253,11 @@ module _ (id : ℕ) where
   packets_off [] e none g = absurd none
   packets_off (p ∷ ps) e (inl here) g =
       let learned : End = search_acked p e in
-      let knows : End = without_known p.1.carried.largest_acked learned in
+      let asked : End = request_acked p.0 learned in
+      let knows : End = without_known p.1.carried.largest_acked asked in
       packets_on (λ (x : End). SendsNoMore x.streams) sends_settle ps (packet_acked p e)
       (streams_acked_keep (λ (x : End). SendsNoMore x.streams) (λ m. sends_settle (steps.acked m)) p.1.carried.stream_frames (resets_acked p.1.carried.retransmits.reset_stream knows)
-      (resets_off p.1.carried.retransmits.reset_stream knows here (known_on Going going_settle p.1.carried.largest_acked learned (going_settle (steps.searched learned.path.discovery) e g))))
+      (resets_off p.1.carried.retransmits.reset_stream knows here (known_on Going going_settle p.1.carried.largest_acked asked (going_settle (steps.answered p.0) learned (going_settle (steps.searched learned.path.discovery) e g)))))
   packets_off (p ∷ ps) e (inr more) g = packets_off ps (packet_acked p e) more (packet_on Going going_settle p e g)
 
   -- ---- where its reset is

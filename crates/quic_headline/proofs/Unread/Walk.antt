@@ -8,7 +8,7 @@ use Rattle.quic_wire_core.specs.declared.stream_id.Side.{Side}
 use Rattle.quic_wire_core.specs.declared.stream_id.Dir.{Dir}
 use Rattle.quic_wire_core.specs.declared.stream_id.Dir.TheVariants.{Bi, Uni}
 use Rattle.quic_wire_core.specs.StreamId.{dir_of, index_of}
-use Rattle.quic_wire.specs.Value.{FrameValue, StreamValue, ResetStreamValue, StopSendingValue, AckValue, ack, stream, reset_stream, stop_sending, max_data, max_stream_data, max_streams, datagram, new_connection_id, retire_connection_id, path_response}
+use Rattle.quic_wire.specs.Value.{FrameValue, StreamValue, ResetStreamValue, StopSendingValue, AckValue, ack, stream, reset_stream, stop_sending, max_data, max_stream_data, max_streams, datagram, new_connection_id, retire_connection_id, path_response, ack_frequency}
 use Rattle.quic_assembler.specs.declared.assembler.Chunk.{Chunk}
 use Rattle.quic_assembler.specs.Arrived.{bytes_read_of, given_by}
 use Rattle.quic_send_buffer.specs.declared.stream_meta.StreamMeta.{StreamMeta}
@@ -273,6 +273,7 @@ module _ (K : Side → Receiving → Counts → Counts → Type 0) where
       go (new_connection_id g) brings resets = apart_leaves (λ (x : End). Of x.streams) (new_connection_id g) e tt (λ c. i) (λ c most. i)
       go (retire_connection_id n) brings resets = apart_leaves (λ (x : End). Of x.streams) (retire_connection_id n) e tt (λ c. i) (λ c most. i)
       go (path_response token) brings resets = apart_leaves (λ (x : End). Of x.streams) (path_response token) e tt (λ c. i) (λ c most. i)
+      go (ack_frequency r) brings resets = apart_leaves (λ (x : End). Of x.streams) (ack_frequency r) e tt (λ c. i) (λ c most. i)
       go other brings resets = i
 
 -- ---- halves that receive

@@ -203,8 +203,8 @@ module _ (r : Run) (end : World) (honest : IsHonest r) (run : IsRun r end) (side
   -- what came by the run's lists is what came to it
   news_are : news (watch r side i).intake (watch r side (suc i)).intake ≡ news (came_to x y) (came_to behind y)
   news_are =
-      ap (λ (j : Intake). news j (watch r side (suc i)).intake) (ap (λ (v : Watch). v.intake) h.seen ∙ watched_intake (lens x y) x.told (first_watch x.final x.began x.initial_rtt))
-      ∙ ap (λ (j : Intake). news (came_to x y) j) (ap (λ (v : Watch). v.intake) h.seen_behind ∙ watched_intake (lens x y) behind.told (first_watch x.final x.began x.initial_rtt))
+      ap (λ (j : Intake). news j (watch r side (suc i)).intake) (ap (λ (v : Watch). v.intake) h.seen ∙ watched_intake (lens x y) x.told (first_watch x.final x.began x.initial_rtt x.initial_delay))
+      ∙ ap (λ (j : Intake). news (came_to x y) j) (ap (λ (v : Watch). v.intake) h.seen_behind ∙ watched_intake (lens x y) behind.told (first_watch x.final x.began x.initial_rtt x.initial_delay))
 
   answered_behind : Answered x.end.validation.challenge x.end.path.validated (came_to x y) behind.end (came_to behind y)
   answered_behind = by_coming x y a h.joined (made_served r i side call a w next m) (meets y x h.takes.0.0.0) (λ (e : End) (j : Intake). e.closing.state ≡ states.Open → Answered x.end.validation.challenge x.end.path.validated (came_to x y) e j) call m.step.answer (record {

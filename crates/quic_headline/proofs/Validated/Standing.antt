@@ -5,7 +5,7 @@ use Rattle.std.specs.Prelude.{nat_lt, if◌then◌else◌}
 use Rattle.std.specs.declared.ops.Range.{Range}
 use Rattle.quic_wire_core.specs.declared.shared.EcnCodepoint.{EcnCodepoint}
 use Rattle.quic_wire_core.specs.TransportError.{ErrorValue}
-use Rattle.quic_wire.specs.Value.{FrameValue, ack, datagram, path_response, new_connection_id, retire_connection_id}
+use Rattle.quic_wire.specs.Value.{FrameValue, ack, datagram, path_response, new_connection_id, retire_connection_id, ack_frequency}
 use Rattle.quic_ids.specs.CidState.{retirement_answer}
 use Rattle.quic_ids.specs.CidQueue.{insert_answer}
 use Rattle.quic_ids.specs.declared.cid_queue.InsertError.{InsertError}
@@ -22,8 +22,8 @@ use Rattle.quic_machine.specs.Policy.{Policy}
 use Rattle.quic_machine.specs.MessageCalls.{most_message}
 use Rattle.quic_machine.specs.Sizes.{without_longer_if, shortened}
 use Rattle.quic_machine.specs.Closing.{ticked}
-use Rattle.quic_machine.specs.Ids.{frame_of, retires_for, retired, may_issue, retires_for_next, next_used}
-use Rattle.quic_machine.specs.IdFrames.{retiring, with_taken_up, issued_if, next_id_taken, end_on_next_id}
+use Rattle.quic_machine.specs.Ids.{frame_of, retires_for, retired, retires_for_next, next_used}
+use Rattle.quic_machine.specs.IdFrames.{retiring, with_taken_up, issued_if, issues_for, next_id_taken, end_on_next_id}
 use Rattle.quic_machine.specs.Validation.{Asked, asked_of, word_of, validated_if, most_challenges, challenged_anew, path_expired}
 use Rattle.quic_machine.specs.End.{End, words_drawn, with_ids, with_closing, with_ack_timer, validation_moment}
 use Rattle.quic_machine.specs.Receive.{is_above, names_ungiven, retired_for, id_judged, retirement_judged, take_frame, after_taken}
@@ -35,7 +35,7 @@ use Rattle.quic_machine.specs.Steps as steps
 use Rattle.quic_machine.specs.CallCases.{is_delivery, is_poll, is_timeout, Plain, by_plain_call}
 use Rattle.quic_machine.specs.CallCases as cases
 use Rattle.quic_headline.specs.Waited.{is_path_response}
-use Rattle.quic_headline.proofs.Packets.Apart.{by_waits}
+use Rattle.quic_headline.proofs.Packets.Apart.{by_waits, by_frequency}
 
 -- whether the address of an end's peer is validated, what the peer is asked, and when it is asked
 -- anew
@@ -107,13 +107,14 @@ module _ (Q : Standing → Type 0) where
       issues false = other refl
 
       go : (r : Result Bool ErrorValue) → Of (retirement_judged r n e).end
-      go (Ok more) = issues (may_issue e.ids n)
+      go (Ok more) = issues (issues_for n e)
       go (Err error) = other refl
   frame_stands (path_response token) e told other = go (is_asked e.validation.challenge (word_of token)) (told token refl)
     where
       go : (b : Bool) → Q (answered_if b (standing e)) → Of (validated_if b e)
       go true j = j
       go false j = j
+  frame_stands (ack_frequency r) e told other = by_frequency Of r e (λ threshold reordering frequency. other refl)
   frame_stands f e told other = other refl
 
   -- the next id of the peer is used, or it isn't
@@ -129,7 +130,7 @@ module _ (Q : Standing → Type 0) where
   pub taken_stands : (n : ℕ) (asking : Bool) (mark : Option EcnCodepoint) (e : End) → Of e → Of (after_taken n asking mark e)
   taken_stands n asking mark e i = go (packet_starts_wait (with_due (is_congested mark) (after_insert e.acknowledging n e.closing.clock)) n asking e.numbers.opened)
     where
-      go : (b : Bool) → Q (record (standing e) { due = (if b then with_ack_timer e.timers (Some (ack_due e.closing.clock)) else e.timers).path_validation })
+      go : (b : Bool) → Q (record (standing e) { due = (if b then with_ack_timer e.timers (Some (ack_due e.frequency.own_delay e.closing.clock)) else e.timers).path_validation })
       go true = i
       go false = i
 

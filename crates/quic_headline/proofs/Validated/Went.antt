@@ -146,7 +146,7 @@ module _ (p : Policy) (e : End) (now : ℕ) where
   ready_validation = ap (λ (x : End). x.validation) (ready_leaves e now)
 
   ready_waits : z.waiting.signals.challenge ≡ e.waiting.signals.challenge
-  ready_waits = by_ready (λ (x : End). x.waiting.signals.challenge ≡ e.waiting.signals.challenge) e now refl refl (λ q i. refl) (λ moment pacing discovery x i. i)
+  ready_waits = by_ready (λ (x : End). x.waiting.signals.challenge ≡ e.waiting.signals.challenge) e now refl (λ ping immediate x i. i) (λ waits x i. i) (λ q i. refl) (λ moment pacing discovery x i. i)
 
   abbrev d : Draft
   d = draft_at e now

@@ -75,7 +75,7 @@ pub taken_alive : (n : ℕ) (asks : Bool) (mark : Option EcnCodepoint) (e : End)
 taken_alive n asks mark e =
     let pending : Pending = with_due (is_congested mark) (after_insert e.acknowledging n e.closing.clock) in
     moment_is e.transport.keep_alive_interval (idle_reset (record (number_noted n asks mark e) { idle_armed = true }))
-    ∙ ap (λ (o : Option ℕ). alive_again e.transport.keep_alive_interval e.closing.clock o) (noted_alive (packet_starts_wait pending n asks e.numbers.opened) e.timers (Some (ack_due e.closing.clock)))
+    ∙ ap (λ (o : Option ℕ). alive_again e.transport.keep_alive_interval e.closing.clock o) (noted_alive (packet_starts_wait pending n asks e.numbers.opened) e.timers (Some (ack_due e.frequency.own_delay e.closing.clock)))
 
 -- by a datagram that is given
 given_alive : (p : Policy) (d : Draft) → (after_given p d).timers.keep_alive ≡ alive_again d.end.transport.keep_alive_interval d.end.closing.clock d.end.timers.keep_alive
@@ -133,12 +133,13 @@ polled_alive p e now = by_sends p e now (λ (q : Polled) (ss : List Sent). q.end
 -- ---- a timeout
 
 -- What a moment that an end takes over leaves of it: its clock, when it is to be kept alive,
--- whether PING waits, and which PATH_RESPONSE does.
+-- whether PING waits, and IMMEDIATE_ACK, and which PATH_RESPONSE does.
 pub record Timed (e f : End) (now : ℕ) : Type 0 where
   pub closing : f.closing ≡ ticked e.closing now
   pub alive : f.timers.keep_alive ≡ (if has_come e.timers.keep_alive (ticked e.closing now).clock then None else e.timers.keep_alive)
   pub pinged : f.waiting.signals.ping ≡ (has_come e.timers.keep_alive (ticked e.closing now).clock || e.waiting.signals.ping)
   pub response : f.waiting.signals.response ≡ e.waiting.signals.response
+  pub immediate : f.waiting.signals.immediate ≡ e.waiting.signals.immediate
 
 -- these stay
 record Same (e f : End) : Type 0 where
@@ -146,43 +147,44 @@ record Same (e f : End) : Type 0 where
   alive : f.timers.keep_alive ≡ e.timers.keep_alive
   pinged : f.waiting.signals.ping ≡ e.waiting.signals.ping
   response : f.waiting.signals.response ≡ e.waiting.signals.response
+  immediate : f.waiting.signals.immediate ≡ e.waiting.signals.immediate
 
 same_self : (e : End) → Same e e
-same_self e = record { closing = refl; alive = refl; pinged = refl; response = refl }
+same_self e = record { closing = refl; alive = refl; pinged = refl; response = refl; immediate = refl }
 
 settles : (e : End) → Settling (Same e)
-settles e (steps.known n) f i = record { closing = i.closing; alive = i.alive; pinged = i.pinged; response = i.response }
-settles e s f i = record { closing = i.closing; alive = i.alive; pinged = i.pinged; response = i.response }
+settles e (steps.known n) f i = record { closing = i.closing; alive = i.alive; pinged = i.pinged; response = i.response; immediate = i.immediate }
+settles e s f i = record { closing = i.closing; alive = i.alive; pinged = i.pinged; response = i.response; immediate = i.immediate }
 
 lost_same : (b : Bool) (e : End) → Same e (loss_expired b e)
 lost_same false e = same_self e
 lost_same true e = go e.tracking.loss_time
   where
     go : (o : Option ℕ) → Same e (loss_judged o e)
-    go None = record { closing = refl; alive = refl; pinged = refl; response = refl }
+    go None = record { closing = refl; alive = refl; pinged = refl; response = refl; immediate = refl }
     go (Some moment) = losses_keep (Same e) (settles e) e (same_self e)
 
 -- what the timers beside that of losses leave
-busy_timed : (words : ℕ → ℕ) (x : Expiry) (e f : End) → Same e f → (let g : End = after_busy words x f in (g.closing ≡ e.closing) × (g.timers.keep_alive ≡ (if x.keep_alive then None else e.timers.keep_alive)) × (g.waiting.signals.ping ≡ (x.keep_alive || e.waiting.signals.ping)) × (g.waiting.signals.response ≡ e.waiting.signals.response))
+busy_timed : (words : ℕ → ℕ) (x : Expiry) (e f : End) → Same e f → (let g : End = after_busy words x f in (g.closing ≡ e.closing) × (g.timers.keep_alive ≡ (if x.keep_alive then None else e.timers.keep_alive)) × (g.waiting.signals.ping ≡ (x.keep_alive || e.waiting.signals.ping)) × (g.waiting.signals.response ≡ e.waiting.signals.response) × (g.waiting.signals.immediate ≡ e.waiting.signals.immediate))
 busy_timed words x e f same = go x.acks x.pacing x.keep_alive (path_expired words x.path f) (path x.path)
   where
     anew : (b : Bool) → Same e (challenged_anew words b f)
-    anew true = record { closing = same.closing; alive = same.alive; pinged = same.pinged; response = same.response }
-    anew false = record { closing = same.closing; alive = same.alive; pinged = same.pinged; response = same.response }
+    anew true = record { closing = same.closing; alive = same.alive; pinged = same.pinged; response = same.response; immediate = same.immediate }
+    anew false = record { closing = same.closing; alive = same.alive; pinged = same.pinged; response = same.response; immediate = same.immediate }
 
     path : (b : Bool) → Same e (path_expired words b f)
     path true = anew (nat_lt f.validation.drawn most_challenges)
     path false = same
 
-    go : (acks pacing keeps : Bool) (h : End) → Same e h → (let g : End = with_loss_timer (acks_expired acks (pacing_expired pacing (keep_alive_expired keeps h))) in (g.closing ≡ e.closing) × (g.timers.keep_alive ≡ (if keeps then None else e.timers.keep_alive)) × (g.waiting.signals.ping ≡ (keeps || e.waiting.signals.ping)) × (g.waiting.signals.response ≡ e.waiting.signals.response))
-    go true true true h i = (i.closing, refl, refl, i.response)
-    go true true false h i = (i.closing, i.alive, i.pinged, i.response)
-    go true false true h i = (i.closing, refl, refl, i.response)
-    go true false false h i = (i.closing, i.alive, i.pinged, i.response)
-    go false true true h i = (i.closing, refl, refl, i.response)
-    go false true false h i = (i.closing, i.alive, i.pinged, i.response)
-    go false false true h i = (i.closing, refl, refl, i.response)
-    go false false false h i = (i.closing, i.alive, i.pinged, i.response)
+    go : (acks pacing keeps : Bool) (h : End) → Same e h → (let g : End = with_loss_timer (acks_expired acks (pacing_expired pacing (keep_alive_expired keeps h))) in (g.closing ≡ e.closing) × (g.timers.keep_alive ≡ (if keeps then None else e.timers.keep_alive)) × (g.waiting.signals.ping ≡ (keeps || e.waiting.signals.ping)) × (g.waiting.signals.response ≡ e.waiting.signals.response) × (g.waiting.signals.immediate ≡ e.waiting.signals.immediate))
+    go true true true h i = (i.closing, refl, refl, i.response, i.immediate)
+    go true true false h i = (i.closing, i.alive, i.pinged, i.response, i.immediate)
+    go true false true h i = (i.closing, refl, refl, i.response, i.immediate)
+    go true false false h i = (i.closing, i.alive, i.pinged, i.response, i.immediate)
+    go false true true h i = (i.closing, refl, refl, i.response, i.immediate)
+    go false true false h i = (i.closing, i.alive, i.pinged, i.response, i.immediate)
+    go false false true h i = (i.closing, refl, refl, i.response, i.immediate)
+    go false false false h i = (i.closing, i.alive, i.pinged, i.response, i.immediate)
 
 -- an end that is open still wasn't idle
 pub timed : (p : Policy) (e : End) (now : ℕ) → e.closing.state ≡ states.Open → (timed_out p e now).end.closing.state ≡ states.Open → Timed e (timed_out p e now).end now
@@ -196,7 +198,7 @@ timed p e now opened = subst (λ (s : State). (timed_out_in s p e now).end.closi
 
     idle : (b : Bool) → (unless_idle b p.words x (loss_expired x.loss begins)).closing.state ≡ states.Open → Timed e (unless_idle b p.words x (loss_expired x.loss begins)) now
     idle true still = cc
-    idle false still = (let left = busy_timed p.words x begins (loss_expired x.loss begins) (lost_same x.loss begins) in record { closing = left.0; alive = left.1; pinged = left.2; response = left.3 })
+    idle false still = (let left = busy_timed p.words x begins (loss_expired x.loss begins) (lost_same x.loss begins) in record { closing = left.0; alive = left.1; pinged = left.2; response = left.3; immediate = left.4 })
 
 -- whether PING is to keep an end alive at the moment of a call
 abbrev pub wakes_at : End → Call → Bool

@@ -1,11 +1,11 @@
 -- So each datagram carries something that waited, at each place of an honest run.
-use Rattle.std.proofs.Common.{◌≡◌, ℕ, ◌<◌, ◌≤◌, ◌^◌, zero, suc, Bool, true, false, ◌||◌, List, [], ◌∷◌, length, replicate, Some, Ok, refl, sym, ap, ◌∙◌, subst, inl, inr, arith}
+use Rattle.std.proofs.Common.{◌≡◌, ℕ, ◌<◌, ◌≤◌, ◌^◌, zero, suc, Bool, true, false, ◌||◌, List, [], ◌∷◌, length, replicate, Some, Ok, refl, sym, ap, ◌∙◌, subst, ◌⊎◌, inl, inr, arith}
 use Rattle.std.specs.Prelude.{nat_lt}
 use Rattle.std.specs.List.{list_any}
-use Rattle.std.proofs.lemmas.Bool.{or_left, or_right, both_ways, lt-ltb}
+use Rattle.std.proofs.lemmas.Bool.{or_left, or_right, or_cases, both_ways, lt-ltb}
 use Rattle.quic_wire_core.specs.declared.stream_id.Side.{Side}
 use Rattle.quic_wire_core.specs.StreamId.{other_side}
-use Rattle.quic_wire.specs.Value.{FrameValue, padding, ping, stream, max_data, max_streams, data_blocked, path_challenge, path_response}
+use Rattle.quic_wire.specs.Value.{FrameValue, padding, ping, stream, max_data, max_streams, data_blocked, path_challenge, path_response, immediate_ack, ack_frequency}
 use Rattle.quic_streams_state.specs.declared.state.StreamsState.{StreamsState}
 use Rattle.quic_machine.specs.declared.run.Call.TheVariants as calls
 use Rattle.quic_machine.specs.declared.run.Answer.{Answer}
@@ -13,7 +13,7 @@ use Rattle.quic_machine.specs.declared.run.Answer.TheVariants as answers
 use Rattle.quic_machine.specs.Ids.{Ids}
 use Rattle.quic_machine.specs.Parts.{Waiting, current_mtu}
 use Rattle.quic_machine.specs.End.{End, streams_at}
-use Rattle.quic_machine.specs.Poll.{asking, zeros_behind, whole, alone, probe, nothing, Leaving, goes_as, goes, draft_as, polled, closing}
+use Rattle.quic_machine.specs.Poll.{asking, zeros_behind, whole, alone, probe, nothing, Leaving, goes_as, goes, draft_as, polled, closing, request_queued, asks_anew}
 use Rattle.quic_machine.specs.DraftLaws.{HasRoom}
 use Rattle.quic_machine.specs.PollCases.{ready_at, ready_leaves, draft_at, frames_at, may_leave_at, ready_closes_not}
 use Rattle.quic_machine.specs.Machine.{World, policy_at, end_at}
@@ -22,14 +22,16 @@ use Rattle.quic_headline.specs.Observer.{Sent, HoldsOffset, HoldsEnd, asks_of, W
 use Rattle.quic_headline.specs.Headline.{IsHonest, IsRun}
 use Rattle.quic_headline.specs.Moments.{is_ack, acknowledges}
 use Rattle.quic_headline.specs.Polls.{GaveOne}
-use Rattle.quic_headline.specs.Waited.{one_asks, count_silent, may_come, stands, Wants, wants, calls_for_ack, FrameWaited, HasWaited, as_size_probe, as_loss_probe, as_ack, as_frames, as_close, EachWaited}
-use Rattle.quic_headline.specs.InFlight.{is_max_streams}
+use Rattle.quic_headline.specs.Waited.{count_silent, may_come, stands, Wants, wants, FrameWaited, HasWaited, as_size_probe, as_loss_probe, as_ack, as_frames, as_close, EachWaited}
+use Rattle.quic_headline.specs.InFlight.{is_max_streams, is_ack_frequency}
+use Rattle.quic_headline.specs.Requests.{Asking, asking_at, count_requests, wants_anew}
 use Rattle.quic_headline.proofs.Packets.Flying.{asking_padded}
+use Rattle.quic_headline.proofs.Packets.Group.{PacketsHold}
 use Rattle.quic_headline.proofs.Packets.Searches.{ready_size}
 use Rattle.quic_headline.proofs.Packets.Probes.{ready_acks, ready_state}
 use Rattle.quic_headline.proofs.Places.Told.{in_append}
-use Rattle.quic_headline.proofs.Places.Parties.{sent_as, Party, with_shown, shown_at}
-use Rattle.quic_headline.proofs.Places.Groups.{Way, Nothing, And, Group, both, over}
+use Rattle.quic_headline.proofs.Places.Parties.{sent_as, Party, watch_of, with_shown, shown_at}
+use Rattle.quic_headline.proofs.Places.Groups.{Way, Nothing, And, Group, both, beside, over}
 use Rattle.quic_headline.proofs.Places.Placed.{party_at}
 use Rattle.quic_headline.proofs.Places.Together.{Spells}
 use Rattle.quic_headline.proofs.Places.Everything as everything
@@ -46,10 +48,18 @@ use Rattle.quic_headline.proofs.Settled.Words.{Settling}
 use Rattle.quic_headline.proofs.Settled.Carried.{known_of}
 use Rattle.quic_headline.proofs.Settled.Group.{Open, acks, told_so}
 use Rattle.quic_headline.proofs.Settled.Clause.{Held, held}
-use Rattle.quic_headline.proofs.Waited.Flags.{Flag, all, counts, blocked, challenge, response, says, flag, draft_said}
+use Rattle.quic_headline.proofs.Waited.Flags.{Flag, all, counts, blocked, challenge, response, says, flag, draft_said, asked_flag}
 use Rattle.quic_headline.proofs.Waited.Pings.{ready_still}
 use Rattle.quic_headline.proofs.Waited.Drafts.{IsUrged, silent_acks, Brings, whole_brings}
-use Rattle.quic_headline.proofs.Waited.Group.{IsWanted, wants_of, wants_watch, Wanting, wanting_group}
+use Rattle.quic_headline.specs.AcksDue.{Haste}
+use Rattle.quic_headline.proofs.AcksDue.Group.{haste_of}
+use Rattle.quic_headline.proofs.Waited.Group.{IsWanted, wants_of, wants_watch}
+use Rattle.quic_headline.proofs.Waited.Urged.{is_wanted, Wished, wished_group}
+use Rattle.quic_headline.proofs.Steps.Probes.{begun}
+use Rattle.quic_headline.proofs.Duties.Carrier.{any_is}
+use Rattle.quic_headline.proofs.Requests.Asks.{by_of, is_anew, anew_is, anew_known}
+use Rattle.quic_headline.proofs.Requests.Drafts.{Has, has_none, has_one, draft_has, count_any}
+use Rattle.quic_headline.proofs.Requests.Group.{Counted, counted_group}
 
 -- ---- frames
 
@@ -59,13 +69,7 @@ in_padding f zero i = absurd i
 in_padding f (suc count) (inl is) = is
 in_padding f (suc count) (inr more) = in_padding f count more
 
--- what is said stands among frames
-says_in : (k : Flag) (f : FrameValue) (fs : List FrameValue) → In f fs → says k f ≡ true → list_any (says k) fs ≡ true
-says_in k f [] i is = absurd i
-says_in k f (g ∷ fs) (inl same) is = or_left (says k g) (list_any (says k) fs) (ap (says k) (sym same) ∙ is)
-says_in k f (g ∷ fs) (inr more) is = or_right (says k g) (list_any (says k) fs) (says_in k f fs more is)
-
-module _ (w : Wants) (e : End) (i : IsWanted w e) where
+module _ (q : Asking) (w : Wants) (e : End) (i : IsWanted w e) where
   -- what waits wasn't said since
   unsaid : (k : Flag) → flag k e.waiting ≡ true → stands (says k) w.since ≡ false
   unsaid k waits = go (stands (says k) w.since) refl
@@ -74,36 +78,52 @@ module _ (w : Wants) (e : End) (i : IsWanted w e) where
       go true is = absurd (both_ways (flag k e.waiting) (i.gone k is) waits)
       go false is = refl
 
+  -- ACK_FREQUENCY didn't go since, or the peer is to be asked anew
+  abbrev Asked : Type 0
+  Asked = (stands is_ack_frequency w.since ≡ false) ⊎ (wants_anew q w.watch.own w.watch.flight ≡ true)
+
+  -- so it is where that waits
+  asks_or_none : is_anew (by_of e) ≡ wants_anew q w.watch.own w.watch.flight → (is_anew (by_of e) ≡ true) ⊎ (e.waiting.frames.ack_frequency ≡ true) → Asked
+  asks_or_none known (inl anew) = inr (sym known ∙ anew)
+  asks_or_none known (inr waits) = go (stands is_ack_frequency w.since) refl
+    where
+      go : (b : Bool) → stands is_ack_frequency w.since ≡ b → Asked
+      go true is = inr (sym known ∙ i.asked is waits)
+      go false is = inl is
+
   -- so a frame waited that brings something, and says what waits
-  frame_waited : (f : FrameValue) → Brings w.watch.flight.acked e f → ((k : Flag) → says k f ≡ true → flag k e.waiting ≡ true) → FrameWaited w f
-  frame_waited ping brings waits = i.pinged brings
-  frame_waited (stream f) brings waits = brings
-  frame_waited (max_data limit) brings waits = unsaid all (waits all refl)
-  frame_waited (max_streams f) brings waits = unsaid (counts f.one_way) (waits (counts f.one_way) (same f.one_way))
+  frame_waited : (f : FrameValue) → Brings w.watch.flight.acked e f → ((k : Flag) → says k f ≡ true → flag k e.waiting ≡ true) → (is_ack_frequency f ≡ true → Asked) → FrameWaited q w f
+  frame_waited ping brings waits asks = i.pinged brings
+  frame_waited immediate_ack brings waits asks = i.hastened brings
+  frame_waited (stream f) brings waits asks = brings
+  frame_waited (max_data limit) brings waits asks = unsaid all (waits all refl)
+  frame_waited (max_streams f) brings waits asks = unsaid (counts f.one_way) (waits (counts f.one_way) (same f.one_way))
     where
       same : (b : Bool) → is_max_streams b (max_streams (record { one_way = b; count = f.count })) ≡ true
       same true = refl
       same false = refl
-  frame_waited (data_blocked limit) brings waits = unsaid blocked (waits blocked refl)
-  frame_waited (path_challenge token) brings waits = unsaid challenge (waits challenge refl)
-  frame_waited (path_response token) brings waits = unsaid response (waits response refl)
-  frame_waited f brings waits = tt
+  frame_waited (data_blocked limit) brings waits asks = unsaid blocked (waits blocked refl)
+  frame_waited (path_challenge token) brings waits asks = unsaid challenge (waits challenge refl)
+  frame_waited (path_response token) brings waits asks = unsaid response (waits response refl)
+  frame_waited (ack_frequency f) brings waits asks = asks refl
+  frame_waited f brings waits asks = tt
 
   -- and an ACK frame is wanted where one is due, or many came that don't ask
-  ack_wanted : IsUrged e.acknowledging → calls_for_ack w ≡ true
-  ack_wanted (inl due) = i.acks.due due
-  ack_wanted (inr many) = (
-      let most = i.acks.silent in
-      or_right (one_asks w.packets) (w.marked || nat_lt may_come (count_silent w.packets)) (or_right w.marked (nat_lt may_come (count_silent w.packets)) (lt-ltb may_come (count_silent w.packets) (omega arith))))
+  ack_wanted : (h : Haste) → (e.acknowledging.due ≡ true → is_wanted h w ≡ true) → IsUrged e.acknowledging → is_wanted h w ≡ true
+  ack_wanted h urged (inl due) = urged due
+  ack_wanted h urged (inr many) = (
+      let most = i.silent in
+      or_right h.due (w.marked || nat_lt may_come (count_silent w.packets)) (or_right w.marked (nat_lt may_come (count_silent w.packets)) (lt-ltb may_come (count_silent w.packets) (omega arith))))
 
 -- ---- the clause
 
--- all that is known of the packets and the streams, what was acknowledged, and what is wanted
+-- all that is known of the packets and the streams, what was acknowledged, what is wanted, and how
+-- often the peer was asked how to acknowledge
 abbrev Known : Way
-Known = And Held Wanting
+Known = And Held (And Wished Counted)
 
 known : Group Nothing Known
-known = both Nothing Held Wanting held (over Observed (And Nothing Held) Wanting (λ x y h. (h.1.0.0.0, h.1.0.1)) wanting_group)
+known = both Nothing Held (And Wished Counted) held (beside (And Nothing Held) Wished Counted (over Observed (And Nothing Held) Wished (λ x y h. (h.1.0.0.0, h.1.0.1)) wished_group) (over PacketsHold (And Nothing Held) Counted (λ x y h. h.1.0.0.0) counted_group))
 
 -- what is known of the streams
 abbrev Streams : Way
@@ -144,7 +164,7 @@ module _ (r : Run) (end : World) (honest : IsHonest r) (run : IsRun r end) (side
     wants_is = refl
 
     wanted : IsWanted (wants r side i) e
-    wanted = subst (λ (v : Wants). IsWanted v e) (sym wants_is) (h.gives.1.wanted gives.opened)
+    wanted = subst (λ (v : Wants). IsWanted v e) (sym wants_is) (h.gives.1.0.0.1.wanted gives.opened)
 
     -- the end that is ready
     abbrev z : End
@@ -170,7 +190,7 @@ module _ (r : Run) (end : World) (honest : IsHonest r) (run : IsRun r end) (side
         let found = silent_acks spells.known spells.spelling spells.bringing e now gives.some short streams_known (sym ask_alike ∙ none) in
         as_ack none
         (ap (λ (s : Sent). acknowledges (s ∷ [])) (sym same) ∙ or_left (list_any is_ack (frames_at e now)) false (any_padded (draft_at e now).frames _ ∙ found.0))
-        (ack_wanted (wants r side i) e wanted (subst IsUrged (ready_acks e now) found.1))
+        (ack_wanted (asking_at r side) (wants r side i) e wanted (haste_of x y) (h.gives.1.0.1.due gives.opened) (subst IsUrged (ready_acks e now) found.1))
 
     -- ---- one that asks
 
@@ -178,26 +198,43 @@ module _ (r : Run) (end : World) (honest : IsHonest r) (run : IsRun r end) (side
     acks_are : (wants r side i).watch.flight.acked ≡ acks x y
     acks_are = ap (λ (v : Wants). v.watch.flight.acked) wants_is ∙ ap (λ (v : Watch). v.flight.acked) (wants_watch x y)
 
+    -- its observer finds when the peer is to be asked anew
+    anew_seen : is_anew (by_of e) ≡ wants_anew (asking_at r side) (wants r side i).watch.own (wants r side i).watch.flight
+    anew_seen =
+        anew_known x.terms (watch_of x y).clock x.sents (watch_of x y).flight e (h.gives.0.0.1.watched.flight gives.opened).tells h.gives.1.1.next
+        ∙ ap (λ (b : Asking). wants_anew b x.sents (watch_of x y).flight) h.gives.1.1.same
+        ∙ ap (λ (ss : List Sent). wants_anew (asking_at r side) ss (watch_of x y).flight) (sym h.gives.0.0.1.own)
+        ∙ ap (λ (v : Watch). wants_anew (asking_at r side) v.own v.flight) (sym (ap (λ (v : Wants). v.watch) wants_is ∙ wants_watch x y))
+
     -- where no probe of losses waits, each of its frames waited
-    frames_waited : e.tracking.probes ≡ 0 → (ready_at e now).leaving ≡ whole → (f : FrameValue) → In f gave.sent.frames → FrameWaited (wants r side i) f
+    frames_waited : e.tracking.probes ≡ 0 → (ready_at e now).leaving ≡ whole → (f : FrameValue) → In f gave.sent.frames → FrameWaited (asking_at r side) (wants r side i) f
     frames_waited none is f among = elim (in_append f (draft_at e now).frames (replicate (zeros_behind (draft_at e now)) padding) (subst (λ (s : Sent). In f s.frames) (sym same) among)) [
-      | inl here ↦ frame_waited (wants r side i) e wanted f (brings (ap (λ (v : Waiting). v.signals.ping) still) here) (λ k said. (
-          let waited : flag k z.waiting ≡ true = (draft_said z.waiting k (ready_at e now).leaving z (may_leave_at e now) refl).waited (says_in k f (draft_at e now).frames here said) in
-          ap (flag k) (sym still) ∙ waited))
-      | inr behind ↦ subst (FrameWaited (wants r side i)) (sym (in_padding f (zeros_behind (draft_at e now)) behind)) tt
+      | inl here ↦ frame_waited (asking_at r side) (wants r side i) e wanted f (brings (ap (λ (v : Waiting). v.signals.ping) still) (ap (λ (v : Waiting). v.signals.immediate) still) here) (λ k said. (
+          let waited : flag k z.waiting ≡ true = (draft_said z.waiting k (ready_at e now).leaving z (may_leave_at e now) refl).waited (any_is (says k) f (draft_at e now).frames here said) in
+          sym (asked_flag k e.waiting _) ∙ ap (flag k) (sym still) ∙ waited)) (λ said. asks_or_none (asking_at r side) (wants r side i) e wanted anew_seen (asked_so (draft_has (ready_at e now).leaving z (may_leave_at e now)) (count_any (draft_at e now).frames (any_is is_ack_frequency f (draft_at e now).frames here said))))
+      | inr behind ↦ subst (FrameWaited (asking_at r side) (wants r side i)) (sym (in_padding f (zeros_behind (draft_at e now)) behind)) tt
     ]
       where
-        still : z.waiting ≡ e.waiting
+        still : z.waiting ≡ (request_queued (begun e now)).waiting
         still = ready_still e now none
+
+        -- ACK_FREQUENCY goes where it waited, or the peer is to be asked anew
+        asked_so : Has z (draft_at e now) → 1 ≤ count_requests (draft_at e now).frames → (is_anew (by_of e) ≡ true) ⊎ (e.waiting.frames.ack_frequency ≡ true)
+        asked_so (has_none count same stays) some = absurd (omega arith)
+        asked_so (has_one count next told waited gone) some = elim (or_cases (asks_anew e.transport.ack_frequency_config (begun e now)) e.waiting.frames.ack_frequency (sym (ap (λ (v : Waiting). v.frames.ack_frequency) still) ∙ waited)) [
+          | inl anew ↦ inl (sym (anew_is (begun e now)) ∙ anew)
+          | inr was ↦ inr was
+        ]
 
         settled : Open x.sents (wrote x.told) (told_so x) (acks x y) z
         settled = subst (λ (s : StreamsState). Settling (λ id o. HoldsOffset (acks x y) id o) (λ id. HoldsEnd (acks x y) id) (known_of x.sents (acks x y)) (told_so x) (wrote x.told) s) (sym (ready_state e now)) (h.gives.0.1.still gives.opened)
 
-        brings : z.waiting.signals.ping ≡ e.waiting.signals.ping → In f (draft_at e now).frames → Brings (wants r side i).watch.flight.acked e f
-        brings ping_same here = pass f (subst (λ (ss : List Sent). Brings ss z f) (sym acks_are) (whole_brings spells.known spells.spelling x.sents (acks x y) (told_so x) (wrote x.told) z streams_known settled f (subst (λ (l : Leaving). In f (draft_as l z).frames) is here)))
+        brings : z.waiting.signals.ping ≡ e.waiting.signals.ping → z.waiting.signals.immediate ≡ e.waiting.signals.immediate → In f (draft_at e now).frames → Brings (wants r side i).watch.flight.acked e f
+        brings ping_same immediate_same here = pass f (subst (λ (ss : List Sent). Brings ss z f) (sym acks_are) (whole_brings spells.known spells.spelling x.sents (acks x y) (told_so x) (wrote x.told) z streams_known settled f (subst (λ (l : Leaving). In f (draft_as l z).frames) is here)))
           where
             pass : (g : FrameValue) → Brings (wants r side i).watch.flight.acked z g → Brings (wants r side i).watch.flight.acked e g
             pass ping b = sym ping_same ∙ b
+            pass immediate_ack b = sym immediate_same ∙ b
             pass (stream g) b = b
             pass g b = tt
 

@@ -6,7 +6,7 @@ use Rattle.std.specs.Prelude.{nat_lt, option_map}
 use Rattle.std.specs.Option.{is_some}
 use Rattle.std.specs.List.{list_any}
 use Rattle.std.proofs.lemmas.Bool.{or_cases, and_parts, both_ways, ltb-true}
-use Rattle.quic_wire.specs.Value.{FrameValue, ack, ping, stream, datagram}
+use Rattle.quic_wire.specs.Value.{FrameValue, ack, ping, stream, datagram, immediate_ack, ack_frequency}
 use Rattle.quic_sets.specs.Runs.{Run, Has}
 use Rattle.quic_sets.specs.Offsets.{first_or}
 use Rattle.quic_send_buffer.specs.Buffered.{Buffered, IsBuffered, written, next_range, next_start, sent_end}
@@ -19,7 +19,7 @@ use Rattle.quic_streams_laws.specs.KeepingLaws.{live_sends}
 use Rattle.quic_streams_laws.specs.Written.{Wrote, IsSendHalf}
 use Rattle.quic_streams_laws.specs.AcknowledgedLaws.{half_arrived}
 use Rattle.quic_machine.specs.End.{End, streams_at}
-use Rattle.quic_machine.specs.Poll.{Draft, no_frames, with_signal_frames, ping_if, with_control_frames, with_message_frames, with_asking, ack_of, with_ack, ack_fits, ack_if, composed_if, composed, lazied, asking, asks_to_go, waits, draft_as, goes_as, goes, whole, alone, probe, nothing, Leaving, closing}
+use Rattle.quic_machine.specs.Poll.{Draft, no_frames, with_signal_frames, ping_if, with_control_frames, with_message_frames, with_asking, ack_of, with_ack, ack_fits, ack_if, composed_if, composed, lazied, asking, asks_to_go, waits, draft_as, goes_as, goes, whole, alone, probe, nothing, Leaving, closing, immediate_if, with_ping_frame, with_frequency_frame, request_of}
 use Rattle.quic_machine.specs.DraftLaws.{Writing, HasRoom, SendsEntry, SendsHalf, room_most, lazy_due, by_entries, by_messages, by_streams, MayLeave, signal_asks, by_signals}
 use Rattle.quic_machine.specs.Puts as puts
 use Rattle.quic_machine.specs.Validation.{challenge_frame, response_frame}
@@ -28,7 +28,7 @@ use Rattle.quic_headline.specs.Runs.{In}
 use Rattle.quic_headline.specs.Observer.{Sent, HoldsOffset, HoldsEnd}
 use Rattle.quic_headline.specs.Moments.{is_ack}
 use Rattle.quic_headline.specs.Waited.{HoldsNone}
-use Rattle.quic_headline.proofs.Packets.Entries.{IsControl, control_of}
+use Rattle.quic_headline.proofs.Packets.Entries.{IsControl, control_of, by_request}
 use Rattle.quic_headline.proofs.Packets.Composed.{Spelling, bytes_count}
 use Rattle.quic_headline.proofs.Packets.Going.{Bringing, asking_goes}
 use Rattle.quic_headline.proofs.Packets.Growth.{in_more}
@@ -49,9 +49,10 @@ AskIfAny d = Asks d ⊎ (length d.frames ≡ 0)
 
 -- so it is of those that ask, and go first
 asking_asks : (e : End) → AskIfAny (with_asking (no_frames e))
-asking_asks e = by_streams AskIfAny (λ d id h room found first left is counts i. inl (last_asks d (stream (frame_of id h room)) refl)) (with_message_frames (with_control_frames (with_signal_frames (no_frames e))))
-    (by_messages AskIfAny (λ d m ms is fit i. inl (last_asks d (datagram m) refl)) (with_control_frames (with_signal_frames (no_frames e)))
-    (by_entries AskIfAny (λ d kind i. i) (λ d kind f is i. inl (last_asks d f (control_asks f (control_of f kind is.of_kind)))) (with_signal_frames (no_frames e)) (by_signals AskIfAny (λ d f left is i. inl (last_asks d f (signal_asks f is))) (no_frames e) (inr refl))))
+asking_asks e = by_streams AskIfAny (λ d id h room found first left is counts i. inl (last_asks d (stream (frame_of id h room)) refl)) (with_message_frames (with_control_frames (with_frequency_frame (with_signal_frames (no_frames e)))))
+    (by_messages AskIfAny (λ d m ms is fit i. inl (last_asks d (datagram m) refl)) (with_control_frames (with_frequency_frame (with_signal_frames (no_frames e))))
+    (by_entries AskIfAny (λ d kind i. i) (λ d kind f is i. inl (last_asks d f (control_asks f (control_of f kind is.of_kind)))) (with_frequency_frame (with_signal_frames (no_frames e)))
+    (by_request AskIfAny (with_signal_frames (no_frames e)) (λ waits i. inl (last_asks (with_signal_frames (no_frames e)) (ack_frequency (request_of (with_signal_frames (no_frames e)).end)) refl)) (by_signals AskIfAny (λ d f left is i. inl (last_asks d f (signal_asks f is))) (no_frames e) (inr refl)))))
 
 -- ---- a datagram that doesn't ask
 
@@ -106,16 +107,18 @@ module _ (K : Streams → Type 0) (k : Spelling K) (c : Bringing K) where
 
 -- ---- a datagram that asks
 
--- PING goes where it waits, and a STREAM frame brings a byte or the end, and no byte that was
--- acknowledged
+-- PING and IMMEDIATE_ACK go where they wait, and a STREAM frame brings a byte or the end, and no
+-- byte that was acknowledged
 abbrev pub Brings : List Sent → End → FrameValue → Type 0
 Brings acks e ping = e.waiting.signals.ping ≡ true
+Brings acks e immediate_ack = e.waiting.signals.immediate ≡ true
 Brings acks e (stream f) = ((0 < length f.bytes) ⊎ (f.fin ≡ true)) × HoldsNone acks f
 Brings acks e f = Unit {0}
 
 -- so do all other frames
 control_brings : (acks : List Sent) (e : End) (f : FrameValue) → IsControl f → Brings acks e f
 control_brings acks e ping is = absurd is
+control_brings acks e immediate_ack is = absurd is
 control_brings acks e (stream f) is = absurd is
 control_brings acks e f is = tt
 
@@ -208,20 +211,32 @@ module _ (K : Streams → Type 0) (k : Spelling K) (acks : List Sent) (n : ℕ �
         brings_more acks e d.frames (stream (frame_of id h room)) (half_brings acks t (w id) id h room one.1 counts, half_unacked acks t (w id) id h room one.1 held settled) i.2,
       ))
 
-  asking_brings : (d : Draft) → d.end.waiting.signals.ping ≡ e.waiting.signals.ping → IsBringing d → IsBringing (with_asking d)
-  asking_brings d same i = by_streams IsBringing halves_bring (with_message_frames (with_control_frames (with_signal_frames d)))
-      (by_messages IsBringing (λ x m ms is fit j. (j.0, j.1, brings_more acks e x.frames (datagram m) tt j.2)) (with_control_frames (with_signal_frames d)) (by_entries IsBringing (λ x kind j. (k.drops (streams_at x.end) kind j.0, j.1, j.2)) controls_bring (with_signal_frames d) signals))
+  -- PING and IMMEDIATE_ACK wait as at first
+  abbrev SameBare : Draft → Type 0
+  SameBare d = (d.end.waiting.signals.ping ≡ e.waiting.signals.ping) × (d.end.waiting.signals.immediate ≡ e.waiting.signals.immediate)
+
+  asking_brings : (d : Draft) → SameBare d → IsBringing d → IsBringing (with_asking d)
+  asking_brings d same i = by_streams IsBringing halves_bring (with_message_frames (with_control_frames (with_frequency_frame (with_signal_frames d))))
+      (by_messages IsBringing (λ x m ms is fit j. (j.0, j.1, brings_more acks e x.frames (datagram m) tt j.2)) (with_control_frames (with_frequency_frame (with_signal_frames d))) (by_entries IsBringing (λ x kind j. (k.drops (streams_at x.end) kind j.0, j.1, j.2)) controls_bring (with_frequency_frame (with_signal_frames d))
+      (by_request IsBringing (with_signal_frames d) (λ waits j. (k.asked (streams_at (with_signal_frames d).end) false j.0, j.1, brings_more acks e (with_signal_frames d).frames (ack_frequency (request_of (with_signal_frames d).end)) tt j.2)) signals)))
     where
       Brought : Draft → Type 0
-      Brought x = (x.end.waiting.signals.ping ≡ e.waiting.signals.ping) × IsBringing x
+      Brought x = SameBare x × IsBringing x
 
-      pings : (x : Draft) (b : Bool) → x.end.waiting.signals.ping ≡ b → Brought x → IsBringing (ping_if b x)
-      pings x true is j = (j.1.0, j.1.1, brings_more acks e x.frames ping (sym j.0 ∙ is) j.1.2)
-      pings x false is j = j.1
+      Hastens : Draft → Type 0
+      Hastens x = (x.end.waiting.signals.immediate ≡ e.waiting.signals.immediate) × IsBringing x
+
+      pings : (x : Draft) (b : Bool) → x.end.waiting.signals.ping ≡ b → Brought x → Hastens (ping_if b x)
+      pings x true is j = (j.0.1, (j.1.0, j.1.1, brings_more acks e x.frames ping (sym j.0.0 ∙ is) j.1.2))
+      pings x false is j = (j.0.1, j.1)
+
+      hastens : (x : Draft) (b : Bool) → x.end.waiting.signals.immediate ≡ b → Hastens x → IsBringing (immediate_if b x)
+      hastens x true is j = (j.1.0, j.1.1, brings_more acks e x.frames immediate_ack (sym j.0 ∙ is) j.1.2)
+      hastens x false is j = j.1
 
       signals : IsBringing (with_signal_frames d)
       signals = by_ping Brought IsBringing (λ x word j. (j.0, (j.1.0, j.1.1, brings_more acks e x.frames (challenge_frame word) tt j.1.2))) (λ x r j. (j.0, (j.1.0, j.1.1, brings_more acks e x.frames (response_frame r) tt j.1.2)))
-          (λ x j. pings x x.end.waiting.signals.ping refl j) d (same, i)
+          (λ x j. hastens (with_ping_frame x) (with_ping_frame x).end.waiting.signals.immediate refl (pings x x.end.waiting.signals.ping refl j)) d (same, i)
 
   -- so do those of what is composed
   composed_brings : K (streams_at e) → Knows e.streams → IsBringing (composed e)
@@ -232,8 +247,8 @@ module _ (K : Streams → Type 0) (k : Spelling K) (acks : List Sent) (n : ℕ �
       late false d x = x
 
       go : (b : Bool) → IsBringing (composed_if b e)
-      go true = asking_brings (with_ack (no_frames e)) refl (i, j, brings_more acks e [] (ack (ack_of e)) tt (λ f x. absurd x))
-      go false = late (ack_fits (with_asking (no_frames e))) (with_asking (no_frames e)) (asking_brings (no_frames e) refl (i, j, λ f x. absurd x))
+      go true = asking_brings (with_ack (no_frames e)) (refl, refl) (i, j, brings_more acks e [] (ack (ack_of e)) tt (λ f x. absurd x))
+      go false = late (ack_fits (with_asking (no_frames e))) (with_asking (no_frames e)) (asking_brings (no_frames e) (refl, refl) (i, j, λ f x. absurd x))
 
 -- all that stands in a datagram of all that waits brings something
 pub whole_brings : (K : Streams → Type 0) → Spelling K → (sents acks : List Sent) (n : ℕ → ℕ) (w : ℕ → Wrote) (e : End) → K (streams_at e) → Settling (λ id o. HoldsOffset acks id o) (λ id. HoldsEnd acks id) (known_of sents acks) n w e.streams

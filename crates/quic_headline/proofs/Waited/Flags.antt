@@ -7,7 +7,7 @@ use Rattle.std.proofs.lemmas.Bool.{or_cases, both_ways}
 use Rattle.std.proofs.lemmas.List.Folds.{list_any-append}
 use Rattle.quic_wire_core.specs.declared.stream_id.Dir.{Dir}
 use Rattle.quic_wire_core.specs.declared.stream_id.Dir.TheVariants.{Bi, Uni}
-use Rattle.quic_wire.specs.Value.{FrameValue, padding, ping, max_data, max_streams, data_blocked, path_challenge, path_response}
+use Rattle.quic_wire.specs.Value.{FrameValue, padding, ping, max_data, max_streams, data_blocked, path_challenge, path_response, immediate_ack, AckFrequencyValue, ack_frequency}
 use Rattle.quic_streams_parts.specs.Dirs.{of}
 use Rattle.quic_paths.specs.Responses.{Response}
 use Rattle.quic_retransmits.specs.declared.retransmits.ControlKind.{ControlKind}
@@ -18,7 +18,7 @@ use Rattle.quic_streams_laws.specs.KindLaws.{GoesFirst}
 use Rattle.quic_machine.specs.Parts.{Waiting}
 use Rattle.quic_machine.specs.Validation.{challenge_frame, response_frame}
 use Rattle.quic_machine.specs.End.{End}
-use Rattle.quic_machine.specs.Poll.{Draft, no_frames, lazied_as, draft_as, Leaving}
+use Rattle.quic_machine.specs.Poll.{Draft, no_frames, lazied_as, draft_as, Leaving, request_of}
 use Rattle.quic_machine.specs.DraftLaws.{Writing, by_leave, MayLeave}
 use Rattle.quic_machine.specs.Puts as puts
 use Rattle.quic_headline.specs.InFlight.{is_max_data, is_data_blocked, is_max_streams}
@@ -201,6 +201,25 @@ ping_goes (counts true) w = ((λ said. cc), inr refl)
 ping_goes (counts false) w = ((λ said. cc), inr refl)
 ping_goes k w = ((λ said. cc), inr refl)
 
+-- IMMEDIATE_ACK
+immediate_goes : (k : Flag) (w : Waiting) → Goes k immediate_ack w (record w { signals = record w.signals { immediate = false } })
+immediate_goes (counts true) w = ((λ said. cc), inr refl)
+immediate_goes (counts false) w = ((λ said. cc), inr refl)
+immediate_goes k w = ((λ said. cc), inr refl)
+
+-- ACK_FREQUENCY is none of them
+pub asked_flag : (k : Flag) (w : Waiting) (waits : Bool) → flag k (record w { frames = record w.frames { ack_frequency = waits } }) ≡ flag k w
+asked_flag all w waits = refl
+asked_flag (counts one_way) w waits = refl
+asked_flag blocked w waits = refl
+asked_flag challenge w waits = refl
+asked_flag response w waits = refl
+
+request_goes : (k : Flag) (r : AckFrequencyValue) (w : Waiting) → Goes k (ack_frequency r) w (record w { frames = record w.frames { ack_frequency = false } })
+request_goes (counts true) r w = ((λ said. cc), inr refl)
+request_goes (counts false) r w = ((λ said. cc), inr refl)
+request_goes k r w = ((λ said. cc), inr refl)
+
 -- another frame
 other_goes : (k : Flag) (f : FrameValue) (w : Waiting) → kind_of f ≡ None → is_path_challenge f ≡ false → is_path_response f ≡ false → Goes k f w w
 other_goes k f w none asks answers = ((λ said. absurd (both_ways (says k f) (says_none k f none asks answers) said)), inr refl)
@@ -259,6 +278,8 @@ module _ (base : Waiting) (k : Flag) where
       keep (puts.challenge word) d is i = sends d.frames (challenge_frame word) d.end.waiting (record d.end.waiting { signals = record d.end.waiting.signals { challenge = None } }) (challenge_goes k word d.end.waiting is) i
       keep (puts.response r) d is i = sends d.frames (response_frame r) d.end.waiting (record d.end.waiting { signals = record d.end.waiting.signals { response = None } }) (response_goes k r d.end.waiting is) i
       keep puts.ping d may i = sends d.frames ping d.end.waiting (record d.end.waiting { signals = record d.end.waiting.signals { ping = false } }) (ping_goes k d.end.waiting) i
+      keep puts.immediate d may i = sends d.frames immediate_ack d.end.waiting (record d.end.waiting { signals = record d.end.waiting.signals { immediate = false } }) (immediate_goes k d.end.waiting) i
+      keep puts.request d may i = sends d.frames (ack_frequency (request_of d.end)) d.end.waiting (record d.end.waiting { frames = record d.end.waiting.frames { ack_frequency = false } }) (request_goes k (request_of d.end) d.end.waiting) i
       keep p d may i = sends d.frames _ d.end.waiting d.end.waiting (other_goes k _ d.end.waiting refl refl refl) i
 
       none : (l : Leaving) → IsSaid (no_frames (lazied_as l e))

@@ -1,16 +1,16 @@
--- What is wanted of an open end, by what its observer knows: an acknowledgement that is due,
--- packets that ask, PING that waits; and what went since something could make it wait, waits no
--- more. Each call keeps that.
-use Rattle.std.proofs.Common.{◌≡◌, ℕ, ◌+◌, ◌<◌, ◌≤◌, ◌⊎◌, Bool, true, false, cond, ◌||◌, ◌&&◌, not, List, [], ◌∷◌, ◌++◌, length, map, Option, Some, None, Ok, refl, sym, ap, ◌∙◌, subst, inl, inr, arith}
+-- What is wanted of an open end, by what its observer knows: packets that don't ask are counted,
+-- PING waits; and what went since something could make it wait, waits no more. Each call keeps
+-- that.
+use Rattle.std.proofs.Common.{◌≡◌, ℕ, ◌+◌, ◌≤◌, ◌⊎◌, Bool, true, false, cond, ◌||◌, ◌&&◌, not, List, [], ◌∷◌, ◌++◌, length, map, Option, Some, None, Ok, refl, sym, ap, ◌∙◌, subst, inl, inr, arith}
 use Rattle.std.specs.Prelude.{if◌then◌else◌, nat_lt}
 use Rattle.std.specs.List.{list_any}
-use Rattle.std.proofs.lemmas.Bool.{and_from, or_cases, or_left, or_right, both_ways, lt-ltb, ltb-true, ltb-false}
+use Rattle.std.proofs.lemmas.Bool.{and_from, or_cases, or_left, or_right, both_ways, lt-ltb, ltb-false}
 use Rattle.std.proofs.lemmas.List.Folds.{list_any-append}
 use Rattle.std.proofs.lemmas.List.Sums.{sum_by-append, sum_by-cons}
 use Rattle.quic_wire_core.specs.declared.shared.EcnCodepoint.{EcnCodepoint}
 use Rattle.quic_wire.specs.Value.{FrameValue, asks}
 use Rattle.quic_recovery_core.specs.Duplicates.{Seen}
-use Rattle.quic_recovery_core.specs.PendingAcks.{Pending, lazy_threshold, after_insert, asking_counted, starts_wait, after_packet, after_lazy, after_timeout}
+use Rattle.quic_recovery_core.specs.PendingAcks.{Pending, after_insert, asking_counted, starts_wait, after_packet}
 use Rattle.quic_spaces.specs.Marks.{is_congested}
 use Rattle.quic_spaces.specs.Acknowledging.{with_due}
 use Rattle.quic_time.specs.Timers.{has_come}
@@ -25,7 +25,7 @@ use Rattle.quic_machine.specs.Policy.{Policy}
 use Rattle.quic_machine.specs.Parts.{Waiting}
 use Rattle.quic_machine.specs.End.{End}
 use Rattle.quic_machine.specs.Receive.{asks_in, after_taken, Outcome}
-use Rattle.quic_machine.specs.Poll.{Polled, zeros_behind, polled}
+use Rattle.quic_machine.specs.Poll.{Polled, zeros_behind, polled, asks_anew}
 use Rattle.quic_machine.specs.PollCases.{ready_at, draft_at, frames_at, may_leave_at}
 use Rattle.quic_machine.specs.FrameCases.{begun}
 use Rattle.quic_machine.specs.CallCases.{is_delivery, is_poll, is_timeout}
@@ -33,8 +33,9 @@ use Rattle.quic_machine.specs.Machine.{after_call, gave}
 use Rattle.quic_headline.specs.Runs.{Told, Packet, Intake, folded}
 use Rattle.quic_headline.specs.Observer.{Sent, Terms, asks_of, Watch, first_watch, news, is_past, is_timely, Lens, watch_told}
 use Rattle.quic_headline.specs.Moments.{acknowledges}
-use Rattle.quic_headline.specs.AcksDue.{takes_marked}
-use Rattle.quic_headline.specs.Waited.{one_asks, count_silent, may_come, stands, is_ping, asks_ping, Wants, since_behind, wakes, alive_from, alive_behind, probes_in_vain, wants_behind, wants_told, no_wants}
+use Rattle.quic_headline.specs.InFlight.{is_ack_frequency}
+use Rattle.quic_headline.specs.Requests.{requests_in}
+use Rattle.quic_headline.specs.Waited.{count_silent, stands, is_ping, asks_ping, Wants, since_behind, wakes, alive_from, alive_behind, probes_in_vain, wants_behind, wants_told, no_wants}
 use Rattle.quic_machine.specs.Closing.{Closing, ticked}
 use Rattle.quic_headline.proofs.Packets.Intakes.{folded_more, none_handed}
 use Rattle.quic_headline.proofs.Packets.Delivered.{Arrivals, arrived, with_taken}
@@ -50,72 +51,26 @@ use Rattle.quic_headline.proofs.Timers.Still.{was_open}
 use Rattle.quic_headline.proofs.Timers.Watched.{Observed, watch_behind, went_behind, came_before, came_behind, watched_behind}
 use Rattle.quic_headline.proofs.Timers.AckMoments.{asks_same, call_answered}
 use Rattle.quic_headline.proofs.Rest.Standing.{frames_acks, call_leaves}
-use Rattle.quic_headline.proofs.Waited.Marks.{call_due}
-use Rattle.quic_headline.proofs.Waited.Flags.{Flag, says, flag, IsSaid, draft_said, said_padded}
+use Rattle.quic_headline.proofs.Waited.Flags.{Flag, says, flag, IsSaid, draft_said, said_padded, asked_flag}
 use Rattle.quic_headline.proofs.Waited.Alive.{alive_again, again_is, again_none, polled_alive, Timed, timed, wakes_at, past_is, SetBy, none_set, arrivals_set, quiet_alive}
-use Rattle.quic_headline.proofs.Waited.Pings.{ready_still, WaitsStill, polled_pinged, call_pinged}
+use Rattle.quic_headline.proofs.Waited.Pings.{ready_still, WaitsStill, polled_pinged, call_pinged, of_ping, of_immediate, call_hastened}
 use Rattle.quic_headline.proofs.Packets.Sends.{by_sends}
+use Rattle.quic_headline.proofs.Steps.Probes.{begun as begun_at}
+use Rattle.quic_headline.proofs.Requests.Asks.{by_of, is_anew, anew_is}
+use Rattle.quic_headline.proofs.Requests.Drafts.{Goes, goes_none, goes_one, polled_requests, requests_any}
 
--- ---- what is to be acknowledged
-
--- by the packets that came since an ACK frame went, and whether one bore the mark of congestion,
--- one is wanted where it is due, and as many came as are counted
-pub record IsCounted (packets : List Packet) (marked : Bool) (p : Pending) : Type 0 where
-  pub due : p.due ≡ true → (one_asks packets || (marked || nat_lt may_come (count_silent packets))) ≡ true
-  pub asking : 0 < p.asking → one_asks packets ≡ true
-  pub silent : p.silent ≤ count_silent packets
+-- ---- packets that don't ask
 
 -- where more came
-asks_more : (came packets : List Packet) → one_asks packets ≡ true → one_asks (came ++ packets) ≡ true
-asks_more came packets is = list_any-append (λ (p : Packet). list_any asks p.frames) came packets ∙ or_right (one_asks came) (one_asks packets) is
-
-silent_more : (came packets : List Packet) → count_silent (came ++ packets) ≡ count_silent came + count_silent packets
+pub silent_more : (came packets : List Packet) → count_silent (came ++ packets) ≡ count_silent came + count_silent packets
 silent_more came packets = sum_by-append (λ (p : Packet). cond (not (list_any asks p.frames)) 1 0) came packets
 
-wanted_more : (a b c d e f : Bool) → (a ≡ true → d ≡ true) → (b ≡ true → e ≡ true) → (c ≡ true → f ≡ true) → (a || (b || c)) ≡ true → (d || (e || f)) ≡ true
-wanted_more a b c d e f x y z is = elim (or_cases a (b || c) is) [
-  | inl one ↦ or_left d (e || f) (x one)
-  | inr more ↦ or_right d (e || f) (elim (or_cases b c more) [ inl one ↦ or_left e f (y one) | inr one ↦ or_right e f (z one) ])
-]
-
--- where one was wanted, it is still
-module _ (packets came : List Packet) (marked mark : Bool) where
-  wanted_still : (one_asks packets || (marked || nat_lt may_come (count_silent packets))) ≡ true → (one_asks (came ++ packets) || ((mark || marked) || nat_lt may_come (count_silent (came ++ packets)))) ≡ true
-  wanted_still = wanted_more (one_asks packets) marked (nat_lt may_come (count_silent packets)) (one_asks (came ++ packets)) (mark || marked) (nat_lt may_come (count_silent (came ++ packets)))
-      (asks_more came packets) (or_right mark marked) (λ many. (let less = ltb-true may_come (count_silent packets) many in let more = silent_more came packets in lt-ltb may_come (count_silent (came ++ packets)) (omega arith)))
-
--- where nothing came
-module _ (packets : List Packet) (marked mark : Bool) (p : Pending) (i : IsCounted packets marked p) where
-  abbrev After : Pending → Type 0
-  After q = IsCounted packets (mark || marked) q
-
-  same_counted : After p
-  same_counted = record { due = λ due. wanted_still packets [] marked mark (i.due due); asking = i.asking; silent = i.silent }
-
-  -- many came that don't ask
-  lazy_counted : After (after_lazy p)
-  lazy_counted = record {
-    due = λ due. elim (or_cases p.due (nat_lt lazy_threshold p.silent) due) [
-      | inl was ↦ wanted_still packets [] marked mark (i.due was)
-      | inr many ↦ or_right (one_asks packets) ((mark || marked) || nat_lt may_come (count_silent packets)) (or_right (mark || marked) (nat_lt may_come (count_silent packets))
-          (let less = ltb-true lazy_threshold p.silent many in let most = i.silent in lt-ltb may_come (count_silent packets) (omega arith)))
-    ];
-    asking = i.asking;
-    silent = i.silent;
-  }
-
-  -- the timer expired
-  timed_counted : After (after_timeout p)
-  timed_counted = record { due = λ due. or_left (one_asks packets) ((mark || marked) || nat_lt may_come (count_silent packets)) (i.asking (ltb-true 0 p.asking due)); asking = i.asking; silent = i.silent }
-
--- ---- a delivery
-
--- those that ask, and how many don't
+-- as many of them came as are counted
 abbrev Counts : List Packet → Intake → End → Intake → Type 0
-Counts packets i e j = e.closing.state ≡ states.Open → (0 < e.acknowledging.asking → one_asks (news i j ++ packets) ≡ true) × (e.acknowledging.silent ≤ count_silent (news i j ++ packets))
+Counts packets i e j = e.closing.state ≡ states.Open → e.acknowledging.silent ≤ count_silent (news i j ++ packets)
 
-none_counts : (packets : List Packet) (i : Intake) (e : End) → (0 < e.acknowledging.asking → one_asks packets ≡ true) → e.acknowledging.silent ≤ count_silent packets → Counts packets i e i
-none_counts packets i e asking silent opened = subst (λ (qs : List Packet). (0 < e.acknowledging.asking → one_asks (qs ++ packets) ≡ true) × (e.acknowledging.silent ≤ count_silent (qs ++ packets))) (sym (none_new i)) (asking, silent)
+none_counts : (packets : List Packet) (i : Intake) (e : End) → e.acknowledging.silent ≤ count_silent packets → Counts packets i e i
+none_counts packets i e silent opened = subst (λ (qs : List Packet). e.acknowledging.silent ≤ count_silent (qs ++ packets)) (sym (none_new i)) silent
 
 -- the timer leaves the count
 wait_silent : (b : Bool) (p : Pending) (now : ℕ) → (cond b (record p { since = Some now }) p).silent ≡ p.silent
@@ -123,22 +78,19 @@ wait_silent true p now = refl
 wait_silent false p now = refl
 
 -- a packet that is taken
-packet_counts : (b : Bool) (p : Pending) (now n : ℕ) (s : Seen) (packets : List Packet) (q : Packet) → list_any asks q.frames ≡ b → (0 < p.asking → one_asks packets ≡ true) → p.silent ≤ count_silent packets
-    → (0 < (after_packet p now n b s).asking → one_asks (q ∷ packets) ≡ true) × ((after_packet p now n b s).silent ≤ count_silent (q ∷ packets))
-packet_counts true p now n s packets q is asking silent = (
-  λ some. or_left (list_any asks q.frames) (one_asks packets) is,
-  (let same : (after_packet p now n true s).silent ≡ p.silent = wait_silent (starts_wait (asking_counted p n s)) (asking_counted p n s) now in let more = silent_more (q ∷ []) packets in omega arith),
-)
-packet_counts false p now n s packets q is asking silent = (
-  λ some. or_right (list_any asks q.frames) (one_asks packets) (asking some),
-  (let one : count_silent (q ∷ packets) ≡ 1 + count_silent packets = sum_by-cons (λ (p : Packet). cond (not (list_any asks p.frames)) 1 0) q packets ∙ ap (λ (b : Bool). cond (not b) 1 0 + count_silent packets) is in omega arith),
-)
+packet_counts : (b : Bool) (p : Pending) (now n : ℕ) (s : Seen) (packets : List Packet) (q : Packet) → list_any asks q.frames ≡ b → p.silent ≤ count_silent packets → (after_packet p now n b s).silent ≤ count_silent (q ∷ packets)
+packet_counts true p now n s packets q is silent =
+    let same : (after_packet p now n true s).silent ≡ p.silent = wait_silent (starts_wait (asking_counted p n s)) (asking_counted p n s) now in
+    let more = silent_more (q ∷ []) packets in
+    omega arith
+packet_counts false p now n s packets q is silent =
+    let one : count_silent (q ∷ packets) ≡ 1 + count_silent packets = sum_by-cons (λ (p : Packet). cond (not (list_any asks p.frames)) 1 0) q packets ∙ ap (λ (b : Bool). cond (not b) 1 0 + count_silent packets) is in
+    omega arith
 
--- each case of it
-arrivals_count : (e : End) (now n : ℕ) (frames : List FrameValue) (i : Intake) (packets : List Packet) → (e.closing.state ≡ states.Open → (0 < e.acknowledging.asking → one_asks packets ≡ true) × (e.acknowledging.silent ≤ count_silent packets))
-    → Arrivals e now n frames i (λ (o : Outcome) (j : Intake). Counts packets i o.end j)
+-- each case of a delivery
+arrivals_count : (e : End) (now n : ℕ) (frames : List FrameValue) (i : Intake) (packets : List Packet) → (e.closing.state ≡ states.Open → e.acknowledging.silent ≤ count_silent packets) → Arrivals e now n frames i (λ (o : Outcome) (j : Intake). Counts packets i o.end j)
 arrivals_count e now n frames i packets was = record {
-  ignored = λ reason opened. none_counts packets i e (was opened).0 (was opened).1 opened;
+  ignored = λ reason opened. none_counts packets i e (was opened) opened;
   noted = λ state reason opened. absurd (let clash : states.Closing ≡ states.Open = sym state ∙ opened in cc);
   takes = λ words state new none mark opened. takes mark (was state);
   drains = λ words state new close is opened. absurd cc;
@@ -149,18 +101,14 @@ arrivals_count e now n frames i packets was = record {
     left : End
     left = (arrived e now n frames).end
 
-    left_acks : left.acknowledging ≡ record e.acknowledging { runs = left.acknowledging.runs }
-    left_acks = frames_acks frames (begun e now n)
-
     after : Option EcnCodepoint → Pending
     after mark = (after_taken n (asks_in (map Ok frames)) mark left).acknowledging
 
-    takes : (mark : Option EcnCodepoint) → (0 < e.acknowledging.asking → one_asks packets ≡ true) × (e.acknowledging.silent ≤ count_silent packets)
-        → (0 < (after mark).asking → one_asks (news i (with_taken i n frames) ++ packets) ≡ true) × ((after mark).silent ≤ count_silent (news i (with_taken i n frames) ++ packets))
+    takes : (mark : Option EcnCodepoint) → e.acknowledging.silent ≤ count_silent packets → (after mark).silent ≤ count_silent (news i (with_taken i n frames) ++ packets)
     takes mark old =
-        subst (λ (qs : List Packet). (0 < (after mark).asking → one_asks (qs ++ packets) ≡ true) × ((after mark).silent ≤ count_silent (qs ++ packets))) (sym (one_new i n frames))
+        subst (λ (qs : List Packet). (after mark).silent ≤ count_silent (qs ++ packets)) (sym (one_new i n frames))
         (packet_counts (asks_in (map Ok frames)) (with_due (is_congested mark) (after_insert left.acknowledging n left.closing.clock)) left.closing.clock n left.numbers.opened packets (record { number = n; frames = frames }) (sym (asks_same frames))
-        (λ some. old.0 (subst (λ (k : ℕ). 0 < k) (ap (λ (p : Pending). p.asking) left_acks) some)) (subst (λ (k : ℕ). k ≤ count_silent packets) (sym (ap (λ (p : Pending). p.silent) left_acks)) old.1))
+        (subst (λ (k : ℕ). k ≤ count_silent packets) (sym (frames_acks frames (begun e now n)).silent) old))
 
 -- ---- a poll
 
@@ -193,7 +141,7 @@ module _ (p : Policy) (e : End) (now : ℕ) (k : Flag) where
 
 -- what the observer of x knows to be wanted
 abbrev pub wants_of : Party → Party → Wants
-wants_of x y = folded (wants_told (lens x y)) x.told (no_wants (first_watch x.final x.began x.initial_rtt))
+wants_of x y = folded (wants_told (lens x y)) x.told (no_wants (first_watch x.final x.began x.initial_rtt x.initial_delay))
 
 -- the watch within it is the observer's
 same_watch : (l : Lens) (told : List Told) (w : Wants) → (folded (wants_told l) told w).watch ≡ folded (watch_told l) told w.watch
@@ -201,16 +149,19 @@ same_watch l [] w = refl
 same_watch l (t ∷ told) w = same_watch l told (wants_told l t w)
 
 pub wants_watch : (x y : Party) → (wants_of x y).watch ≡ watch_of x y
-wants_watch x y = same_watch (lens x y) x.told (no_wants (first_watch x.final x.began x.initial_rtt))
+wants_watch x y = same_watch (lens x y) x.told (no_wants (first_watch x.final x.began x.initial_rtt x.initial_delay))
 
 -- what an open end wants, by what is known to be wanted
 pub record IsWanted (w : Wants) (e : End) : Type 0 where
-  pub acks : IsCounted w.packets w.marked e.acknowledging
+  pub silent : e.acknowledging.silent ≤ count_silent w.packets
   pub pinged : e.waiting.signals.ping ≡ true → (w.pinged || w.probed) ≡ true
+  pub hastened : e.waiting.signals.immediate ≡ true → w.probed ≡ true
   -- when it is to be kept alive; never, where none is configured
   pub alive : w.alive ≡ e.timers.keep_alive
   pub untimed : e.transport.keep_alive_interval ≡ None → e.timers.keep_alive ≡ None
   pub gone : (k : Flag) → stands (says k) w.since ≡ true → flag k e.waiting ≡ false
+  -- ACK_FREQUENCY went since, and waits once more only where the peer is to be asked anew
+  pub asked : stands is_ack_frequency w.since ≡ true → e.waiting.frames.ack_frequency ≡ true → is_anew (by_of e) ≡ true
 
 -- so it is while x is open
 pub record Wanting (x y : Party) : Type 0 where
@@ -244,49 +195,27 @@ module _ (x y : Party) (call : Call) (a : Answer) (c : Calls Observed x y call a
   -- what is wanted behind the call
   pub wants_next : wants_of next y ≡ wants_behind x.terms.keep_alive t sents came after w
   wants_next =
-      folded_more (wants_told (lens x y)) x.told t (no_wants (first_watch x.final x.began x.initial_rtt))
+      folded_more (wants_told (lens x y)) x.told t (no_wants (first_watch x.final x.began x.initial_rtt x.initial_delay))
       ∙ ap (λ (ss : List Sent). wants_behind x.terms.keep_alive t ss (news w.watch.intake after.intake) after w) (went_behind x y call a c w.watch watched)
       ∙ ap (λ (j : Intake). wants_behind x.terms.keep_alive t sents (news j after.intake) after w) (came_before x y call a c w.watch watched)
       ∙ ap (λ (j : Intake). wants_behind x.terms.keep_alive t sents (news (came_to x y) j) after w) (came_behind x y call a c w.watch watched)
 
-  -- ---- acknowledgements
+  -- ---- packets that don't ask
 
-  abbrev mark : Bool
-  mark = takes_marked t.call t.answer
-
-  -- where none went
+  -- where no ACK frame went
   counts_on : acknowledges sents ≡ false → Counts w.packets (came_to x y) next.end (came_to next y)
   counts_on none = by_coming x y a c.joined c.served (meets y x c.takes.0) (Counts w.packets (came_to x y)) call c.answer (record {
-    apart = λ apart. (let left = apart_counted apart in none_counts w.packets (came_to x y) (after_call x.policy x.end y.given call a) left.asking left.silent);
-    none = λ delivery is. none_counts w.packets (came_to x y) x.end i.acks.asking i.acks.silent;
-    comes = λ delivery is s among. arrivals_count x.end delivery.now s.number s.frames (came_to x y) w.packets (λ still. (i.acks.asking, i.acks.silent));
+    apart = λ apart. none_counts w.packets (came_to x y) (after_call x.policy x.end y.given call a)
+        (call_leaves (λ (q : Pending). q.silent ≤ count_silent w.packets) x.end i.silent i.silent i.silent x.policy y.given call a apart c.answer c.served none);
+    none = λ delivery is. none_counts w.packets (came_to x y) x.end i.silent;
+    comes = λ delivery is s among. arrivals_count x.end delivery.now s.number s.frames (came_to x y) w.packets (λ still. i.silent);
   })
-    where
-      apart_counted : is_delivery call ≡ false → IsCounted w.packets (mark || w.marked) (after_call x.policy x.end y.given call a).acknowledging
-      apart_counted apart = call_leaves (IsCounted w.packets (mark || w.marked)) x.end (same_counted w.packets w.marked mark x.end.acknowledging i.acks) (lazy_counted w.packets w.marked mark x.end.acknowledging i.acks) (timed_counted w.packets w.marked mark x.end.acknowledging i.acks)
-          x.policy y.given call a apart c.answer c.served none
 
-  -- what is due then
-  due_on : acknowledges sents ≡ false → (b : Bool) → is_delivery call ≡ b → next.end.acknowledging.due ≡ true → (one_asks (came ++ w.packets) || ((mark || w.marked) || nat_lt may_come (count_silent (came ++ w.packets)))) ≡ true
-  due_on none true comes due = elim (call_due x.policy x.end y.given call a comes c.answer c.served opened_behind due) [
-    | inl was ↦ wanted_still w.packets came w.marked mark (i.acks.due was)
-    | inr other ↦ elim other [
-      | inl marked ↦ or_right (one_asks (came ++ w.packets)) ((mark || w.marked) || nat_lt may_come (count_silent (came ++ w.packets))) (or_left (mark || w.marked) (nat_lt may_come (count_silent (came ++ w.packets))) (or_left mark w.marked marked))
-      | inr some ↦ or_left (one_asks (came ++ w.packets)) ((mark || w.marked) || nat_lt may_come (count_silent (came ++ w.packets))) ((counts_on none opened_behind).0 some)
-    ]
-  ]
-  due_on none false apart due =
-      wanted_still' (call_leaves (λ (q : Pending). q.due ≡ true → (one_asks w.packets || ((mark || w.marked) || nat_lt may_come (count_silent w.packets))) ≡ true) x.end
-      (same_counted w.packets w.marked mark x.end.acknowledging i.acks).due (lazy_counted w.packets w.marked mark x.end.acknowledging i.acks).due (timed_counted w.packets w.marked mark x.end.acknowledging i.acks).due x.policy y.given call a apart c.answer c.served none due)
-    where
-      wanted_still' : (one_asks w.packets || ((mark || w.marked) || nat_lt may_come (count_silent w.packets))) ≡ true → (one_asks (came ++ w.packets) || ((mark || w.marked) || nat_lt may_come (count_silent (came ++ w.packets)))) ≡ true
-      wanted_still' is = wanted_still w.packets came (mark || w.marked) false is
-
-  acks_next : (b : Bool) → acknowledges sents ≡ b → IsCounted (if b then [] else came ++ w.packets) (if b then false else mark || w.marked) next.end.acknowledging
-  acks_next true some =
-      let none = call_answered (λ (p : Pending) (o : Option ℕ). (p.due ≡ false) × (p.asking ≡ 0) × (p.silent ≡ 0)) (λ p. (refl, refl, refl)) x.policy x.end y.given call a c.gives.0.owes c.answer c.served some in
-      record { due = λ due. absurd (both_ways next.end.acknowledging.due none.0 due); asking = λ asks. (let zero = none.1 in absurd (omega arith)); silent = (let zero = none.2 in omega arith) }
-  acks_next false none = record { due = due_on none (is_delivery call) refl; asking = (counts_on none opened_behind).0; silent = (counts_on none opened_behind).1 }
+  silent_next : (b : Bool) → acknowledges sents ≡ b → next.end.acknowledging.silent ≤ count_silent (if b then [] else came ++ w.packets)
+  silent_next true some =
+      let none = call_answered (λ (p : Pending) (o : Option ℕ). p.silent ≡ 0) (λ p. refl) x.policy x.end y.given call a c.gives.0.owes c.answer c.served some in
+      omega (arith, none)
+  silent_next false none = counts_on none opened_behind
 
   -- ---- PING, and what went
 
@@ -458,8 +387,8 @@ module _ (x y : Party) (a : Answer) where
       vain : Bool
       vain = probes_in_vain (calls.Poll now) ss w.watch
 
-      left : WaitsStill x.policy x.end now ss
-      left = subst (λ (b : Answer). WaitsStill x.policy x.end now (sent_if (gave b) (sent_by x.policy x.end now))) (sym (poll_answer x.policy x.end now a c.answer c.served)) (polled_pinged x.policy x.end now still set)
+      left : WaitsStill of_ping x.policy x.end now ss
+      left = subst (λ (b : Answer). WaitsStill of_ping x.policy x.end now (sent_if (gave b) (sent_by x.policy x.end now))) (sym (poll_answer x.policy x.end now a c.answer c.served)) (polled_pinged of_ping x.policy x.end now still set)
 
       both : (b : Bool) → b ≡ false → (d : Bool) → d ≡ false → ((wakes_now || w.pinged) || (vain || w.probed)) ≡ true → ((if b then false else (wakes_now || w.pinged)) || (if d then false else (vain || w.probed))) ≡ true
       both true off d is all = cc
@@ -473,6 +402,44 @@ module _ (x y : Party) (a : Answer) where
       (probes_in_vain (calls.Timeout now) [] (wants_of x y).watch) refl still i (woken now c still i) set
   pinged_next call c still i set = other_pinged call (wakes (told_of call a x.end.closing.state) (watch_behind x y call a c (wants_of x y).watch (wants_watch x y)).clock (wants_of x y).alive) (probes_in_vain call [] (wants_of x y).watch) refl still i
       (calm x y call a c still i refl) set
+
+  -- ---- IMMEDIATE_ACK
+
+  -- what is wanted of it behind a poll
+  poll_hastened : (now : ℕ) → (called x y.given (calls.Poll now) a).end.closing.state ≡ states.Open → Calls Observed x y (calls.Poll now) a → IsWanted (wants_of x y) x.end → (called x y.given (calls.Poll now) a).end.waiting.signals.immediate ≡ true
+      → (let ss : List Sent = sent_if (gave a) (sent_by x.policy x.end now) in
+      (if list_any asks_of ss then false else (probes_in_vain (calls.Poll now) ss (wants_of x y).watch || (wants_of x y).probed)) ≡ true)
+  poll_hastened now still c i set = quiet (list_any asks_of ss) left.quiet (elim left.before [
+    | inl was ↦ or_right vain w.probed (i.hastened was)
+    | inr waited ↦ or_left vain w.probed
+        (and_from (nat_lt 0 w.watch.flight.probes) (not (nat_lt 0 (length ss))) (let same = probes x y (calls.Poll now) a c still i in let some = waited.0 in lt-ltb 0 w.watch.flight.probes (omega arith)) (ap (λ (rs : List Sent). not (nat_lt 0 (length rs))) waited.1))
+  ])
+    where
+      w : Wants
+      w = wants_of x y
+
+      ss : List Sent
+      ss = sent_if (gave a) (sent_by x.policy x.end now)
+
+      vain : Bool
+      vain = probes_in_vain (calls.Poll now) ss w.watch
+
+      left : WaitsStill of_immediate x.policy x.end now ss
+      left = subst (λ (b : Answer). WaitsStill of_immediate x.policy x.end now (sent_if (gave b) (sent_by x.policy x.end now))) (sym (poll_answer x.policy x.end now a c.answer c.served)) (polled_pinged of_immediate x.policy x.end now still set)
+
+      quiet : (b : Bool) → b ≡ false → (vain || w.probed) ≡ true → (if b then false else (vain || w.probed)) ≡ true
+      quiet true off all = cc
+      quiet false off all = all
+
+  -- and behind any other call: it waited before
+  other_hastened : (call : Call) → is_poll call ≡ false → (called x y.given call a).end.closing.state ≡ states.Open → IsWanted (wants_of x y) x.end → (called x y.given call a).end.waiting.signals.immediate ≡ true
+      → (probes_in_vain call [] (wants_of x y).watch || (wants_of x y).probed) ≡ true
+  other_hastened call silent still i set = or_right (probes_in_vain call [] (wants_of x y).watch) (wants_of x y).probed (i.hastened (sym (call_hastened x.policy x.end y.given call a silent still) ∙ set))
+
+  hastened_next : (call : Call) (c : Calls Observed x y call a) → (called x y.given call a).end.closing.state ≡ states.Open → IsWanted (wants_of x y) x.end → (called x y.given call a).end.waiting.signals.immediate ≡ true
+      → (let n : Wants = wants_behind x.terms.keep_alive (told_of call a x.end.closing.state) (sents_by x.policy x.end call a) (news (came_to x y) (came_to (called x y.given call a) y)) (watch_behind x y call a c (wants_of x y).watch (wants_watch x y)) (wants_of x y) in n.probed ≡ true)
+  hastened_next (calls.Poll now) c still i set = poll_hastened now still c i set
+  hastened_next call c still i set = other_hastened call refl still i set
 
   gone_next : (call : Call) (c : Calls Observed x y call a) → (called x y.given call a).end.closing.state ≡ states.Open → IsWanted (wants_of x y) x.end → (k : Flag) → stands (says k) (since_behind call (wants_of x y) (sents_by x.policy x.end call a)) ≡ true → flag k (called x y.given call a).end.waiting ≡ false
   gone_next (calls.Poll now) c still i k some = go (nat_lt 0 (wants_of x y).watch.flight.probes) refl some
@@ -498,7 +465,7 @@ module _ (x y : Party) (a : Answer) where
           flips : (b : Bool) → flag k (polled x.policy x.end now).end.waiting ≡ b → b ≡ false
           flips false is = refl
           flips true is = absurd (elim (left.0 is) [
-            | inl ready ↦ both_ways (flag k x.end.waiting) before (sym (ap (flag k) (ready_still x.end now none)) ∙ ready)
+            | inl ready ↦ both_ways (flag k x.end.waiting) before (sym (asked_flag k x.end.waiting _) ∙ sym (ap (flag k) (ready_still x.end now none)) ∙ ready)
             | inr was ↦ both_ways (flag k x.end.waiting) before was
           ])
 
@@ -510,23 +477,64 @@ module _ (x y : Party) (a : Answer) where
       ]
   gone_next call c still i k some = cc
 
+  -- ACK_FREQUENCY that went at a poll, or since, waits where the peer is to be asked anew
+  asked_next : (call : Call) (c : Calls Observed x y call a) → (called x y.given call a).end.closing.state ≡ states.Open → IsWanted (wants_of x y) x.end → stands is_ack_frequency (since_behind call (wants_of x y) (sents_by x.policy x.end call a)) ≡ true
+      → (called x y.given call a).end.waiting.frames.ack_frequency ≡ true → is_anew (by_of (called x y.given call a).end) ≡ true
+  asked_next (calls.Poll now) c still i some set = by_sent left
+    where
+      goes_now : List Sent
+      goes_now = sent_if (gave a) (sent_by x.policy x.end now)
+
+      left : Goes x.end now (polled x.policy x.end now).end goes_now
+      left = subst (λ (b : Answer). Goes x.end now (polled x.policy x.end now).end (sent_if (gave b) (sent_by x.policy x.end now))) (sym (poll_answer x.policy x.end now a c.answer c.served)) (polled_requests x.policy x.end now c.gives.0.owes)
+
+      -- it waited before, or the peer is to be asked
+      waited : x.end.tracking.probes ≡ 0 → ((ready_at x.end now).end.waiting.frames.ack_frequency ≡ true) ⊎ (x.end.waiting.frames.ack_frequency ≡ true) → (is_anew (by_of x.end) ≡ true) ⊎ (x.end.waiting.frames.ack_frequency ≡ true)
+      waited none (inl ready) = elim (or_cases (asks_anew x.end.transport.ack_frequency_config (begun_at x.end now)) x.end.waiting.frames.ack_frequency (sym (ap (λ (w : Waiting). w.frames.ack_frequency) (ready_still x.end now none)) ∙ ready)) [
+        | inl anew ↦ inl (sym (anew_is (begun_at x.end now)) ∙ anew)
+        | inr was ↦ inr was
+      ]
+      waited none (inr was) = inr was
+
+      -- it went before
+      old : x.end.tracking.probes ≡ 0 → stands is_ack_frequency (wants_of x y).since ≡ true → ((ready_at x.end now).end.waiting.frames.ack_frequency ≡ true) ⊎ (x.end.waiting.frames.ack_frequency ≡ true) → is_anew (by_of x.end) ≡ true
+      old none there was = elim (waited none was) [ inl anew ↦ anew | inr set_before ↦ i.asked there set_before ]
+
+      -- none goes now
+      quiet : requests_in goes_now ≡ 0 → stands is_ack_frequency goes_now ≡ true → ⊥
+      quiet none there = let one = requests_any goes_now there in omega arith
+
+      go : requests_in goes_now ≡ 0 → ((ready_at x.end now).end.waiting.frames.ack_frequency ≡ true) ⊎ (x.end.waiting.frames.ack_frequency ≡ true) → (b : Bool) → nat_lt 0 (wants_of x y).watch.flight.probes ≡ b → stands is_ack_frequency ((if b then [] else (wants_of x y).since) ++ goes_now) ≡ true → is_anew (by_of x.end) ≡ true
+      go none was true is there = absurd (quiet none there)
+      go none was false is there = elim (or_cases (stands is_ack_frequency (wants_of x y).since) (stands is_ack_frequency goes_now) (sym (list_any-append (λ (s : Sent). list_any is_ack_frequency s.frames) (wants_of x y).since goes_now) ∙ there)) [
+        | inl before ↦ (let idle = ltb-false 0 (wants_of x y).watch.flight.probes is in let same = probes x y (calls.Poll now) a c still i in old (omega arith) before was)
+        | inr now_there ↦ absurd (quiet none now_there)
+      ]
+
+      by_sent : Goes x.end now (polled x.policy x.end now).end goes_now → is_anew (by_of (polled x.policy x.end now).end) ≡ true
+      by_sent (goes_none none same was) = ap is_anew same ∙ go none (was set) (nat_lt 0 (wants_of x y).watch.flight.probes) refl some
+      by_sent (goes_one one next gone) = absurd (both_ways (polled x.policy x.end now).end.waiting.frames.ack_frequency gone set)
+  asked_next call c still i some set = cc
+
 wanting_step : (x y : Party) (call : Call) (a : Answer) → Calls Observed x y call a → Wanting x y → Wanting (called x y.given call a) y
 wanting_step x y call a c i = record { wanted = λ still. kept still (i.wanted (was_open x.policy x.end y.given call a still)) }
   where
     kept : (called x y.given call a).end.closing.state ≡ states.Open → IsWanted (wants_of x y) x.end → IsWanted (wants_of (called x y.given call a) y) (called x y.given call a).end
     kept still j = subst (λ (w : Wants). IsWanted w (called x y.given call a).end) (sym (wants_next x y call a c still j)) (record {
-      acks = acks_next x y call a c still j (acknowledges (sents_by x.policy x.end call a)) refl;
+      silent = silent_next x y call a c still j (acknowledges (sents_by x.policy x.end call a)) refl;
       pinged = pinged_next x y a call c still j;
+      hastened = hastened_next x y a call c still j;
       alive = (living_next x y a call c still j).0;
       untimed = (living_next x y a call c still j).1;
       gone = gone_next x y a call c still j;
+      asked = asked_next x y a call c still j;
     })
 
 -- over the packets and what observers know of them
 pub wanting_group : Group Observed Wanting
 wanting_group = record {
-  first = λ x y m there here. record { wanted = λ opened. record { acks = record { due = λ due. cc; asking = λ asks. absurd (omega arith); silent = omega arith }; pinged = λ set. cc; alive = refl; untimed = λ none. refl; gone = λ k some. cc } };
+  first = λ x y m there here. record { wanted = λ opened. record { silent = omega arith; pinged = λ set. cc; hastened = λ set. cc; alive = refl; untimed = λ none. refl; gone = λ k some. cc; asked = λ some set. cc } };
   writer = λ x y call a c i back. wanting_step x y call a c i;
   reader = λ x y call a c i back. record { wanted = back.wanted };
-  shows = λ x y here there b back i j. record { wanted = λ opened. (let w = i.wanted opened in record { acks = record { due = w.acks.due; asking = w.acks.asking; silent = w.acks.silent }; pinged = w.pinged; alive = w.alive; untimed = w.untimed; gone = w.gone }) };
+  shows = λ x y here there b back i j. record { wanted = λ opened. (let w = i.wanted opened in record { silent = w.silent; pinged = w.pinged; hastened = w.hastened; alive = w.alive; untimed = w.untimed; gone = w.gone; asked = w.asked }) };
 }

@@ -19,7 +19,7 @@ use quic_wire_core::{
 };
 
 /// A variable-length integer.
-fn var_of(bytes: &mut &[u8]) -> Result<VarInt, FrameError>
+pub(crate) fn var_of(bytes: &mut &[u8]) -> Result<VarInt, FrameError>
     ensures { Reads (λ x. x) result bytes.new.now (var_at bytes.old.now) }
 {
     VarInt::decode(bytes).map_err(|_| FrameError::UnexpectedEnd)

@@ -5,7 +5,9 @@ ghost use Rattle.std.specs.Prelude.{IfSome};
 ghost use Rattle.quic_wire.specs.FrameView.{frame_view};
 ghost use Rattle.quic_wire.specs.Writing.{Fits};
 
-use quic_wire::frame::{Frame, Iter, NewConnectionId, size_of_frame, write_frame};
+use quic_wire::frame::{
+    Frame, FrameError, InvalidFrame, Iter, NewConnectionId, Unpadded, size_of_frame, write_frame,
+};
 use quic_wire::{ConnectionId, ResetToken};
 use std::alloc::AllocError;
 use std::test::Fail;
@@ -161,4 +163,24 @@ fn other_forms_are_read(rt: HostRuntime) {
     assert!(rt; matches!(read, Some(Ok(Frame::Datagram { data })) if data == text.as_slice()));
     let mut done = Iter::new(&[0xc0, 0, 0, 0, 0, 0, 0, 0x1e]);
     assert!(rt; matches!(done.next(), Some(Ok(Frame::HandshakeDone))));
+}
+
+// PADDING is passed, whatever the width of its type; a type that is cut off is refused behind it.
+#[test]
+fn padding_is_passed(rt: HostRuntime) {
+    let mut frames = Unpadded::new(&[0, 0, 0x01, 0x40, 0, 0, 0x80, 0, 0, 0, 0x1e, 0, 0]);
+    assert!(rt; matches!(frames.next(), Some(Ok(Frame::Ping))));
+    assert!(rt; matches!(frames.next(), Some(Ok(Frame::HandshakeDone))));
+    assert!(rt; frames.next().is_none());
+    let mut cut = Unpadded::new(&[0, 0xc0, 0]);
+    assert!(rt;
+        matches!(
+            cut.next(),
+            Some(Err(InvalidFrame {
+                ty: None,
+                reason: FrameError::UnexpectedEnd
+            }))
+        )
+    );
+    assert!(rt; cut.next().is_none());
 }

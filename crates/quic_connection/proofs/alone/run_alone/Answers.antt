@@ -30,3 +30,10 @@ returns-clause-messages_come g c = λ new.
     let from : Lone = lone_of (windows_of g.C.Controller.steps g.C.Controller.window_of) c.args.end.now in
     let to : Lone = lone_of (windows_of g.C.Controller.steps g.C.Controller.window_of) c.make_calls.new.end in
     c.messages_come.ensures p c.args.theirs.now from to (take (length c.make_calls.result.answers.items) c.args.calls.now) c.make_calls.result.answers.items new (returns-clause-follows g c)
+
+pub returns-clause-bounded : goal.returns-clause-bounded
+returns-clause-bounded g c = λ new served.
+    let p : Policy = policy_of g.H.HeaderKey.protection g.K.PacketKey.aead g.K.PacketKey.seal_limit g.K.PacketKey.refusal_limit (words_of g.R.Rng.stream) c.args.end.now in
+    let from : Lone = lone_of (windows_of g.C.Controller.steps g.C.Controller.window_of) c.args.end.now in
+    let to : Lone = lone_of (windows_of g.C.Controller.steps g.C.Controller.window_of) c.make_calls.new.end in
+    c.keeps_within.ensures p c.args.theirs.now from to (take (length c.make_calls.result.answers.items) c.args.calls.now) c.make_calls.result.answers.items new (returns-clause-follows g c) served

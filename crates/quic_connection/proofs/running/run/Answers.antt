@@ -115,6 +115,8 @@ returns-clause-acknowledges g c =
       acks_count_marks = c.acks_count_marks.ensures r end honest is;
       acks_are_due = c.acks_are_due.ensures r end honest is;
       ack_moments = c.ack_moments.ensures r end honest is;
+      requests_say = c.requests_say.ensures r end honest is;
+      requests_go = c.requests_go.ensures r end honest is;
     }
 
 pub returns-clause-loses : goal.returns-clause-loses
@@ -129,6 +131,7 @@ returns-clause-loses g c =
       loss_moments = c.loss_moments.ensures r end honest is;
       loss_timer_quiet = c.loss_timer_quiet.ensures r end honest is;
       probes_pass = c.probes_pass.ensures r end honest is;
+      probes_hasten = c.probes_hasten.ensures r end honest is;
       controllers_are_told = c.controllers_are_told.ensures r end honest is;
       window_is_of_history = c.window_is_of_history.ensures r end honest is;
     }

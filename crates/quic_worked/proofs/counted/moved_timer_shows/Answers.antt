@@ -2,4 +2,4 @@ use Rattle.quic_worked.proofs.CountedRuns.{both_came, moved_not, moved_is_honest
 use Rattle.quic_worked.proofs.counted.moved_timer_shows.Goals as goal
 
 pub returns : goal.returns
-returns c = record { arrivals = both_came; moments = moved_not; honest = moved_is_honest; machine = never_moved }
+returns c = record { deadlines = both_came; moments = moved_not; honest = moved_is_honest; machine = never_moved }

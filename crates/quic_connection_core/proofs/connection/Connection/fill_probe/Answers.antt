@@ -11,21 +11,19 @@ use Rattle.quic_connection_core.proofs.connection.Connection.fill_probe.Goals as
 
 pub invariant_of-self : goal.invariant_of-self
 invariant_of-self g c =
-    let e : End = c.args.self.now.end in
-    let plain = c.self.invariant.0 in
-    let fills = probe_fills e c.self.inside.space c.self.inside.streams.pending c.self.inside.streams.state (ap (λ w. w.end.streams) c.self.view_is) plain in
     let queued = c.maybe_queue_probe.ensures in
     let i = c.self.invariant in
-    let i_path = c.self.inside.path in
+    let x = c.self.inside in
     let up = subst (λ (es : Table TrackedPacket). Ascends es) c.packets.ensures c.get-packet.ensures.ascends in (
-      either_way c.maybe_queue_probe.result _ _ _ (λ is. ap (λ (q : Probed). q.space.immediate_ack_pending) is ∙ fills.plain) (λ is. ap (λ s. s.immediate_ack_pending) is ∙ plain) queued.ok queued.err,
+      i.0,
       i.1,
       i.2,
-      i.3,
       either_way c.maybe_queue_probe.result _ _ _
-          (λ is. (let space = ap (λ (q : Probed). q.space) is in rw space (probe_flies i_path.generation i_path.in_flight c.self.inside.space c.self.inside.streams.pending c.self.inside.streams.state up i.4)))
-          (λ is. (rw is i.4))
+          (λ is. (let space = ap (λ (q : Probed). q.space) is in rw space (probe_flies x.path.generation x.path.in_flight c.takes_immediate_ack-immediate.result x.space x.streams.pending x.streams.state up i.3)))
+          (λ is. (rw is i.3))
           queued.ok queued.err,
+      i.4,
+      i.5,
     )
 
 pub returns-clause-ok : goal.returns-clause-ok
@@ -33,11 +31,12 @@ returns-clause-ok g c =
     let now = c.args.self.now in
     let s = c.self.inside.space in
     let p = c.self.inside.streams.pending in
-    let fills = probe_fills now.end s p c.self.inside.streams.state (ap (λ w. w.end.streams) c.self.view_is) c.self.invariant.0 in
+    let asked = c.takes_immediate_ack-immediate.ensures in
+    let fills = probe_fills now.end s p c.self.inside.streams.state c.takes_immediate_ack-immediate.result (ap (λ w. w.end.streams) c.self.view_is) asked in
     let left : Probed = record { space = c.maybe_queue_probe.new.self; pending = c.maybe_queue_probe.new.pending } in
     let whole = sym (ap (λ w. with_space w.end (as_is s p)) c.self.view_is) ∙ ap (λ w. w.end) c.self.view_is in
     where_ok c.maybe_queue_probe.result _ _
-    (λ is. ap (λ w. with_end w (with_space w.end left)) c.self.view_is ∙ ap (λ (q : Probed). with_end now (with_space now.end q)) is ∙ ap (λ (x : End). with_end now x) (fills.end ∙ ap probed whole))
+    (λ is. ap (λ w. with_end w (with_space w.end left)) c.self.view_is ∙ ap (λ (q : Probed). with_end now (with_space now.end q)) is ∙ ap (λ (x : End). with_end now x) (fills ∙ ap probed whole))
     c.maybe_queue_probe.ensures.ok
 
 pub returns-clause-lacking : goal.returns-clause-lacking

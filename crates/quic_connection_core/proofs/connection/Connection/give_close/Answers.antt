@@ -105,8 +105,8 @@ pub returns-clause-size : goal.returns-clause-size
 returns-clause-size g c =
     let w = c.args.self.now in
     let limit = c.self.inside.peer_params.max_udp_payload_size in
-    let most = (c.self.invariant.2.each MaxUdpPayloadSize).1 in
-    let sized : IsSized 1200 limit w.end.path.discovery = subst (λ (d : Discovery). IsSized 1200 limit d) (ap (λ x. x.end.path.discovery) c.self.view_is) c.self.invariant.3.sized in
+    let most = (c.self.invariant.1.each MaxUdpPayloadSize).1 in
+    let sized : IsSized 1200 limit w.end.path.discovery = subst (λ (d : Discovery). IsSized 1200 limit d) (ap (λ x. x.end.path.discovery) c.self.view_is) c.self.invariant.2.sized in
     let few = sized.size in
     let within = c.put_close-size.ensures.most in
     omega (arith, most, few, within)

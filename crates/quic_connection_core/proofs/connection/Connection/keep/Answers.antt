@@ -29,14 +29,14 @@ enter_flight-requires g c asks fits =
     let above = c.number-number.ensures.above in
     let value = c.number-number.ensures.value in
     let few : i.space.numbers.next ≤ 2 ^ 62 = omega (arith, near, same, above, value) in
-    room_in_flight i.path.generation i.space.numbers.next i.space.tracking.packets i.path.in_flight c.packet.inside.size c.self.invariant.4 up few fits
+    room_in_flight i.path.generation i.space.numbers.next i.space.tracking.packets i.path.in_flight c.packet.inside.size c.self.invariant.3 up few fits
 
 pub leave_forgotten-requires : goal.leave_forgotten-requires
 leave_forgotten-requires g c =
     let i = c.self.inside in
     let size = ap (λ q. q.size) c.packet.view_is in
     let asks = ap (λ q. q.asks) c.packet.view_is in
-    rw (c.enter_flight.ensures.path, c.in_ok-forgotten.ensures.forgotten, size, asks) (forgotten_flies i.path.generation i.space.numbers.next i.space.tracking i.path.in_flight c.args.packet c.self.invariant.4)
+    rw (c.enter_flight.ensures.path, c.in_ok-forgotten.ensures.forgotten, size, asks) (forgotten_flies i.path.generation i.space.numbers.next i.space.tracking i.path.in_flight c.args.packet c.self.invariant.3)
 
 pub invariant_of-self-2 : goal.invariant_of-self-2
 invariant_of-self-2 g c =
@@ -49,9 +49,9 @@ invariant_of-self-2 g c =
     let is : c.number-number.result ≡ number = c.number-number.ensures.value ∙ sym (ap (λ w. number_of w.end) c.self.view_is) in
     let above : i.space.numbers.next ≤ number = first_above i.filter i.space.numbers.next in
     let same : c.args.packet.generation ≡ i.path.generation = c.requires.generation ∙ sym (ap (λ w. w.end.path.generation) c.self.view_is) in
-    let flies = sent_flies i.path.generation i.space.numbers.next number i.space.tracking i.path.in_flight c.args.packet inv.4 above same fits in
+    let flies = sent_flies i.path.generation i.space.numbers.next number i.space.tracking i.path.in_flight c.args.packet inv.3 above same fits in
     rw (c.leave_forgotten.ensures, c.enter_flight.ensures.path, c.in_ok-forgotten.ensures.forgotten, c.allocate-number.ensures.numbers, c.in_ok-forgotten.ensures.ok, is, size, asks)
-    (rw (sent_packets i.space.tracking number c.args.packet) (inv.0, inv.1, inv.2, inv.3, flies))
+    (rw (sent_packets i.space.tracking number c.args.packet) (inv.0, inv.1, inv.2, flies, inv.4, inv.5))
 
 pub returns-clause-random : goal.returns-clause-random
 returns-clause-random g c =

@@ -10,6 +10,7 @@ use Rattle.quic_congestion.specs.Search.{Discovery}
 use Rattle.quic_congestion.specs.SearchBounds.{IsSized}
 use Rattle.quic_congestion.proofs.SizedSearch.{sized_first}
 use Rattle.quic_machine.specs.End.{most_payload, are_sizes_wrong, is_window_small, are_keys_short, limits_of, new_end, words_drawn}
+use Rattle.quic_recovery_core.specs.AckFrequency.{initial_frequency}
 use Rattle.quic_machine.specs.Ids.{first_ids, most_ids, later_numbers, drawn_ids, words_behind, words_of_id}
 use Rattle.quic_retransmits.specs.Retransmits.{Retransmits, nothing_waits}
 use Rattle.quic_connection_parts.specs.Telling.{IsTold, IsRoomy, windows_at}
@@ -53,7 +54,7 @@ invariant_of-connection g c =
       size = omega (arith, size, shown);
       room = subst (λ (k : ℕ). HasRoom k (g.C.Controller.window_of c.path.inside.congestion)) (sym shown) shows;
     } in
-    (search rules, c.negotiate_max_idle_timeout.ensures, search rules, record { sized = sized; told = told; window = window }, rw (flight, c.new-3.ensures) (none_in_flight _ _))
+    (c.negotiate_max_idle_timeout.ensures, search rules, record { sized = sized; told = told; window = window }, rw (flight, c.new-3.ensures) (none_in_flight _ _), ap (λ f. f.next) c.new-4.ensures, omega arith)
 
 pub returns-clause-roomy : goal.returns-clause-roomy
 returns-clause-roomy g c =
@@ -116,9 +117,10 @@ begun g c =
     ∙ ap (λ (k : ℕ). record nothing_waits { new_cids = drawn_ids (words_of stream r) (later_numbers (most_ids k)) }) limit
     ∙ ap (λ (f : ℕ → ℕ). record nothing_waits { new_cids = drawn_ids f (later_numbers (most_ids n)) }) words in
     let streams = c.first_streams-streams.ensures.state settings (sym c.transport-transport.ensures) in
+    let asked : c.new-4.result ≡ initial_frequency (theirs.max_ack_delay * 1000000) = c.new-4.ensures ∙ ap initial_frequency c.told_ack_delay.ensures in
     let silent = of_first_parts g.C.Controller.initial_of g.C.Controller.window_of controller c.args.side settings theirs c.args.own_id c.args.peer_id c.args.now c.args.validated (words_of stream first)
-    c.new-2.result c.in-Ok-new.ids c.new-3.result c.first_filter-filter.result c.default.result _ c.window-window.result c.transport-transport.result c.first_streams-streams.result.state c.new.new.pending c.new-4.result c.new-5.result
-    c.new-2.ensures ids c.new-3.ensures c.first_filter-filter.ensures.value c.default.ensures c.window-window.ensures made c.transport-transport.ensures streams frames c.new-4.ensures c.new-5.ensures in
+    c.new-2.result c.in-Ok-new.ids c.new-3.result c.first_filter-filter.result c.new-4.result c.default.result _ c.window-window.result c.transport-transport.result c.first_streams-streams.result.state c.new.new.pending c.new-5.result c.new-6.result
+    c.new-2.ensures ids c.new-3.ensures c.first_filter-filter.ensures.value asked c.default.ensures c.window-window.ensures made c.transport-transport.ensures streams frames c.new-5.ensures c.new-6.ensures in
     let windows = windows_at g.C.Controller.initial_of g.C.Controller.window_of controller in
     let control : c.validating.result.control ≡ controller = ap (λ w. w.control) c.validating.ensures.end ∙ ap (λ p. p.congestion) made in
     let asks = c.validating.ensures.end in

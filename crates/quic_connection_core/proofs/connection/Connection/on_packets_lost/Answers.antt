@@ -25,7 +25,7 @@ behind_is probe p e y f new b lost is searched =
 pub leave_flight-requires : goal.leave_flight-requires
 leave_flight-requires g c =
     let i = c.self-in-loop-number.inside in
-    lost_flies i.path.generation i.space.numbers.next c.args.verdict.now (c.in-Some.number, c.in-Some.packet) i.space.tracking c.take_lost.new.tracking i.path.in_flight c.self-in-loop-number.invariant.4 c.in-Some.ensures.taken
+    lost_flies i.path.generation i.space.numbers.next c.args.verdict.now (c.in-Some.number, c.in-Some.packet) i.space.tracking c.take_lost.new.tracking i.path.in_flight c.self-in-loop-number.invariant.3 c.in-Some.ensures.taken
 
 pub invariant_of-self : goal.invariant_of-self
 invariant_of-self g c =
@@ -35,8 +35,9 @@ invariant_of-self g c =
       inv.0,
       inv.1,
       inv.2,
-      inv.3,
-      lost_leaves i.path.generation i.space.numbers.next c.args.verdict.now (c.in-Some.number, c.in-Some.packet) i.space.tracking c.take_lost.new.tracking i.path.in_flight inv.4 c.in-Some.ensures.taken,
+      lost_leaves i.path.generation i.space.numbers.next c.args.verdict.now (c.in-Some.number, c.in-Some.packet) i.space.tracking c.take_lost.new.tracking i.path.in_flight inv.3 c.in-Some.ensures.taken,
+      inv.4,
+      inv.5,
     )
 
 pub loop-number-init : goal.loop-number-init

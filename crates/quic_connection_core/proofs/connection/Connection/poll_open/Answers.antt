@@ -255,8 +255,8 @@ give-requires-clause-looked g c =
     let w = c.args.self.now in
     let limit = c.self.inside.peer_params.max_udp_payload_size in
     let so : Leaves (Some c.in-Some.leaving) (ready_at w.end c.args.now).leaving = rw c.in-Some.is at c.in_ok-leaving.ensures.leaving in
-    let most = (c.self.invariant.2.each MaxUdpPayloadSize).1 in
-    let sized : IsSized 1200 limit w.end.path.discovery = subst (λ (d : Discovery). IsSized 1200 limit d) (ap (λ x. x.end.path.discovery) c.self.view_is) c.self.invariant.3.sized in
+    let most = (c.self.invariant.1.each MaxUdpPayloadSize).1 in
+    let sized : IsSized 1200 limit w.end.path.discovery = subst (λ (d : Discovery). IsSized 1200 limit d) (ap (λ x. x.end.path.discovery) c.self.view_is) c.self.invariant.2.sized in
     some_looked w c.make_ready.new.self c.args.now c.in_ok-leaving.ensures.end c.in-Some.leaving so limit most sized
 
 pub returns-in_err-size-clause-lacking : goal.returns-in_err-size-clause-lacking
@@ -340,6 +340,6 @@ returns-clause-size g c =
     let left = c.in_ok-leaving.ensures.end in
     let limit = c.self.inside.peer_params.max_udp_payload_size in
     let so : Leaves (Some l) (ready_at w.end c.args.now).leaving = rw c.in-Some.is at c.in_ok-leaving.ensures.leaving in
-    let most = (c.self.invariant.2.each MaxUdpPayloadSize).1 in
-    let sized : IsSized 1200 limit w.end.path.discovery = subst (λ (d : Discovery). IsSized 1200 limit d) (ap (λ x. x.end.path.discovery) c.self.view_is) c.self.invariant.3.sized in
+    let most = (c.self.invariant.1.each MaxUdpPayloadSize).1 in
+    let sized : IsSized 1200 limit w.end.path.discovery = subst (λ (d : Discovery). IsSized 1200 limit d) (ap (λ x. x.end.path.discovery) c.self.view_is) c.self.invariant.2.sized in
     some_within w z c.args.now left l so limit most sized c.in_ok-size.size c.in_ok-size.ensures.most

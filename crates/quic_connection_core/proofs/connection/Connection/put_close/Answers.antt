@@ -26,7 +26,7 @@ put_header-requires-clause-number g c =
 
 pub put_header-requires-clause-room : goal.put_header-requires-clause-room
 put_header-requires-clause-room g c =
-    let sized = c.self.invariant.3.sized.between.size in
+    let sized = c.self.invariant.2.sized.between.size in
     let same = ap (λ w. current_mtu w.end.path) c.self.view_is in
     let room = c.requires.room in
     omega arith
@@ -42,7 +42,7 @@ put_close_frame-requires-clause-room g c =
     let len = c.put_header.ensures.len in
     let short = c.put_header.ensures.short in
     let capacity = c.put_header.ensures.capacity in
-    let sized = c.self.invariant.3.sized.between.size in
+    let sized = c.self.invariant.2.sized.between.size in
     let same = ap (λ w. current_mtu w.end.path) c.self.view_is in
     let room = c.requires.room in
     omega arith
@@ -66,7 +66,7 @@ seal-requires-clause-room g c =
     let capacity = c.put_header.ensures.capacity in
     let more = c.put_close_frame.ensures.capacity in
     let within = c.put_close_frame.ensures.within in
-    let sized = c.self.invariant.3.sized.between.size in
+    let sized = c.self.invariant.2.sized.between.size in
     let same = ap (λ w. current_mtu w.end.path) c.self.view_is in
     let room = c.requires.room in
     omega arith
@@ -91,7 +91,7 @@ pub invariant_of-self : goal.invariant_of-self
 invariant_of-self g c =
     let i = c.self.inside in
     let inv = c.self.invariant in
-    rw c.allocate-number.ensures.numbers (inv.0, inv.1, inv.2, inv.3, later_flies i.path.generation i.space.numbers.next i.filter i.space.tracking.packets i.path.in_flight inv.4)
+    rw c.allocate-number.ensures.numbers (inv.0, inv.1, inv.2, later_flies i.path.generation i.space.numbers.next i.filter i.space.tracking.packets i.path.in_flight inv.3, inv.4, inv.5)
 
 pub returns-clause-items : goal.returns-clause-items
 returns-clause-items g c =
@@ -126,7 +126,7 @@ returns-clause-most g c =
     let sealed = c.seal.ensures.len in
     let first = c.len-start.ensures in
     let last = c.len.ensures in
-    let sized = c.self.invariant.3.sized.between.size in
+    let sized = c.self.invariant.2.sized.between.size in
     let same = ap (λ w. current_mtu w.end.path) c.self.view_is in
     omega arith
 

@@ -15,7 +15,7 @@ pub put_leave-requires-clause-some : goal.put_leave-requires-clause-some
 put_leave-requires-clause-some g c =
     let width = c.put_header-width.ensures.width in
     let short = c.put_header-width.ensures.short in
-    let sized = c.self.invariant.3.sized.between.size in
+    let sized = c.self.invariant.2.sized.between.size in
     let same = ap (λ w. current_mtu w.end.path) c.self.view_is in
     omega arith
 
@@ -27,7 +27,7 @@ put_leave-requires-clause-room g c =
     let capacity = c.put_header-width.ensures.capacity in
     let room = c.requires.room in
     let mtu = mtu_within (leaving_of c.args.leaving) c.args.self.now.end in
-    let sized = c.self.invariant.3.sized.between.size in
+    let sized = c.self.invariant.2.sized.between.size in
     let same = ap (λ w. current_mtu w.end.path) c.self.view_is in
     omega arith
 
@@ -39,7 +39,7 @@ pad-requires-clause-room g c =
     let least : c.least_size-least.result ≡ least_at l (asking d.frames) e =
     c.least_size-least.ensures ∙ ap (λ w. least_of l c.in_ok-sent.sent.requires_padding c.in_ok-sent.sent.asks w.end) c.in_ok-sent.ensures.end ∙ ap (λ (b : Bool). least_of l b c.in_ok-sent.sent.asks d.end) c.in_ok-sent.ensures.pads
     ∙ ap (λ (b : Bool). least_of l (pads_left l e) b d.end) c.in_ok-sent.ensures.asks ∙ same_least_of l e c.requires.due (pads_left l e) (asking d.frames) in
-    let sized = c.self.invariant.3.sized.between.size in
+    let sized = c.self.invariant.2.sized.between.size in
     let same = ap (λ w. current_mtu w.end.path) c.self.view_is in
     let big : 1200 ≤ current_mtu e.path = omega (arith, sized, same) in
     let most = least_within l (pads_left l e) (asking d.frames) e big in
@@ -88,7 +88,7 @@ returns-clause-within g c =
     let least : c.least_size-least.result ≡ least_at l (asking d.frames) e =
     c.least_size-least.ensures ∙ ap (λ w. least_of l c.in_ok-sent.sent.requires_padding c.in_ok-sent.sent.asks w.end) c.in_ok-sent.ensures.end ∙ ap (λ (b : Bool). least_of l b c.in_ok-sent.sent.asks d.end) c.in_ok-sent.ensures.pads
     ∙ ap (λ (b : Bool). least_of l (pads_left l e) b d.end) c.in_ok-sent.ensures.asks ∙ same_least_of l e c.requires.due (pads_left l e) (asking d.frames) in
-    let sized = c.self.invariant.3.sized.between.size in
+    let sized = c.self.invariant.2.sized.between.size in
     let same = ap (λ w. current_mtu w.end.path) c.self.view_is in
     let big : 1200 ≤ current_mtu e.path = omega (arith, sized, same) in
     let most = least_within l (pads_left l e) (asking d.frames) e big in

@@ -1,33 +1,37 @@
-use Rattle.std.proofs.Common.{rules, ◌≡◌, Err, refl, sym, ap, ◌∙◌}
-use Rattle.quic_wire.specs.Items.{items}
+use Rattle.std.proofs.Common.{rules, ◌≡◌, ℕ, List, Err, refl, sym, ap, ◌∙◌}
+use Rattle.quic_wire.specs.Items.{items, without_padding}
 use Rattle.quic_wire.specs.FrameView.{item_view}
 use Rattle.quic_congestion.specs.Congestion.{after_calls}
-use Rattle.quic_machine.specs.Receive.{told_items}
+use Rattle.quic_machine.specs.Receive.{take_items, told_items, asks_in}
 use Rattle.quic_connection_core.proofs.Forms.{all_have_form}
-use Rattle.quic_connection_core.proofs.Items.{taken_step, told_step, told_stop, asks_already, asks_now, form_behind}
+use Rattle.quic_connection_core.proofs.Items.{taken_step, told_step, told_stop, asks_already, asks_now, form_behind, takes_unpadded, told_unpadded, asks_unpadded, form_unpadded}
 use Rattle.quic_connection_parts.proofs.Told.{keys_step}
 use Rattle.quic_connection_core.proofs.connection.Connection.take_frames.Goals as goal
 
 pub loop-item-init : goal.loop-item-init
-loop-item-init g c = record {
-  takes = search rules;
-  told = search rules;
-  asks = search rules;
-  form = all_have_form c.into_iter-item-iterator.result;
-  others = refl;
-}
+loop-item-init g c =
+    let e = c.args.self.now.end in
+    let is = items c.args.payload.now in
+    let same : c.into_iter-item-iterator.result ≡ c.args.payload.now = search rules in
+    record {
+      takes = ap (λ (bytes : List ℕ). take_items (without_padding (items bytes)) e) same ∙ takes_unpadded is e;
+      told = ap (λ (bytes : List ℕ). after_calls g.C.Controller.steps c.args.self.now.control (told_items (without_padding (items bytes)) e)) same ∙ ap (after_calls g.C.Controller.steps c.args.self.now.control) (told_unpadded is e);
+      asks = ap (λ (bytes : List ℕ). asks_in (without_padding (items bytes))) same ∙ asks_unpadded is;
+      form = form_unpadded (items c.into_iter-item-iterator.result) (all_have_form c.into_iter-item-iterator.result);
+      others = refl;
+    }
 
 pub returns-in_err-take_item-clause-told : goal.returns-in_err-take_item-clause-told
 returns-in_err-take_item-clause-told g c =
     let e = c.loop-item.self.end in
     let is : c.from_residual.result ≡ Err c.in_err-take_item.field-0.0 = search rules in
-    rw is (told_stop g.C.Controller.steps c.loop-item.self.control c.take_item.new.self.control (item_view c.in-Some.item) (items c.next.new.self) (items c.loop-item.item-iterator) e c.take_item.new.self.end _ _ c.in-Some.ensures.steps c.in_err-take_item.ensures.takes c.in_err-take_item.ensures.told c.loop-item.invariant.told)
+    rw is (told_stop g.C.Controller.steps c.loop-item.self.control c.take_item.new.self.control (item_view c.in-Some.item) (without_padding (items c.next.new.self)) (without_padding (items c.loop-item.item-iterator)) e c.take_item.new.self.end _ _ c.in-Some.ensures.steps c.in_err-take_item.ensures.takes c.in_err-take_item.ensures.told c.loop-item.invariant.told)
 
 pub loop-item-preserved-then-asks : goal.loop-item-preserved-then-asks
 loop-item-preserved-then-asks g c =
     let i = item_view c.in-Some.item in
-    let all = items c.loop-item.item-iterator in
-    let others = items c.next.new.self in
+    let all = without_padding (items c.loop-item.item-iterator) in
+    let others = without_padding (items c.next.new.self) in
     let e = c.loop-item.self.end in
     let v = c.loop-item.invariant in
     let first = c.in-Some.ensures.steps in
@@ -43,8 +47,8 @@ loop-item-preserved-then-asks g c =
 pub loop-item-preserved : goal.loop-item-preserved
 loop-item-preserved g c =
     let i = item_view c.in-Some.item in
-    let all = items c.loop-item.item-iterator in
-    let others = items c.next.new.self in
+    let all = without_padding (items c.loop-item.item-iterator) in
+    let others = without_padding (items c.next.new.self) in
     let e = c.loop-item.self.end in
     let v = c.loop-item.invariant in
     let first = c.in-Some.ensures.steps in

@@ -1,5 +1,5 @@
 use Rattle.std.proofs.Common.{◌≡◌, ◌||◌}
-use Rattle.quic_wire.specs.Items.{items}
+use Rattle.quic_wire.specs.Items.{items, without_padding}
 use Rattle.quic_congestion.specs.Congestion.{after_calls}
 use Rattle.quic_machine.specs.Receive.{take_items, told_items, asks_in}
 use Rattle.quic_connection_parts.specs.Faults.{AllHaveForm}
@@ -8,9 +8,9 @@ use Rattle.quic_connection_core.proofs.connection.Connection.take_frames.Given a
 
 abbrev pub invariant-loop-item : goal.invariant-loop-item
 invariant-loop-item g l = record {
-  takes : take_items (items l.item-iterator) l.self.end ≡ take_items (items l.payload) l.initial.self.end;
-  told : after_calls g.C.Controller.steps l.self.control (told_items (items l.item-iterator) l.self.end) ≡ after_calls g.C.Controller.steps l.initial.self.control (told_items (items l.payload) l.initial.self.end);
-  asks : (l.asks || asks_in (items l.item-iterator)) ≡ asks_in (items l.payload);
-  form : AllHaveForm (items l.item-iterator);
+  takes : take_items (without_padding (items l.item-iterator)) l.self.end ≡ take_items (items l.payload) l.initial.self.end;
+  told : after_calls g.C.Controller.steps l.self.control (told_items (without_padding (items l.item-iterator)) l.self.end) ≡ after_calls g.C.Controller.steps l.initial.self.control (told_items (items l.payload) l.initial.self.end);
+  asks : (l.asks || asks_in (without_padding (items l.item-iterator))) ≡ asks_in (items l.payload);
+  form : AllHaveForm (without_padding (items l.item-iterator));
   others : KeepsRest l.initial.self l.self;
 }

@@ -5,7 +5,7 @@ use Rattle.quic_parameters.specs.declared.transport_parameters.id.TransportParam
 use Rattle.quic_connection_core.proofs.connection.Connection.told_delay.Goals as goal
 
 pub overflow_shl-exponent : goal.overflow_shl-exponent
-overflow_shl-exponent g c = omega (arith, (c.self.invariant.2.each AckDelayExponent).1, ap (λ i. i.peer_params.ack_delay_exponent) c.self-inside.view_is)
+overflow_shl-exponent g c = omega (arith, (c.self.invariant.1.each AckDelayExponent).1, ap (λ i. i.peer_params.ack_delay_exponent) c.self-inside.view_is)
 
 -- a number that is too great stays so
 clipped : (x : ℕ) → saturated (min x 18446744073709551615 * 1000) ≡ saturated (x * 1000)
@@ -20,7 +20,7 @@ shifted delay exponent few =
 pub returns : goal.returns
 returns g c =
     let seen = ap (λ i. i.peer_params.ack_delay_exponent) c.self-inside.view_is in
-    let few : c.into_inner-exponent.result ≤ 20 = omega (arith, (c.self.invariant.2.each AckDelayExponent).1, seen) in
+    let few : c.into_inner-exponent.result ≤ 20 = omega (arith, (c.self.invariant.1.each AckDelayExponent).1, seen) in
     let exponent = c.into_inner-exponent.ensures.value ∙ seen ∙ ap (λ w. w.end.peer_params.ack_delay_exponent) c.self.view_is in
     let least : c.min.result ≡ min c.from_micros.result c.peer_delay.result = search rules in
     least
