@@ -22,7 +22,7 @@ use Rattle.quic_machine.specs.declared.run.Answer.TheVariants as answers
 use Rattle.quic_machine.specs.declared.run.View.{View}
 use Rattle.quic_wire_core.specs.TransportError.{ErrorValue}
 use Rattle.quic_machine.specs.Policy.{Policy}
-use Rattle.quic_machine.specs.Machine.{World, policy_at}
+use Rattle.quic_machine.specs.Machine.{policy_at}
 use Rattle.quic_headline.specs.Runs.{Run, Told, Packet, Intake, nothing_came, and_told, folded, given_of, until, AreServed, In, frames_of, is_again, handed, came_open, acknowledged, reads, offsets_of, HasArrived, given_until, state_at}
 use Rattle.quic_headline.specs.Observer.{Sent, closes_of, took, sents_until, next_number, watch}
 use Rattle.quic_headline.specs.Headline.{IsAt}

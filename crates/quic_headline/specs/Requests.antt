@@ -1,6 +1,6 @@
 -- When an end asks its peer how often to acknowledge, and for what (QUIC Acknowledgement Frequency,
 -- section 4), as an observer of a run's lists reckons it. The constants are the observer's own.
-use Rattle.std.specs.Prelude.{ℕ, suc, ◌⊎◌, ◌+◌, ◌-◌, ◌*◌, ◌/◌, ◌^◌, ◌≡◌, ◌==◌, ◌||◌, min, max, nat_lt, Bool, true, false, if◌then◌else◌, List, [], ◌∷◌, Option, Some, None, option_map, unwrap_or}
+use Rattle.std.specs.Prelude.{ℕ, suc, ◌⊎◌, ◌+◌, ◌-◌, ◌*◌, ◌/◌, ◌^◌, ◌≡◌, ◌==◌, ◌||◌, min, max, nat_lt, Bool, true, false, List, [], ◌∷◌, Option, Some, option_map, unwrap_or}
 use Rattle.std.specs.List.{list_any}
 use Rattle.quic_wire_core.specs.declared.stream_id.Side.{Side}
 use Rattle.quic_wire.specs.Value.{FrameValue, AckFrequencyValue, ack_frequency}
@@ -79,12 +79,19 @@ request_said settings least before f = record {
   reordering = told_at_most settings.reordering;
 }
 
--- An ACK_FREQUENCY frame in a datagram that a poll gives says so, where its end is configured to ask
--- and the peer can be asked; and it is the only one there.
+-- A datagram that a poll gave has this ACK_FREQUENCY frame: its end is configured to ask, and the
+-- peer can be asked; it says so; and it is the only one there.
+pub record IsAsked (r : Run) (side : Side) (i : ℕ) (s : Sent) (f : AckFrequencyValue) : Type 0 where
+  pub settings : FrequencySettings
+  pub configured : (asking_at r side).settings ≡ Some settings
+  pub least : ℕ
+  pub told : (asking_at r side).least ≡ Some least
+  pub says : f ≡ request_said settings least (requests_in (watch r side i).own) (watch r side i).flight
+  pub alone : count_requests s.frames ≡ 1
+
+-- So it is of each ACK_FREQUENCY frame in each datagram that a poll gives.
 abbrev pub RequestsSay : Run → Type 0
-RequestsSay r = (side : Side) (i now : ℕ) (gave : GaveOne r side i now) (f : AckFrequencyValue) → In (ack_frequency f) gave.sent.frames
-    → (settings : FrequencySettings) → (asking_at r side).settings ≡ Some settings → (least : ℕ) → (asking_at r side).least ≡ Some least
-    → (f ≡ request_said settings least (requests_in (watch r side i).own) (watch r side i).flight) × (count_requests gave.sent.frames ≡ 1)
+RequestsSay r = (side : Side) (i now : ℕ) (gave : GaveOne r side i now) (f : AckFrequencyValue) → In (ack_frequency f) gave.sent.frames → IsAsked r side i gave.sent f
 
 -- Where an end asks its peer anew as it is polled: each datagram that asks for an acknowledgement
 -- has ACK_FREQUENCY; and where an open end gives nothing, window or pacer hold it back, or nothing

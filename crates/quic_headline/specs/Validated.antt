@@ -6,7 +6,7 @@ use Rattle.quic_wire.specs.Value.{FrameValue, path_challenge, path_response}
 use Rattle.quic_machine.specs.declared.answers.State.TheVariants as states
 use Rattle.quic_machine.specs.Validation.{word_of}
 use Rattle.quic_machine.specs.Machine.{policy_at, end_at}
-use Rattle.quic_headline.specs.Runs.{Run, Told, Packet, In, folded, until, given_of, state_at, AreServed}
+use Rattle.quic_headline.specs.Runs.{Run, Told, Packet, In, folded, until, state_at, AreServed}
 use Rattle.quic_headline.specs.Observer.{Sent, Lens, watch, lens_of, news}
 use Rattle.quic_headline.specs.Moments.{went}
 use Rattle.quic_headline.specs.Expiring.{Questions, questions_told, questions_at_first}

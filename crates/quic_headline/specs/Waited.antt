@@ -14,7 +14,7 @@ use Rattle.quic_headline.specs.Observer.{Sent, HoldsOffset, asks_of, is_close, W
 use Rattle.quic_headline.specs.InFlight.{is_max_data, is_data_blocked, is_max_streams, is_ack_frequency}
 use Rattle.quic_headline.specs.Moments.{acknowledges, went}
 use Rattle.quic_headline.specs.Polls.{GaveOne, IsSizeProbe}
-use Rattle.quic_headline.specs.AcksDue.{takes_marked, is_immediate_ack, is_due}
+use Rattle.quic_headline.specs.AcksDue.{takes_marked, is_due}
 use Rattle.quic_headline.specs.Requests.{Asking, asking_at, wants_anew}
 
 -- ---- what is wanted of an end

@@ -590,12 +590,12 @@ pub fn acks_are_due()
     ensures { (r : Run) (end : World) → IsHonest r → IsRun r end → AcksAreDue r }
 {}
 
-/// An ACK_FREQUENCY frame in a datagram that a poll gives, at an end that is configured to ask and
-/// whose peer advertised its min_ack_delay, is the only one there. Its number is how many went
-/// before it, up to the greatest that a frame tells; it asks for what is configured, and for the
-/// delay that is wanted at that moment, in microseconds: the one that is configured, or else that
-/// of the peer, no longer than a round trip, which counts as 25 ms at least, and no shorter than
-/// the peer can be asked for (QUIC Acknowledgement Frequency, section 4).
+/// An ACK_FREQUENCY frame in a datagram that a poll gives is the only one there, and its end is
+/// configured to ask, and its peer advertised its min_ack_delay. Its number is how many went before
+/// it, up to the greatest that a frame tells; it asks for what is configured, and for the delay
+/// that is wanted at that moment, in microseconds: the one that is configured, or else that of the
+/// peer, no longer than a round trip, which counts as 25 ms at least, and no shorter than the peer
+/// can be asked for (QUIC Acknowledgement Frequency, sections 3 and 4).
 pub fn requests_say()
     ensures { (r : Run) (end : World) → IsHonest r → IsRun r end → RequestsSay r }
 {}

@@ -8,6 +8,7 @@ use Rattle.quic_wire_core.specs.declared.stream_id.Side.TheVariants.{Client, Ser
 use Rattle.quic_wire_core.specs.declared.shared.EcnCodepoint.TheVariants.{Ect0}
 use Rattle.quic_wire.specs.Value.{AckFrequencyValue, ack_frequency}
 use Rattle.quic_wire.specs.Reading.{ack_frequency_at}
+use Rattle.quic_config.specs.Configs.{FrequencySettings}
 use Rattle.quic_machine.specs.declared.run.View.{View}
 use Rattle.quic_machine.specs.Machine.{IsStep, Follows, view_of}
 use Rattle.quic_machine.specs.RunLaws.{one_run}
@@ -16,7 +17,7 @@ use Rattle.quic_headline.specs.Headline.{IsHonest, IsRun}
 use Rattle.quic_headline.specs.InFlight.{is_ack_frequency}
 use Rattle.quic_headline.specs.Moments.{debt, first_deadline, LossMoments, AckMoments}
 use Rattle.quic_headline.specs.Polls.{GaveOne, GaveAsking, IsFull, IsPaced, IsHeldBack}
-use Rattle.quic_headline.specs.Requests.{asking_at, RequestsGo, RequestsSay, wants_anew}
+use Rattle.quic_headline.specs.Requests.{asking_at, requests_in, request_said, RequestsGo, RequestsSay, wants_anew}
 use Rattle.quic_headline.specs.Waited.{wants, stands, FrameWaited, as_size_probe, as_loss_probe, as_ack, as_frames, as_close, EachWaited}
 use Rattle.quic_worked.specs.Worked.{worked_policies, gives_bytes}
 use Rattle.quic_worked.specs.Acknowledged.{client_acked}
@@ -49,8 +50,8 @@ gave_from_one = record { transmit = record { size = 145; ecn = Some Ect0 }; poll
 pub one_not : RequestsSay counts_from_one → ⊥
 unfolding gave_from_one
 one_not h =
-    let said = h Client 0 0 gave_from_one (request 1 10000) (inl refl) (asks_within 10000000) refl 1000 refl in
-    let clash : ◌≡◌ {A = ℕ} 1 0 = ap (λ (f : AckFrequencyValue). f.sequence) said.0 in
+    let asked = h Client 0 0 gave_from_one (request 1 10000) (inl refl) in
+    let clash : ◌≡◌ {A = ℕ} 1 0 = ap (λ (f : AckFrequencyValue). f.sequence) asked.says in
     omega (arith, clash)
 
 one_own : (side : Side) → AreOwn side [] counts_from_one.events counts_from_one.answers counts_from_one.views
@@ -87,11 +88,22 @@ twenty_went = refl
 gave_twenty : GaveOne asks_for_twenty Client 0 0
 gave_twenty = record { transmit = record { size = 147; ecn = Some Ect0 }; poll = record { event = refl; answer = refl }; served = refl; sent = first_sent (request 0 20000) 147; went = twenty_went }
 
+-- it is to say what is configured, for what the peer told
+twenty_said : (settings : FrequencySettings) → (asking_at asks_for_twenty Client).settings ≡ Some settings → (least : ℕ) → (asking_at asks_for_twenty Client).least ≡ Some least
+    → request 0 20000 ≡ request_said settings least (requests_in (watch asks_for_twenty Client 0).own) (watch asks_for_twenty Client 0).flight → request 0 20000 ≡ request 0 10000
+twenty_said settings configured least told says =
+    let same : settings ≡ asks_within 10000000 = cc in
+    let thousand : ◌≡◌ {A = ℕ} least 1000 = cc in
+    says
+    ∙ ap (λ (s : FrequencySettings). request_said s least (requests_in (watch asks_for_twenty Client 0).own) (watch asks_for_twenty Client 0).flight) same
+    ∙ ap (λ (l : ℕ). request_said (asks_within 10000000) l (requests_in (watch asks_for_twenty Client 0).own) (watch asks_for_twenty Client 0).flight) thousand
+
 pub twenty_not : RequestsSay asks_for_twenty → ⊥
 unfolding gave_twenty
 twenty_not h =
-    let said = h Client 0 0 gave_twenty (request 0 20000) (inl refl) (asks_within 10000000) refl 1000 refl in
-    let clash : ◌≡◌ {A = ℕ} 20000 10000 = ap (λ (f : AckFrequencyValue). f.delay) said.0 in
+    let asked = h Client 0 0 gave_twenty (request 0 20000) (inl refl) in
+    let said = twenty_said asked.settings asked.configured asked.least asked.told asked.says in
+    let clash : ◌≡◌ {A = ℕ} 20000 10000 = ap (λ (f : AckFrequencyValue). f.delay) said in
     omega (arith, clash)
 
 twenty_own : (side : Side) → AreOwn side [] asks_for_twenty.events asks_for_twenty.answers asks_for_twenty.views

@@ -8,7 +8,6 @@ use Rattle.quic_wire_core.specs.declared.stream_id.Side.TheVariants.{Client, Ser
 use Rattle.quic_wire.specs.Value.{FrameValue, AckFrequencyValue, ack_frequency}
 use Rattle.quic_wire.specs.Reading.{ack_frequency_at}
 use Rattle.quic_parameters.specs.ParametersRead.{entry_at, whole_at, met_after, met_within, met_in, values_met, judged, parameters_at}
-use Rattle.quic_config.specs.Configs.{FrequencySettings}
 use Rattle.quic_config.specs.Transport.{IsInRange, parameters_of}
 use Rattle.quic_machine.specs.declared.answers.Received.TheVariants as receives
 use Rattle.quic_machine.specs.declared.run.Answer.TheVariants as answers
@@ -21,7 +20,7 @@ use Rattle.quic_headline.specs.Observer.{Sent, watch, sents_until}
 use Rattle.quic_headline.specs.Headline.{IsHonest, IsRun}
 use Rattle.quic_headline.specs.Moments.{LossMoments, ack_timer, debt, first_deadline, AckMoments}
 use Rattle.quic_headline.specs.Polls.{GaveOne, GaveAsking, GaveNothing}
-use Rattle.quic_headline.specs.Requests.{asking_at, count_requests, requests_in, request_said, RequestsGo, RequestsSay, wants_anew}
+use Rattle.quic_headline.specs.Requests.{asking_at, count_requests, requests_in, request_said, IsAsked, RequestsGo, RequestsSay, wants_anew}
 use Rattle.quic_headline.specs.InFlight.{is_ack_frequency}
 use Rattle.quic_headline.specs.Waited.{wants, stands, FrameWaited, HasWaited, as_ack, as_frames, EachWaited}
 use Rattle.quic_worked.specs.Worked.{steady, shut, worked_policies, client_id, server_id, gives_bytes, gives_unmarked, id_frames}
@@ -204,6 +203,10 @@ ping_asks_nothing f (inl is) = cc
 ping_asks_nothing f (inr (inl is)) = cc
 ping_asks_nothing f (inr (inr none)) = none
 
+ack_asks_nothing : AsksNothing ack_sent.frames
+ack_asks_nothing f (inl is) = cc
+ack_asks_nothing f (inr none) = none
+
 -- the request is the only one in its datagram
 pub the_request : (asked f : AckFrequencyValue) (size : ℕ) → In (ack_frequency f) (first_sent asked size).frames → f ≡ asked
 the_request asked f size (inl is) = cc
@@ -212,34 +215,35 @@ the_request asked f size (inr there) = absurd (ids_ask_nothing f there)
 pub said_first : request_said (asks_within 10000000) 1000 (requests_in (watch asked_run Client 0).own) (watch asked_run Client 0).flight ≡ request 0 10000
 said_first = refl
 
--- what is said of a request in a datagram
-abbrev SaysSo : ℕ → FrequencySettings → ℕ → AckFrequencyValue → Sent → Type 0
-SaysSo i settings least f s = (f ≡ request_said settings least (requests_in (watch asked_run Client i).own) (watch asked_run Client i).flight) × (count_requests s.frames ≡ 1)
-
 -- the client asks as it is configured, and its peer told 1000 microseconds
-says_first : (now : ℕ) (gave : GaveOne asked_run Client 0 now) (f : AckFrequencyValue) → In (ack_frequency f) gave.sent.frames → (settings : FrequencySettings) → (asking_at asked_run Client).settings ≡ Some settings → (least : ℕ) → (asking_at asked_run Client).least ≡ Some least → SaysSo 0 settings least f gave.sent
-says_first now gave f there settings configured least told =
+says_first : (now : ℕ) (gave : GaveOne asked_run Client 0 now) (f : AckFrequencyValue) → In (ack_frequency f) gave.sent.frames → IsAsked asked_run Client 0 gave.sent f
+says_first now gave f there =
     let sent = is_first now gave in
-    let same : asks_within 10000000 ≡ settings = cc in
-    let thousand : ◌≡◌ {A = ℕ} 1000 least = cc in
     let asked : f ≡ request 0 10000 = the_request (request 0 10000) f 145 (subst (λ (s : Sent). In (ack_frequency f) s.frames) sent there) in
-    let plain : SaysSo 0 (asks_within 10000000) 1000 f gave.sent = (asked ∙ sym said_first, ap (λ (s : Sent). count_requests s.frames) sent) in
-    subst (λ (l : ℕ). SaysSo 0 settings l f gave.sent) thousand (subst (λ (x : FrequencySettings). SaysSo 0 x 1000 f gave.sent) same plain)
+    record { settings = asks_within 10000000; configured = refl; least = 1000; told = refl; says = asked ∙ sym said_first; alone = ap (λ (s : Sent). count_requests s.frames) sent }
 
 says_nothing : (now : ℕ) (gave : GaveOne asked_run Client 6 now) (f : AckFrequencyValue) → In (ack_frequency f) gave.sent.frames → ⊥
 says_nothing now gave f there = ping_asks_nothing f (subst (λ (s : Sent). In (ack_frequency f) s.frames) (is_second now gave) there)
 
 pub asked_says : RequestsSay asked_run
-asked_says Server i now gave f there settings configured least told = absurd cc
-asked_says Client zero now gave f there settings configured least told = says_first now gave f there settings configured least told
-asked_says Client (suc zero) now gave f there settings configured least told = (let event = gave.poll.event in absurd cc)
-asked_says Client (suc (suc zero)) now gave f there settings configured least told = (let event = gave.poll.event in absurd cc)
-asked_says Client (suc (suc (suc zero))) now gave f there settings configured least told = (let event = gave.poll.event in absurd cc)
-asked_says Client (suc (suc (suc (suc zero)))) now gave f there settings configured least told = (let event = gave.poll.event in absurd cc)
-asked_says Client (suc (suc (suc (suc (suc zero))))) now gave f there settings configured least told = (let event = gave.poll.event in absurd cc)
-asked_says Client (suc (suc (suc (suc (suc (suc zero)))))) now gave f there settings configured least told = absurd (says_nothing now gave f there)
-asked_says Client (suc (suc (suc (suc (suc (suc (suc zero))))))) now gave f there settings configured least told = (let event = gave.poll.event in absurd cc)
-asked_says Client (suc (suc (suc (suc (suc (suc (suc (suc i)))))))) now gave f there settings configured least told = (let event = gave.poll.event in absurd cc)
+asked_says Server (suc (suc (suc zero))) now gave f there = absurd (ack_asks_nothing f (subst (λ (s : Sent). In (ack_frequency f) s.frames) (is_ack now gave) there))
+asked_says Server zero now gave f there = (let event = gave.poll.event in absurd cc)
+asked_says Server (suc zero) now gave f there = (let event = gave.poll.event in absurd cc)
+asked_says Server (suc (suc zero)) now gave f there = (let event = gave.poll.event in absurd cc)
+asked_says Server (suc (suc (suc (suc zero)))) now gave f there = (let event = gave.poll.event in absurd cc)
+asked_says Server (suc (suc (suc (suc (suc zero))))) now gave f there = (let event = gave.poll.event in absurd cc)
+asked_says Server (suc (suc (suc (suc (suc (suc zero)))))) now gave f there = (let event = gave.poll.event in absurd cc)
+asked_says Server (suc (suc (suc (suc (suc (suc (suc zero))))))) now gave f there = (let event = gave.poll.event in absurd cc)
+asked_says Server (suc (suc (suc (suc (suc (suc (suc (suc i)))))))) now gave f there = (let event = gave.poll.event in absurd cc)
+asked_says Client zero now gave f there = says_first now gave f there
+asked_says Client (suc zero) now gave f there = (let event = gave.poll.event in absurd cc)
+asked_says Client (suc (suc zero)) now gave f there = (let event = gave.poll.event in absurd cc)
+asked_says Client (suc (suc (suc zero))) now gave f there = (let event = gave.poll.event in absurd cc)
+asked_says Client (suc (suc (suc (suc zero)))) now gave f there = (let event = gave.poll.event in absurd cc)
+asked_says Client (suc (suc (suc (suc (suc zero))))) now gave f there = (let event = gave.poll.event in absurd cc)
+asked_says Client (suc (suc (suc (suc (suc (suc zero)))))) now gave f there = absurd (says_nothing now gave f there)
+asked_says Client (suc (suc (suc (suc (suc (suc (suc zero))))))) now gave f there = (let event = gave.poll.event in absurd cc)
+asked_says Client (suc (suc (suc (suc (suc (suc (suc (suc i)))))))) now gave f there = (let event = gave.poll.event in absurd cc)
 
 -- ---- where it asks
 

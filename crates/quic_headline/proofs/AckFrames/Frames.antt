@@ -1,6 +1,6 @@
 -- A number that is to be acknowledged stays so while frames come, or the peer acknowledges a
 -- datagram in flight whose ACK frame has no lesser greatest number.
-use Rattle.std.proofs.Common.{◌≡◌, ℕ, ◌<◌, ◌≤◌, ◌⊎◌, List, [], ◌∷◌, ◌++◌, Option, Some, None, refl, sym, ◌∙◌, inl, inr, arith}
+use Rattle.std.proofs.Common.{◌≡◌, ℕ, ◌≤◌, ◌⊎◌, List, [], ◌∷◌, ◌++◌, Option, Some, None, refl, sym, inl, inr, arith}
 use Rattle.std.proofs.lemmas.Bool.{cases_lt}
 use Rattle.quic_sets.specs.Runs.{Has}
 use Rattle.quic_wire.specs.Value.{FrameValue, AckValue, ack}

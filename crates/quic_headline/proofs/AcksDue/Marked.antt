@@ -31,7 +31,7 @@ use Rattle.quic_machine.specs.Closing.{ticked}
 use Rattle.quic_machine.specs.End.{End, with_closing, with_numbers}
 use Rattle.quic_machine.specs.Opens.{own_id_length}
 use Rattle.quic_machine.specs.Receive.{Fault, Progress, Outcome, take_payload, asks_in, ends_as, by_state, dropped, opened_to, opened_as, opening, headed, received_in, received, broke, too_many_pieces, closed_by_peer, unopened_in, is_read, drawn_if, with_ids_drawn}
-use Rattle.quic_machine.specs.Machine.{IsAnswer, IsDelivered, after_delivered, after_call, says_last}
+use Rattle.quic_machine.specs.Machine.{IsAnswer, IsDelivered, after_delivered, after_call}
 use Rattle.quic_headline.specs.AcksDue.{is_marked, takes_marked}
 use Rattle.quic_headline.proofs.AcksDue.Arrivals.{packet_due}
 

@@ -35,7 +35,7 @@ use Rattle.quic_machine.specs.IdFrames.{retiring, with_taken_up, issued_if, issu
 use Rattle.quic_machine.specs.Validation.{word_of, validated_if}
 use Rattle.quic_machine.specs.End.{End, with_ids, with_frequency, with_closing, closed_by}
 use Rattle.quic_machine.specs.Receive.{is_above, names_ungiven, retired_for, id_judged, retirement_judged, asks_too_soon, frequency_judged, take_frame, asks_in, after_taken, Outcome}
-use Rattle.quic_machine.specs.Poll.{Polled, Draft, polled, draft_as, lazied_as, Leaving, whole, nothing, Ready}
+use Rattle.quic_machine.specs.Poll.{Polled, Draft, polled, draft_as, lazied_as, Leaving, whole, Ready}
 use Rattle.quic_machine.specs.Timeouts.{Expiry, loss_judged}
 use Rattle.quic_machine.specs.Machine.{after_call}
 use Rattle.quic_machine.specs.CallCases.{Plain, is_delivery, by_plain_call}

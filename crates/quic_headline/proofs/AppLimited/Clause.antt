@@ -20,7 +20,7 @@ use Rattle.quic_machine.specs.Policy.{Policy}
 use Rattle.quic_machine.specs.Opens.{own_id_length}
 use Rattle.quic_machine.specs.Closing.{ticked}
 use Rattle.quic_machine.specs.Parts.{current_mtu}
-use Rattle.quic_machine.specs.End.{End, with_closing, with_window, closed_by}
+use Rattle.quic_machine.specs.End.{End, with_closing, closed_by}
 use Rattle.quic_machine.specs.Control.{bytes_in_flight, is_window_full}
 use Rattle.quic_machine.specs.Timeouts.{loss_judged}
 use Rattle.quic_machine.specs.Poll.{Polled, asks_to_go, is_held, rests, polled}
@@ -29,16 +29,14 @@ use Rattle.quic_machine.specs.Steps as steps
 use Rattle.quic_machine.specs.PollCases.{ready_at, draft_at, by_poll_to}
 use Rattle.quic_machine.specs.CallCases.{Plain, is_poll, by_plain_call}
 use Rattle.quic_machine.specs.CallCases as cases
-use Rattle.quic_machine.specs.Machine.{World, after_call, reads_window, end_at, control_at, given_by, policy_at}
-use Rattle.quic_machine.specs.RunLaws.{as_many_views}
+use Rattle.quic_machine.specs.Machine.{World, after_call, end_at, given_by, policy_at}
 use Rattle.quic_machine.specs.LeaveCases.{by_timers, Expired}
 use Rattle.quic_machine.specs.LeaveCases as expiring
 use Rattle.quic_headline.proofs.Packets.Closes.{by_closes}
 use Rattle.quic_headline.specs.Runs.{Run, In, same_side, state_in, LeadsTo, AreServed}
 use Rattle.quic_headline.specs.Headline.{IsHonest, IsRun, IsAt}
-use Rattle.quic_headline.specs.Polls.{window_in, mtu_in, pacing_timer, bytes_flying, pacing_at, IsMade, GaveNothing, IsFull, IsLimited, IsToGo}
+use Rattle.quic_headline.specs.Polls.{window_in, mtu_in, pacing_timer, bytes_flying, IsMade, GaveNothing, IsFull, IsLimited}
 use Rattle.quic_headline.proofs.Packets.Quiet.{HaveHeardNothing}
-use Rattle.quic_headline.specs.Queue.{waiting_messages}
 use Rattle.quic_headline.specs.AppLimited.{WasPolled, HasToGo, MayCount}
 use Rattle.quic_headline.specs.Telling.{ControllersAreTold}
 use Rattle.quic_headline.proofs.Packets.Apart.{by_waits, by_next_id}
@@ -63,9 +61,8 @@ use Rattle.quic_headline.proofs.Rest.Between.{step_leaves}
 use Rattle.quic_headline.proofs.Sizes.Moves.{did_there}
 use Rattle.quic_headline.proofs.Steps.Made.{one_behind, served_before, made_served, made_end}
 use Rattle.quic_headline.proofs.Steps.Probing.{same_answer}
-use Rattle.quic_headline.proofs.Tellings.Clause.{view_before}
 use Rattle.quic_headline.proofs.Timers.Still.{was_open}
-use Rattle.quic_headline.proofs.Timers.Watched.{timers_behind, open_behind}
+use Rattle.quic_headline.proofs.Timers.Watched.{timers_behind}
 use Rattle.quic_headline.proofs.AppLimited.Rests.{IsResting, paced, full, idle, resting, blocked_rests}
 use Rattle.quic_headline.proofs.Packets.Heard.{by_taken}
 

@@ -1,6 +1,6 @@
 -- What an end holds of which nothing goes: it is held back by its pacer or its window, or has
 -- nothing more to send.
-use Rattle.std.proofs.Common.{◌≡◌, ℕ, Bool, true, false, Option, Some, None, refl, sym, ap, ◌∙◌, subst}
+use Rattle.std.proofs.Common.{◌≡◌, ℕ, true, false, Some, None, refl, sym, ap, subst}
 use Rattle.std.specs.Prelude.{◌==◌}
 use Rattle.std.proofs.lemmas.Bool.{and_parts, or_parts, both_ways}
 use Rattle.quic_recovery_core.specs.PendingAcks.{can_send}

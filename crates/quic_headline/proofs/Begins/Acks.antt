@@ -1,7 +1,7 @@
 -- By what an ACK frame becomes due at an open end, where a timer expires and at a poll.
-use Rattle.std.proofs.Common.{◌≡◌, ℕ, ◌+◌, ◌-◌, ◌≤◌, ◌^◌, max, min, Bool, true, false, ◌||◌, List, [], ◌∷◌, Option, Some, None, refl, sym, ap, ◌∙◌, ◌⊎◌, inl, inr, arith}
+use Rattle.std.proofs.Common.{◌≡◌, ℕ, max, Bool, true, false, ◌||◌, List, Option, Some, None, refl, sym, ap, ◌∙◌, ◌⊎◌, inl, inr}
 use Rattle.std.proofs.lemmas.Bool.{and_parts}
-use Rattle.std.specs.Prelude.{nat_le, nat_lt, if◌then◌else◌, not, ◌&&◌}
+use Rattle.std.specs.Prelude.{nat_lt, if◌then◌else◌, not, ◌&&◌}
 use Rattle.std.proofs.lemmas.Bool.{or_cases}
 use Rattle.quic_recovery_core.specs.PendingAcks.{Pending, lazy_threshold, after_timeout}
 use Rattle.quic_time.specs.Timers.{has_come}

@@ -1,8 +1,7 @@
 -- An end is closed by its peer only where that had closed: a close goes only of an end that isn't
 -- open any more, and that has a reason then, which stays.
-use Rattle.std.proofs.Common.{◌≡◌, ℕ, suc, ◌+◌, ◌≤◌, true, false, List, [], ◌∷◌, ◌++◌, Option, Some, None, inl, inr, refl, sym, ap, ◌∙◌, subst, arith}
+use Rattle.std.proofs.Common.{◌≡◌, ℕ, suc, ◌+◌, true, false, List, [], ◌∷◌, Option, Some, None, inl, inr, refl, sym, ap, ◌∙◌, subst, arith}
 use Rattle.std.specs.Option.{is_some}
-use Rattle.quic_wire_core.specs.declared.stream_id.Side.{Side}
 use Rattle.quic_wire_core.specs.StreamId.{other_side}
 use Rattle.quic_wire.specs.Value.{FrameValue}
 use Rattle.quic_wire.specs.Close.{CloseValue}
@@ -23,11 +22,11 @@ use Rattle.quic_machine.specs.Poll.{Polled, polled}
 use Rattle.quic_machine.specs.PollCases.{draft_at, frames_at}
 use Rattle.quic_machine.specs.DraftLaws.{IsClose}
 use Rattle.quic_machine.specs.FrameCases.{begun}
-use Rattle.quic_machine.specs.Machine.{World, IsAnswer, after_call, fails, gave, end_at}
+use Rattle.quic_machine.specs.Machine.{World, IsAnswer, after_call, fails, gave}
 use Rattle.quic_headline.specs.Runs.{Run, In, AreServed}
 use Rattle.quic_headline.specs.Observer.{Sent}
 use Rattle.quic_headline.specs.Headline.{IsHonest, IsRun}
-use Rattle.quic_headline.specs.Causes.{reason_in, Shows, HadClosed, PeerClosed}
+use Rattle.quic_headline.specs.Causes.{reason_in, Shows, PeerClosed}
 use Rattle.quic_headline.specs.Reasons.{Explains}
 use Rattle.quic_headline.proofs.Packets.Delivered.{arrived}
 use Rattle.quic_headline.proofs.Packets.Closeless.{sent_closeless}

@@ -1,6 +1,6 @@
 -- An end closes for being idle only where its idle timer had expired: the view before showed it set
 -- to a moment that had come.
-use Rattle.std.proofs.Common.{◌≡◌, ℕ, zero, suc, ◌+◌, ◌≤◌, max, Bool, true, false, not, ◌||◌, ◌==◌, nat_lt, nat_le, length, take, drop, List, [], ◌∷◌, ◌++◌, slice_get, Option, Some, None, Result, Ok, Err, ◌⊎◌, inl, inr, refl, sym, ap, ◌∙◌, subst, arith}
+use Rattle.std.proofs.Common.{◌≡◌, ℕ, zero, suc, ◌+◌, ◌≤◌, max, Bool, true, false, not, ◌||◌, ◌==◌, length, take, List, [], ◌∷◌, ◌++◌, slice_get, Option, Some, None, Result, Ok, Err, ◌⊎◌, inl, inr, refl, sym, ap, ◌∙◌, subst, arith}
 use Rattle.std.specs.Prelude.{if◌then◌else◌}
 use Rattle.std.specs.List.{list_any}
 use Rattle.std.proofs.lemmas.Bool.{leb-true, lt-ltb, or_parts, or_from}
@@ -18,7 +18,7 @@ use Rattle.quic_packet.specs.Destination.{decoded, fixed_length_id}
 use Rattle.quic_packet.specs.declared.packet.HeaderError.{HeaderError}
 use Rattle.quic_recovery_core.specs.Duplicates.{is_duplicate}
 use Rattle.quic_spaces.specs.Numbers.{expected, can_number, number_opened}
-use Rattle.quic_time.specs.Timers.{Timers, has_come, each_timer}
+use Rattle.quic_time.specs.Timers.{has_come, each_timer}
 use Rattle.quic_machine.specs.Arrival.{Arrival, delivered_by}
 use Rattle.quic_machine.specs.declared.answers.State.{State}
 use Rattle.quic_machine.specs.declared.answers.State.TheVariants as states
@@ -43,7 +43,7 @@ use Rattle.quic_machine.specs.Opens.{own_id_length, in_phase, opens_behind}
 use Rattle.quic_machine.specs.Receive.{Fault, broke, too_many_pieces, closed_by_peer, reason_of, violation, is_empty, asks_in, take_frame, take_items, take_payload, dropped, ends_as, by_state, opened_to, opened_as, opening, headed, Outcome, received_in, received, is_read, drawn_if, unopened_in}
 use Rattle.quic_machine.specs.Poll.{Polled, may_seal, polled}
 use Rattle.quic_machine.specs.Timeouts.{loss_judged, timed_out, timed_out_in}
-use Rattle.quic_machine.specs.Machine.{World, Policies, IsStep, IsAnswer, IsDelivered, IsLeft, Follows, policy_at, end_at, heard_at, given_by, control_at, view_of, end_left, after_call, after_delivered, reads_window, says_last, gave, fails, changed}
+use Rattle.quic_machine.specs.Machine.{World, Policies, IsStep, IsAnswer, IsDelivered, IsLeft, Follows, policy_at, end_at, view_of, end_left, after_call, after_delivered, reads_window, says_last, gave, fails}
 use Rattle.quic_machine.specs.RunLaws.{one_run}
 use Rattle.quic_machine.specs.FrameCases.{Settling, named, acked_keeps, losses_keep, frame_keeps, frame_leaves, items_keep, apart_leaves}
 use Rattle.quic_machine.specs.Steps as steps
@@ -52,12 +52,12 @@ use Rattle.quic_machine.specs.LeaveCases as expiring
 use Rattle.quic_machine.specs.PollCases.{at_poll, by_poll, composes}
 use Rattle.quic_machine.specs.CallCases.{Plain, is_poll, is_delivery, is_timeout, may_draw, by_plain_call}
 use Rattle.quic_machine.specs.CallCases as cases
-use Rattle.quic_headline.specs.Runs.{Run, Told, Intake, given_of, until, told_by, folded, handed, is_again, is_refused, packet_of, and_told, and_opened, and_handed, came_open, state_behind}
+use Rattle.quic_headline.specs.Runs.{Run, Told, Intake, given_of, until, told_by, folded, handed, is_again, is_refused, packet_of, and_told, and_opened, and_handed, came_open}
 use Rattle.quic_headline.specs.Observer.{Terms, Watch, Lens, lens_of, has_opened, moment_of, clock_behind, watch_sent, watch_given, is_timely, watch_moment, watch_came, watch_told, watch_from, watch}
 use Rattle.quic_headline.specs.Moments.{timers_in}
 use Rattle.quic_headline.specs.Isolated.{is_new}
 use Rattle.quic_headline.specs.Headline.{IsHonest, IsRun, IsAt}
-use Rattle.quic_headline.specs.Causes.{reason_in, idle_timer, Shows, WasIdle, IdleExpired}
+use Rattle.quic_headline.specs.Causes.{reason_in, WasIdle, IdleExpired}
 use Rattle.quic_headline.specs.Rest.{view_behind}
 use Rattle.quic_headline.proofs.Packets.Apart.{by_waits, by_next_id}
 use Rattle.quic_headline.proofs.Packets.Closes.{by_closes}
@@ -66,7 +66,7 @@ use Rattle.quic_headline.proofs.Packets.Probes.{may_leave}
 use Rattle.quic_headline.proofs.Packets.ByKey.{came_open_is}
 use Rattle.quic_headline.proofs.Packets.Intakes.{folded_more}
 use Rattle.quic_headline.proofs.Packets.Window.{is_duplicate-is}
-use Rattle.quic_headline.proofs.Places.Moments.{Grown, grown, Moment, moment, last_view}
+use Rattle.quic_headline.proofs.Places.Moments.{Grown, Moment, moment, last_view}
 use Rattle.quic_headline.proofs.Places.Placed.{start_is}
 use Rattle.quic_headline.proofs.Timers.Still.{was_open}
 use Rattle.quic_headline.proofs.Isolated.Recalling.{Keeps, call_keeps, first_get, again_before}

@@ -24,7 +24,7 @@ use Rattle.quic_machine.specs.Closing.{Closing, ticked, close_owed}
 use Rattle.quic_machine.specs.End.{End, number_of, with_closing, closed_by}
 use Rattle.quic_machine.specs.Validation.{is_blocked}
 use Rattle.quic_machine.specs.Receive.{Outcome}
-use Rattle.quic_machine.specs.Poll.{Polled, frame_room, fitted, can_close, may_close, close_to_go, closes_if, closes, polled_in, polled}
+use Rattle.quic_machine.specs.Poll.{Polled, frame_room, fitted, can_close, may_close, close_to_go, closes_if, polled_in, polled}
 use Rattle.quic_machine.specs.Lacking.{GivesOrHasFailed, PollTakes, LacksWhere}
 use Rattle.quic_machine.specs.Machine.{World, Policies, IsAnswer, IsStep, Follows, policy_at, end_at, end_met, given_by, heard_at, view_of, after_call, fails, gave}
 use Rattle.quic_machine.specs.CallCases.{is_delivery, Plain, by_plain_call}

@@ -1,13 +1,12 @@
 -- A key seals no more packets than it may, and keeps eight of these for closes: a group over the
 -- packets, and the clause.
-use Rattle.std.proofs.Common.{◌≡◌, ℕ, zero, suc, ◌+◌, ◌<◌, ◌≤◌, Bool, true, false, ◌||◌, if◌then◌else◌, List, [], ◌∷◌, ◌++◌, length, replicate, slice_get, Option, Some, None, refl, sym, ap, ◌∙◌, subst, arith}
+use Rattle.std.proofs.Common.{◌≡◌, ℕ, zero, suc, ◌+◌, ◌<◌, ◌≤◌, Bool, true, false, ◌||◌, List, [], ◌∷◌, ◌++◌, length, replicate, slice_get, Option, Some, None, refl, sym, ap, ◌∙◌, subst, arith}
 use Rattle.std.specs.List.{list_any}
 use Rattle.std.proofs.lemmas.Bool.{ltb-true}
-use Rattle.std.proofs.lemmas.List.{append-nil, length-append}
+use Rattle.std.proofs.lemmas.List.{length-append}
 use Rattle.quic_wire_core.specs.declared.stream_id.Side.{Side}
-use Rattle.quic_wire.specs.Value.{FrameValue, padding}
+use Rattle.quic_wire.specs.Value.{padding}
 use Rattle.quic_spaces.specs.Numbers.{Numbers}
-use Rattle.quic_machine.specs.declared.answers.LostReason.{LostReason}
 use Rattle.quic_machine.specs.declared.run.Call.{Call}
 use Rattle.quic_machine.specs.declared.run.Call.TheVariants as calls
 use Rattle.quic_machine.specs.declared.run.Answer.{Answer}
@@ -18,7 +17,6 @@ use Rattle.quic_machine.specs.End.{End, with_closing, closed_by}
 use Rattle.quic_machine.specs.Poll.{Polled, Draft, zeros_behind, draft_as, polled}
 use Rattle.quic_machine.specs.Poll as poll
 use Rattle.quic_machine.specs.Timeouts.{loss_judged}
-use Rattle.quic_machine.specs.DraftLaws.{IsClose}
 use Rattle.quic_machine.specs.FrameCases.{Settling, Receives, named, acked_keeps, losses_keep, frame_keeps, frame_leaves, by_received, apart_leaves}
 use Rattle.quic_machine.specs.Steps as steps
 use Rattle.quic_machine.specs.LeaveCases.{Expired, by_timers}
@@ -42,7 +40,7 @@ use Rattle.quic_headline.proofs.Packets.Probes.{by_going}
 use Rattle.quic_headline.proofs.Packets.Sends.{GivesClose, by_sends}
 use Rattle.quic_headline.proofs.Packets.Sight.{Sight}
 use Rattle.quic_headline.proofs.Packets.Watching.{closes_is}
-use Rattle.quic_headline.proofs.Places.Parties.{sent_as, sent_by, sent_if, sents_by, Party, called}
+use Rattle.quic_headline.proofs.Places.Parties.{sent_as, sent_by, sent_if, sents_by, Party}
 use Rattle.quic_headline.proofs.Places.Groups.{And, Group}
 use Rattle.quic_headline.proofs.Places.Placed.{Placed, placed_less, party_at}
 use Rattle.quic_headline.proofs.Places.Openings.{given_here}

@@ -1,5 +1,5 @@
 -- Why an end isn't open any more behind a call: it was so before, or the call says what for.
-use Rattle.std.proofs.Common.{◌≡◌, ℕ, Bool, true, false, not, ◌||◌, ◌==◌, nat_lt, List, [], ◌∷◌, slice_get, Option, Some, None, Result, Ok, Err, refl, sym, ap, ◌∙◌, subst}
+use Rattle.std.proofs.Common.{◌≡◌, ℕ, Bool, true, false, not, ◌||◌, ◌==◌, List, [], slice_get, Option, Some, None, Result, Ok, Err, refl, sym, ap, ◌∙◌, subst}
 use Rattle.std.specs.Prelude.{if◌then◌else◌}
 use Rattle.quic_wire_core.specs.declared.shared.EcnCodepoint.{EcnCodepoint}
 use Rattle.quic_wire.specs.Items.{items}
@@ -22,7 +22,6 @@ use Rattle.quic_machine.specs.declared.run.CloseCall.{CloseCall}
 use Rattle.quic_machine.specs.declared.run.Call.{Call}
 use Rattle.quic_machine.specs.declared.run.Call.TheVariants as calls
 use Rattle.quic_machine.specs.declared.run.Answer.{Answer}
-use Rattle.quic_machine.specs.declared.run.Answer.TheVariants as answers
 use Rattle.quic_machine.specs.Policy.{Policy}
 use Rattle.quic_machine.specs.Ids.{known}
 use Rattle.quic_machine.specs.Closing.{Closing, ticked}
@@ -33,7 +32,7 @@ use Rattle.quic_machine.specs.End.{End, with_closing, with_numbers, with_window,
 use Rattle.quic_machine.specs.Opens.{own_id_length, would_open}
 use Rattle.quic_machine.specs.Receive.{Fault, broke, too_many_pieces, closed_by_peer, reason_of, violation, is_empty, asks_in, take_frame, take_items, take_payload, dropped, ends_as, by_state, opened_to, opened_as, opening, headed, received_in, is_read, drawn_if, unopened_in}
 use Rattle.quic_machine.specs.Poll.{Polled, bounds, polled, polled_in}
-use Rattle.quic_machine.specs.Timeouts.{Expiry, expiry_at, loss_judged, loss_expired, unless_idle, close_expired, timed_out_in}
+use Rattle.quic_machine.specs.Timeouts.{Expiry, expiry_at, loss_judged, loss_expired, unless_idle, timed_out_in}
 use Rattle.quic_machine.specs.Calls.{closed_in}
 use Rattle.quic_machine.specs.Machine.{after_call, after_delivered, after_injected_if, end_left, says_last}
 use Rattle.quic_machine.specs.FrameCases.{Settling, named, acked_keeps, losses_keep, frame_keeps, frame_leaves, items_keep, apart_leaves}
@@ -45,7 +44,6 @@ use Rattle.quic_headline.proofs.Packets.Apart.{by_waits, by_next_id}
 use Rattle.quic_headline.proofs.Packets.Closes.{by_closes}
 use Rattle.quic_headline.proofs.Packets.Heard.{by_taken}
 use Rattle.quic_headline.proofs.Packets.Probes.{may_leave}
-use Rattle.quic_headline.proofs.Isolated.Injected.{injected_stays}
 
 -- what makes a call leave an end that isn't open for a reason
 pub data Cause (p : Policy) (e : End) (call : Call) (a : Answer) (why : LostReason) : Type 0 where

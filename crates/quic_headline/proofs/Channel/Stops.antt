@@ -40,7 +40,7 @@ use Rattle.quic_machine.specs.Poll.{Draft, composed, probed, asks_anew}
 use Rattle.quic_machine.specs.DraftLaws.{Writing, by_writing}
 use Rattle.quic_machine.specs.Puts as puts
 use Rattle.quic_headline.proofs.Packets.Invariant.{IsCarriedFrom}
-use Rattle.quic_headline.proofs.Packets.Losses.{Losing, expiry_stays, ready_stays}
+use Rattle.quic_headline.proofs.Packets.Losses.{Losing, expiry_stays}
 use Rattle.quic_headline.proofs.Packets.Probes.{poll_streams, first_record_in}
 use Rattle.quic_machine.specs.LeaveCases.{by_expired, by_event}
 use Rattle.quic_machine.specs.CallCases.{is_delivery, by_call}

@@ -1,6 +1,6 @@
 -- How far an end told its peer that it may come, on all streams and on each, the peer may come at
 -- it, whatever it does later (RFC 9000, sections 4.1, 19.9 and 19.10).
-use Rattle.std.proofs.Common.{◌≡◌, ◌⊎◌, ℕ, zero, suc, ◌≤◌, List, [], ◌∷◌, ◌++◌, replicate, Option, Some, sym, ap, subst, inl, inr, arith}
+use Rattle.std.proofs.Common.{◌≡◌, ◌⊎◌, ℕ, zero, suc, ◌≤◌, List, [], ◌∷◌, ◌++◌, replicate, Option, Some, sym, subst, inl, inr, arith}
 use Rattle.quic_wire.specs.Value.{FrameValue, padding, stream, max_data, max_stream_data}
 use Rattle.quic_streams_parts.specs.Table.{at}
 use Rattle.quic_streams_parts.specs.TableLaws.{at-put}

@@ -47,7 +47,7 @@ use Rattle.quic_machine.specs.Poll as poll
 use Rattle.quic_machine.specs.DraftLaws.{Writing, by_streams, by_messages, by_leave, MayLeave, by_signals}
 use Rattle.quic_machine.specs.Puts.{with_half_frame}
 use Rattle.quic_machine.specs.Puts as puts
-use Rattle.quic_machine.specs.PollCases.{ready_at, ready_leaves, draft_at, frames_padded, by_poll_to, composes, may_leave_at}
+use Rattle.quic_machine.specs.PollCases.{ready_at, ready_leaves, draft_at, frames_padded, composes, may_leave_at}
 use Rattle.quic_machine.specs.CallCases.{is_delivery, is_poll, by_call}
 use Rattle.quic_machine.specs.LeaveCases.{by_expired, by_event}
 use Rattle.quic_machine.specs.Machine.{IsAnswer, after_call, gave}

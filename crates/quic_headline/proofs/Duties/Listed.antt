@@ -57,7 +57,7 @@ use Rattle.quic_machine.specs.Sizes.{without_longer_if, shortened}
 use Rattle.quic_machine.specs.Validation.{word_of, validated_if}
 use Rattle.quic_machine.specs.Ids.{Drawing, words_behind, words_of_id, drawn_id, undrawn_id, drawn_one, drawn_places, retired, frame_of as id_frame_of, retires_for, retires_for_next, next_used}
 use Rattle.quic_machine.specs.IdFrames.{retiring, with_taken_up, issued, issued_if, issues_for, next_id_taken, end_on_next_id, drawn}
-use Rattle.quic_machine.specs.Poll.{Polled, Draft, no_frames, ack_of, with_signal_frames, with_control_frames, with_asking, with_ack, ack_fits, ack_if, composed_if, composed, asking, frame_room, lazied, packet_of, tracked, record_moved, polled, with_message, with_message_frames, goes, draft_as, whole, Leaving, nothing, with_frequency_frame}
+use Rattle.quic_machine.specs.Poll.{Polled, Draft, no_frames, ack_of, with_signal_frames, with_control_frames, with_asking, with_ack, ack_fits, ack_if, composed_if, composed, asking, frame_room, lazied, packet_of, tracked, record_moved, polled, with_message, with_message_frames, goes, draft_as, whole, Leaving, with_frequency_frame}
 use Rattle.quic_machine.specs.DraftLaws.{by_streams, by_messages, MayLeave, by_signals}
 use Rattle.quic_machine.specs.Puts.{with_half_frame}
 use Rattle.quic_machine.specs.PollCases.{ready_at, ready_leaves, draft_at, by_poll_to, composes, may_leave_at}

@@ -1,7 +1,7 @@
 -- A request of how often to acknowledge that was given waits to go anew, stands in a datagram that
 -- is tracked and of which it goes again if that is lost, or came, each as new or newer: after each
 -- call, and what comes.
-use Rattle.std.proofs.Common.{◌≡◌, ℕ, zero, suc, ◌≤◌, ◌+◌, Bool, true, false, not, cond, List, [], ◌∷◌, ◌++◌, length, replicate, Option, Some, None, Result, Ok, Err, refl, sym, ap, ◌∙◌, subst, ◌⊎◌, inl, inr, arith}
+use Rattle.std.proofs.Common.{◌≡◌, ℕ, zero, suc, ◌≤◌, Bool, true, false, not, cond, List, [], ◌∷◌, ◌++◌, length, replicate, Option, Some, None, Result, Ok, Err, refl, sym, ap, ◌∙◌, subst, ◌⊎◌, inl, inr, arith}
 use Rattle.std.specs.Prelude.{◌==◌, if◌then◌else◌}
 use Rattle.std.specs.Option.{is_some}
 use Rattle.std.proofs.lemmas.Bool.{or_left, or_right, or_parts}
@@ -15,9 +15,8 @@ use Rattle.quic_streams_state.specs.declared.state.StreamsState.{StreamsState}
 use Rattle.quic_streams_state.specs.State.{Streams, streams_of, sending_half, receiving_half}
 use Rattle.quic_streams_state.specs.Limits.{settled}
 use Rattle.quic_streams_state.specs.Control as control
-use Rattle.quic_streams_state.specs.Writing.{after_write, after_write_chunks, reset_at, after_reset, after_set_priority}
-use Rattle.quic_streams_state.specs.Reading.{told_bytes, after_read_begun, after_finalize, stopped_if, with_stop, stopped_at, after_stop, after_received_reset}
-use Rattle.quic_streams_state.specs.Taking.{after_stream, after_reset_frame}
+use Rattle.quic_streams_state.specs.Writing.{reset_at, after_reset, after_set_priority}
+use Rattle.quic_streams_state.specs.Reading.{told_bytes, after_read_begun, stopped_if, with_stop, stopped_at, after_stop}
 use Rattle.quic_recovery_core.specs.declared.ack_frequency.Request.{Request}
 use Rattle.quic_recovery_core.specs.AckFrequency.{Frequency, after_acked}
 use Rattle.quic_machine.specs.declared.run.Call.{Call}
@@ -38,7 +37,7 @@ use Rattle.quic_machine.specs.DraftLaws.{Writing, by_leave, MayLeave, IsClose}
 use Rattle.quic_machine.specs.Puts as puts
 use Rattle.quic_machine.specs.PollCases.{ready_at, ready_leaves, draft_at, frames_padded, composes, may_leave_at, by_probed, search_leaves, gate_leaves}
 use Rattle.quic_machine.specs.CallCases.{is_delivery, is_poll, by_call}
-use Rattle.quic_machine.specs.LeaveCases.{at_losses, by_expired, by_event}
+use Rattle.quic_machine.specs.LeaveCases.{by_expired, by_event}
 use Rattle.quic_machine.specs.FrameCases.{OnStreams, Settling, named, ack_taken, acked_keeps, losses_keep, begun as started, passed, frames_leave, by_marks, apart_leaves}
 use Rattle.quic_machine.specs.FrameCases as cases
 use Rattle.quic_machine.specs.Steps as steps
@@ -46,7 +45,7 @@ use Rattle.quic_machine.specs.Machine.{after_call, gave}
 use Rattle.quic_headline.specs.Runs.{Packet, Intake, In}
 use Rattle.quic_headline.specs.Observer.{Sent}
 use Rattle.quic_headline.specs.InFlight.{is_ack_frequency}
-use Rattle.quic_headline.specs.Duties.{IsInFlight, IsRequested, HasAsked}
+use Rattle.quic_headline.specs.Duties.{IsRequested, HasAsked}
 use Rattle.quic_headline.proofs.Packets.Apart.{by_waits, by_next_id, apart_frequency, next_frequency}
 use Rattle.quic_headline.proofs.Packets.Ascending.{Ascends}
 use Rattle.quic_headline.proofs.Packets.Carried.{carried_same}
@@ -164,26 +163,26 @@ flag_settles (steps.again c) e w = or_left e.waiting.frames.ack_frequency c.retr
 flag_settles s e w = w
 
 -- frames on streams leave that
-streams_flag : (f : FrameValue) (e : End) → OnStreams f → Flag e → Flag (take_frame f e).end
-streams_flag (stream f) e on w = (stream_same e.streams e.waiting.frames f).requests ∙ w
-streams_flag (reset_stream f) e on w = (reset_same e.streams e.waiting.frames f).requests ∙ w
-streams_flag (stop_sending f) e on w = w
-streams_flag (max_data limit) e on w = w
-streams_flag (max_stream_data f) e on w = w
-streams_flag (max_streams f) e on w = w
-streams_flag f e on w = absurd on
+pub streams_flag : (f : FrameValue) (e : End) → OnStreams f → (take_frame f e).end.waiting.frames.ack_frequency ≡ e.waiting.frames.ack_frequency
+streams_flag (stream f) e on = (stream_same e.streams e.waiting.frames f).requests
+streams_flag (reset_stream f) e on = (reset_same e.streams e.waiting.frames f).requests
+streams_flag (stop_sending f) e on = refl
+streams_flag (max_data limit) e on = refl
+streams_flag (max_stream_data f) e on = refl
+streams_flag (max_streams f) e on = refl
+streams_flag f e on = absurd on
 
 -- what waits waits still, whichever frame comes
 frame_flag : (f : FrameValue) (e : End) → Flag e → Flag (take_frame f e).end
 frame_flag f e w = cases.frame_keeps Flag (record {
   ack = λ rises a x v. acked_keeps Flag flag_settles rises a (named a x) v;
-  on_streams = λ g x on v. streams_flag g x on v;
+  on_streams = λ g x on v. streams_flag g x on ∙ v;
   message = λ m x v. v;
   apart = λ g x is v. apart_leaves Flag g x is (λ c. v) (λ c most. v);
 }) f e w
 
 -- a call on streams leaves it
-abbrev SameFlag : Retransmits → Retransmits → Type 0
+abbrev pub SameFlag : Retransmits → Retransmits → Type 0
 SameFlag p q = q.ack_frequency ≡ p.ack_frequency
 
 ok_flag : {X E : Type 0} (r : Result X E) (t u : Streams) → SameFlag t.pending u.pending → SameFlag t.pending (if_ok r u t).pending
@@ -212,7 +211,7 @@ stop_flag s p id code = go (receiving_half s id)
     go None = refl
     go (Some h) = either_flag h.stopped (streams_of s p) (settled (stopped_if (is_some h.final) s id h) (with_stop h.reset id code p)) p refl (asked h.reset)
 
-call_flag : (b : Bool) (t : Streams) (call : Call) (a : Answer) → SameFlag t.pending (after_on_streams b t call a).pending
+pub call_flag : (b : Bool) (t : Streams) (call : Call) (a : Answer) → SameFlag t.pending (after_on_streams b t call a).pending
 call_flag b t (calls.Write s bytes) (answers.Write answer) = (write_same t.state t.pending b answer s bytes).requests
 call_flag b t (calls.WriteChunks s chunks) (answers.WriteChunks answer) = (chunks_same t.state t.pending b answer s chunks.items).requests
 call_flag b t (calls.Finish s) (answers.Finish answer) = refl
@@ -226,7 +225,7 @@ call_flag b t (calls.ReceivedReset s) a = (received_reset_same t.state t.pending
 call_flag b t call a = refl
 
 -- what lost packets carried waits, and what waited
-lost_wait : (ms : List StreamMeta) (e : End) → (streams_lost ms e).waiting ≡ e.waiting
+pub lost_wait : (ms : List StreamMeta) (e : End) → (streams_lost ms e).waiting ≡ e.waiting
 lost_wait [] e = refl
 lost_wait (m ∷ ms) e = lost_wait ms (stream_lost m e)
 

@@ -3,7 +3,7 @@
 use Rattle.std.proofs.Common.{◌≡◌, ℕ, ◌<◌, replicate, Bool, true, false, List, [], ◌∷◌, ◌++◌, Option, Some, None, refl, sym, ap, ◌∙◌, subst, inl, inr, arith, length}
 use Rattle.std.proofs.lemmas.Bool.{le-ltb}
 use Rattle.std.specs.List.{list_any}
-use Rattle.quic_wire.specs.Value.{FrameValue, AckValue, asks, padding, connection_close, application_close}
+use Rattle.quic_wire.specs.Value.{FrameValue, AckValue, asks, padding}
 use Rattle.quic_machine.specs.DraftLaws.{IsClose}
 use Rattle.quic_streams_parts.specs.Table.{Table}
 use Rattle.quic_machine.specs.Arrival.{Arrival}
@@ -18,7 +18,7 @@ use Rattle.quic_machine.specs.End.{End, with_closing, closed_by, number_of}
 use Rattle.quic_machine.specs.Acked.{sampled, measured, without_acked, after_named, losses_taken}
 use Rattle.quic_machine.specs.Receive.{received}
 use Rattle.quic_machine.specs.Poll.{Polled, Draft, asking, polled, goes, tracked, Ready}
-use Rattle.quic_machine.specs.PollCases.{ready_at, ready_leaves, draft_at, by_poll_to, composes, may_leave_at}
+use Rattle.quic_machine.specs.PollCases.{ready_at, ready_leaves, draft_at, composes, may_leave_at}
 use Rattle.quic_machine.specs.Timeouts.{Expiry, loss_judged}
 use Rattle.quic_machine.specs.LeaveCases.{at_expiry, Expired, by_timers}
 use Rattle.quic_machine.specs.FrameCases.{named, frame_keeps, frame_leaves, by_received, by_marks, apart_leaves}

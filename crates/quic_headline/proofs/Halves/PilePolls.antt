@@ -7,7 +7,7 @@ use Rattle.std.specs.declared.cmp.Ordering.{Ordering}
 use Rattle.std.specs.declared.cmp.Ordering.TheVariants.{Less, Equal, Greater}
 use Rattle.std.proofs.lemmas.List.{append-nil}
 use Rattle.quic_wire_core.specs.declared.shared.IssuedCid.{IssuedCid}
-use Rattle.quic_wire.specs.Value.{FrameValue, NewConnectionIdValue, StopSendingValue, stream, reset_stream, stop_sending, new_connection_id, retire_connection_id, ack_frequency}
+use Rattle.quic_wire.specs.Value.{FrameValue, StopSendingValue, stream, reset_stream, stop_sending, new_connection_id, retire_connection_id, ack_frequency}
 use Rattle.quic_wire.specs.Writing.{Fits}
 use Rattle.quic_streams_parts.specs.Table.{Table, put, added, without}
 use Rattle.quic_streams_parts.specs.SendHalf.{SendHalf, frame_of}

@@ -20,7 +20,7 @@ use Rattle.quic_time.specs.Clocks.{saturated}
 use Rattle.quic_machine.specs.Heard.{Heard}
 use Rattle.quic_machine.specs.Validation.{is_blocked}
 use Rattle.quic_machine.specs.Policy.{Policy}
-use Rattle.quic_machine.specs.End.{End, with_window}
+use Rattle.quic_machine.specs.End.{End}
 use Rattle.quic_machine.specs.Control.{Control, after_told, bytes_in_flight, is_window_full}
 use Rattle.quic_machine.specs.Poll.{Polled, asks_to_go, rests, polled, told_polled}
 use Rattle.quic_machine.specs.PollCases.{ready_at, ready_leaves}

@@ -1,6 +1,6 @@
 -- Where nothing more may go to the address of an open end, a poll gives nothing, and so it is by
 -- the lists.
-use Rattle.std.proofs.Common.{◌≡◌, ℕ, suc, Bool, true, Option, Some, None, Ok, sym, ap, ◌∙◌, subst}
+use Rattle.std.proofs.Common.{◌≡◌, ℕ, suc, Bool, true, Some, None, Ok, sym, ap, ◌∙◌, subst}
 use Rattle.std.specs.Prelude.{slice_get}
 use Rattle.quic_wire_core.specs.declared.stream_id.Side.{Side}
 use Rattle.quic_machine.specs.declared.answers.State.{State}

@@ -7,7 +7,6 @@ use Rattle.quic_recovery_core.specs.PendingAcks.{can_send}
 use Rattle.quic_machine.specs.declared.answers.State.{State}
 use Rattle.quic_machine.specs.declared.answers.State.TheVariants as states
 use Rattle.quic_machine.specs.Closing.{ticked}
-use Rattle.quic_spaces.specs.Numbers.{can_number}
 use Rattle.quic_machine.specs.Policy.{Policy}
 use Rattle.quic_machine.specs.End.{End, with_closing, closed_by}
 use Rattle.quic_machine.specs.Control.{is_window_full, pacer_answer, if_later, pacer_asked, Gated, lets, holds, with_pacing_timer}

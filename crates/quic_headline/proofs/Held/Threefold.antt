@@ -32,7 +32,7 @@ use Rattle.quic_machine.specs.Poll as poll
 use Rattle.quic_machine.specs.PollCases.{ready_at, by_poll, at_poll, after_draft}
 use Rattle.quic_machine.specs.Machine.{World, IsStep, gives, fails, end_at, given_by, heard_at, control_at, policy_at, end_met}
 use Rattle.quic_machine.specs.RunLaws.{as_many_views}
-use Rattle.quic_headline.specs.Runs.{Run, Told, same_side, told_by, told_at, until, state_at, count_given, given_of, bytes_in_call, bytes_handed, bytes_given, LeadsTo, AreServed}
+use Rattle.quic_headline.specs.Runs.{Run, Told, same_side, told_by, told_at, until, state_at, count_given, given_of, bytes_handed, bytes_given, LeadsTo, AreServed}
 use Rattle.quic_headline.specs.Headline.{IsHonest, IsRun}
 use Rattle.quic_headline.specs.Polls.{end_in, seen_of, seen_behind, seen_at, IsMade, GaveOne, IsSizeProbe}
 use Rattle.quic_headline.specs.Sizes.{DatagramsAreSized}
@@ -42,7 +42,7 @@ use Rattle.quic_headline.proofs.Packets.Quiet.{heard_nothing}
 use Rattle.quic_headline.proofs.Packets.Group.{PacketsHold}
 use Rattle.quic_headline.proofs.Places.Moments.{last_seen}
 use Rattle.quic_headline.proofs.Places.Parties.{with_shown, shown_at, sent_by}
-use Rattle.quic_headline.proofs.Places.Groups.{Way, Nothing}
+use Rattle.quic_headline.proofs.Places.Groups.{Way}
 use Rattle.quic_headline.proofs.Places.Placed.{Placed, placed, placed_less}
 use Rattle.quic_headline.proofs.Places.Steps.{poll_answer}
 use Rattle.quic_headline.proofs.Places.Everything as everything

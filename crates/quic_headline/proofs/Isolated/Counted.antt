@@ -1,9 +1,8 @@
 -- What an end counted of packets that didn't open: a run with fewer such is answered the same,
 -- while none is the last that may not open.
-use Rattle.std.proofs.Common.{◌≡◌, ℕ, ◌+◌, ◌-◌, ◌^◌, ◌≤◌, min, Bool, true, false, nat_le, List, Option, Some, None, Result, Ok, Err, refl, sym, ◌∙◌, arith}
+use Rattle.std.proofs.Common.{◌≡◌, ℕ, ◌+◌, ◌-◌, ◌^◌, ◌≤◌, min, Bool, true, false, List, Option, Some, None, Ok, refl, sym, ◌∙◌, arith}
 use Rattle.std.proofs.lemmas.Bool.{leb-true, leb-false}
 use Rattle.std.specs.Prelude.{if◌then◌else◌, slice_get}
-use Rattle.quic_wire_core.specs.TransportError.{ErrorValue}
 use Rattle.quic_machine.specs.declared.answers.State.{State}
 use Rattle.quic_machine.specs.declared.answers.State.TheVariants as states
 use Rattle.quic_machine.specs.declared.answers.DropReason.TheVariants as drops
@@ -14,7 +13,7 @@ use Rattle.quic_machine.specs.declared.run.Call.{Call}
 use Rattle.quic_machine.specs.declared.run.Call.TheVariants as calls
 use Rattle.quic_machine.specs.declared.run.Answer.{Answer}
 use Rattle.quic_machine.specs.declared.run.Answer.TheVariants as answers
-use Rattle.quic_machine.specs.Heard.{Heard, counted, is_key_limit, is_last, heard_received, heard_failure, heard_answer, heard_datagram, heard_given}
+use Rattle.quic_machine.specs.Heard.{Heard, counted, is_key_limit, is_last, heard_received, heard_failure, heard_answer, heard_given}
 use Rattle.quic_machine.specs.Machine.{says_last, heard_delivery, heard_by, CountsReceived, CountsIn, CountsOpenings}
 
 -- no more packets than these didn't open

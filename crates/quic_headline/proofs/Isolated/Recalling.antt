@@ -32,7 +32,7 @@ use Rattle.quic_machine.specs.End.{End, with_closing, closed_by, with_numbers}
 use Rattle.quic_machine.specs.Control.{Control}
 use Rattle.quic_machine.specs.Opens.{own_id_length, in_phase, opens_behind}
 use Rattle.quic_machine.specs.Receive.{Fault, broke, too_many_pieces, closed_by_peer, Progress, Outcome, error_of, reason_of, violation, is_empty, asks_in, take_frame, take_items, take_payload, dropped, ends_as, by_state, is_read, drawn_if, with_ids_drawn, unopened_in, opened_as, opening, drop_of, headed, received_in, received}
-use Rattle.quic_machine.specs.Poll.{Polled, Draft, polled, draft_as, lazied_as, Leaving, whole, nothing}
+use Rattle.quic_machine.specs.Poll.{Polled, Draft, polled, draft_as, lazied_as, Leaving, whole}
 use Rattle.quic_machine.specs.DraftLaws.{Writing, by_leave, MayLeave}
 use Rattle.quic_machine.specs.Puts as puts
 use Rattle.quic_machine.specs.FrameCases.{Settling, begun, named, losses_keep, acked_keeps, frame_keeps, frame_leaves, items_keep, apart_leaves}

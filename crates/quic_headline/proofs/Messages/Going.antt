@@ -1,9 +1,8 @@
 -- The end that sends: a message went or waits to go at most as often as it was sent.
-use Rattle.std.proofs.Common.{◌≡◌, ℕ, ◌+◌, ◌≤◌, false, List, [], ◌∷◌, ◌++◌, replicate, Option, Some, None, Ok, refl, sym, ap, ◌∙◌, subst, arith, true}
+use Rattle.std.proofs.Common.{◌≡◌, ℕ, ◌+◌, ◌≤◌, false, List, [], ◌∷◌, ◌++◌, replicate, Option, Some, None, Ok, refl, sym, ap, ◌∙◌, subst, arith}
 use Rattle.std.specs.Prelude.{slice_get}
 use Rattle.std.proofs.lemmas.List.{append_assoc, append-nil}
 use Rattle.quic_machine.specs.Arrival.{delivered_by, Arrival}
-use Rattle.quic_machine.specs.declared.run.Delivery.{Delivery}
 use Rattle.quic_wire.specs.Value.{FrameValue, padding, datagram}
 use Rattle.quic_messages.specs.Messages.{is_within, without_longer, Messages}
 use Rattle.quic_machine.specs.declared.run.Call.{Call}

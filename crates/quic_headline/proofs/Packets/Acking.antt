@@ -16,7 +16,7 @@ use Rattle.quic_machine.specs.Closing.{ticked}
 use Rattle.quic_machine.specs.End.{End, with_closing, closed_by}
 use Rattle.quic_machine.specs.Receive.{asks_in}
 use Rattle.quic_spaces.specs.Acknowledging.{with_due}
-use Rattle.quic_machine.specs.Poll.{Draft, Polled, polled, draft_as, Leaving, whole, nothing, lazied_as}
+use Rattle.quic_machine.specs.Poll.{Draft, Polled, polled, draft_as, Leaving, whole, lazied_as}
 use Rattle.quic_machine.specs.Machine.{after_call}
 use Rattle.quic_headline.specs.Runs.{Packet, Intake}
 use Rattle.quic_machine.specs.DraftLaws.{Writing, by_leave, MayLeave}

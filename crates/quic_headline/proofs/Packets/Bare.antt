@@ -1,5 +1,5 @@
 -- A close goes with PADDING alone: its datagram has no frame of another kind.
-use Rattle.std.proofs.Common.{◌≡◌, ℕ, zero, suc, Bool, true, false, ◌||◌, List, [], ◌∷◌, replicate, inl, inr, refl, ap, ◌∙◌}
+use Rattle.std.proofs.Common.{◌≡◌, ℕ, zero, suc, Bool, false, ◌||◌, List, [], ◌∷◌, replicate, inl, inr, refl, ap, ◌∙◌}
 use Rattle.std.specs.List.{list_any}
 use Rattle.quic_wire.specs.Value.{FrameValue, padding, asks, connection_close, application_close}
 use Rattle.quic_machine.specs.DraftLaws.{IsClose}

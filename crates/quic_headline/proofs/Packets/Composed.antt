@@ -26,7 +26,7 @@ use Rattle.quic_spaces.specs.Acknowledging.{written_delay, delay_at}
 use Rattle.quic_machine.specs.End.{End, streams_at, with_signals}
 use Rattle.quic_machine.specs.Poll.{asking, overhead, number_width, with_least, zeros_behind, Draft, no_frames, with_frame, frame_room, fits, left, ping_if, immediate_if, with_signal_frames, with_control_frames, with_message, with_message_frames, with_asking, ack_of, with_ack, ack_fits, ack_if, composed_if, payload_of, lazied, asks_to_go, waits, draft_as, draft_of, probe, alone, whole, Leaving, Ready, nothing, probing, composed, behind_control, least_left, closing, lazied_as, with_signal, least_behind, challenge_if, response_if, with_challenge_frame, with_response_frame, with_ping_frame, request_of, after_request, request_if, with_frequency_frame}
 use Rattle.quic_machine.specs.Parts.{Signals, current_mtu}
-use Rattle.quic_machine.specs.Validation.{challenge_frame, response_frame, path_frames_size}
+use Rattle.quic_machine.specs.Validation.{challenge_frame, response_frame}
 use Rattle.quic_paths.specs.Responses.{Response}
 use Rattle.quic_machine.specs.PollCases.{frames_padded}
 use Rattle.quic_machine.specs.DraftLaws.{SendsHalf, by_messages, by_streams, MayLeave, HasRoom, room_most, entry_behind}

@@ -1,9 +1,8 @@
 -- What holds of the packets between two ends, as one group: what the one gave, and what the other
 -- took of it.
-use Rattle.std.proofs.Common.{◌≡◌, ℕ, ◌<◌, ◌^◌, Bool, List, [], ◌∷◌, ◌++◌, length, false, inl, inr, refl, sym, ap, ◌∙◌, subst, arith, true}
+use Rattle.std.proofs.Common.{◌≡◌, ℕ, ◌<◌, ◌^◌, Bool, List, ◌++◌, length, false, inl, inr, refl, sym, ap, ◌∙◌, subst, arith, true}
 use Rattle.std.proofs.lemmas.List.{length-append}
 use Rattle.quic_machine.specs.declared.run.Call.{Call}
-use Rattle.quic_machine.specs.declared.run.Call.TheVariants as calls
 use Rattle.quic_machine.specs.declared.run.Answer.{Answer}
 use Rattle.quic_spaces.specs.Numbers.{Numbers, number_given}
 use Rattle.quic_recovery_core.specs.PendingAcks.{Pending}
@@ -27,7 +26,6 @@ use Rattle.quic_machine.specs.PollCases.{ready_at, by_poll, composes, at_poll}
 use Rattle.quic_headline.specs.Runs.{Intake, In, count_given, nothing_came}
 use Rattle.quic_headline.specs.Observer.{Sent}
 use Rattle.quic_machine.specs.Validation.{Asked}
-use Rattle.quic_machine.specs.declared.answers.State.TheVariants as states
 use Rattle.quic_headline.proofs.Packets.Closes.{by_closes}
 use Rattle.quic_headline.proofs.Packets.Apart.{by_waits, by_next_id}
 use Rattle.quic_headline.proofs.Packets.Invariant.{IsSent, Gives, KnowsIn, Acks, WereSent, NameTaken, AreTaken, AreTracked}

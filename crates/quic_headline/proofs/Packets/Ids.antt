@@ -41,7 +41,7 @@ use Rattle.quic_machine.specs.LeaveCases.{by_expired, by_event}
 use Rattle.quic_machine.specs.Machine.{IsAnswer, after_call, fails, gave}
 use Rattle.quic_machine.specs.Closing.{ticked}
 use Rattle.quic_machine.specs.Tracking.{Carried, and_again}
-use Rattle.quic_machine.specs.Ids.{Ids, Drawing, own_id_length, most_ids, later_numbers, words_behind, words_of_id, drawn_id, drawn_ids, undrawn_id, retired, frame_of, retires_for, retires_for_next, next_used, drawn_one, drawn_places}
+use Rattle.quic_machine.specs.Ids.{Drawing, own_id_length, most_ids, later_numbers, words_behind, words_of_id, drawn_id, drawn_ids, undrawn_id, retired, frame_of, retires_for, retires_for_next, next_used, drawn_one, drawn_places}
 use Rattle.quic_machine.specs.IdFrames.{retiring, with_taken_up, issued_if, issues_for, next_id_taken, end_on_next_id, drawn}
 use Rattle.quic_machine.specs.Validation.{word_of, validated_if}
 use Rattle.quic_machine.specs.Parts.{Windows}

@@ -1,6 +1,6 @@
 -- What an end owes that closes is a close, and goes alone: no frame but PADDING goes beside it. So
 -- a packet in which its peer closes has no other frame.
-use Rattle.std.proofs.Common.{◌≡◌, ◌⊎◌, ℕ, zero, suc, Bool, true, false, List, [], ◌∷◌, ◌++◌, map, replicate, Option, Some, None, Result, Ok, Err, refl, sym, ap, ◌∙◌, subst, inl, inr}
+use Rattle.std.proofs.Common.{◌≡◌, ◌⊎◌, ℕ, zero, suc, Bool, true, false, List, [], ◌∷◌, map, replicate, Option, Some, None, Result, Ok, Err, refl, sym, ap, ◌∙◌, subst, inl, inr}
 use Rattle.std.specs.Prelude.{slice_get, if◌then◌else◌, ◌||◌, option_map}
 use Rattle.std.specs.List.{list_any}
 use Rattle.quic_wire_core.specs.declared.stream_id.Side.{Side}
@@ -37,7 +37,7 @@ use Rattle.quic_parameters.specs.Parameters.{ParameterValues}
 use Rattle.quic_config.specs.Transport.{Settings}
 use Rattle.quic_machine.specs.Parts.{Windows}
 use Rattle.quic_machine.specs.End.{End, side_of, with_closing, closed_by, new_end}
-use Rattle.quic_machine.specs.Receive.{Fault, Progress, closed_by_peer, fault_of, fault_of_breach, fault_at, names_ungiven, message_judged, retired_for, id_judged, retirement_judged, take_frame, unless_fault, take_items, received, asks_too_soon, frequency_judged}
+use Rattle.quic_machine.specs.Receive.{Fault, closed_by_peer, fault_of, fault_at, names_ungiven, message_judged, retired_for, id_judged, retirement_judged, take_frame, unless_fault, take_items, received, asks_too_soon, frequency_judged}
 use Rattle.quic_machine.specs.Poll.{Polled, Draft, frame_room, zeros_behind, draft_as, may_close, fitted, close_to_go, polled}
 use Rattle.quic_machine.specs.Poll as poll
 use Rattle.quic_machine.specs.PollCases.{ready_at, draft_at, frames_at, frames_padded, by_poll, at_poll, composes}

@@ -18,7 +18,7 @@ use Rattle.quic_machine.specs.Idle.{agreed_timeout, idle_moment, alive_moment, k
 use Rattle.quic_machine.specs.End.{End, words_drawn, with_closing, with_ping, with_immediate, with_number_given, with_loss_timer, streams_at, closed_by, with_frames}
 use Rattle.quic_machine.specs.Acked.{again}
 use Rattle.quic_machine.specs.Control.{Gated, pacer_asked, paid, with_pacing_timer, with_app_limited}
-use Rattle.quic_machine.specs.Poll.{Polled, Draft, asking, datagram_size, tracked, paid_if, after_given, record_moved, probed, gated, composed, lazied, draft_as, polled, alone, whole, Leaving, Ready, nothing, leaves, leaves_unless, request_queued}
+use Rattle.quic_machine.specs.Poll.{Polled, Draft, asking, datagram_size, tracked, paid_if, after_given, record_moved, probed, gated, composed, lazied, draft_as, polled, alone, whole, Leaving, Ready, leaves, leaves_unless, request_queued}
 use Rattle.quic_machine.specs.Policy.{Policy}
 use Rattle.quic_machine.specs.PollCases.{ready_at, draft_at, by_probed, by_gate, search_leaves, ready_leaves, by_poll_to, may_leave_at}
 use Rattle.quic_machine.specs.DraftLaws.{MayLeave}

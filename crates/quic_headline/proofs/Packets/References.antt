@@ -1,6 +1,6 @@
 -- What a number is cut against, in a datagram that closes its connection: the least number with
 -- which it has so many bytes (RFC 9000, section 17.1 and A.2).
-use Rattle.std.proofs.Common.{◌≡◌, ℕ, zero, suc, ◌+◌, ◌-◌, ◌*◌, ◌/◌, ◌%◌, ◌^◌, ◌<◌, ◌≤◌, Bool, true, false, List, inl, inr, refl, sym, ap, ◌∙◌, subst, arith}
+use Rattle.std.proofs.Common.{◌≡◌, ℕ, ◌+◌, ◌-◌, ◌*◌, ◌%◌, ◌^◌, ◌<◌, ◌≤◌, Bool, true, false, List, inl, inr, refl, sym, ap, ◌∙◌, subst, arith}
 use Rattle.std.specs.Prelude.{nat_lt, if◌then◌else◌}
 use Rattle.std.proofs.lemmas.Bool.{cases_lt, le-ltb, lt-ltb}
 use Rattle.quic_wire.specs.Value.{FrameValue}
@@ -8,7 +8,6 @@ use Rattle.quic_packet.specs.Number.{Truncated, truncated, window, width_for, nu
 use Rattle.quic_packet.specs.Keys.{width_in}
 use Rattle.quic_packet.specs.Header.{first_byte}
 use Rattle.quic_packet.specs.Datagram.{datagram_of}
-use Rattle.quic_packet.proofs.Numbers.{fewest}
 use Rattle.quic_machine.specs.Policy.{Policy}
 use Rattle.quic_headline.specs.Observer.{farthest, reference_for, moment_for}
 use Rattle.quic_headline.proofs.Packets.Invariant.{IsGiven}

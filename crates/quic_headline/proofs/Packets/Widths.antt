@@ -1,6 +1,6 @@
 -- The peer's id in use is as long as an own id, whichever of those is used that are known: so no
 -- message is dropped for another one.
-use Rattle.std.proofs.Common.{◌≡◌, ℕ, Bool, true, false, List, [], ◌∷◌, length, map, Option, Some, None, Result, Ok, Err, refl, sym, ap, ◌∙◌, subst, inl, inr, arith}
+use Rattle.std.proofs.Common.{◌≡◌, ℕ, Bool, true, false, List, length, Option, Some, None, Result, Ok, Err, refl, sym, ap, ◌∙◌, subst, inl, inr, arith}
 use Rattle.std.specs.Prelude.{nat_lt}
 use Rattle.std.specs.declared.ops.Range.{Range}
 use Rattle.std.proofs.lemmas.Bool.{le-ltb}
@@ -23,7 +23,7 @@ use Rattle.quic_machine.specs.End.{End, with_ids}
 use Rattle.quic_machine.specs.Receive.{Outcome, is_above, names_ungiven, retired_for, id_judged, retirement_judged, take_frame}
 use Rattle.quic_machine.specs.FrameCases.{Settling, IsApart, named, ack_taken, acked_keeps, message_leaves, begun, passed, frames_leave}
 use Rattle.quic_machine.specs.Steps as steps
-use Rattle.quic_headline.specs.Runs.{In, Intake}
+use Rattle.quic_headline.specs.Runs.{Intake}
 use Rattle.quic_headline.proofs.Packets.Delivered.{Arrivals}
 use Rattle.quic_headline.proofs.Packets.Ids.{SaysIds, AllSayIds, IsLong, AnyNumber, KnownLong, insert_long, next_long}
 use Rattle.quic_headline.proofs.Packets.Sizes.{Sizing, sizing, Searching, taken_size}

@@ -18,7 +18,7 @@ use Rattle.quic_machine.specs.Ids.{own_id}
 use Rattle.quic_machine.specs.Opens.{own_id_length}
 use Rattle.quic_machine.specs.Policy.{Policy}
 use Rattle.quic_machine.specs.Parts.{Windows}
-use Rattle.quic_machine.specs.End.{End, IsMade, new_end, with_window}
+use Rattle.quic_machine.specs.End.{End, IsMade, new_end}
 use Rattle.quic_machine.specs.Control.{Control}
 use Rattle.quic_machine.specs.Heard.{Heard}
 use Rattle.quic_machine.specs.Start.{AreStarted}

@@ -1,6 +1,6 @@
 -- By what an end asks its peer how often to acknowledge, and what it says: an observer that counted
 -- its requests reckons both alike.
-use Rattle.std.proofs.Common.{◌≡◌, ℕ, suc, zero, ◌/◌, max, min, Bool, false, ◌||◌, ◌&&◌, List, Option, Some, None, refl, sym, ap, ◌∙◌, arith}
+use Rattle.std.proofs.Common.{◌≡◌, ℕ, suc, zero, ◌/◌, max, min, Bool, true, false, ◌||◌, ◌&&◌, List, Option, Some, None, refl, sym, ap, ◌∙◌, arith}
 use Rattle.std.specs.Prelude.{◌==◌, unwrap_or}
 use Rattle.std.specs.Option.{is_some, option_map}
 use Rattle.std.proofs.lemmas.Bool.{ne_eqb}
@@ -42,6 +42,22 @@ anew_by (Some s) least b = is_some least && ((b.next == 0) || differs (delay_wan
 -- so it is where an end asks so
 abbrev pub is_anew : By → Bool
 is_anew b = anew_by b.asking.settings b.asking.least b
+
+-- an end that asks so is to ask, and its peer can be asked
+pub record IsToAsk (a : Asking) : Type 0 where
+  pub settings : FrequencySettings
+  pub configured : a.settings ≡ Some settings
+  pub least : ℕ
+  pub told : a.least ≡ Some least
+
+-- so it is where the peer is to be asked anew
+pub anew_asks : (b : By) → is_anew b ≡ true → IsToAsk b.asking
+anew_asks b anew = go b.asking.settings refl b.asking.least refl anew
+  where
+    go : (o : Option FrequencySettings) → b.asking.settings ≡ o → (l : Option ℕ) → b.asking.least ≡ l → anew_by o l b ≡ true → IsToAsk b.asking
+    go None set l told asks = cc
+    go (Some s) set None told asks = cc
+    go (Some s) set (Some m) told asks = record { settings = s; configured = set; least = m; told = told }
 
 -- which is what an end finds
 pub anew_is : (e : End) → asks_anew e.transport.ack_frequency_config e ≡ is_anew (by_of e)

@@ -1,9 +1,8 @@
 -- So what a request says is what its observer reckons, at each place of an honest run.
-use Rattle.std.proofs.Common.{◌≡◌, ℕ, ◌≤◌, List, replicate, Some, Ok, sym, ap, ◌∙◌, subst, inl, inr, arith}
+use Rattle.std.proofs.Common.{◌≡◌, ℕ, ◌≤◌, true, List, replicate, Some, Ok, sym, ap, ◌∙◌, subst, inl, inr, arith}
 use Rattle.quic_wire_core.specs.declared.stream_id.Side.{Side}
 use Rattle.quic_wire_core.specs.StreamId.{other_side}
 use Rattle.quic_wire.specs.Value.{AckFrequencyValue, ack_frequency, padding}
-use Rattle.quic_config.specs.Configs.{FrequencySettings}
 use Rattle.quic_machine.specs.declared.run.Call.TheVariants as calls
 use Rattle.quic_machine.specs.declared.run.Answer.{Answer}
 use Rattle.quic_machine.specs.declared.run.Answer.TheVariants as answers
@@ -16,7 +15,7 @@ use Rattle.quic_headline.specs.Runs.{Run, In}
 use Rattle.quic_headline.specs.Observer.{Sent, Watch, watch}
 use Rattle.quic_headline.specs.Headline.{IsHonest, IsRun}
 use Rattle.quic_headline.specs.Polls.{GaveOne}
-use Rattle.quic_headline.specs.Requests.{Asking, asking_of, asking_at, count_requests, requests_in, request_said, RequestsSay}
+use Rattle.quic_headline.specs.Requests.{Asking, asking_of, asking_at, count_requests, requests_in, request_said, IsAsked, RequestsSay}
 use Rattle.quic_headline.proofs.Packets.CloseForms.{close_well}
 use Rattle.quic_headline.proofs.Places.Told.{in_append}
 use Rattle.quic_headline.proofs.Places.Parties.{Party, watch_of, with_shown, shown_at}
@@ -29,9 +28,10 @@ use Rattle.quic_headline.proofs.Halves.Ready.{Ready}
 use Rattle.quic_headline.proofs.Steps.Made.{MadeAt, made_at, polling, PollHolds, poll_holds}
 use Rattle.quic_headline.proofs.Steps.Probing.{IsGiving, IsClosing}
 use Rattle.quic_headline.proofs.Steps.Probing as probing
-use Rattle.quic_headline.proofs.Requests.Asks.{says, said_known}
+use Rattle.quic_headline.proofs.Requests.Asks.{IsToAsk, says, said_known}
 use Rattle.quic_headline.proofs.Requests.Drafts.{Has, has_none, has_one, draft_has, ready_by, count_in, count_close, count_padding, count_padded}
-use Rattle.quic_headline.proofs.Requests.Group.{Counted, counted_group}
+use Rattle.quic_headline.proofs.Requests.Group.{Counted, counted_group, anew_made}
+use Rattle.quic_headline.proofs.Requests.Only.{ready_only}
 
 -- all that is known of the packets and the streams, and how many requests went
 abbrev All : Way
@@ -47,8 +47,7 @@ known = both Nothing All Counted (everything.all Ready ready) (over PacketsHold 
 abbrev Streams : Way
 Streams = everything.Streams Ready ready
 
-module _ (r : Run) (end : World) (honest : IsHonest r) (run : IsRun r end) (side : Side) (i now : ℕ) (gave : GaveOne r side i now) (f : AckFrequencyValue) (carried : In (ack_frequency f) gave.sent.frames)
-    (settings : FrequencySettings) (configured : (asking_at r side).settings ≡ Some settings) (least : ℕ) (told : (asking_at r side).least ≡ Some least) where
+module _ (r : Run) (end : World) (honest : IsHonest r) (run : IsRun r end) (side : Side) (i now : ℕ) (gave : GaveOne r side i now) (f : AckFrequencyValue) (carried : In (ack_frequency f) gave.sent.frames) where
   abbrev answer : Answer
   answer = answers.Poll (Ok (Some gave.transmit))
 
@@ -70,9 +69,9 @@ module _ (r : Run) (end : World) (honest : IsHonest r) (run : IsRun r end) (side
   abbrev e : End
   e = with_shown (end_at side w) (shown_at side w)
 
-  -- it says so, and is the only one
+  -- the end is to ask, and its peer can be asked; the request says so, and is the only one
   abbrev Said : Type 0
-  Said = (f ≡ request_said settings least (requests_in (watch r side i).own) (watch r side i).flight) × (count_requests gave.sent.frames ≡ 1)
+  Said = IsAsked r side i gave.sent f
 
   -- an open end composed the datagram
   module _ (gives : IsGiving (policy_at side r.keys) e now gave.transmit (polled (policy_at side r.keys) e now).end gave.sent) where
@@ -81,12 +80,16 @@ module _ (r : Run) (end : World) (honest : IsHonest r) (run : IsRun r end) (side
     asks_so = h.gives.1.same
 
     -- its observer reckons what it says
-    known_so : request_of e ≡ request_said settings least (requests_in (watch r side i).own) (watch r side i).flight
-    known_so =
-        said_known x.terms (watch_of x y).clock x.sents (watch_of x y).flight e (h.gives.0.1.watched.flight gives.opened).tells h.gives.1.next settings
-        (ap (λ (a : Asking). a.settings) asks_so ∙ configured) least (ap (λ (a : Asking). a.least) asks_so ∙ told)
-        ∙ ap (λ (ss : List Sent). request_said settings least (requests_in ss) (watch_of x y).flight) (sym h.gives.0.1.own)
-        ∙ ap (λ (v : Watch). request_said settings least (requests_in v.own) v.flight) (sym h.seen)
+    known_so : (a : IsToAsk (asking_at r side)) → request_of e ≡ request_said a.settings a.least (requests_in (watch r side i).own) (watch r side i).flight
+    known_so a =
+        said_known x.terms (watch_of x y).clock x.sents (watch_of x y).flight e (h.gives.0.1.watched.flight gives.opened).tells h.gives.1.next a.settings
+        (ap (λ (b : Asking). b.settings) asks_so ∙ a.configured) a.least (ap (λ (b : Asking). b.least) asks_so ∙ a.told)
+        ∙ ap (λ (ss : List Sent). request_said a.settings a.least (requests_in ss) (watch_of x y).flight) (sym h.gives.0.1.own)
+        ∙ ap (λ (v : Watch). request_said a.settings a.least (requests_in v.own) v.flight) (sym h.seen)
+
+    -- a request waits where the end is ready only if it is to ask
+    waited_asks : (ready_at e now).end.waiting.frames.ack_frequency ≡ true → IsToAsk (asking_at r side)
+    waited_asks = (ready_only (IsToAsk (asking_at r side)) e now (anew_made x y h.gives.1) h.gives.1.only).waits
 
     -- the request stands in the draft
     counts : 1 ≤ count_requests (draft_at e now).frames
@@ -103,10 +106,16 @@ module _ (r : Run) (end : World) (honest : IsHonest r) (run : IsRun r end) (side
 
     drafted : Has (ready_at e now).end (draft_at e now) → Said
     drafted (has_none count same still) = let some = counts in absurd (omega arith)
-    drafted (has_one count next said waited gone) = (
-      said f here ∙ ap says (ready_by e now) ∙ known_so,
-      ap (λ (s : Sent). count_requests s.frames) gives.sent ∙ count_padded (draft_at e now) ∙ count,
-    )
+    drafted (has_one count next said waited gone) =
+        let a = waited_asks waited in
+        record {
+          settings = a.settings;
+          configured = a.configured;
+          least = a.least;
+          told = a.told;
+          says = said f here ∙ ap says (ready_by e now) ∙ known_so a;
+          alone = ap (λ (s : Sent). count_requests s.frames) gives.sent ∙ count_padded (draft_at e now) ∙ count;
+        }
 
     given : Said
     given = drafted (draft_has (ready_at e now).leaving (ready_at e now).end (may_leave_at e now))
@@ -126,4 +135,4 @@ module _ (r : Run) (end : World) (honest : IsHonest r) (run : IsRun r end) (side
   ]
 
 pub requests_say : (r : Run) (end : World) → IsHonest r → IsRun r end → RequestsSay r
-requests_say r end honest run side i now gave f carried settings configured least told = request_says r end honest run side i now gave f carried settings configured least told
+requests_say r end honest run side i now gave f carried = request_says r end honest run side i now gave f carried

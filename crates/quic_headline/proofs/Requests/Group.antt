@@ -1,13 +1,12 @@
 -- The number of the next request is how many went, up to the greatest that has a number of its own;
--- and an end asks as it was made to.
-use Rattle.std.proofs.Common.{◌≡◌, ℕ, ◌+◌, min, false, List, ◌++◌, Option, Some, None, append-nil, refl, sym, ap, ◌∙◌, subst, arith}
+-- and an end asks as it was made to, and no request waits at one that isn't to ask.
+use Rattle.std.proofs.Common.{◌≡◌, ℕ, min, true, false, List, ◌++◌, Option, Some, None, append-nil, refl, sym, ap, ◌∙◌, subst, arith}
 use Rattle.std.specs.Prelude.{slice_get}
 use Rattle.quic_config.specs.Transport.{TransportSettings}
 use Rattle.quic_parameters.specs.Parameters.{ParameterValues}
 use Rattle.quic_machine.specs.declared.run.Call.{Call}
 use Rattle.quic_machine.specs.declared.run.Call.TheVariants as calls
 use Rattle.quic_machine.specs.declared.run.Answer.{Answer}
-use Rattle.quic_machine.specs.declared.run.Answer.TheVariants as answers
 use Rattle.quic_machine.specs.Arrival.{Arrival, delivered_by}
 use Rattle.quic_machine.specs.Policy.{Policy}
 use Rattle.quic_machine.specs.End.{End}
@@ -23,13 +22,16 @@ use Rattle.quic_headline.proofs.Places.Groups.{Calls, Group}
 use Rattle.quic_headline.proofs.Places.Parties.{sent_by, sent_if, sents_by, Party, called}
 use Rattle.quic_headline.proofs.Places.Steps.{poll_answer}
 use Rattle.quic_headline.proofs.Duties.Requests.{Next, frame_next, call_next}
-use Rattle.quic_headline.proofs.Requests.Asks.{By}
+use Rattle.quic_headline.proofs.Requests.Asks.{By, by_of, is_anew, IsToAsk, anew_asks}
 use Rattle.quic_headline.proofs.Requests.Drafts.{Goes, goes_none, goes_one, polled_requests, requests_more}
+use Rattle.quic_headline.proofs.Requests.Only.{Only, call_only}
 
--- As many requests went of x as are counted, and it asks as it was made to.
+-- As many requests went of x as are counted; it asks as it was made to; and one waits, or goes
+-- again if its packet is lost, only where it is to ask, and its peer can be asked.
 pub record Counted (x y : Party) : Type 0 where
   pub next : x.end.frequency.next ≡ min (requests_in x.sents) most_requests
   pub same : asking_of x.end ≡ asking_of x.made
+  pub only : Only (IsToAsk (asking_of x.made)) x.end
 
 -- ---- a call
 
@@ -69,9 +71,13 @@ polled_next e x now own ss was (goes_none count same waits) =
     omega arith
 polled_next e x now own ss was (goes_one count next gone) = let more = requests_more own ss in omega arith
 
--- any call keeps both
+-- the peer is asked anew only where an end is to ask, as it was made to
+pub anew_made : (x y : Party) → Counted x y → is_anew (by_of x.end) ≡ true → IsToAsk (asking_of x.made)
+anew_made x y i anew = subst IsToAsk i.same (anew_asks (by_of x.end) anew)
+
+-- any call keeps all of it
 counted_call : (x y : Party) (call : Call) (a : Answer) → Calls PacketsHold x y call a → Counted x y → Counted (called x y.given call a) y
-counted_call x y call a c i = record { next = go call c.answer; same = same_asking x.policy x.end y.given call a ∙ i.same }
+counted_call x y call a c i = record { next = go call c.answer; same = same_asking x.policy x.end y.given call a ∙ i.same; only = call_only (IsToAsk (asking_of x.made)) x.policy x.end y.given call a (anew_made x y i) i.only }
   where
     go : (k : Call) → IsAnswer x.policy x.end y.given k a → (after_call x.policy x.end y.given k a).frequency.next ≡ min (requests_in (x.sents ++ sents_by x.policy x.end k a)) most_requests
     go (calls.Poll now) is =
@@ -84,8 +90,8 @@ counted_call x y call a c i = record { next = go call c.answer; same = same_aski
 -- it holds at the start, and stays with each call at either end
 pub counted_group : Group PacketsHold Counted
 counted_group = record {
-  first = λ x y m there back. record { next = refl; same = refl };
+  first = λ x y m there back. record { next = refl; same = refl; only = record { waits = λ set. cc; bear = λ q j. absurd j } };
   writer = λ x y call a c i back. counted_call x y call a c i;
-  reader = λ x y call a c i back. record { next = back.next; same = back.same };
-  shows = λ x y here there b back i j. record { next = i.next; same = i.same };
+  reader = λ x y call a c i back. record { next = back.next; same = back.same; only = back.only };
+  shows = λ x y here there b back i j. record { next = i.next; same = i.same; only = record { waits = i.only.waits; bear = i.only.bear } };
 }

@@ -23,7 +23,7 @@ use Rattle.quic_machine.specs.Start.{AreStarted}
 use Rattle.quic_machine.specs.End.{End, with_closing, closed_by, with_ack_timer}
 use Rattle.quic_machine.specs.Receive.{timers_after, take_frame}
 use Rattle.quic_spaces.specs.Acknowledging.{ack_due, with_due}
-use Rattle.quic_machine.specs.Poll.{Polled, Draft, polled, draft_as, lazied_as, Leaving, whole, alone, nothing}
+use Rattle.quic_machine.specs.Poll.{Polled, Draft, polled, draft_as, lazied_as, Leaving, whole, alone}
 use Rattle.quic_machine.specs.Timeouts.{Expiry, loss_judged}
 use Rattle.quic_machine.specs.Machine.{World, Policies, after_call, Follows}
 use Rattle.quic_machine.specs.DraftLaws.{Writing, by_leave, MayLeave}

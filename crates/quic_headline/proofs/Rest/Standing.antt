@@ -17,7 +17,7 @@ use Rattle.quic_machine.specs.Closing.{ticked}
 use Rattle.quic_machine.specs.Tracking.{lost_by}
 use Rattle.quic_machine.specs.Acked.{verdict}
 use Rattle.quic_machine.specs.End.{End, with_closing}
-use Rattle.quic_machine.specs.Poll.{Polled, Draft, polled, draft_as, lazied_as, Leaving, whole, alone, nothing, Ready}
+use Rattle.quic_machine.specs.Poll.{Polled, Draft, polled, draft_as, lazied_as, Leaving, whole, alone, Ready}
 use Rattle.quic_machine.specs.Receive.{take_frame}
 use Rattle.quic_machine.specs.Timeouts.{Expiry, loss_judged, loss_expired, unless_idle}
 use Rattle.quic_machine.specs.Machine.{IsAnswer, after_call, fails, gave}

@@ -22,7 +22,7 @@ use Rattle.quic_machine.specs.declared.run.Answer.TheVariants as answers
 use Rattle.quic_machine.specs.Policy.{Policy}
 use Rattle.quic_machine.specs.End.{End, closed_by, with_closing}
 use Rattle.quic_machine.specs.declared.answers.State.TheVariants as states
-use Rattle.quic_machine.specs.Poll.{Draft, Polled, polled, draft_as, draft_of, zeros_behind, Leaving, Ready}
+use Rattle.quic_machine.specs.Poll.{Draft, Polled, polled, draft_as, zeros_behind, Leaving, Ready}
 use Rattle.quic_machine.specs.PollCases.{ready_at, draft_at, may_leave_at, by_poll, at_poll}
 use Rattle.quic_machine.specs.DraftLaws.{Writing, by_leave, MayLeave}
 use Rattle.quic_machine.specs.Puts as puts

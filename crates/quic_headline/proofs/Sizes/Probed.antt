@@ -16,7 +16,7 @@ use Rattle.quic_machine.specs.declared.run.Answer.TheVariants as answers
 use Rattle.quic_machine.specs.Policy.{Policy}
 use Rattle.quic_machine.specs.Parts.{Path}
 use Rattle.quic_machine.specs.Closing.{ticked}
-use Rattle.quic_machine.specs.End.{End, number_of, with_closing, closed_by}
+use Rattle.quic_machine.specs.End.{End, number_of, with_closing}
 use Rattle.quic_machine.specs.Control.{Gated, with_pacing_timer}
 use Rattle.quic_machine.specs.Sizes.{after_lost, may_search, search_names, search_asked}
 use Rattle.quic_machine.specs.Poll.{Polled, datagram_size, after_given, probed, gated, waits, probe, Ready, probe_named, searched_if, free_if, held_if, leaves_if, leaves, leaves_unless, goes_as, draft_as, polled, request_queued}

@@ -15,7 +15,6 @@ use Rattle.quic_machine.specs.declared.run.Call.TheVariants as calls
 use Rattle.quic_machine.specs.declared.run.Answer.{Answer}
 use Rattle.quic_machine.specs.Policy.{Policy}
 use Rattle.quic_machine.specs.Closing.{ticked}
-use Rattle.quic_spaces.specs.Numbers.{can_number}
 use Rattle.quic_machine.specs.End.{End, with_closing, with_ack_timer, with_window, closed_by}
 use Rattle.quic_machine.specs.Control.{Gated, paced_until, with_pacing_timer}
 use Rattle.quic_machine.specs.Timeouts.{loss_judged}

@@ -14,7 +14,6 @@ use Rattle.quic_streams_parts.specs.Table.{added}
 use Rattle.quic_streams_state.specs.State.{Streams}
 use Rattle.quic_streams_state.specs.Waiting.{is_empty, can_send_stream_data}
 use Rattle.quic_streams_state.specs.Control as control
-use Rattle.quic_spaces.specs.Numbers.{can_number}
 use Rattle.quic_machine.specs.declared.answers.State.{State}
 use Rattle.quic_machine.specs.declared.answers.State.TheVariants as states
 use Rattle.quic_machine.specs.declared.answers.Transmit.{Transmit}
@@ -27,10 +26,10 @@ use Rattle.quic_machine.specs.Policy.{Policy}
 use Rattle.quic_machine.specs.Closing.{ticked}
 use Rattle.quic_machine.specs.Ids.{Ids}
 use Rattle.quic_machine.specs.Tracking.{Tracking, TrackedPacket, forgotten, without_packet, asking_sent, after_sent}
-use Rattle.quic_machine.specs.End.{End, number_of, with_closing, with_window, streams_at, closed_by}
+use Rattle.quic_machine.specs.End.{End, number_of, with_closing, streams_at, closed_by}
 use Rattle.quic_machine.specs.Control.{Gated, lets, gated_if, with_pacing_timer}
 use Rattle.quic_machine.specs.Poll.{gated, mark_of, Polled, Draft, no_frames, frame_room, with_control_frames, with_message_frames, with_stream_frames, with_asking, ack_of, with_ack, ack_fits, ack_if, composed_if, composed, datagram_of, asking, packet_of, probed, lazied, message_waits, asks_to_go, draft_of, sends, polled_if, polled_in, polled, whole, Ready, leaves, free_if, waits, goes, with_signal_frames, bounds, request_of, with_request, request_if, with_frequency_frame, request_queued}
-use Rattle.quic_machine.specs.Machine.{World, end_at, control_at, policy_at}
+use Rattle.quic_machine.specs.Machine.{World, end_at, policy_at}
 use Rattle.quic_machine.specs.DraftLaws.{Writing, drops_of, entry_of, half_of, message_of, HasRoom, room_most, by_entries, by_messages, by_streams, signal_asks, by_some_signal, no_signal}
 use Rattle.quic_machine.specs.Puts as puts
 use Rattle.quic_machine.specs.PollCases.{ready_at, draft_at, frames_padded, frames_at, by_probed, probe_leaves, composes}

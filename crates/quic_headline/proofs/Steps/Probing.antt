@@ -5,7 +5,7 @@ use Rattle.std.specs.Prelude.{Option, Result, ◌==◌, ◌&&◌, if◌then◌el
 use Rattle.std.proofs.lemmas.Bool.{le-ltb, ltb-true, and_parts, both_ways, or_parts, or_left, lt-ltb, not-true, not-false}
 use Rattle.std.proofs.lemmas.List.{append_cancel_left, length-append, length-replicate}
 use Rattle.quic_wire_core.specs.StreamId.{other_side}
-use Rattle.quic_wire.specs.Value.{FrameValue, padding, ping, connection_close, application_close}
+use Rattle.quic_wire.specs.Value.{FrameValue, ping, connection_close, application_close}
 use Rattle.quic_wire.specs.Writing.{spelling}
 use Rattle.quic_config.specs.declared.mtu_discovery.TheConstants.{MAX_UDP_PAYLOAD}
 use Rattle.quic_congestion.specs.Search.{search_bound, open_probe, poll_names}

@@ -24,14 +24,13 @@ use Rattle.quic_congestion.proofs.SizedSearch.{sized_polled, sized_acked}
 use Rattle.quic_congestion.specs.Congestion.{Told, Sent, Acked, AcksEnded, Congested, Resized, IsSized, AreSized, size_told, last_size}
 use Rattle.quic_streams_parts.specs.Table.{Table}
 use Rattle.quic_recovery_core.specs.Duplicates.{is_duplicate}
-use Rattle.quic_spaces.specs.Numbers.{number_opened, can_number}
+use Rattle.quic_spaces.specs.Numbers.{number_opened}
 use Rattle.quic_spaces.specs.Marks.{Counts}
 use Rattle.quic_spaces.specs.declared.space.EcnError.{EcnError}
 use Rattle.quic_time.specs.Clocks.{saturated}
 use Rattle.quic_machine.specs.declared.answers.State.{State}
 use Rattle.quic_machine.specs.declared.answers.State.TheVariants as states
 use Rattle.quic_machine.specs.declared.answers.DropReason.TheVariants as drops
-use Rattle.quic_machine.specs.declared.run.Delivery.{Delivery}
 use Rattle.quic_machine.specs.declared.run.RunEvent.{RunEvent}
 use Rattle.quic_machine.specs.declared.run.Call.{Call}
 use Rattle.quic_machine.specs.declared.run.Call.TheVariants as calls

@@ -37,7 +37,7 @@ use Rattle.quic_machine.specs.Validation.{word_of, validated_if, path_expired}
 use Rattle.quic_machine.specs.End.{End, new_end, with_ids, with_closing, with_ack_timer, closed_by}
 use Rattle.quic_machine.specs.Receive.{timers_after, retired_for, id_judged, retirement_judged, take_frame}
 use Rattle.quic_machine.specs.Poll.{Draft, Polled, polled}
-use Rattle.quic_machine.specs.Timeouts.{Expiry, expiry_at, acks_expired, pacing_expired, loss_judged, loss_expired, after_busy, unless_idle, after_expiry, timed_out_in, timed_out}
+use Rattle.quic_machine.specs.Timeouts.{Expiry, expiry_at, acks_expired, pacing_expired, loss_judged, loss_expired, unless_idle, after_expiry, timed_out_in, timed_out}
 use Rattle.quic_machine.specs.Machine.{after_call}
 use Rattle.quic_machine.specs.FrameCases.{Settling, Receives, IsApart, named, acked_keeps, losses_keep, frame_keeps, frame_leaves, by_received}
 use Rattle.quic_machine.specs.Steps as steps

@@ -19,7 +19,7 @@ use Rattle.quic_machine.specs.Closing.{ticked}
 use Rattle.quic_machine.specs.End.{End, with_closing, closed_by}
 use Rattle.quic_machine.specs.Receive.{timers_after, take_frame}
 use Rattle.quic_spaces.specs.Acknowledging.{with_due}
-use Rattle.quic_machine.specs.Poll.{Polled, Draft, with_ack, polled, lazied_as, draft_as, Leaving, whole, nothing}
+use Rattle.quic_machine.specs.Poll.{Polled, Draft, with_ack, polled, lazied_as, draft_as, Leaving, whole}
 use Rattle.quic_machine.specs.Timeouts.{Expiry, loss_judged, acks_expired}
 use Rattle.quic_machine.specs.Machine.{World, Policies, after_call, Follows}
 use Rattle.quic_headline.specs.Headline.{AckTimerFollows, AckTimersFollow}

@@ -1,7 +1,7 @@
 -- An acknowledgement is due at an open end only where its observer finds an ACK frame wanted: one
 -- is due for packets that ask, a packet bore the mark of congestion, or many came that don't ask.
 -- Each call keeps that.
-use Rattle.std.proofs.Common.{◌≡◌, ℕ, ◌+◌, ◌≤◌, ◌⊎◌, max, Bool, true, false, ◌||◌, ◌&&◌, List, [], ◌++◌, Option, refl, sym, ap, ◌∙◌, subst, inl, inr, arith}
+use Rattle.std.proofs.Common.{◌≡◌, ℕ, ◌≤◌, ◌⊎◌, max, Bool, true, false, ◌||◌, ◌&&◌, List, [], ◌++◌, Option, refl, sym, ap, ◌∙◌, subst, inl, inr, arith}
 use Rattle.std.specs.Prelude.{if◌then◌else◌, nat_lt}
 use Rattle.std.proofs.lemmas.Bool.{and_parts, and_from, or_cases, or_left, or_right, both_ways, lt-ltb, ltb-true}
 use Rattle.quic_recovery_core.specs.PendingAcks.{Pending, lazy_threshold}
