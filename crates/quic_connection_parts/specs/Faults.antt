@@ -21,7 +21,7 @@ use Rattle.quic_connection_parts.specs.declared.receiving.Trouble.TheVariants as
 abbrev pub fault_view : Trouble → Option Fault
 fault_view (troubles.Broke error) = Some (broke error)
 fault_view troubles.TooManyPieces = Some too_many_pieces
-fault_view (troubles.Closed close) = Some (closed_by_peer close.kept)
+fault_view (troubles.Closed close) = Some (closed_by_peer close.value.kept)
 fault_view troubles.Memory = None
 
 -- frames are taken as the machine takes them, up to the fault that is answered, unless memory

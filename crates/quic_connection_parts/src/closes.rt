@@ -1,13 +1,13 @@
 //! Frames that close a connection (RFC 9000, section 19.19).
-ghost use Rattle.std.specs.Prelude.{◌≡◌, ℕ, ◌+◌, ◌<◌, ◌≤◌, ◌^◌, ◌++◌, [], length, IfOk, vec_len, vec_capacity};
+ghost use Rattle.std.specs.Prelude.{◌≡◌, ℕ, ◌+◌, ◌<◌, ◌≤◌, ◌^◌, ◌++◌, [], length, IfOk, IfSome, vec_len, vec_capacity};
 ghost use Rattle.quic_wire_core.specs.Varint.{shortest};
 ghost use Rattle.quic_wire.specs.Value.{connection_close, application_close};
 ghost use Rattle.quic_wire.specs.Close.{by_transport, by_application, transport_close, application_close_with};
 ghost use Rattle.quic_wire.specs.Writing.{spelling, frame_size};
 ghost use Rattle.quic_machine.specs.End.{End};
-ghost use Rattle.quic_machine.specs.Receive.{frame_named, take_close};
+ghost use Rattle.quic_machine.specs.Receive.{closed_by_peer, frame_named, take_close};
 ghost use Rattle.quic_machine.specs.Poll.{fitted};
-ghost use Rattle.quic_connection_parts.specs.Faults.{TakesAs};
+ghost use Rattle.quic_connection_parts.specs.Faults.{TakesAs, fault_view};
 
 use crate::closing::CloseTold;
 use crate::receiving::Trouble;
@@ -16,6 +16,18 @@ use quic_stats::FrameStats;
 use quic_wire::frame::{Ack, Frame, Stream, put_frame};
 use quic_wire_core::{Code, FrameType, VarInt};
 use std::alloc::{AllocError, Global};
+
+/// The peer closed: what it said, once to be kept and once for the application. Or memory lacks
+/// for a place where both lie.
+fn closed(alloc: Global, kept: PeerClose, told: PeerClose) -> Trouble
+    requires { told ≡ kept }
+    ensures { IfSome (fault_view result) (λ fault. fault ≡ closed_by_peer kept) }
+{
+    match Box::new(alloc, CloseTold { kept, told }) {
+        Ok(close) => Trouble::Closed(close),
+        Err(_) => Trouble::Memory,
+    }
+}
 
 /// Takes a CONNECTION_CLOSE frame of type 1c: what it says is copied twice, once to be kept and
 /// once for the application.
@@ -36,7 +48,7 @@ pub fn take_connection_close(
 {
     let kept = closed_by_transport(alloc, error_code, frame_type, reason)?;
     let told = closed_by_transport(alloc, error_code, frame_type, reason)?;
-    Err(Trouble::Closed(CloseTold { kept, told }))
+    Err(closed(alloc, kept, told))
 }
 
 /// What a CONNECTION_CLOSE frame of type 1c says, copied.
@@ -67,7 +79,7 @@ pub fn take_application_close(alloc: Global, error_code: u64, reason: &[u8]) -> 
     let code = VarInt::from_u64_unchecked(error_code);
     let kept = PeerClose::by_application(alloc, code, reason)?;
     let told = PeerClose::by_application(alloc, code, reason)?;
-    Err(Trouble::Closed(CloseTold { kept, told }))
+    Err(closed(alloc, kept, told))
 }
 
 /// The frame of this type was at fault; none is known where it is 0.

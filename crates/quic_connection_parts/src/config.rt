@@ -15,7 +15,7 @@ use std::marker::Model;
 ///
 /// An endpoint acts on each setting. By
 /// [`ack_frequency_config`](TransportConfig::ack_frequency_config) it asks a peer how often to
-/// acknowledge that told its min_ack_delay; it obeys the peer's ACK_FREQUENCY frames, whatever
+/// acknowledge that advertised min_ack_delay; it obeys the peer's ACK_FREQUENCY frames, whatever
 /// `ack_frequency_support` says. Its datagrams have at most as many bytes as a path begins with, or
 /// as the peer takes where that is less, until a larger size is found where one is looked for; and
 /// those that are ack-eliciting are filled up to that size where `pad_to_mtu` says so. The peer is

@@ -20,8 +20,8 @@ pub enum Trouble {
     Broke(TransportError),
     /// Too many runs of a stream wait.
     TooManyPieces,
-    /// The peer closed: what it said.
-    Closed(CloseTold),
+    /// The peer closed: what it said. It lies in a box, so that the answer of each frame is small.
+    Closed(Box<CloseTold>),
     /// Out of memory: an allocation failed.
     Memory,
 }

@@ -128,7 +128,7 @@ fn waits_for_what_was_asked(rt: HostRuntime) -> Result<(), Fail> {
     })
 }
 
-/// A peer that told no min_ack_delay isn't asked.
+/// A peer that advertised no min_ack_delay isn't asked.
 fn assert_asks_nothing<R: Abort + AllocGlobal>(rt: &R, end: &mut End) -> Result<(), Fail> {
     let first = given(rt, end, at(0))?;
     assert!(rt; frames_of(&first).starts_with(&[0x18]));

@@ -2,4 +2,5 @@
 pub mod Peer
 pub mod Asking
 pub mod Coming
+pub mod Group
 pub mod Clause

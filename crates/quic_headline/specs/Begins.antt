@@ -1,7 +1,7 @@
 -- What makes something wait at an end to go (RFC 9000, sections 2.4, 3.1, 3.5, 4.1, 4.2, 4.6,
 -- 13.2.1 and 13.3; RFC 9002, sections 6.1 and 6.2.4; RFC 9221, section 5). What waits, the end says
 -- itself; the causes are read off a run's lists.
-use Rattle.std.specs.Prelude.{ℕ, suc, ◌<◌, ◌≤◌, ◌≡◌, ◌⊎◌, ◌==◌, ◌&&◌, ◌||◌, nat_lt, Bool, true, false, List, [], ◌∷◌, ◌++◌, length, drop, Option, Some, Ok, Err}
+use Rattle.std.specs.Prelude.{ℕ, suc, ◌<◌, ◌≤◌, ◌≡◌, ◌⊎◌, ◌==◌, ◌&&◌, ◌||◌, nat_lt, nat_le, Bool, true, false, List, [], ◌∷◌, ◌++◌, length, drop, Option, Some, unwrap_or, Ok, Err}
 use Rattle.std.specs.List.{list_any}
 use Rattle.std.specs.Option.{is_some, is_none}
 use Rattle.quic_wire_core.specs.declared.stream_id.Side.{Side}
@@ -24,6 +24,7 @@ use Rattle.quic_machine.specs.Machine.{World, end_at}
 use Rattle.quic_headline.specs.Runs.{Run, Told, Packet, In, until, state_at, AreServed, LeadsTo, written, ended_by, reset_by}
 use Rattle.quic_headline.specs.Observer.{Sent, HoldsOffset, HoldsEnd, Watch, watch, news, loss_due, is_past, is_timely}
 use Rattle.quic_headline.specs.Headline.{IsAt}
+use Rattle.quic_headline.specs.InUse.{brought, next_of, in_use}
 use Rattle.quic_headline.specs.InFlight.{is_max_data, is_max_streams, is_data_blocked, is_ack_frequency}
 use Rattle.quic_headline.specs.Duties.{Limited, AllData, StreamData, StreamCount, has_reset, has_stop, limit_waits, on_half}
 use Rattle.quic_headline.specs.Moments.{acknowledges, went}
@@ -137,9 +138,10 @@ HasGone ss q = ⊥
 -- ---- what is seen of a call
 
 -- What an observer of an end knows of a call: what was told before, the call, what is known before
--- and behind it, the packets that came before it since the end gave an ACK frame, whether one is due
--- behind it for packets that ask, and whether one bore the mark of congestion since one went, when
--- the time without a packet is over, if it is kept, and how the end asks its peer to acknowledge.
+-- and behind it, the packets that came before it since the end gave an ACK frame, whether one is
+-- due behind it for packets that ask, and whether one bore the mark of congestion since one went,
+-- when the time without a packet is over, if it is kept, how the end asks its peer to acknowledge,
+-- and the number of the peer's id that it uses before the call.
 pub record Seen : Type 0 where
   pub told : List Told
   pub now : Told
@@ -150,6 +152,7 @@ pub record Seen : Type 0 where
   pub marked : Bool
   pub alive : Option ℕ
   pub asking : Asking
+  pub using : ℕ
 
 -- the packets that came by it
 abbrev pub came : Seen → List Packet
@@ -228,15 +231,24 @@ abbrev pub is_retirement : FrameValue → Bool
 is_retirement (retire_connection_id n) = true
 is_retirement f = false
 
--- whether it brings an id of the peer: one that comes late is retired (section 19.15)
-abbrev pub is_new_id : FrameValue → Bool
-is_new_id (new_connection_id f) = true
-is_new_id f = false
+-- whether it may retire the peer's id of a number: it brings that one, which may come late (section
+-- 19.15). Where it asks for some to be retired, which no honest peer does here, it isn't said which
+abbrev pub retires : ℕ → FrameValue → Bool
+retires number (new_connection_id f) = (f.sequence == number) || nat_lt 0 f.retire_prior_to
+retires number f = false
 
--- whether a call uses the next id of the peer: those before it are retired (section 5.1.2)
+-- whether a call uses the next id of the peer (section 5.1.2)
 abbrev pub uses_next : Call → Answer → Bool
 uses_next calls.UseNextId (answers.UseNextId (Ok done)) = true
 uses_next call a = false
+
+-- whether a number lies at that of the id in use, or above, but below that of the next one
+abbrev pub is_passed : ℕ → ℕ → Option ℕ → Bool
+is_passed number used next = nat_le used number && nat_lt number (unwrap_or next used)
+
+-- whether the peer's id of a number is retired by a call, which uses the next one
+abbrev pub passes_over : Seen → ℕ → Bool
+passes_over s number = uses_next s.now.call s.now.answer && is_passed number s.using (next_of s.using (brought s.before.intake.took))
 
 -- whether a stream may be done by it: what this end sent on it is acknowledged, or what the peer
 -- sent on it is over (RFC 9000, section 4.6)
@@ -248,9 +260,10 @@ may_end f = brings_data f
 -- called for (RFC 9000, sections 3.1 and 3.5); MAX_DATA goes where more was used up (section 4.1),
 -- MAX_STREAM_DATA where more of the stream was read, and MAX_STREAMS where a stream may be done
 -- (section 4.6); and the frames that say that a limit is used up where a write is blocked (sections
--- 19.12 and 19.13). The peer is told of an own id where it retires one, and an id of the peer is
--- retired where the next one is used, or one comes late. And a poll asks the peer by ACK_FREQUENCY
--- where it is to be asked anew (QUIC Acknowledgement Frequency, section 4).
+-- 19.12 and 19.13). The peer is told of an own id where it retires one. An id of the peer is
+-- retired where the next one is used and its number lies below that, or where it comes late. And a
+-- poll asks the peer by ACK_FREQUENCY where it is to be asked anew (QUIC Acknowledgement Frequency,
+-- section 4).
 abbrev pub asks_for : Seen → Control → Bool
 asks_for s (ResetOf id) = is_some (reset_by id s.now.call s.now.answer)
 asks_for s (StopOf id) = stopped_by id s.now.call s.now.answer
@@ -260,7 +273,7 @@ asks_for s (LimitOf (StreamCount dir)) = uses_up s.now.call s.now.answer || brin
 asks_for s Blocked = finds_blocked (λ id. true) s.now.call s.now.answer
 asks_for s (BlockedOn id) = finds_blocked (λ j. j == id) s.now.call s.now.answer
 asks_for s (NewId number) = brings is_retirement s
-asks_for s (Retirement number) = uses_next s.now.call s.now.answer || brings is_new_id s
+asks_for s (Retirement number) = passes_over s number || brings (retires number) s
 asks_for s Request = is_poll s.now.call && wants_anew s.asking s.before.own s.before.flight
 
 -- ---- the causes
@@ -303,6 +316,7 @@ seen_at r side i call a = record {
   marked = (wants r side (suc i)).marked;
   alive = (wants r side i).alive;
   asking = asking_at r side;
+  using = in_use r side i;
 }
 
 -- It waited before, and didn't go by the call; or it has a cause.

@@ -1,5 +1,5 @@
 -- What closes say, and when they go (RFC 9000, sections 10.2, 19.19 and 20.1).
-use Rattle.std.specs.Prelude.{ℕ, suc, ◌+◌, ◌-◌, ◌^◌, ◌<◌, ◌≡◌, ◌||◌, not, Bool, true, false, if◌then◌else◌, List, [], Option, Some, None, Ok, length}
+use Rattle.std.specs.Prelude.{ℕ, suc, ◌+◌, ◌-◌, ◌^◌, ◌<◌, ◌≡◌, ◌==◌, ◌||◌, not, Bool, true, false, if◌then◌else◌, List, [], Option, Some, None, Ok, length}
 use Rattle.quic_wire_core.specs.declared.stream_id.Side.{Side}
 use Rattle.quic_wire_core.specs.StreamId.{other_side}
 use Rattle.quic_wire.specs.Value.{FrameValue, connection_close, application_close}
@@ -61,9 +61,10 @@ SaysWhy reason told f = ⊥
 abbrev pub ClosesSayWhy : Run → Type 0
 ClosesSayWhy r = (side : Side) (i : ℕ) (s : Sent) (f : FrameValue) → AreServed r i → In s (sents_until r side i) → In f s.frames → is_close f ≡ true → SaysWhy (seen_at r side i).reason (until r side i) f
 
--- a close is told as it was said, but for the frame at fault
+-- a close is told as it was said: the code, the text, and of an error of QUIC the type of the frame
+-- at fault, where one is named (section 19.19)
 abbrev pub IsToldAs : FrameValue → CloseValue → Type 0
-IsToldAs (connection_close c) (by_transport v) = (v.code ≡ c.code) × (v.reason ≡ c.reason)
+IsToldAs (connection_close c) (by_transport v) = (v.code ≡ c.code) × (v.reason ≡ c.reason) × (v.frame_type ≡ (if c.frame_type == 0 then None else Some c.frame_type))
 IsToldAs (application_close c) (by_application v) = (v.code ≡ c.code) × (v.reason ≡ c.reason)
 IsToldAs f v = ⊥
 

@@ -1,10 +1,10 @@
 -- Connection ids in a run (RFC 9000, sections 5.1, 19.15 and 19.16): to which one a datagram goes,
 -- when one is unknown, and when the next one can't be used. All is read off the run's lists, but
 -- where it is said: an end may have an id that it drew and told nobody, which no list shows.
-use Rattle.std.specs.Prelude.{ℕ, ◌≡◌, ◌⊎◌, ◌↔◌, ◌<◌, ◌+◌, ◌-◌, nat_lt, min, if◌then◌else◌, List, [], ◌∷◌, ◌++◌, length, slice_get, Option, Some, None, unwrap_or, Ok, Err}
+use Rattle.std.specs.Prelude.{ℕ, ◌≡◌, ◌⊎◌, ◌↔◌, ◌<◌, ◌+◌, ◌-◌, List, [], ◌∷◌, ◌++◌, length, slice_get, Option, Some, None, Err}
 use Rattle.quic_wire_core.specs.declared.stream_id.Side.{Side}
 use Rattle.quic_wire_core.specs.StreamId.{other_side}
-use Rattle.quic_wire.specs.Value.{FrameValue, NewConnectionIdValue, new_connection_id, retire_connection_id}
+use Rattle.quic_wire.specs.Value.{NewConnectionIdValue, new_connection_id, retire_connection_id}
 use Rattle.quic_packet.specs.Datagram.{Opening}
 use Rattle.quic_retransmits.specs.Retransmits.{most_retirements}
 use Rattle.quic_machine.specs.declared.answers.State.TheVariants as states
@@ -15,14 +15,14 @@ use Rattle.quic_machine.specs.declared.run.Delivery.{Delivery}
 use Rattle.quic_machine.specs.declared.run.Call.TheVariants as calls
 use Rattle.quic_machine.specs.declared.run.Answer.{Answer}
 use Rattle.quic_machine.specs.declared.run.Answer.TheVariants as answers
-use Rattle.quic_machine.specs.Policy.{Policy}
 use Rattle.quic_machine.specs.Ids.{known}
 use Rattle.quic_machine.specs.Opens.{opens}
 use Rattle.quic_machine.specs.End.{End}
 use Rattle.quic_machine.specs.Machine.{World, policy_at, end_at}
-use Rattle.quic_headline.specs.Runs.{Run, Told, Packet, Intake, In, nothing_came, and_told, folded, until, state_at, given_of, given_until, LeadsTo, AreServed, destination, expected_behind, first_id_of_peer}
+use Rattle.quic_headline.specs.Runs.{Run, Packet, In, state_at, given_of, given_until, LeadsTo, AreServed, destination, expected_behind, first_id_of_peer}
 use Rattle.quic_headline.specs.Observer.{Sent, took, came_in, sents_until}
 use Rattle.quic_headline.specs.Polls.{GaveOne}
+use Rattle.quic_headline.specs.InUse.{in_use, next_id}
 use Rattle.quic_headline.specs.Duties.{WasGiven, WasToldId, WasRetired}
 use Rattle.quic_headline.specs.Headline.{IsAt, NoneAbove, OpensAs}
 
@@ -85,54 +85,10 @@ NewestOpensAtEnd r = (side : Side) (i place number : ℕ) (datagram : List ℕ) 
 
 -- ---- the next id is used, or can't be (RFC 9000, section 5.1.2)
 
--- the numbers of the ids that frames brought
-abbrev pub brought_by : List FrameValue → List ℕ
-brought_by [] = []
-brought_by (new_connection_id f ∷ fs) = f.sequence ∷ brought_by fs
-brought_by (f ∷ fs) = brought_by fs
-
--- and packets
-abbrev pub brought : List Packet → List ℕ
-brought [] = []
-brought (p ∷ ps) = brought_by p.frames ++ brought ps
-
--- a number, or the lesser of it and another
-abbrev pub lesser_of : ℕ → Option ℕ → ℕ
-lesser_of n None = n
-lesser_of n (Some m) = min n m
-
--- the least of numbers above one, if there is one
-abbrev pub next_of : ℕ → List ℕ → Option ℕ
-next_of n [] = None
-next_of n (m ∷ ms) = if nat_lt n m then Some (lesser_of m (next_of n ms)) else next_of n ms
-
--- what came to an end, and the number of the peer's id that it uses
-pub record Using : Type 0 where
-  pub intake : Intake
-  pub number : ℕ
-
--- the id in use changes where the application asked for the next one and wasn't refused. Honest
--- peers ask for none to be retired
-abbrev pub used_behind : Answer → Using → Using
-used_behind (answers.UseNextId (Ok done)) u = record u { number = unwrap_or (next_of u.number (brought u.intake.took)) u.number }
-used_behind a u = u
-
--- one call more
-abbrev pub using_told : Policy → List (List ℕ) → Told → Using → Using
-using_told p given t u = used_behind t.answer (record u { intake = and_told p given t u.intake })
-
--- the number of the peer's id that an end uses behind the first so many answers
-abbrev pub in_use : Run → Side → ℕ → ℕ
-in_use r side i = (folded (using_told (policy_at side r.keys) (given_of r (other_side side))) (until r side i) (record { intake = nothing_came; number = 0 })).number
-
 -- each datagram that an open end gave went to the id of the number in use, as the end was told of
 -- it (section 5.1.2)
 abbrev pub IdsAreInUse : Run → Type 0
 IdsAreInUse r = (side : Side) (i now : ℕ) (gave : GaveOne r side i now) → state_at r side i ≡ states.Open → IsToldId (first_id_of_peer r side) (took r side i) (in_use r side i) gave.sent.id
-
--- the number of the next id, if the end took one
-abbrev pub next_id : Run → Side → ℕ → Option ℕ
-next_id r side i = next_of (in_use r side i) (brought (took r side i))
 
 -- an open end refuses the next id for want of one exactly where no frame that it took brought an id
 -- with a number above that in use

@@ -24,6 +24,7 @@ use Rattle.quic_machine.specs.Poll.{waits}
 use Rattle.quic_machine.specs.Machine.{World, end_at}
 use Rattle.quic_headline.specs.Runs.{Run, Told, Packet, In, until, AreServed, LeadsTo, written, ended, reset, HasArrived, EndHasArrived, ResetHasArrived}
 use Rattle.quic_headline.specs.Observer.{Sent, took, sents_until}
+use Rattle.quic_headline.specs.InUse.{in_use}
 use Rattle.quic_headline.specs.Amounts.{was_stopped}
 use Rattle.quic_headline.specs.Unread.{stopped}
 
@@ -88,20 +89,21 @@ abbrev pub lacks_size : Option RecvHalf → Bool
 lacks_size None = false
 lacks_size (Some half) = is_none half.final
 
--- what an end owes that gave these datagrams and was told this: of each stream that it didn't
--- reset, each offset that was written, and the end if it was finished; each reset; STOP_SENDING of
--- each stream that it stopped, while the final size isn't known (section 3.5); the retirement of
--- each id of the peer below that in use (section 5.1.2); each own id but the first, while it lives
--- (section 5.1.1); each limit; and each request, in the place of which a newer one may come
-abbrev pub IsOwed : End → List Sent → List Told → Duty → Type 0
-IsOwed e own told (Offset id offset) = (reset id told ≡ None) × (offset < length (written id told))
-IsOwed e own told (Fin id) = (reset id told ≡ None) × (ended id told ≡ true)
-IsOwed e own told (Reset id) = IsSome (reset id told)
-IsOwed e own told (Stop id) = (stopped id told ≡ true) × (lacks_size (at e.streams.receiving.halves.live id) ≡ true)
-IsOwed e own told (Retire number) = number < e.ids.peer.active
-IsOwed e own told (NewId number) = (1 ≤ number) × (is_in number e.ids.own.living ≡ true)
-IsOwed e own told (Limit what value) = IsSaid e own what value
-IsOwed e own told (Frequency number) = IsAsked own number
+-- what an end owes that uses the peer's id of a number, gave these datagrams and was told this: of
+-- each stream that it didn't reset, each offset that was written, and the end if it was finished;
+-- each reset; STOP_SENDING of each stream that it stopped, while the final size isn't known
+-- (section 3.5); the retirement of each id of the peer below that in use (section 5.1.2); each own
+-- id but the first, while it lives (section 5.1.1); each limit; and each request, in the place of
+-- which a newer one may come
+abbrev pub IsOwed : ℕ → End → List Sent → List Told → Duty → Type 0
+IsOwed used e own told (Offset id offset) = (reset id told ≡ None) × (offset < length (written id told))
+IsOwed used e own told (Fin id) = (reset id told ≡ None) × (ended id told ≡ true)
+IsOwed used e own told (Reset id) = IsSome (reset id told)
+IsOwed used e own told (Stop id) = (stopped id told ≡ true) × (lacks_size (at e.streams.receiving.halves.live id) ≡ true)
+IsOwed used e own told (Retire number) = number < used
+IsOwed used e own told (NewId number) = (1 ≤ number) × (is_in number e.ids.own.living ≡ true)
+IsOwed used e own told (Limit what value) = IsSaid e own what value
+IsOwed used e own told (Frequency number) = IsAsked own number
 
 -- ---- it waits
 
@@ -247,7 +249,7 @@ IsSomewhere e own packets told duty = Waits e duty ⊎ IsUnderWay own e.tracking
 
 -- so it is of each duty, at both ends
 abbrev pub DutiesAt : Run → ℕ → World → Type 0
-DutiesAt r i w = (side : Side) (duty : Duty) → IsOwed (end_at side w) (sents_until r side i) (until r side i) duty → IsSomewhere (end_at side w) (sents_until r side i) (took r (other_side side) i) (until r side i) duty
+DutiesAt r i w = (side : Side) (duty : Duty) → IsOwed (in_use r side i) (end_at side w) (sents_until r side i) (until r side i) duty → IsSomewhere (end_at side w) (sents_until r side i) (took r (other_side side) i) (until r side i) duty
 
 -- at each place before which no delivery, no poll and no timeout met want of memory
 abbrev pub DutiesStand : Run → Type 0

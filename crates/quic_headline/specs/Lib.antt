@@ -2,6 +2,7 @@ pub mod Runs
 pub mod Observer
 pub mod Headline
 pub mod Amounts
+pub mod InUse
 pub mod Duties
 pub mod InFlight
 pub mod Causes

@@ -158,8 +158,9 @@ pub record Acknowledges (r : Run) : Type 0 where
   -- the timer of acknowledgements, where set, is set for the first packet that waits (section
   -- 13.2.1)
   pub ack_moments : AckMoments r
-  -- an ACK_FREQUENCY frame says how many went before it, and asks for what is configured (QUIC
-  -- Acknowledgement Frequency, section 4)
+  -- an ACK_FREQUENCY frame goes only from an end that is configured so, whose peer takes one; it
+  -- says how many went before it, asks for what is configured, and is the only one of its datagram
+  -- (QUIC Acknowledgement Frequency, section 4)
   pub requests_say : RequestsSay r
   -- one goes where the peer is to be asked anew, but for window, pacer and address (QUIC
   -- Acknowledgement Frequency, section 4; RFC 9002, sections 7 and 7.7)

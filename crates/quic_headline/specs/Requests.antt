@@ -81,7 +81,7 @@ request_said settings least before f = record {
 
 -- A datagram that a poll gave has this ACK_FREQUENCY frame: its end is configured to ask, and the
 -- peer can be asked; it says so; and it is the only one there.
-pub record IsAsked (r : Run) (side : Side) (i : ℕ) (s : Sent) (f : AckFrequencyValue) : Type 0 where
+pub record IsRequest (r : Run) (side : Side) (i : ℕ) (s : Sent) (f : AckFrequencyValue) : Type 0 where
   pub settings : FrequencySettings
   pub configured : (asking_at r side).settings ≡ Some settings
   pub least : ℕ
@@ -91,7 +91,7 @@ pub record IsAsked (r : Run) (side : Side) (i : ℕ) (s : Sent) (f : AckFrequenc
 
 -- So it is of each ACK_FREQUENCY frame in each datagram that a poll gives.
 abbrev pub RequestsSay : Run → Type 0
-RequestsSay r = (side : Side) (i now : ℕ) (gave : GaveOne r side i now) (f : AckFrequencyValue) → In (ack_frequency f) gave.sent.frames → IsAsked r side i gave.sent f
+RequestsSay r = (side : Side) (i now : ℕ) (gave : GaveOne r side i now) (f : AckFrequencyValue) → In (ack_frequency f) gave.sent.frames → IsRequest r side i gave.sent f
 
 -- Where an end asks its peer anew as it is polled: each datagram that asks for an acknowledgement
 -- has ACK_FREQUENCY; and where an open end gives nothing, window or pacer hold it back, or nothing

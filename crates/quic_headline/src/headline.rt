@@ -292,9 +292,11 @@ pub fn numbers_rise()
 /// yet; or it arrived. So does the end of each such stream that was finished, and the reset of
 /// each that was reset; and so does the greatest limit of each kind that the end said and that
 /// matters still: it waits to be said anew, stands with its value in such a datagram, or one as
-/// great arrived (RFC 9000, section 13.3). Of each request in an ACK_FREQUENCY frame that the end
-/// gave, another waits, or one as new stands in such a datagram or arrived (QUIC Acknowledgement
-/// Frequency, section 4).
+/// great arrived (RFC 9000, section 13.3). So do STOP_SENDING of each stream that was stopped,
+/// while its final size isn't known, the retirement of each id of the peer below the one that the
+/// end uses, and each own id that lives but the first (sections 3.5 and 5.1). Of each request in an
+/// ACK_FREQUENCY frame that the end gave, another waits, or one as new stands in such a datagram or
+/// arrived (QUIC Acknowledgement Frequency, section 4).
 pub fn duties_stand()
     ensures { (r : Run) (end : World) → IsHonest r → IsRun r end → DutiesStand r }
 {}
@@ -591,7 +593,7 @@ pub fn acks_are_due()
 {}
 
 /// An ACK_FREQUENCY frame in a datagram that a poll gives is the only one there, and its end is
-/// configured to ask, and its peer advertised its min_ack_delay. Its number is how many went before
+/// configured to ask, and its peer advertised min_ack_delay. Its number is how many went before
 /// it, up to the greatest that a frame tells; it asks for what is configured, and for the delay
 /// that is wanted at that moment, in microseconds: the one that is configured, or else that of the
 /// peer, no longer than a round trip, which counts as 25 ms at least, and no shorter than the peer
@@ -633,9 +635,9 @@ pub fn pings_go()
     ensures { (r : Run) (end : World) → IsHonest r → IsRun r end → PingsGo r }
 {}
 
-/// Where a PTO probe waits, and the peer told its min_ack_delay, each ack-eliciting datagram that a
-/// poll gives has IMMEDIATE_ACK, so that the peer acknowledges it without delay (RFC 9002, section
-/// 6.2.4; QUIC Acknowledgement Frequency, sections 3 and 5).
+/// Where a PTO probe waits, and the peer advertised min_ack_delay, each ack-eliciting datagram that
+/// a poll gives has IMMEDIATE_ACK, so that the peer acknowledges it without delay (RFC 9002,
+/// section 6.2.4; QUIC Acknowledgement Frequency, sections 3 and 5).
 pub fn probes_hasten()
     ensures { (r : Run) (end : World) → IsHonest r → IsRun r end → ProbesHasten r }
 {}
@@ -644,12 +646,12 @@ pub fn probes_hasten()
 /// asks for it, as a write of bytes, a finish, a reset, a stop, a message or PING; PING, where
 /// keep-alive asks for it, or it or IMMEDIATE_ACK, where a PTO probe waits at a poll that gives
 /// nothing; a write is blocked; bytes are read, or a frame that comes uses up what may come, or may
-/// end a stream; an ACK frame is due, as [`acks_are_due`] has it, or a packet came with the mark
-/// CE, or a poll finds that more than ten came that aren't ack-eliciting; a poll finds that the
-/// peer is to be asked how often to acknowledge; a datagram that bore it is lost; or the loss timer
-/// expired, and a PTO probe says it again. At the other end nothing begins to wait (RFC 9000,
-/// sections 13.2.1 and 13.3; RFC 9002, sections 6.1 and 6.2.4; QUIC Acknowledgement Frequency,
-/// sections 4 to 6).
+/// end a stream; the peer retires an id, or the next id of the peer is used, or one comes; an ACK
+/// frame is due, as [`acks_are_due`] has it, or a packet came with the mark CE, or a poll finds
+/// that more than ten came that aren't ack-eliciting; a poll finds that the peer is to be asked how
+/// often to acknowledge; a datagram that bore it is lost; or the loss timer expired, and a PTO
+/// probe says it again. At the other end nothing begins to wait (RFC 9000, sections 5.1, 13.2.1 and
+/// 13.3; RFC 9002, sections 6.1 and 6.2.4; QUIC Acknowledgement Frequency, sections 4 to 6).
 pub fn waiting_begins()
     ensures { (r : Run) (end : World) → IsHonest r → IsRun r end → WaitingBegins r }
 {}
@@ -740,7 +742,8 @@ pub fn closes_say_why()
     ensures { (r : Run) (end : World) → IsHonest r → IsRun r end → ClosesSayWhy r }
 {}
 
-/// The close for which an end isn't open is one that its peer gave, with this code and this text.
+/// The close for which an end isn't open is one that its peer gave, with this code, this text and,
+/// of an error of QUIC, this type of the frame at fault (RFC 9000, section 19.19).
 pub fn peer_closes_come()
     ensures { (r : Run) (end : World) → IsHonest r → IsRun r end → PeerClosesCome r }
 {}

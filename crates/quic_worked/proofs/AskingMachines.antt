@@ -19,14 +19,15 @@ use Rattle.quic_headline.specs.Moments.{debt, first_deadline, LossMoments, AckMo
 use Rattle.quic_headline.specs.Polls.{GaveOne, GaveAsking, IsFull, IsPaced, IsHeldBack}
 use Rattle.quic_headline.specs.Requests.{asking_at, requests_in, request_said, RequestsGo, RequestsSay, wants_anew}
 use Rattle.quic_headline.specs.Waited.{wants, stands, FrameWaited, as_size_probe, as_loss_probe, as_ack, as_frames, as_close, EachWaited}
+use Rattle.quic_worked.specs.Settings.{plain_settings}
 use Rattle.quic_worked.specs.Worked.{worked_policies, gives_bytes}
 use Rattle.quic_worked.specs.Acknowledged.{client_acked}
 use Rattle.quic_worked.specs.Broken.{IsNoRun}
 use Rattle.quic_worked.specs.Held.{gives_nothing}
 use Rattle.quic_worked.specs.Machines.{NeverGives}
 use Rattle.quic_worked.specs.Timed.{asks_at, seen_with, due_at, NeverShows}
-use Rattle.quic_worked.specs.Asking.{asks_within, asking_start, request, first_sent, once_asked, counts_from_one, asks_for_twenty, asks_again, again_sent, leaves_request, ids_sent, withholds_request, acks_until, waits_as_before, once_patient, patient_until, patient_run, impatient_run}
-use Rattle.quic_worked.proofs.AskingRuns.{asking_started, asks_it, takes_it, asked_seen, taken_seen}
+use Rattle.quic_worked.specs.Asking.{asks_within, asking_start, asks_unasked, asking_start_with, request, first_sent, once_asked, counts_from_one, asks_for_twenty, asks_again, again_sent, leaves_request, ids_sent, withholds_request, acks_until, waits_as_before, once_patient, patient_until, patient_run, impatient_run}
+use Rattle.quic_worked.proofs.AskingRuns.{asking_started, unasking_started, asks_it, takes_it, asked_seen, taken_seen}
 use Rattle.quic_worked.proofs.BrokenRuns.{IsRefused, stops, behind}
 use Rattle.quic_worked.proofs.Codes.{no_codes}
 use Rattle.quic_worked.proofs.MessageRuns.{given_bytes}
@@ -120,6 +121,38 @@ twenty_no (inr e) = cc
 
 pub twenty_is_none : IsNoRun asks_for_twenty
 twenty_is_none = stops _ _ _ _ _ twenty_no
+
+-- ---- a request of a client that isn't configured to ask
+
+unasked_went : sents_until asks_unasked Client 1 ≡ sents_until asks_unasked Client 0 ++ first_sent (request 0 10000) 145 ∷ []
+unfolding client_acked ack_frequency_at
+unasked_went = refl
+
+gave_unasked : GaveOne asks_unasked Client 0 0
+gave_unasked = record { transmit = record { size = 145; ecn = Some Ect0 }; poll = record { event = refl; answer = refl }; served = refl; sent = first_sent (request 0 10000) 145; went = unasked_went }
+
+pub unasked_not : RequestsSay asks_unasked → ⊥
+unfolding gave_unasked
+unasked_not h =
+    let asked = h Client 0 0 gave_unasked (request 0 10000) (inl refl) in
+    let configured : None ≡ Some asked.settings = asked.configured in
+    cc
+
+unasked_own : (side : Side) → AreOwn side [] asks_unasked.events asks_unasked.answers asks_unasked.views
+unasked_own Client = (tt, tt)
+unasked_own Server = (tt, tt)
+
+pub unasked_is_honest : IsHonest asks_unasked
+unasked_is_honest = record { start = unasking_started; keys = are_keys; ids = own_ids asks_unasked unasked_own }
+
+-- the machine gives its ids alone
+unasked_no : IsRefused (asking_start_with plain_settings) (asks_at Client 0) (gives_bytes 145)
+unfolding once_asked
+unasked_no (inl e) = let clash : ◌≡◌ {A = ℕ} 145 138 = ap given_bytes e in omega (arith, clash)
+unasked_no (inr e) = cc
+
+pub unasked_is_none : IsNoRun asks_unasked
+unasked_is_none = stops _ _ _ _ _ unasked_no
 
 -- ---- a request that goes again, though nothing has changed
 

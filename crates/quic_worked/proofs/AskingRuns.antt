@@ -20,19 +20,20 @@ use Rattle.quic_headline.specs.Observer.{Sent, watch, sents_until}
 use Rattle.quic_headline.specs.Headline.{IsHonest, IsRun}
 use Rattle.quic_headline.specs.Moments.{LossMoments, ack_timer, debt, first_deadline, AckMoments}
 use Rattle.quic_headline.specs.Polls.{GaveOne, GaveAsking, GaveNothing}
-use Rattle.quic_headline.specs.Requests.{asking_at, count_requests, requests_in, request_said, IsAsked, RequestsGo, RequestsSay, wants_anew}
+use Rattle.quic_headline.specs.Requests.{asking_at, count_requests, requests_in, request_said, IsRequest, RequestsGo, RequestsSay, wants_anew}
 use Rattle.quic_headline.specs.InFlight.{is_ack_frequency}
 use Rattle.quic_headline.specs.Waited.{wants, stands, FrameWaited, HasWaited, as_ack, as_frames, EachWaited}
 use Rattle.quic_worked.specs.Worked.{steady, shut, worked_policies, client_id, server_id, gives_bytes, gives_unmarked, id_frames}
 use Rattle.quic_worked.specs.Acknowledged.{client_acked}
 use Rattle.quic_worked.specs.Losses.{asks_ping}
 use Rattle.quic_worked.specs.Timed.{serves, asks_at, comes_at, seen_with, due_at}
-use Rattle.quic_worked.specs.Asking.{comes_there, asks_within, asking_settings, asked_settings, asked_parameters, asking_start, request, first_sent, once_asked, ack_sent, ping_sent, asked_run}
+use Rattle.quic_worked.specs.Settings.{plain_settings}
+use Rattle.quic_worked.specs.Asking.{comes_there, asks_within, asking_settings, asked_settings, asked_parameters, asking_start, asking_start_with, request, first_sent, once_asked, ack_sent, ping_sent, asked_run}
 use Rattle.quic_worked.proofs.Codes.{no_codes}
 use Rattle.quic_worked.proofs.OwnIds.{AreOwn, own_ids}
 use Rattle.quic_worked.proofs.Steps.{counts_so, still_steady, still_shut}
 use Rattle.quic_worked.proofs.TimedRun.{shows}
-use Rattle.quic_worked.proofs.WorkedHonest.{making}
+use Rattle.quic_worked.proofs.WorkedHonest.{in_range, making}
 use Rattle.quic_worked.proofs.WorkedKeys.{are_keys}
 use Rattle.quic_worked.proofs.WorkedRun.{parameters_say}
 
@@ -57,6 +58,21 @@ asking_started delay = record {
   server_is = record { range = asked_range; sizes = lit≤ tt; says = asked_say; id = refl };
   client = subst (λ read. IsMade Client (asking_settings delay) steady read client_id server_id 0 true (λ n. 63) (asking_start delay).client) (sym asked_say) refl;
   server = subst (λ read. IsMade Server asked_settings shut read server_id client_id 0 true (λ n. 63) (asking_start delay).server) (sym parameters_say) refl;
+  client_gave = refl;
+  server_gave = refl;
+  client_heard = refl;
+  server_heard = refl;
+}
+
+-- nor are they others where it doesn't ask
+pub unasking_started : AreStarted (asking_start_with plain_settings)
+unasking_started = record {
+  client_making = record (making client_id) { settings = plain_settings };
+  server_making = record (making server_id) { settings = asked_settings; windows = shut; parameters = asked_parameters };
+  client_is = record { range = in_range; sizes = lit≤ tt; says = parameters_say; id = refl };
+  server_is = record { range = asked_range; sizes = lit≤ tt; says = asked_say; id = refl };
+  client = subst (λ read. IsMade Client plain_settings steady read client_id server_id 0 true (λ n. 63) (asking_start_with plain_settings).client) (sym asked_say) refl;
+  server = subst (λ read. IsMade Server asked_settings shut read server_id client_id 0 true (λ n. 63) (asking_start_with plain_settings).server) (sym parameters_say) refl;
   client_gave = refl;
   server_gave = refl;
   client_heard = refl;
@@ -216,7 +232,7 @@ pub said_first : request_said (asks_within 10000000) 1000 (requests_in (watch as
 said_first = refl
 
 -- the client asks as it is configured, and its peer told 1000 microseconds
-says_first : (now : ℕ) (gave : GaveOne asked_run Client 0 now) (f : AckFrequencyValue) → In (ack_frequency f) gave.sent.frames → IsAsked asked_run Client 0 gave.sent f
+says_first : (now : ℕ) (gave : GaveOne asked_run Client 0 now) (f : AckFrequencyValue) → In (ack_frequency f) gave.sent.frames → IsRequest asked_run Client 0 gave.sent f
 says_first now gave f there =
     let sent = is_first now gave in
     let asked : f ≡ request 0 10000 = the_request (request 0 10000) f 145 (subst (λ (s : Sent). In (ack_frequency f) s.frames) sent there) in

@@ -8,6 +8,7 @@ use Rattle.std.proofs.lemmas.Bool.{both_ways, and_parts, eqb-true, ltb-true}
 use Rattle.quic_wire.specs.Value.{FrameValue, stream, StreamValue}
 use Rattle.quic_streams_parts.specs.Table.{at}
 use Rattle.quic_machine.specs.declared.run.ReadCall.{ReadCall}
+use Rattle.quic_machine.specs.CallCases.{is_poll}
 use Rattle.quic_machine.specs.End.{End}
 use Rattle.quic_machine.specs.Machine.{World}
 use Rattle.quic_headline.specs.Runs.{In, written}
@@ -16,15 +17,17 @@ use Rattle.quic_headline.specs.Duties.{AllData, on_half}
 use Rattle.quic_headline.specs.Moments.{went}
 use Rattle.quic_headline.specs.Observer.{Sent, HoldsOffset}
 use Rattle.quic_headline.specs.Waited.{stands, is_path_challenge}
-use Rattle.quic_headline.specs.Begins.{Control, Ack, Ping, Challenge, Response, Byte, Frame, LimitOf, NewId, Retirement, control_waits, byte_waits, brings, asks_for, may_hasten, makes_ping, acknowledged_by, IsPending, HasCause, WasLost, still, begins, BeginsAt}
+use Rattle.quic_headline.specs.Begins.{Seen, Control, Ack, Ping, Challenge, Response, Byte, Frame, LimitOf, NewId, Retirement, control_waits, byte_waits, brings, asks_for, may_hasten, makes_ping, acknowledged_by, IsPending, HasCause, WasLost, still, begins, BeginsAt}
 use Rattle.quic_worked.specs.Credit.{narrow_bytes, credit_written, credit_sent, credit_read, credit_given, ReadsEight}
 use Rattle.quic_worked.specs.Raised.{raised_events, raised_told, after_server_ping, first_ping, second_ping, third_came, third_due, limit_came, NeverComes}
-use Rattle.quic_worked.specs.Begun.{sending_seen, reading_seen, raising_seen, pinging_seen, waiting_seen, losing_seen, challenged_seen, using_seen, retired_seen, unanswered_server, limit_at_each_poll, ack_at_each_call, ping_at_each_timeout, bytes_at_each_poll, challenge_at_each_call, response_at_each_call, id_at_each_call, retirement_at_each_call}
+use Rattle.quic_worked.specs.Begun.{sending_seen, reading_seen, raising_seen, pinging_seen, waiting_seen, losing_seen, challenged_seen, using_seen, retired_seen, unanswered_server, limit_at_each_poll, ack_at_each_call, ping_at_each_timeout, bytes_at_each_poll, challenge_at_each_call, response_at_each_call, id_at_each_call, retirement_at_each_call, retires_the_next, NeverRenamed}
 use Rattle.quic_worked.specs.Acknowledged.{client_acked}
-use Rattle.quic_worked.specs.Renamed.{once_renamed}
+use Rattle.quic_worked.specs.Worked.{both_steady}
+use Rattle.quic_worked.specs.Renamed.{renaming_events, renaming_answers, once_renamed}
 use Rattle.quic_worked.specs.Unvalidated.{once_far, once_answered}
 use Rattle.quic_worked.proofs.CreditRuns as credit
 use Rattle.quic_worked.proofs.RaisedRun as raised
+use Rattle.quic_worked.proofs.RenamedRuns.{client_tells, server_tells, client_takes, client_uses}
 use Rattle.quic_worked.proofs.WrongRuns.{NeverEnds, ends_here, step_on}
 
 -- ---- causes
@@ -319,19 +322,58 @@ same_flight : (read : ReadCall) → (pinging_seen read).before.flight.flying ≡
 unfolding limit_came
 same_flight read = refl
 
--- so a control frame that waits there and didn't before breaks the clause, unless it is called for
-control_shows : (c : Control) (e : End) (read : ReadCall) → asks_for (pinging_seen read) c ≡ false → control_waits credit_given.server.waiting.frames c ≡ false → control_waits e.waiting.frames c ≡ true
-    → BeginsAt (pinging_seen read) credit_given.server e → ⊥
-control_shows c e read unasked none waits h = elim (h (Frame c) waits) [
-  | still waited stays ↦ both_ways (control_waits credit_given.server.waiting.frames c) none waited
+-- so a control frame that waits behind such a call and didn't before breaks the clause, unless it
+-- is called for
+control_unasked : (s : Seen) (c : Control) (before e : End) → is_poll s.now.call ≡ false → s.before.flight.flying ≡ s.behind.flight.flying
+    → asks_for s c ≡ false → control_waits before.waiting.frames c ≡ false → control_waits e.waiting.frames c ≡ true → BeginsAt s before e → ⊥
+control_unasked s c before e apart same unasked none waits h = elim (h (Frame c) waits) [
+  | still waited stays ↦ both_ways (control_waits before.waiting.frames c) none waited
   | begins cause ↦ elim cause [
-    | inl asks ↦ both_ways (asks_for (pinging_seen read) c) unasked asks
+    | inl asks ↦ both_ways (asks_for s c) unasked asks
     | inr other ↦ elim other [
-      | inl lost ↦ lost.gone (subst (λ (ss : List Sent). In lost.sent ss) (same_flight read) lost.flew)
-      | inr probed ↦ (let clash : false ≡ true = probed.polls in cc)
+      | inl lost ↦ lost.gone (subst (λ (ss : List Sent). In lost.sent ss) same lost.flew)
+      | inr probed ↦ both_ways (is_poll s.now.call) apart probed.polls
     ]
   ]
 ]
+
+-- at the call that asks for PING
+control_shows : (c : Control) (e : End) (read : ReadCall) → asks_for (pinging_seen read) c ≡ false → control_waits credit_given.server.waiting.frames c ≡ false → control_waits e.waiting.frames c ≡ true
+    → BeginsAt (pinging_seen read) credit_given.server e → ⊥
+control_shows c e read = control_unasked (pinging_seen read) c credit_given.server e refl (same_flight read)
+
+-- at the call that uses the next id: number 1 is in use then, and isn't retired
+next_flight : using_seen.before.flight.flying ≡ using_seen.behind.flight.flying
+unfolding client_acked
+next_flight = refl
+
+one_unasked : asks_for using_seen (Retirement 1) ≡ false
+unfolding client_acked
+one_unasked = refl
+
+one_before : control_waits (once_renamed 3).client.waiting.frames (Retirement 1) ≡ false
+unfolding once_renamed
+one_before = refl
+
+one_behind : control_waits retires_the_next.client.waiting.frames (Retirement 1) ≡ true
+unfolding once_renamed
+one_behind = refl
+
+pub next_shows : BeginsAt using_seen (once_renamed 3).client retires_the_next.client → ⊥
+next_shows = control_unasked using_seen (Retirement 1) (once_renamed 3).client retires_the_next.client refl next_flight one_unasked one_before one_behind
+
+one_isnt_retired : control_waits (once_renamed 4).client.waiting.frames (Retirement 1) ≡ false
+unfolding once_renamed
+one_isnt_retired = refl
+
+other_next : retires_the_next ≡ once_renamed 4 → ⊥
+other_next e = both_ways (control_waits retires_the_next.client.waiting.frames (Retirement 1)) (ap (λ (w : World). control_waits w.client.waiting.frames (Retirement 1)) e ∙ one_isnt_retired) one_behind
+
+not_next : NeverEnds (λ w. retires_the_next ≡ w) both_steady (take 4 renaming_events) (take 4 renaming_answers)
+not_next = step_on refl client_tells (step_on refl server_tells (step_on refl client_takes (step_on refl client_uses (ends_here other_next))))
+
+pub never_next : NeverRenamed retires_the_next
+never_next views f = not_next.never views retires_the_next f refl
 
 id_unasked : (read : ReadCall) → asks_for (pinging_seen read) (NewId 1) ≡ false
 unfolding limit_came

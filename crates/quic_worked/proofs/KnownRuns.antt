@@ -15,7 +15,8 @@ use Rattle.quic_headline.specs.Runs.{In, LeadsTo}
 use Rattle.quic_headline.specs.Observer.{Sent, sents_until}
 use Rattle.quic_headline.specs.Duties.{WasGiven}
 use Rattle.quic_headline.specs.Headline.{IsHonest, IsRun, OpensAs}
-use Rattle.quic_headline.specs.ConnectionIds.{Tells, ToldIdsAreKnown, NewestOpensAtEnd, opened_at_end, in_use, next_id, NoIdIsExact, IsPastLimit, TooManyIsExact}
+use Rattle.quic_headline.specs.ConnectionIds.{Tells, ToldIdsAreKnown, NewestOpensAtEnd, opened_at_end, NoIdIsExact, IsPastLimit, TooManyIsExact}
+use Rattle.quic_headline.specs.InUse.{in_use, next_id}
 use Rattle.quic_worked.specs.Worked.{worked_policies, both_steady, asks_datagram, gives_bytes, open_view, sent_view, waiting_view, id_word, server_id, told_ids}
 use Rattle.quic_worked.specs.Acknowledged.{client_acked}
 use Rattle.quic_worked.specs.Broken.{IsNoRun, NeverLeadsFrom}

@@ -61,6 +61,7 @@ mod ExpiringRuns
 mod EndingRuns
 mod EndingMachines
 mod RenamedRuns
+mod KeptEnds
 mod KnownRuns
 mod UnvalidatedRun
 mod AnsweredRun

@@ -17,6 +17,7 @@ use Rattle.quic_headline.specs.Observer.{Sent, took, sents_until}
 use Rattle.quic_headline.specs.Headline.{IsRun}
 use Rattle.quic_headline.proofs.Places.Told.{in_left, in_right, in_append}
 use Rattle.quic_headline.specs.Grown.{HasGrown, DataHasGrown, CountHasGrown, GrownLimitsWaitAt}
+use Rattle.quic_headline.specs.InUse.{in_use}
 use Rattle.quic_headline.specs.Duties.{AllData, Limit, WasGiven, IsOwed, Waits, IsInFlight, IsUnderWay, LimitHasArrived, HasCome, DutiesAt}
 use Rattle.quic_worked.specs.Worked.{worked_policies, gives_bytes, gives_unmarked}
 use Rattle.quic_worked.specs.Paired.{writes_on, asks_server}
@@ -404,7 +405,7 @@ first_said read =
     let said = from_by 0 16 (sents_until (raised_run read) Server 17) (subst (λ (xs : List (ℕ × ℕ)). In {X = ℕ × ℕ} (0, 16) xs) (sym (one_said read)) (inl refl)) in
     record { sent = said.0; among = said.1; carried = said.3 }
 
-pub is_owed : (read : ReadCall) → IsOwed limit_forgotten.server (sents_until (raised_run read) Server 17) (until (raised_run read) Server 17) (Limit AllData 16)
+pub is_owed : (read : ReadCall) → IsOwed (in_use (raised_run read) Server 17) limit_forgotten.server (sents_until (raised_run read) Server 17) (until (raised_run read) Server 17) (Limit AllData 16)
 is_owed read = record {
   said = first_said read;
   greatest = λ other given. (let one = only_one read other given.sent given.among given.carried in let same = one.1 in omega arith);

@@ -20,7 +20,8 @@ use Rattle.quic_headline.specs.Observer.{Sent, took, came_in, sents_until}
 use Rattle.quic_headline.specs.Causes.{Shows, NoBlame}
 use Rattle.quic_headline.specs.Duties.{WasToldId, WasGiven, WasRetired}
 use Rattle.quic_headline.specs.Headline.{IsHonest, IsRun}
-use Rattle.quic_headline.specs.ConnectionIds.{IsToldId, IsIssued, IdsAreIssued, UnknownOnlyWhereRetired, in_use, IdsAreInUse}
+use Rattle.quic_headline.specs.ConnectionIds.{IsToldId, IsIssued, IdsAreIssued, UnknownOnlyWhereRetired, IdsAreInUse}
+use Rattle.quic_headline.specs.InUse.{in_use}
 use Rattle.quic_headline.specs.Polls.{GaveOne}
 use Rattle.quic_worked.specs.Worked.{worked_policies, both_steady, client_id, server_id, asks_datagram, gives_bytes, id_word, open_view, sent_view, view_with, id_frame, id_frames, ids_payload}
 use Rattle.quic_worked.specs.Acknowledged.{client_acked, client_datagram, from_server}
@@ -39,19 +40,19 @@ use Rattle.quic_worked.proofs.Steps.{counts_so}
 
 -- ---- the machine's run
 
-client_tells : IsStep worked_policies both_steady asks_datagram (gives_bytes 138) (once_renamed 1)
+pub client_tells : IsStep worked_policies both_steady asks_datagram (gives_bytes 138) (once_renamed 1)
 unfolding once_renamed
 client_tells = record { answer = inl refl; end = refl; control = refl; heard = counts_so worked_policies both_steady asks_datagram (gives_bytes 138); openings = tt; others = refl; lacking = tt }
 
-server_tells : IsStep worked_policies (once_renamed 1) asks_server (gives_bytes 138) (once_renamed 2)
+pub server_tells : IsStep worked_policies (once_renamed 1) asks_server (gives_bytes 138) (once_renamed 2)
 unfolding once_renamed
 server_tells = record { answer = inl refl; end = refl; control = refl; heard = counts_so worked_policies (once_renamed 1) asks_server (gives_bytes 138); openings = tt; others = refl; lacking = tt }
 
-client_takes : IsStep worked_policies (once_renamed 2) client_hears (answers.Deliver receives.Taken) (once_renamed 3)
+pub client_takes : IsStep worked_policies (once_renamed 2) client_hears (answers.Deliver receives.Taken) (once_renamed 3)
 unfolding once_renamed
 client_takes = record { answer = inl refl; end = refl; control = refl; heard = counts_so worked_policies (once_renamed 2) client_hears (answers.Deliver receives.Taken); openings = tt; others = refl; lacking = tt }
 
-client_uses : IsStep worked_policies (once_renamed 3) uses_next (answers.UseNextId (Ok tt)) (once_renamed 4)
+pub client_uses : IsStep worked_policies (once_renamed 3) uses_next (answers.UseNextId (Ok tt)) (once_renamed 4)
 unfolding once_renamed
 client_uses = record { answer = inl refl; end = refl; control = refl; heard = counts_so worked_policies (once_renamed 3) uses_next (answers.UseNextId (Ok tt)); openings = tt; others = refl; lacking = λ lacks. cc }
 

@@ -1,8 +1,9 @@
 -- A run in which a client asks its peer how often to acknowledge (QUIC Acknowledgement Frequency,
 -- sections 4 and 6): the first datagram has ACK_FREQUENCY, and from then on the server acknowledges
 -- within 10 ms. And the same run as machines with a bug make it: the request has another number, or
--- another delay, or goes again, or never goes; the server keeps to 25 ms; and a client that asks
--- for 100 ms waits no longer for an acknowledgement than one that asks for less.
+-- another delay, or goes again, or never goes, or goes though the client isn't configured to ask;
+-- the server keeps to 25 ms; and a client that asks for 100 ms waits no longer for an
+-- acknowledgement than one that asks for less.
 use Rattle.std.specs.Prelude.{ℕ, true, List, [], ◌∷◌, ◌++◌, replicate, take, Some, None, Ok}
 use Rattle.quic_wire_core.specs.declared.stream_id.Side.TheVariants.{Client, Server}
 use Rattle.quic_wire.specs.Value.{AckFrequencyValue, ack, ack_frequency, ping}
@@ -49,12 +50,17 @@ asked_settings = record plain_settings { ack_frequency_support = true }
 abbrev pub asked_parameters : List ℕ
 asked_parameters = worked_parameters ++ (0xc0 ∷ 0x00 ∷ 0x00 ∷ 0x00 ∷ 0xff ∷ 0x04 ∷ 0xde ∷ 0x1b ∷ 0x02 ∷ 0x43 ∷ 0xe8 ∷ [])
 
--- both ends, before anything was given; the window of the server is shut
-abbrev pub asking_start : ℕ → World
-asking_start delay = record started {
-  client = new_end Client (asking_settings delay) steady (parameters_of asked_settings) client_id server_id 0 true (λ n. 63);
+-- both ends, before anything was given, of which the client has these settings; the window of the
+-- server is shut
+abbrev pub asking_start_with : Settings → World
+asking_start_with settings = record started {
+  client = new_end Client settings steady (parameters_of asked_settings) client_id server_id 0 true (λ n. 63);
   server = new_end Server asked_settings shut (parameters_of plain_settings) server_id client_id 0 true (λ n. 63);
 }
+
+-- where the client asks
+abbrev pub asking_start : ℕ → World
+asking_start delay = asking_start_with (asking_settings delay)
 
 -- ---- what the client asks
 
@@ -174,6 +180,10 @@ counts_from_one = asks_as 145 (first_asking 1 ten_millis)
 -- the request is for 20 ms, though 10 ms are configured
 abbrev pub asks_for_twenty : Run
 asks_for_twenty = asks_as 147 (first_asking 0 twenty_millis)
+
+-- the client asks, though it isn't configured to
+abbrev pub asks_unasked : Run
+asks_unasked = let r : Run = asks_as 145 (first_asking 0 ten_millis) in record r { start = asking_start_with plain_settings }
 
 -- the client asks again in the next poll, and nothing has changed
 abbrev pub asks_again : Run

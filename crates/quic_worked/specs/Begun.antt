@@ -1,8 +1,9 @@
 -- Ends at which something waits without a cause: MAX_DATA and bytes behind the poll that gave them,
 -- PING behind a timeout, and an ACK frame though no packet came; and behind a call that asks for
 -- PING PATH_CHALLENGE, PATH_RESPONSE, NEW_CONNECTION_ID and RETIRE_CONNECTION_ID. They are those of
--- the run in which a limit is lost and goes again, but for that.
-use Rattle.std.specs.Prelude.{true, [], ◌∷◌, Some, None, Ok}
+-- the run in which a limit is lost and goes again, but for that. And a client that retires another
+-- id than that which it used, where it uses the next one.
+use Rattle.std.specs.Prelude.{true, List, [], ◌∷◌, take, Some, None, Ok}
 use Rattle.quic_machine.specs.declared.run.ReadCall.{ReadCall}
 use Rattle.quic_machine.specs.declared.run.Call.TheVariants as calls
 use Rattle.quic_machine.specs.declared.run.Answer.TheVariants as answers
@@ -11,12 +12,13 @@ use Rattle.quic_machine.specs.End.{End, with_signals, with_ping}
 use Rattle.quic_machine.specs.Parts.{Signals}
 use Rattle.quic_retransmits.specs.Retransmits.{Retransmits}
 use Rattle.quic_machine.specs.Timeouts.{timed_out}
-use Rattle.quic_machine.specs.Machine.{World}
+use Rattle.quic_machine.specs.declared.run.View.{View}
+use Rattle.quic_machine.specs.Machine.{World, Follows}
 use Rattle.quic_wire_core.specs.declared.stream_id.Side.TheVariants.{Client, Server}
 use Rattle.quic_headline.specs.Begins.{Seen, seen_at}
-use Rattle.quic_worked.specs.Worked.{with_client, with_server, worked_policies, delivery, gives_bytes, issued}
+use Rattle.quic_worked.specs.Worked.{with_client, with_server, worked_policies, both_steady, delivery, gives_bytes, issued}
 use Rattle.quic_worked.specs.Credit.{eight_nexts, credit_written, credit_sent, credit_given}
-use Rattle.quic_worked.specs.Renamed.{renaming_run}
+use Rattle.quic_worked.specs.Renamed.{renaming_events, renaming_answers, once_renamed, renaming_run}
 use Rattle.quic_worked.specs.Unvalidated.{once_far, answered_run}
 use Rattle.quic_worked.specs.Raised.{raised_run, after_server_ping, third_due}
 
@@ -103,3 +105,11 @@ id_at_each_call = telling (λ f. record f { new_cids = issued 1 ∷ [] })
 -- the first of the client's ids is retired
 abbrev pub retirement_at_each_call : World
 retirement_at_each_call = telling (λ f. record f { retire_cids = 0 ∷ [] })
+
+-- the client that uses the next id of its peer retires that one, beside the one that it used
+abbrev pub retires_the_next : World
+retires_the_next = let w : World = once_renamed 4 in with_client w (let e : End = w.client in record e { waiting = record e.waiting { frames = record e.waiting.frames { retire_cids = 0 ∷ 1 ∷ [] } } })
+
+-- the events up to there lead to no such end
+abbrev pub NeverRenamed : World → Type 0
+NeverRenamed end = (views : List View) → Follows worked_policies both_steady (take 4 renaming_events) (take 4 renaming_answers) views end → ⊥

@@ -38,6 +38,7 @@ pub mod Reset
 pub mod Writable
 pub mod Ended
 pub mod Renamed
+pub mod Kept
 pub mod Known
 pub mod Unvalidated
 pub mod Expiring

@@ -10,7 +10,7 @@ ghost use Rattle.quic_headline.specs.Waited.{EachWaited};
 ghost use Rattle.quic_worked.specs.Broken.{IsNoRun};
 ghost use Rattle.quic_worked.specs.Machines.{NeverGives};
 ghost use Rattle.quic_worked.specs.Timed.{due_at, NeverShows};
-ghost use Rattle.quic_worked.specs.Asking.{asks_within, request, once_asked, asked_run, counts_from_one, asks_for_twenty, asks_again, leaves_request, withholds_request, waits_as_before, once_patient, patient_run, impatient_run};
+ghost use Rattle.quic_worked.specs.Asking.{asks_within, request, once_asked, asked_run, counts_from_one, asks_for_twenty, asks_unasked, asks_again, leaves_request, withholds_request, waits_as_before, once_patient, patient_run, impatient_run};
 
 /// A client that is configured to asks its peer, which told that it can be asked, in the first
 /// datagram, and not again while it wants nothing else.
@@ -39,15 +39,19 @@ pub fn request_is_obeyed()
     ensures losses { LossMoments asked_run }
 {}
 
-/// A client whose first request has number 1 breaks the clause; so does one that asks for 20 ms
-/// though 10 ms are configured. The machine gives neither.
+/// A client whose first request has number 1 breaks the clause; so do one that asks for 20 ms
+/// though 10 ms are configured, and one that asks though it isn't configured to. The machine gives
+/// none of these.
 pub fn wrong_requests_show()
     ensures number { RequestsSay counts_from_one → ⊥ }
     ensures delay { RequestsSay asks_for_twenty → ⊥ }
+    ensures unasked { RequestsSay asks_unasked → ⊥ }
     ensures number_honest { IsHonest counts_from_one }
     ensures delay_honest { IsHonest asks_for_twenty }
+    ensures unasked_honest { IsHonest asks_unasked }
     ensures machine_number { NeverGives counts_from_one }
     ensures machine_delay { IsNoRun asks_for_twenty }
+    ensures machine_unasked { IsNoRun asks_unasked }
 {}
 
 /// A client that asks again in the next poll, though nothing has changed, breaks the clause. The

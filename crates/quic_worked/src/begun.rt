@@ -6,7 +6,7 @@ ghost use Rattle.quic_headline.specs.Duties.{AllData};
 ghost use Rattle.quic_headline.specs.Begins.{Challenge, Response, Frame, LimitOf, NewId, Retirement, IsPending, HasCause, asks_for, WasLost, BeginsAt};
 ghost use Rattle.quic_worked.specs.Credit.{ReadsEight, credit_written, credit_read, credit_given};
 ghost use Rattle.quic_worked.specs.Raised.{raised_events, raised_told, third_came, NeverComes};
-ghost use Rattle.quic_worked.specs.Begun.{sending_seen, reading_seen, raising_seen, pinging_seen, waiting_seen, losing_seen, challenged_seen, using_seen, retired_seen, unanswered_server, limit_at_each_poll, ack_at_each_call, ping_at_each_timeout, bytes_at_each_poll, challenge_at_each_call, response_at_each_call, id_at_each_call, retirement_at_each_call};
+ghost use Rattle.quic_worked.specs.Begun.{sending_seen, reading_seen, raising_seen, pinging_seen, waiting_seen, losing_seen, challenged_seen, using_seen, retired_seen, unanswered_server, limit_at_each_poll, ack_at_each_call, ping_at_each_timeout, bytes_at_each_poll, challenge_at_each_call, response_at_each_call, id_at_each_call, retirement_at_each_call, retires_the_next, NeverRenamed};
 ghost use Rattle.quic_worked.specs.Renamed.{once_renamed};
 ghost use Rattle.quic_worked.specs.Unvalidated.{once_answered};
 
@@ -77,4 +77,11 @@ pub fn needless_frames_show()
         → NeverComes (take 8 (raised_events read)) (take 8 raised_told) id_at_each_call }
     ensures machine_retirement { (read : ReadCall) → ReadsEight read
         → NeverComes (take 8 (raised_events read)) (take 8 raised_told) retirement_at_each_call }
+{}
+
+/// A client that uses the next id of its peer, and retires that one too, beside the one that it
+/// used, breaks the clause (section 5.1.2), and no run comes to it.
+pub fn next_retired_shows()
+    ensures retirement { BeginsAt using_seen (once_renamed 3).client retires_the_next.client → ⊥ }
+    ensures machine { NeverRenamed retires_the_next }
 {}

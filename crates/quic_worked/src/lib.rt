@@ -25,6 +25,7 @@ pub mod hastened;
 pub mod hasty;
 pub mod held;
 pub mod isolated;
+pub mod kept;
 pub mod known;
 pub mod limited;
 pub mod machines;

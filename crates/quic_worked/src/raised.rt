@@ -8,6 +8,7 @@ ghost use Rattle.quic_headline.specs.Runs.{until};
 ghost use Rattle.quic_headline.specs.Observer.{took, sents_until};
 ghost use Rattle.quic_headline.specs.Headline.{IsRun};
 ghost use Rattle.quic_headline.specs.Grown.{DataHasGrown, CountHasGrown, GrownLimitsWaitAt};
+ghost use Rattle.quic_headline.specs.InUse.{in_use};
 ghost use Rattle.quic_headline.specs.Duties.{AllData, Limit, IsOwed, Waits, IsUnderWay, HasCome, DutiesAt};
 ghost use Rattle.quic_worked.specs.Credit.{ReadsEight, credit_read, credit_events, credit_until, count_read};
 ghost use Rattle.quic_worked.specs.Raised.{raised_run, limit_used, limit_lost, limit_again, losing_limit, losing_told, raised_events, raised_told, NeverComes, never_noted, limit_forgotten, limit_low};
@@ -54,9 +55,9 @@ pub fn low_limit_shows()
 /// A server that doesn't say its limit again, though the datagram that said it is lost, leaves a
 /// limit that is nowhere, and no run comes to it.
 pub fn forgotten_limit_shows()
-    ensures owed { (read : ReadCall) → IsOwed limit_forgotten.server
-        (sents_until (raised_run read) Server 17) (until (raised_run read) Server 17)
-        (Limit AllData 16) }
+    ensures owed { (read : ReadCall) → IsOwed (in_use (raised_run read) Server 17)
+        limit_forgotten.server (sents_until (raised_run read) Server 17)
+        (until (raised_run read) Server 17) (Limit AllData 16) }
     ensures duties { (read : ReadCall) → DutiesAt (raised_run read) 17 limit_forgotten → ⊥ }
     ensures machine { (read : ReadCall) → ReadsEight read
         → NeverComes (losing_limit read) losing_told limit_forgotten }

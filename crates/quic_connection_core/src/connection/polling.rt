@@ -37,7 +37,7 @@ impl<H: HeaderKey + Drop, K: PacketKey + Drop, R: Rng + Drop, C: Controller> Con
     /// RFC 9221, section 5). An acknowledgement that isn't due goes along where it fits. Where a
     /// PTO probe waits and nothing has to be told of streams, what a tracked packet carried of it
     /// is told once more, or a PING goes (RFC 9002, section 6.2.4). An IMMEDIATE_ACK goes with each
-    /// PTO probe to a peer that told its min_ack_delay, and in the place of that PING (QUIC
+    /// PTO probe to a peer that advertised min_ack_delay, and in the place of that PING (QUIC
     /// Acknowledgement Frequency, section 5). The datagram is tracked until it is acknowledged,
     /// lost or forgotten, and sets the loss timer anew. Where its number is the one above one that
     /// is left out, a word of the random source says which is left out next. Its bytes count as
@@ -249,7 +249,7 @@ impl<H: HeaderKey + Drop, K: PacketKey + Drop, R: Rng + Drop, C: Controller> Con
         self.space.maybe_queue_probe(immediate, pending, state)
     }
 
-    /// Whether the peer takes IMMEDIATE_ACK: it told its min_ack_delay.
+    /// Whether the peer takes IMMEDIATE_ACK: it advertised min_ack_delay.
     fn takes_immediate_ack(&self) -> bool
         ensures { result ≡ is_some self.now.end.peer_params.min_ack_delay }
     {

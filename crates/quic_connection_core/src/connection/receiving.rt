@@ -362,7 +362,7 @@ impl<H: HeaderKey + Drop, K: PacketKey + Drop, R: Rng + Drop, C: Controller> Con
             Trouble::TooManyPieces => self.close_for_pieces(),
             Trouble::Closed(close) => {
                 self.space.numbers.take(number);
-                self.close_by_peer(close);
+                self.close_by_peer(Box::into_inner(close));
                 Received::Taken
             }
             Trouble::Memory => {

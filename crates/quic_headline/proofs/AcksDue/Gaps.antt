@@ -21,7 +21,7 @@ use Rattle.quic_headline.proofs.Packets.Window.{is_duplicate-is}
 use Rattle.quic_headline.proofs.Places.Parties.{Party, came_to}
 
 -- one of the numbers of a range passes a test
-any_in_range : (test : ℕ → Bool) (low count : ℕ) → list_any test (range_with_len low count) ≡ true → (k : ℕ) × (low ≤ k) × (k < low + count) × (test k ≡ true)
+pub any_in_range : (test : ℕ → Bool) (low count : ℕ) → list_any test (range_with_len low count) ≡ true → (k : ℕ) × (low ≤ k) × (k < low + count) × (test k ≡ true)
 any_in_range test low zero some = cc
 any_in_range test low (suc count) some = go (or_cases (test low) (list_any test (range_with_len (low + 1) count)) some) (λ later. any_in_range test (low + 1) count later)
   where

@@ -1,19 +1,22 @@
 -- Which frames of path validation, and about ids, wait behind a frame apart from streams, and
 -- behind the use of the peer's next id, that didn't before; and of the first, behind any call.
-use Rattle.std.proofs.Common.{◌≡◌, ℕ, Bool, true, false, ◌||◌, List, [], ◌∷◌, ◌++◌, length, map, Option, Some, None, Result, Ok, Err, refl, sym, ◌∙◌, subst, ◌⊎◌, inl, inr}
-use Rattle.std.specs.Prelude.{◌==◌, nat_le, if◌then◌else◌}
-use Rattle.std.specs.List.{list_any}
+use Rattle.std.proofs.Common.{◌≡◌, ℕ, ◌+◌, ◌-◌, ◌<◌, ◌≤◌, Bool, true, false, ◌||◌, ◌&&◌, List, [], ◌∷◌, ◌++◌, length, map, Option, Some, None, Result, Ok, Err, refl, sym, ◌∙◌, subst, ◌⊎◌, inl, inr, arith}
+use Rattle.std.specs.Prelude.{◌==◌, nat_le, nat_lt, if◌then◌else◌, cond, option_map}
+use Rattle.std.specs.List.{list_any, range_with_len}
 use Rattle.std.specs.Option.{is_some}
 use Rattle.std.specs.declared.ops.Range.{Range}
-use Rattle.std.proofs.lemmas.Bool.{or_left, or_right}
+use Rattle.std.proofs.lemmas.Bool.{or_left, or_right, and_from, eqb-true, ltb-true, lt-ltb, le-leb}
+use Rattle.std.proofs.Math.Bool.{or-false}
 use Rattle.quic_wire_core.specs.TransportError.{ErrorValue}
+use Rattle.quic_wire.specs.declared.frame.NewConnectionId.{NewConnectionId}
 use Rattle.quic_wire.specs.Value.{FrameValue, AckValue, ack, stream, reset_stream, stop_sending, max_data, max_stream_data, max_streams, datagram, path_challenge, path_response, new_connection_id, retire_connection_id, ack_frequency}
 use Rattle.quic_ids.specs.CidState.{retirement_answer}
-use Rattle.quic_ids.specs.CidQueue.{insert_answer}
+use Rattle.quic_ids.specs.CidQueue.{PeerIds, exceeds, retires_active, left_by, insert_answer, next_after}
+use Rattle.quic_ids.specs.CidQueue as queue
 use Rattle.quic_ids.specs.declared.cid_queue.InsertError.{InsertError}
 use Rattle.quic_ids.specs.declared.cid_queue.InsertError.TheVariants as inserts
 use Rattle.quic_paths.specs.Paths.{is_asked}
-use Rattle.quic_retransmits.specs.Retransmits.{Retransmits, most_retirements, can_retire, after_retire}
+use Rattle.quic_retransmits.specs.Retransmits.{Retransmits, most_retirements, can_retire}
 use Rattle.quic_streams_state.specs.declared.state.StreamsState.{StreamsState}
 use Rattle.quic_machine.specs.declared.answers.State.TheVariants as states
 use Rattle.quic_machine.specs.declared.run.Call.{Call}
@@ -23,7 +26,7 @@ use Rattle.quic_machine.specs.declared.run.Answer.TheVariants as answers
 use Rattle.quic_machine.specs.Policy.{Policy}
 use Rattle.quic_machine.specs.Parts.{Signals, Waiting}
 use Rattle.quic_machine.specs.Sizes.{shortened}
-use Rattle.quic_machine.specs.Ids.{frame_of, retires_for, retired, retires_for_next, next_used}
+use Rattle.quic_machine.specs.Ids.{frame_of, retires_for, retired, next_used}
 use Rattle.quic_machine.specs.IdFrames.{retiring, with_taken_up, issued_if, issues_for, next_id_taken, end_on_next_id}
 use Rattle.quic_machine.specs.Validation.{path_asked, path_validated, word_of, validated_if}
 use Rattle.quic_machine.specs.End.{End, with_ids, with_frames}
@@ -38,13 +41,15 @@ use Rattle.quic_machine.specs.CallCases as cases
 use Rattle.quic_machine.specs.Machine.{after_call}
 use Rattle.quic_headline.specs.Duties.{has_retirement, has_new_id}
 use Rattle.quic_headline.specs.Waited.{is_path_challenge}
-use Rattle.quic_headline.specs.Begins.{NewId, Retirement, Thing, Frame, is_retirement, is_new_id, uses_next}
+use Rattle.quic_headline.specs.Begins.{NewId, Retirement, Thing, Frame, is_retirement, retires, uses_next, is_passed}
 use Rattle.quic_headline.proofs.Packets.Named.{by_frame}
 use Rattle.quic_headline.proofs.Destined.Own.{shortened_waiting}
 use Rattle.quic_headline.proofs.Steps.Probes.{begun}
 use Rattle.quic_headline.proofs.Waited.Flags.{challenge, response}
 use Rattle.quic_headline.proofs.Waited.Pings.{ready_waiting}
 use Rattle.quic_headline.proofs.Waited.Group.{polled_flags}
+use Rattle.quic_headline.proofs.AcksDue.Gaps.{any_in_range}
+use Rattle.quic_headline.proofs.Begins.Controls.{any_more}
 use Rattle.quic_headline.proofs.Begins.Walk.{PendsAt, Pends, ids_pend}
 use Rattle.quic_headline.proofs.Packets.Apart.{by_frequency}
 
@@ -58,30 +63,49 @@ SignalsBy asked s t = (is_some t.challenge ≡ true → is_some s.challenge ≡ 
 pub signals_same : (asked : Bool) (s : Signals) → SignalsBy asked s s
 signals_same asked s = ((λ is. is), λ is. inl is)
 
--- Of what waits only that changes, and ids and numbers: an own id waits to be told, and a number to
--- be retired, where it did, or where this is so.
-pub record LeavesBy (asked issues retires : Bool) (w v : Waiting) : Type 0 where
+-- Of what waits only that changes, and ids and numbers: an own id waits to be told where it did, or
+-- where this is so, and a number to be retired where it did, or where this is so of it.
+pub record LeavesBy (asked issues : Bool) (begins : ℕ → Bool) (w v : Waiting) : Type 0 where
   pub signals : SignalsBy asked w.signals v.signals
   pub frames : v.frames ≡ record w.frames { new_cids = v.frames.new_cids; retire_cids = v.frames.retire_cids }
   pub new_ids : (n : ℕ) → has_new_id n v.frames.new_cids ≡ true → (has_new_id n w.frames.new_cids ≡ true) ⊎ (issues ≡ true)
-  pub retirements : (n : ℕ) → has_retirement n v.frames.retire_cids ≡ true → (has_retirement n w.frames.retire_cids ≡ true) ⊎ (retires ≡ true)
+  pub retirements : (n : ℕ) → has_retirement n v.frames.retire_cids ≡ true → (has_retirement n w.frames.retire_cids ≡ true) ⊎ (begins n ≡ true)
 
 -- nothing changes
-unmoved : (asked issues retires : Bool) (w : Waiting) → LeavesBy asked issues retires w w
-unmoved asked issues retires w = record { signals = signals_same asked w.signals; frames = refl; new_ids = λ n is. inl is; retirements = λ n is. inl is }
+unmoved : (asked issues : Bool) (begins : ℕ → Bool) (w : Waiting) → LeavesBy asked issues begins w w
+unmoved asked issues begins w = record { signals = signals_same asked w.signals; frames = refl; new_ids = λ n is. inl is; retirements = λ n is. inl is }
+
+-- no number begins to wait
+abbrev none : ℕ → Bool
+none n = false
 
 -- other signals wait
-signals_move : (asked : Bool) (w : Waiting) (s : Signals) → SignalsBy asked w.signals s → LeavesBy asked false false w (record w { signals = s })
+signals_move : (asked : Bool) (w : Waiting) (s : Signals) → SignalsBy asked w.signals s → LeavesBy asked false none w (record w { signals = s })
 signals_move asked w s by = record { signals = by; frames = refl; new_ids = λ n is. inl is; retirements = λ n is. inl is }
 
--- other numbers wait to be retired
-numbers_move : (asked issues : Bool) (w : Waiting) (ns : List ℕ) → LeavesBy asked issues true w (record w { frames = record w.frames { retire_cids = ns } })
-numbers_move asked issues w ns = record { signals = signals_same asked w.signals; frames = refl; new_ids = λ n is. inl is; retirements = λ n is. inr refl }
+-- these numbers wait besides to be retired
+numbers_move : (begins : ℕ → Bool) (w : Waiting) (ns : List ℕ) → ((n : ℕ) → has_retirement n ns ≡ true → begins n ≡ true) → LeavesBy false false begins w (record w { frames = record w.frames { retire_cids = w.frames.retire_cids ++ ns } })
+numbers_move begins w ns each = record {
+  signals = signals_same false w.signals;
+  frames = refl;
+  new_ids = λ n is. inl is;
+  retirements = λ n is. elim (any_more (λ (m : ℕ). m == n) w.frames.retire_cids ns is) [ inl was ↦ inl was | inr new ↦ inr (each n new) ];
+}
 
 -- ---- frames
 
+-- others than its own are to be retired only where a frame asks for that
+asks_some : (p : PeerIds) (g : NewConnectionId) (r : Range ℕ) → retires_for (insert_answer p g) ≡ Ok (Some r) → nat_lt 0 g.retire_prior_to ≡ true
+asks_some p g r = go (nat_lt g.sequence p.active) (exceeds p g) (retires_active p g) refl
+  where
+    go : (late far some : Bool) → retires_active p g ≡ some → retires_for (cond late (Err inserts.Retired) (cond far (Err inserts.ExceedsLimit) (Ok (cond some (queue.retired_for (left_by p g) p.active) None)))) ≡ Ok (Some r) → nat_lt 0 g.retire_prior_to ≡ true
+    go true far some asks is = cc
+    go false true some asks is = cc
+    go false false true asks is = let less = ltb-true p.active g.retire_prior_to asks in lt-ltb 0 g.retire_prior_to (omega arith)
+    go false false false asks is = cc
+
 -- a frame apart from streams
-pub apart_waits : (f : FrameValue) (e : End) → IsApart f → LeavesBy (is_path_challenge f) (is_retirement f) (is_new_id f) e.waiting (take_frame f e).end.waiting
+pub apart_waits : (f : FrameValue) (e : End) → IsApart f → LeavesBy (is_path_challenge f) (is_retirement f) (λ n. retires n f) e.waiting (take_frame f e).end.waiting
 apart_waits (ack a) e apart = absurd apart
 apart_waits (stream f) e apart = absurd apart
 apart_waits (reset_stream f) e apart = absurd apart
@@ -90,44 +114,47 @@ apart_waits (max_data limit) e apart = absurd apart
 apart_waits (max_stream_data f) e apart = absurd apart
 apart_waits (max_streams f) e apart = absurd apart
 apart_waits (datagram m) e apart = absurd apart
-apart_waits (new_connection_id f) e apart = judged (retires_for (insert_answer e.ids.peer (frame_of f)))
+apart_waits (new_connection_id f) e apart = judged (retires_for (insert_answer e.ids.peer (frame_of f))) refl
   where
+    its : ℕ → Bool
+    its n = retires n (new_connection_id f)
+
     Left : End → Type 0
-    Left x = LeavesBy false false true e.waiting x.waiting
+    Left x = LeavesBy false false its e.waiting x.waiting
 
     fits : (b : Bool) (x : End) → Left x → Left (shortened b x)
-    fits b x i = subst (λ (v : Waiting). LeavesBy false false true e.waiting v) (sym (shortened_waiting b x)) i
+    fits b x i = subst (λ (v : Waiting). LeavesBy false false its e.waiting v) (sym (shortened_waiting b x)) i
 
-    retires : (b : Bool) (r : Range ℕ) → Left (retired_for b r f e).end
-    retires true r = fits _ (retiring r (with_taken_up f e)) (numbers_move false false e.waiting (after_retire e.waiting.frames r.start r.end).retire_cids)
-    retires false r = unmoved false false true e.waiting
+    ranges : (b : Bool) (r : Range ℕ) → nat_lt 0 f.retire_prior_to ≡ true → Left (retired_for b r f e).end
+    ranges true r asks = fits _ (retiring r (with_taken_up f e)) (numbers_move its e.waiting (range_with_len r.start (r.end - r.start)) (λ n among. or_right (f.sequence == n) (nat_lt 0 f.retire_prior_to) asks))
+    ranges false r asks = unmoved false false its e.waiting
 
     late : (b : Bool) → Left (with_frames e (if b then e.waiting.frames else record e.waiting.frames { retire_cids = e.waiting.frames.retire_cids ++ f.sequence ∷ [] }))
-    late true = unmoved false false true e.waiting
-    late false = numbers_move false false e.waiting (e.waiting.frames.retire_cids ++ f.sequence ∷ [])
+    late true = unmoved false false its e.waiting
+    late false = numbers_move its e.waiting (f.sequence ∷ []) (λ n among. or_left (f.sequence == n) (nat_lt 0 f.retire_prior_to) (sym (or-false (f.sequence == n)) ∙ among))
 
-    judged : (r : Result (Option (Range ℕ)) InsertError) → Left (id_judged r f e).end
-    judged (Ok None) = fits _ (with_taken_up f e) (unmoved false false true e.waiting)
-    judged (Ok (Some r)) = retires (can_retire e.waiting.frames r.start r.end) r
-    judged (Err inserts.Retired) = late (nat_le most_retirements (length e.waiting.frames.retire_cids) || list_any (λ m. m == f.sequence) e.waiting.frames.retire_cids)
-    judged (Err inserts.ExceedsLimit) = unmoved false false true e.waiting
+    judged : (r : Result (Option (Range ℕ)) InsertError) → retires_for (insert_answer e.ids.peer (frame_of f)) ≡ r → Left (id_judged r f e).end
+    judged (Ok None) is = fits _ (with_taken_up f e) (unmoved false false its e.waiting)
+    judged (Ok (Some r)) is = ranges (can_retire e.waiting.frames r.start r.end) r (asks_some e.ids.peer (frame_of f) r is)
+    judged (Err inserts.Retired) is = late (nat_le most_retirements (length e.waiting.frames.retire_cids) || list_any (λ m. m == f.sequence) e.waiting.frames.retire_cids)
+    judged (Err inserts.ExceedsLimit) is = unmoved false false its e.waiting
 apart_waits (retire_connection_id n) e apart = judged (retirement_answer e.ids.own n e.ids.limit)
   where
-    issues : (b : Bool) → LeavesBy false true false e.waiting (issued_if b (with_ids e (retired n e.ids))).waiting
+    issues : (b : Bool) → LeavesBy false true none e.waiting (issued_if b (with_ids e (retired n e.ids))).waiting
     issues true = record { signals = signals_same false e.waiting.signals; frames = refl; new_ids = λ m is. inr refl; retirements = λ m is. inl is }
-    issues false = unmoved false true false e.waiting
+    issues false = unmoved false true none e.waiting
 
-    judged : (r : Result Bool ErrorValue) → LeavesBy false true false e.waiting (retirement_judged r n e).end.waiting
+    judged : (r : Result Bool ErrorValue) → LeavesBy false true none e.waiting (retirement_judged r n e).end.waiting
     judged (Ok more) = issues (issues_for n e)
-    judged (Err error) = unmoved false true false e.waiting
+    judged (Err error) = unmoved false true none e.waiting
 apart_waits (path_challenge token) e apart = signals_move true e.waiting (path_asked token e).waiting.signals ((λ is. is), λ is. inr refl)
 apart_waits (path_response token) e apart = go (is_asked e.validation.challenge (word_of token))
   where
-    go : (b : Bool) → LeavesBy false false false e.waiting (validated_if b e).waiting
+    go : (b : Bool) → LeavesBy false false none e.waiting (validated_if b e).waiting
     go true = signals_move false e.waiting (path_validated e).waiting.signals ((λ is. cc), λ is. inl is)
-    go false = unmoved false false false e.waiting
-apart_waits (ack_frequency r) e apart = by_frequency (λ (x : End). LeavesBy false false false e.waiting x.waiting) r e (λ threshold reordering frequency. unmoved false false false e.waiting)
-apart_waits f e apart = unmoved false false false e.waiting
+    go false = unmoved false false none e.waiting
+apart_waits (ack_frequency r) e apart = by_frequency (λ (x : End). LeavesBy false false none e.waiting x.waiting) r e (λ threshold reordering frequency. unmoved false false none e.waiting)
+apart_waits f e apart = unmoved false false none e.waiting
 
 -- what an ACK frame leaves
 acked_signals : (rises : Bool) (a : AckValue) (e : End) → (after_acked rises a (named a e)).waiting.signals ≡ e.waiting.signals
@@ -170,15 +197,32 @@ frames_signals (f ∷ fs) e = go (take_frame f e).fault (frame_signals f e) (fra
 
 -- ---- calls
 
--- the next id of the peer is used
-pub next_waits : (e : End) (a : Answer) → LeavesBy false false (uses_next calls.UseNextId a) e.waiting (end_on_next_id e a).waiting
-next_waits e (answers.UseNextId (Ok done)) = taken (retires_for_next e.ids)
+-- whether a call uses the next id of the peer, and a number lies below that, but not below the one
+-- that was in use
+abbrev pub is_skipped : Call → Answer → PeerIds → ℕ → Bool
+is_skipped call a p n = uses_next call a && is_passed n p.active (next_after p)
+
+-- such numbers begin to wait
+pub next_waits : (e : End) (a : Answer) → LeavesBy false false (λ n. is_skipped calls.UseNextId a e.ids.peer n) e.waiting (end_on_next_id e a).waiting
+next_waits e (answers.UseNextId (Ok done)) = taken (next_after e.ids.peer)
   where
-    taken : (o : Option (Range ℕ)) → LeavesBy false false true e.waiting (next_id_taken o e).waiting
-    taken None = unmoved false false true e.waiting
-    taken (Some r) = subst (λ (v : Waiting). LeavesBy false false true e.waiting v) (sym (shortened_waiting _ (retiring r (with_ids e (next_used e.ids)))))
-        (numbers_move false false e.waiting (after_retire e.waiting.frames r.start r.end).retire_cids)
-next_waits e a = unmoved false false false e.waiting
+    used : ℕ
+    used = e.ids.peer.active
+
+    ranged : Option ℕ → Option (Range ℕ)
+    ranged o = option_map (λ next. record { start = used; end = next }) o
+
+    passed_over : (next n : ℕ) → (k : ℕ) × (used ≤ k) × (k < used + (next - used)) × ((k == n) ≡ true) → is_passed n used (Some next) ≡ true
+    passed_over next n (k, low, high, is) =
+        let same : k ≡ n = eqb-true k n is in
+        and_from (nat_le used n) (nat_lt n next) (le-leb used n (omega arith)) (lt-ltb n next (omega arith))
+
+    taken : (o : Option ℕ) → LeavesBy false false (λ n. is_passed n used o) e.waiting (next_id_taken (ranged o) e).waiting
+    taken None = unmoved false false (λ n. is_passed n used None) e.waiting
+    taken (Some next) = subst (λ (v : Waiting). LeavesBy false false (λ n. is_passed n used (Some next)) e.waiting v)
+        (sym (shortened_waiting _ (retiring (record { start = used; end = next }) (with_ids e (next_used e.ids)))))
+        (numbers_move (λ n. is_passed n used (Some next)) e.waiting (range_with_len used (next - used)) (λ n among. passed_over next n (any_in_range (λ (m : ℕ). m == n) used (next - used) among)))
+next_waits e a = unmoved false false none e.waiting
 
 -- a poll
 pub polled_signals : (p : Policy) (e : End) (now : ℕ) → (polled p e now).end.closing.state ≡ states.Open → SignalsBy false e.waiting.signals (polled p e now).end.waiting.signals
@@ -210,8 +254,8 @@ quiet_signals p e theirs call a apart silent calm = by_plain_call p e theirs Of 
 -- ---- what waits is F
 
 -- so it is behind such a change, where the ids and the numbers that begin to wait are
-pub leaves_pend : (F : Thing → Type 0) (e x : End) (asked issues retires : Bool) → LeavesBy asked issues retires e.waiting x.waiting → x.streams ≡ e.streams → (issues ≡ true → (n : ℕ) → F (Frame (NewId n))) → (retires ≡ true → (n : ℕ) → F (Frame (Retirement n))) → Pends F e → Pends F x
-leaves_pend F e x asked issues retires l streams issued late i = subst (λ (s : StreamsState). PendsAt F s x.waiting.frames) (sym streams) (subst (λ (p : Retransmits). PendsAt F e.streams p) (sym l.frames)
+pub leaves_pend : (F : Thing → Type 0) (e x : End) (asked issues : Bool) (begins : ℕ → Bool) → LeavesBy asked issues begins e.waiting x.waiting → x.streams ≡ e.streams → (issues ≡ true → (n : ℕ) → F (Frame (NewId n))) → ((n : ℕ) → begins n ≡ true → F (Frame (Retirement n))) → Pends F e → Pends F x
+leaves_pend F e x asked issues begins l streams issued late i = subst (λ (s : StreamsState). PendsAt F s x.waiting.frames) (sym streams) (subst (λ (p : Retransmits). PendsAt F e.streams p) (sym l.frames)
     (ids_pend F e.streams e.waiting.frames x.waiting.frames.new_cids x.waiting.frames.retire_cids
     (λ n is. elim (l.new_ids n is) [ inl was ↦ i.controls (NewId n) was | inr new ↦ issued new n ])
-    (λ n is. elim (l.retirements n is) [ inl was ↦ i.controls (Retirement n) was | inr new ↦ late new n ]) i))
+    (λ n is. elim (l.retirements n is) [ inl was ↦ i.controls (Retirement n) was | inr new ↦ late n new ]) i))

@@ -36,7 +36,7 @@ use Rattle.quic_machine.specs.Receive.{take_frame}
 use Rattle.quic_headline.specs.Runs.{reset_by}
 use Rattle.quic_headline.specs.Duties.{AllData, StreamData, StreamCount, has_reset, has_stop}
 use Rattle.quic_headline.specs.Unread.{stopped_by}
-use Rattle.quic_headline.specs.Begins.{Control, ResetOf, StopOf, LimitOf, Blocked, BlockedOn, NewId, Retirement, control_waits, uses_up, uses_next, reads_on, finds_blocked, brings_data, Request}
+use Rattle.quic_headline.specs.Begins.{Control, ResetOf, StopOf, LimitOf, Blocked, BlockedOn, NewId, Retirement, control_waits, uses_up, reads_on, finds_blocked, brings_data, Request}
 use Rattle.quic_headline.proofs.Begins.Controls.{has_either}
 use Rattle.std.proofs.lemmas.List.Folds.{list_any-append}
 
@@ -56,7 +56,7 @@ decided_one c s p is = inl is
 
 -- ---- calls
 
--- whether a call asks for a control frame
+-- whether a call on streams asks for a control frame
 abbrev pub call_asks : Call → Answer → Control → Bool
 call_asks call a (ResetOf id) = is_some (reset_by id call a)
 call_asks call a (StopOf id) = stopped_by id call a
@@ -66,7 +66,7 @@ call_asks call a (LimitOf (StreamCount dir)) = uses_up call a
 call_asks call a Blocked = finds_blocked (λ id. true) call a
 call_asks call a (BlockedOn id) = finds_blocked (λ j. j == id) call a
 call_asks call a (NewId number) = false
-call_asks call a (Retirement number) = uses_next call a
+call_asks call a (Retirement number) = false
 call_asks call a Request = false
 
 -- a limit that is decided is asked for by a call that uses up what came

@@ -11,6 +11,7 @@ use Rattle.quic_wire_core.specs.declared.stream_id.Dir.TheVariants.{Bi, Uni}
 use Rattle.quic_wire_core.specs.StreamId.{other_side}
 use Rattle.quic_wire_core.specs.declared.shared.IssuedCid.{IssuedCid}
 use Rattle.quic_wire.specs.FrameView.{is_one_way}
+use Rattle.quic_ids.specs.CidQueue.{next_after}
 use Rattle.quic_streams_parts.specs.Dirs.{of}
 use Rattle.quic_machine.specs.Tracking.{dir_named}
 use Rattle.quic_machine.specs.Poll.{polled}
@@ -52,12 +53,13 @@ use Rattle.quic_machine.specs.RunLaws.{as_many_views}
 use Rattle.quic_headline.specs.Runs.{Run, Told, Packet, Intake, In, and_told, folded, until, state_at, given_of, AreServed, written}
 use Rattle.quic_headline.specs.Observer.{Sent, HoldsOffset, HoldsEnd, Flight, after_frames, Watch, first_watch, watch, news, clock_behind, moment_of, is_past, is_timely, watch_moment, watch_given, watch_told, watch_from, lens_of}
 use Rattle.quic_headline.specs.Headline.{IsHonest, IsRun, IsAt}
+use Rattle.quic_headline.specs.InUse.{in_use}
 use Rattle.quic_headline.specs.Duties.{AllData, StreamCount, on_half, has_new_id}
 use Rattle.quic_headline.specs.Moments.{went}
 use Rattle.quic_headline.specs.Requests.{Asking, asking_of, asking_at, wants_anew}
 use Rattle.quic_headline.specs.AcksDue.{is_immediate_ack, haste_told, no_haste, is_due}
 use Rattle.quic_headline.specs.Waited.{stands, is_ping, asks_ping, is_path_challenge, wakes, wants, wants_told, no_wants}
-use Rattle.quic_headline.specs.Begins.{Control, LimitOf, Blocked, NewId, Retirement, Thing, Ack, Ping, Immediate, Challenge, Response, Probe, Message, Byte, Fin, Frame, byte_waits, IsPending, Bears, Seen, came, brings, WasLost, may_end, brings_data, is_retirement, is_new_id, uses_next, asks_for, fails_to_probe, HasCause, HasGone, seen_at, still, BeginsAt, WaitingBegins, Request}
+use Rattle.quic_headline.specs.Begins.{Control, LimitOf, Blocked, NewId, Retirement, Thing, Ack, Ping, Immediate, Challenge, Response, Probe, Message, Byte, Fin, Frame, byte_waits, IsPending, Bears, Seen, came, brings, WasLost, may_end, brings_data, is_retirement, retires, uses_next, is_passed, passes_over, asks_for, fails_to_probe, HasCause, HasGone, seen_at, still, BeginsAt, WaitingBegins, Request}
 use Rattle.quic_headline.specs.Begins as new
 use Rattle.quic_headline.proofs.Packets.Intakes.{folded_more}
 use Rattle.quic_headline.proofs.Packets.Group.{PacketsHold, meets}
@@ -66,7 +68,7 @@ use Rattle.quic_headline.proofs.Packets.Delivered.{Arrivals, arrived, with_taken
 use Rattle.quic_headline.proofs.Packets.Flying.{Waits, held, frames_fly, ticked_waits, numbers_wait}
 use Rattle.quic_headline.proofs.Packets.Watching.{came_with, timed_with, untimely, watched_intake, one_new, none_comes, told_timed, with_delivery, nothing_delivered, packet_delivered, at_time, timeout_flies}
 use Rattle.quic_headline.proofs.Places.Parties.{sent_by, sent_if, sents_by, told_of, Party, called, came_to, lens, watch_of, AreJoined}
-use Rattle.quic_headline.proofs.Places.Groups.{Way, Nothing, And, Calls, Group, both, over, less_calls}
+use Rattle.quic_headline.proofs.Places.Groups.{Way, Nothing, And, Calls, Group, both, beside, over, less_calls}
 use Rattle.quic_headline.proofs.Places.Coming.{came_more, by_coming}
 use Rattle.quic_headline.proofs.Places.Steps.{only_polls_give, poll_answer}
 use Rattle.quic_headline.proofs.Places.Placed.{Placed, placed, party_at, stands_in}
@@ -84,6 +86,7 @@ use Rattle.quic_headline.proofs.Timers.AckMoments.{call_answered}
 use Rattle.quic_headline.proofs.Requests.Asks.{by_of, is_anew, anew_known}
 use Rattle.quic_headline.proofs.Requests.Drafts.{polled_requests, none_waits}
 use Rattle.quic_headline.proofs.Requests.Group.{Counted, counted_group}
+use Rattle.quic_headline.proofs.NextIds.Group.{IdsHold, next_above, using_of, NextKnown, next_group}
 use Rattle.quic_headline.proofs.Steps.Made.{MadeAt, made_at, made_served, made_end, served_before, told_next, told_here, one_behind, calling, CallHolds, call_holds, whole}
 use Rattle.quic_headline.proofs.Waited.Alive.{timed, wakes_at, past_is}
 use Rattle.quic_headline.proofs.Waited.Pings.{of_ping, of_immediate, call_pinged, call_hastened, polled_pinged}
@@ -96,7 +99,7 @@ use Rattle.quic_headline.proofs.Begins.Probed.{told_probes}
 use Rattle.quic_headline.proofs.Begins.Called.{call_asks}
 use Rattle.quic_headline.proofs.Begins.Halves.{Any, Waits as HalfWaits, all_pend, pends_more, none_reset, byte_is, fin_is}
 use Rattle.quic_headline.proofs.Begins.Walk.{Pends, pend_more}
-use Rattle.quic_headline.proofs.Begins.Apart.{SignalsBy, signals_same, frames_signals, polled_signals, quiet_signals}
+use Rattle.quic_headline.proofs.Begins.Apart.{is_skipped, SignalsBy, signals_same, frames_signals, polled_signals, quiet_signals}
 use Rattle.quic_headline.proofs.Begins.Flights.{By, BegunAt, Begun, ids_begun, begun_loses, begun_flies}
 use Rattle.quic_headline.proofs.Begins.Gone.{polled_goes}
 use Rattle.quic_headline.proofs.Begins.Steps.{Left, left_of, polled_left, streams_left, quiet_left}
@@ -105,18 +108,19 @@ use Rattle.quic_headline.specs.InFlight.{is_ack_frequency}
 -- ---- what is known
 
 -- all that is known of packets and streams, limits that grew, how often the peer was asked how to
--- acknowledge, and what is due and wanted
+-- acknowledge, which of its ids are used, and what is due and wanted
 abbrev Grown : Way
 Grown = And (And (everything.All Ready ready) ReadsHold) GrownWait
 
 abbrev Requesting : Way
-Requesting = And Grown Counted
+Requesting = And Grown (And Counted NextKnown)
 
 abbrev Known : Way
 Known = And Requesting Wished
 
 requesting : Group Nothing Requesting
-requesting = both Nothing Grown Counted (everything.all_grown Ready ready) (over PacketsHold (And Nothing Grown) Counted (λ x y h. h.1.0.0.0.0) counted_group)
+requesting = both Nothing Grown (And Counted NextKnown) (everything.all_grown Ready ready)
+    (beside (And Nothing Grown) Counted NextKnown (over PacketsHold (And Nothing Grown) Counted (λ x y h. h.1.0.0.0.0) counted_group) (next_group (And Nothing Grown) (λ x y h. h.1.0.0.0.0)))
 
 known : Group Nothing Known
 known = both Nothing Requesting Wished requesting (over Observed (And Nothing Requesting) Wished (λ x y h. (h.1.0.0.0.0.0, h.1.0.0.0.1)) wished_group)
@@ -153,6 +157,7 @@ seen_of x y call a = record {
   marked = (wants_of (called x y.given call a) y).marked;
   alive = (wants_of x y).alive;
   asking = asking_of x.made;
+  using = (using_of x y).number;
 }
 
 -- it waited, or has a cause
@@ -484,7 +489,7 @@ module _ (x y : Party) (call : Call) (a : Answer) (frames : List FrameValue) (br
   caused (Frame (LimitOf AllData)) (inr (inr raised)) = inr (inl (or_right _ (brings brings_data (seen_of x y call a)) (brought brings_data raised)))
   caused (Frame (LimitOf (StreamCount dir))) (inr (inr raised)) = inr (inl (or_right _ (brings may_end (seen_of x y call a)) (brought may_end raised)))
   caused (Frame (NewId number)) (inr (inr raised)) = inr (inl (brought is_retirement raised))
-  caused (Frame (Retirement number)) (inr (inr raised)) = inr (inl (or_right _ (brings is_new_id (seen_of x y call a)) (brought is_new_id raised)))
+  caused (Frame (Retirement number)) (inr (inr raised)) = inr (inl (or_right _ (brings (retires number) (seen_of x y call a)) (brought (retires number) raised)))
   caused q (inr (inr raised)) = absurd raised
 
 -- what waits of streams and beside their bytes
@@ -560,17 +565,24 @@ poll_begins x y now a s = polled_left (Caused x y call a) x.policy x.end now (wa
     -- the observer finds when the peer is to be asked
     known_anew : is_anew (by_of x.end) ≡ wants_anew (asking_of x.made) (watch_of x y).own (watch_of x y).flight
     known_anew =
-        anew_known x.terms (watch_of x y).clock x.sents (watch_of x y).flight x.end seen_waits.tells s.gives.0.1.next
-        ∙ ap (λ (b : Asking). wants_anew b x.sents (watch_of x y).flight) s.gives.0.1.same
+        anew_known x.terms (watch_of x y).clock x.sents (watch_of x y).flight x.end seen_waits.tells s.gives.0.1.0.next
+        ∙ ap (λ (b : Asking). wants_anew b x.sents (watch_of x y).flight) s.gives.0.1.0.same
         ∙ ap (λ (ss : List Sent). wants_anew (asking_of x.made) ss (watch_of x y).flight) (sym (sight x y s.gives).own)
 
--- what an application asks for is asked for
+-- an observer finds which ids of the peer are passed over where the next one is used
+skipped_is : (x y : Party) (call : Call) (a : Answer) → Stepped x y call a → (n : ℕ) → is_skipped call a x.end.ids.peer n ≡ passes_over (seen_of x y call a) n
+skipped_is x y call a s n =
+    let holds : IdsHold (watch_of x y).intake.took (using_of x y).number x.end.ids.peer = subst (λ (i : Intake). IdsHold i.took (using_of x y).number x.end.ids.peer) (sym (watched_intake (lens x y) x.told (first_watch x.final x.began x.initial_rtt x.initial_delay))) (s.gives.0.1.1.holds (was x y call a s)) in
+    ap (λ (used : ℕ). uses_next call a && is_passed n used (next_after x.end.ids.peer)) holds.used_is
+    ∙ ap (λ (next : Option ℕ). uses_next call a && is_passed n (using_of x y).number next) (next_above (watch_of x y).intake.took (using_of x y).number x.end.ids.peer holds)
+
+-- what an application asks for of streams is asked for
 asked_is : (x y : Party) (call : Call) (a : Answer) (c : Control) → call_asks call a c ≡ true → asks_for (seen_of x y call a) c ≡ true
 asked_is x y call a (LimitOf AllData) is = or_left (call_asks call a (LimitOf AllData)) (brings brings_data (seen_of x y call a)) is
 asked_is x y call a (LimitOf (StreamCount dir)) is = or_left (call_asks call a (LimitOf (StreamCount dir))) (brings may_end (seen_of x y call a)) is
 asked_is x y call a (NewId number) is = cc
 asked_is x y call a Request is = cc
-asked_is x y call a (Retirement number) is = or_left (uses_next call a) (brings is_new_id (seen_of x y call a)) is
+asked_is x y call a (Retirement number) is = cc
 asked_is x y call a c is = is
 
 -- another call, but for how far bytes were written
@@ -599,7 +611,7 @@ other_begins x y call a apart silent other s = go (is_on_streams call) refl
     go : (b : Bool) → is_on_streams call ≡ b → Left (Almost x y call a) (called x y.given call a).end
     go true on = streams_left (Almost x y call a) x.policy x.end y.given start call a (λ c is. inr (inl (asked_is x y call a c is))) (λ id is. inr (inl is)) (λ id h is. sent_within (wrote x.told) x.end.streams (holds x y s.gives) id h is)
         (λ id h is none o above. inr (subst (λ (n : ℕ). n ≤ o) (written_is (wrote x.told id) h (half_holds (wrote x.told) x.end.streams (holds x y s.gives) id h is) none) above)) s.answer on
-    go false off = quiet_left (Almost x y call a) x.policy x.end y.given start call a (λ uses n. inr (inl (asked_is x y call a (Retirement n) uses))) off apart silent other
+    go false off = quiet_left (Almost x y call a) x.policy x.end y.given start call a (λ n skips. inr (inl (or_left (passes_over (seen_of x y call a) n) (brings (retires n) (seen_of x y call a)) (sym (skipped_is x y call a s n) ∙ skips)))) off apart silent other
 
 -- ---- all of it
 
@@ -757,6 +769,7 @@ module _ (r : Run) (end : World) (honest : IsHonest r) (run : IsRun r end) (side
     marked = marked;
     alive = (wants_of x y).alive;
     asking = asking_at r side;
+    using = in_use r side i;
   }
 
   -- what is seen in the run is seen so

@@ -65,7 +65,7 @@ any_behind test [] is = is
 any_behind test (x ∷ xs) is = or_right (test x) (list_any test xs) is
 
 -- one more behind a list
-any_more : {A : Type 0} (test : A → Bool) (xs ys : List A) → list_any test (xs ++ ys) ≡ true → (list_any test xs ≡ true) ⊎ (list_any test ys ≡ true)
+pub any_more : {A : Type 0} (test : A → Bool) (xs ys : List A) → list_any test (xs ++ ys) ≡ true → (list_any test xs ≡ true) ⊎ (list_any test ys ≡ true)
 any_more test xs ys is = or_cases (list_any test xs) (list_any test ys) (sym (list_any-append test xs ys) ∙ is)
 
 -- ---- what waits

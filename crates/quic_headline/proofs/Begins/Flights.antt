@@ -19,7 +19,7 @@ use Rattle.quic_headline.specs.Runs.{In}
 use Rattle.quic_headline.specs.Observer.{Sent}
 use Rattle.quic_headline.specs.Duties.{AllData, StreamCount, has_new_id}
 use Rattle.quic_headline.specs.Waited.{is_path_challenge}
-use Rattle.quic_headline.specs.Begins.{Control, LimitOf, NewId, Retirement, control_waits, Thing, Byte, Fin, Frame, Bears, brings_data, is_retirement, is_new_id, may_end}
+use Rattle.quic_headline.specs.Begins.{Control, LimitOf, NewId, Retirement, control_waits, Thing, Byte, Fin, Frame, Bears, brings_data, is_retirement, retires, may_end}
 use Rattle.quic_headline.proofs.Packets.Searches.{search_keeps}
 use Rattle.quic_headline.proofs.Packets.Invariant.{IsCarriedFrom, carried_stream, carried_again}
 use Rattle.quic_headline.proofs.Packets.Carried.{again_is}
@@ -65,13 +65,13 @@ module _ (Start : Thing → Type 0) (flew before : List Sent) (frames : List Fra
     pub unnamed : In sent new → ⊥
     pub bore : Bears sent q
 
-  -- a limit that frames raise, an own id where one was retired, and a number to be retired where an
-  -- id of the peer came
+  -- a limit that frames raise, an own id where one was retired, and a number to be retired where
+  -- the peer's id of that number came, or others were to be retired
   abbrev pub Raised : Thing → Type 0
   Raised (Frame (LimitOf AllData)) = list_any brings_data frames ≡ true
   Raised (Frame (LimitOf (StreamCount dir))) = list_any may_end frames ≡ true
   Raised (Frame (NewId number)) = list_any is_retirement frames ≡ true
-  Raised (Frame (Retirement number)) = list_any is_new_id frames ≡ true
+  Raised (Frame (Retirement number)) = list_any (retires number) frames ≡ true
   Raised q = ⊥
 
   abbrev pub By : List Sent → List Sent → Thing → Type 0
@@ -194,7 +194,7 @@ module _ (Start : Thing → Type 0) (flew before : List Sent) (frames : List Fra
       more = i.more;
       inside = i.inside;
       apart = i.apart;
-      pends = leaves_pend (By flying i.new) e (take_frame f e).end (is_path_challenge f) (is_retirement f) (is_new_id f) (apart_waits f e is) (apart_leaves (λ (x : End). x.streams ≡ e.streams) f e is (λ c. refl) (λ c most. refl))
-          (λ retires n. inr (inr (one_passes is_retirement frames f among retires))) (λ brings n. inr (inr (one_passes is_new_id frames f among brings))) i.pends;
+      pends = leaves_pend (By flying i.new) e (take_frame f e).end (is_path_challenge f) (is_retirement f) (λ n. retires n f) (apart_waits f e is) (apart_leaves (λ (x : End). x.streams ≡ e.streams) f e is (λ c. refl) (λ c most. refl))
+          (λ asks n. inr (inr (one_passes is_retirement frames f among asks))) (λ n asks. inr (inr (one_passes (retires n) frames f among asks))) i.pends;
     };
   }

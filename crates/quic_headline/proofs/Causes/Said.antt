@@ -300,7 +300,7 @@ frame_tells f e close is = go f (closing_frame f e close is) is
     same_close c d same = cc
 
     go : (g : FrameValue) → IsClose g → (take_frame g e).fault ≡ Some (closed_by_peer close) → IsToldAs g close
-    go (connection_close c) closes same = subst (IsToldAs (connection_close c)) (same_close _ close same) (refl, refl)
+    go (connection_close c) closes same = subst (IsToldAs (connection_close c)) (same_close _ close same) (refl, refl, refl)
     go (application_close c) closes same = subst (IsToldAs (application_close c)) (same_close _ close same) (refl, refl)
     go g closes same = absurd closes
 

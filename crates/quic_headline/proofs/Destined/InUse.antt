@@ -13,7 +13,8 @@ use Rattle.quic_headline.specs.Observer.{Sent, took}
 use Rattle.quic_headline.specs.Headline.{IsHonest, IsRun}
 use Rattle.quic_headline.specs.Polls.{GaveOne}
 use Rattle.quic_headline.specs.Ids.{and_packet}
-use Rattle.quic_headline.specs.ConnectionIds.{IsToldId, in_use, IdsAreInUse}
+use Rattle.quic_headline.specs.ConnectionIds.{IsToldId, IdsAreInUse}
+use Rattle.quic_headline.specs.InUse.{in_use}
 use Rattle.quic_headline.proofs.Packets.Group.{PacketsHold}
 use Rattle.quic_headline.proofs.Places.Parties.{Party, came_to}
 use Rattle.quic_headline.proofs.Places.Groups.{Way, Nothing, And, Group, both, beside, over}
@@ -25,7 +26,7 @@ use Rattle.quic_headline.proofs.Halves.Ready.{Ready}
 use Rattle.quic_headline.proofs.Steps.Made.{MadeAt, made_at, served_before, one_behind}
 use Rattle.quic_headline.proofs.Steps.Probing as probing
 use Rattle.quic_headline.proofs.Destined.Issued.{Addresses, addresses_group}
-use Rattle.quic_headline.proofs.NextIds.Clause.{NextKnown, next_group}
+use Rattle.quic_headline.proofs.NextIds.Group.{NextKnown, next_group}
 
 -- all that holds between the ends, which number is in use, and to which id what goes is sent
 abbrev All : Way

@@ -1,5 +1,5 @@
 -- Where each duty is, from what holds at a place; and so at each place of an honest run.
-use Rattle.std.proofs.Common.{◌≡◌, ℕ, ◌<◌, Bool, true, false, ltb, leb, ◌||◌, ◌&&◌, ◌==◌, not, List, [], ◌∷◌, length, take, Option, Some, None, refl, sym, ap, ◌∙◌, subst, inl, inr, arith}
+use Rattle.std.proofs.Common.{◌≡◌, ℕ, ◌<◌, ◌≤◌, Bool, true, false, ltb, leb, ◌||◌, ◌&&◌, ◌==◌, not, List, [], ◌∷◌, length, take, Option, Some, None, refl, sym, ap, ◌∙◌, subst, inl, inr, arith}
 use Rattle.std.specs.Option.{IsSome, is_some, is_none, option_map}
 use Rattle.std.specs.Map.{lookup}
 use Rattle.std.specs.List.{list_any}
@@ -43,6 +43,7 @@ use Rattle.quic_headline.specs.Unread.{stopped}
 use Rattle.quic_headline.specs.Observer.{Sent, Watch, took, sents_until}
 use Rattle.quic_headline.specs.Duties.{Limited, AllData, StreamData, StreamCount, Duty, Offset, Fin, Reset, Stop, Retire, NewId, Limit, limit_frame, limit_waits, Matters, IsSaid, lacks_size, IsOwed, on_half, is_due, IsInFlight, IsSomewhere, DutiesStand, Frequency, IsRequested, HasAsked}
 use Rattle.quic_headline.specs.Headline.{IsHonest}
+use Rattle.quic_headline.specs.InUse.{in_use}
 use Rattle.quic_headline.proofs.Packets.Group.{PacketsHold}
 use Rattle.quic_headline.proofs.Packets.Sight.{Sight}
 use Rattle.quic_headline.proofs.Places.Parties.{Party, came_to}
@@ -53,6 +54,7 @@ use Rattle.quic_headline.proofs.Halves.Wrote.{wrote}
 use Rattle.quic_headline.proofs.Halves.Arrived.{OffsetIn, EndIn, Arrives}
 use Rattle.quic_headline.proofs.Halves.Finishing.{end_last}
 use Rattle.quic_headline.proofs.Halves.Writer.{WritesHold}
+use Rattle.quic_headline.proofs.NextIds.Group.{NextKnown}
 use Rattle.quic_headline.proofs.Duties.Flies.{FliesIn}
 use Rattle.quic_headline.proofs.Duties.UnderWay.{InPackets}
 use Rattle.quic_headline.proofs.Duties.Lasting.{WasUsed, Ends}
@@ -288,22 +290,22 @@ module _ (x y : Party) (writes : WritesHold x y) (packets : PacketsHold x y) (ar
       go (Some h) m used stops asked none = asked.1 (stops halted) (unknown_size h.final none)
       go None m used stops asked none = cc
 
-  -- each duty is somewhere
-  pub duty_somewhere : (u : Duty) → IsOwed x.end x.sents x.told u → Somewhere u
-  duty_somewhere (Offset id o) owed = by_half id (Offset id o)
+  -- each duty is somewhere, while the id of the peer in use isn't below this number
+  pub duty_somewhere : (used : ℕ) → used ≤ x.end.ids.peer.active → (u : Duty) → IsOwed used x.end x.sents x.told u → Somewhere u
+  duty_somewhere used reached (Offset id o) owed = by_half id (Offset id o)
       (λ nothing. (let size : length (written id x.told) ≡ 0 = ap (λ (v : Wrote). length v.bytes) nothing in let below = owed.1 in absurd (omega arith)))
       (λ h found held acked flies. half_offset id h o found owed.0 held acked flies owed.1)
       (λ settled. elim settled [ inl all ↦ inr (inr (all.bytes o owed.1)) | inr some ↦ settled_free id (Somewhere (Offset id o)) some owed.0 ])
-  duty_somewhere (Fin id) owed = by_half id (Fin id)
+  duty_somewhere used reached (Fin id) owed = by_half id (Fin id)
       (λ nothing. absurd (both_ways (ended id x.told) (ap (λ (v : Wrote). v.ended) nothing) owed.1))
       (λ h found held acked flies. half_fin id h found owed.0 held acked flies owed.1)
       (λ settled. elim settled [ inl all ↦ inr (inr (end_at_last id all.end)) | inr some ↦ settled_free id (Somewhere (Fin id)) some owed.0 ])
-  duty_somewhere (Reset id) owed = reset_somewhere id (flying.resets id owed)
-  duty_somewhere (Stop id) owed = stop_somewhere id (stop_stands id owed.0 owed.1)
-  duty_somewhere (Retire number) owed = retirement_somewhere number (flying.ids (RetireOf number) owed)
-  duty_somewhere (NewId number) owed = id_somewhere number (flying.ids (NewIdOf number) owed)
-  duty_somewhere (Limit what value) owed = limit_somewhere what value owed
-  duty_somewhere (Frequency number) owed = request_somewhere number owed
+  duty_somewhere used reached (Reset id) owed = reset_somewhere id (flying.resets id owed)
+  duty_somewhere used reached (Stop id) owed = stop_somewhere id (stop_stands id owed.0 owed.1)
+  duty_somewhere used reached (Retire number) owed = retirement_somewhere number (flying.ids (RetireOf number) (let below : number < used = owed in omega arith))
+  duty_somewhere used reached (NewId number) owed = id_somewhere number (flying.ids (NewIdOf number) owed)
+  duty_somewhere used reached (Limit what value) owed = limit_somewhere what value owed
+  duty_somewhere used reached (Frequency number) owed = request_somewhere number owed
 
 -- ---- the clause
 
@@ -314,6 +316,7 @@ pub record SaysWhereDutiesAre (G : Way) : Type 1 where
   pub arrives : (x y : Party) → G x y → Arrives x y
   pub flying : (x y : Party) → G x y → Flying x y
   pub sight : (x y : Party) → G x y → Sight x y
+  pub next : (x y : Party) → G x y → NextKnown x y
 
 module _ (G : Way) (g : SaysWhereDutiesAre G) (r : Run) (end : World) (honest : IsHonest r) (all : (side : Side) (i : ℕ) → AreServed r i → Placed G r end side i) where
   -- each duty is somewhere, wherever the run leads
@@ -324,8 +327,8 @@ module _ (G : Way) (g : SaysWhereDutiesAre G) (r : Run) (end : World) (honest : 
       let y : Party = party_at r i p.world (other_side side) p.theirs in
       let is : v ≡ p.world = (one_run r.keys (take i r.answers) r.start (take i r.events) (take i r.views) (take i r.views) v p.world served leads p.leads).1 in
       let own : sents_until r side i ≡ p.sents = ap (λ (w : Watch). w.own) (watch_is r honest p.world i side p.sents p.theirs) ∙ (g.sight x y p.gives).own in
-      let due : IsOwed (end_at side p.world) p.sents (until r side i) duty = subst (λ (sents : List Sent). IsOwed (end_at side p.world) sents (until r side i) duty) own (subst (λ (u : World). IsOwed (end_at side u) (sents_until r side i) (until r side i) duty) is owed) in
-      let there : IsSomewhere (end_at side p.world) p.sents (came_to y x).took (until r side i) duty = duty_somewhere x y (g.writes x y p.gives) (g.packets x y p.gives) (g.arrives x y p.gives) (g.flying x y p.gives) duty due in
+      let due : IsOwed (in_use r side i) (end_at side p.world) p.sents (until r side i) duty = subst (λ (sents : List Sent). IsOwed (in_use r side i) (end_at side p.world) sents (until r side i) duty) own (subst (λ (u : World). IsOwed (in_use r side i) (end_at side u) (sents_until r side i) (until r side i) duty) is owed) in
+      let there : IsSomewhere (end_at side p.world) p.sents (came_to y x).took (until r side i) duty = duty_somewhere x y (g.writes x y p.gives) (g.packets x y p.gives) (g.arrives x y p.gives) (g.flying x y p.gives) (in_use r side i) (g.next x y p.gives).reaches.least duty due in
       subst (λ (u : World). IsSomewhere (end_at side u) (sents_until r side i) (took r (other_side side) i) (until r side i) duty) (sym is)
       (subst (λ (sents : List Sent). IsSomewhere (end_at side p.world) sents (took r (other_side side) i) (until r side i) duty) (sym own)
       (subst (λ (packets : List Packet). IsSomewhere (end_at side p.world) p.sents packets (until r side i) duty) (sym (ap (λ (j : Intake). j.took) (took_there r honest p.world i side p.sents p.theirs))) there))

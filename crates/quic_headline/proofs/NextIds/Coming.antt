@@ -10,17 +10,18 @@ use Rattle.quic_ids.specs.CidQueue.{PeerIds, known_with, brought, first_used, ex
 use Rattle.quic_ids.specs.CidQueue as queue
 use Rattle.quic_ids.specs.declared.cid_queue.InsertError.{InsertError}
 use Rattle.quic_ids.specs.declared.cid_queue.InsertError.TheVariants as inserts
+use Rattle.quic_retransmits.specs.Retransmits.{can_retire}
 use Rattle.quic_machine.specs.Ids.{frame_of, retires_for, next_used}
 use Rattle.quic_machine.specs.IdFrames.{retiring, with_taken_up, next_id_taken, after_next_id}
 use Rattle.quic_machine.specs.End.{End, with_ids}
-use Rattle.quic_machine.specs.Receive.{id_judged, take_frame}
-use Rattle.quic_machine.specs.FrameCases.{passed, frames_taken}
+use Rattle.quic_machine.specs.Receive.{retired_for, id_judged, take_frame}
+use Rattle.quic_machine.specs.FrameCases.{passed, frames_taken, frames_leave}
 use Rattle.quic_headline.specs.Runs.{In}
-use Rattle.quic_headline.specs.ConnectionIds.{brought_by}
+use Rattle.quic_headline.specs.InUse.{brought_by}
 use Rattle.quic_headline.proofs.Places.Told.{in_left, in_right, in_append}
 use Rattle.quic_headline.proofs.Packets.OfPeer.{peer_shortened, peer_frame}
-use Rattle.quic_headline.proofs.NextIds.Peer.{Knows, knows_past, knows_more, known_active, none_after}
-use Rattle.quic_headline.proofs.NextIds.Asking.{AllAskNone}
+use Rattle.quic_headline.proofs.NextIds.Peer.{Knows, knows_past, knows_more, known_active, none_after, Reaches, reaches_more}
+use Rattle.quic_headline.proofs.NextIds.Asking.{AsksNone, AllAskNone}
 
 -- ---- a frame that brings one
 
@@ -110,6 +111,42 @@ module _ (numbers : List ℕ) (used : ℕ) (all : List FrameValue) where
     among = λ n i. in_left n (brought_by all) numbers i;
     asks = asks;
   })
+
+-- ---- the number in use never falls
+
+module _ (used : ℕ) where
+  -- by a frame that asks for none to be retired, whether it is taken or not
+  inserted_reaches : (p : PeerIds) (g : NewConnectionId) → g.retire_prior_to ≡ 0 → Reaches used p → Reaches used (after_insert p g)
+  inserted_reaches p g none k = go (ltb g.sequence p.active) (exceeds p g) (retires_active p g) refl refl
+    where
+      go : (low far asks : Bool) → ltb g.sequence p.active ≡ low → retires_active p g ≡ asks → Reaches used (cond (low || far) p (cond asks (first_used (left_by p g) p) (known_with p (brought g))))
+      go true far asks is not = k
+      go false true asks is not = k
+      go false false true is not = let clash : true ≡ false = sym not ∙ stays_active p g none in cc
+      go false false false is not = reaches_more used p k (brought g) (ltb-false g.sequence p.active is)
+
+  taken_reaches : (f : NewConnectionIdValue) (e : End) → f.retire_prior_to ≡ 0 → Reaches used e.ids.peer → Reaches used (take_frame (new_connection_id f) e).end.ids.peer
+  taken_reaches f e none k = judged (retires_for (insert_answer e.ids.peer (frame_of f)))
+    where
+      up : Reaches used (with_taken_up f e).ids.peer
+      up = inserted_reaches e.ids.peer (frame_of f) none k
+
+      retires : (b : Bool) (r : Range ℕ) → Reaches used (retired_for b r f e).end.ids.peer
+      retires true r = peer_shortened (Reaches used) _ (retiring r (with_taken_up f e)) up
+      retires false r = up
+
+      judged : (r : Result (Option (Range ℕ)) InsertError) → Reaches used (id_judged r f e).end.ids.peer
+      judged (Ok None) = peer_shortened (Reaches used) _ (with_taken_up f e) up
+      judged (Ok (Some r)) = retires (can_retire e.waiting.frames r.start r.end) r
+      judged (Err inserts.Retired) = k
+      judged (Err inserts.ExceedsLimit) = k
+
+  -- so it is behind the frames of a packet, up to the first that is wrong
+  pub packet_reaches : (fs : List FrameValue) (e : End) → AllAskNone fs → Reaches used e.ids.peer → Reaches used (passed fs e).end.ids.peer
+  packet_reaches fs e asks k = (frames_leave (λ (left : List FrameValue) (x : End). AllAskNone left × Reaches used x.ids.peer) (λ f left x h. (
+    (λ g j. h.0 g (inr j)),
+    peer_frame (Reaches used) f x (λ g is. taken_reaches g x (subst AsksNone is (h.0 f (inl refl))) h.1) h.1,
+  )) fs e (asks, k)).1.1
 
 -- ---- the next one
 

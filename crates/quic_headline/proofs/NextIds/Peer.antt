@@ -6,7 +6,7 @@ use Rattle.std.proofs.lemmas.Bool.{ltb-true, ltb-false, eqb-true, eqb-false}
 use Rattle.quic_wire_core.specs.declared.shared.IssuedCid.{IssuedCid}
 use Rattle.quic_ids.specs.CidQueue.{PeerIds, with_cid, known_with, next_after, after_next, first_used}
 use Rattle.quic_headline.specs.Runs.{In}
-use Rattle.quic_headline.specs.ConnectionIds.{lesser_of, next_of}
+use Rattle.quic_headline.specs.InUse.{lesser_of, next_of}
 
 -- ---- the least number above another
 
@@ -220,3 +220,27 @@ module _ (numbers coming : List ℕ) (c : IssuedCid) (p : PeerIds) (k : Knows nu
           | inr next ↦ elim next [ inl same ↦ inl (subst (λ (m : ℕ). Has (with_cid p.later c) m) (sym same) (has_new c p.later)) | inr more ↦ inr more ]
         ];
       })
+
+-- ---- the number in use never falls
+
+-- that in use isn't below this number, and those known behind it ascend above it
+pub record Reaches (used : ℕ) (p : PeerIds) : Type 0 where
+  pub ascend : Ascend p.active p.later
+  pub least : used ≤ p.active
+
+module _ (used : ℕ) (p : PeerIds) (k : Reaches used p) where
+  -- so it is where one more is known
+  pub reaches_more : (c : IssuedCid) → p.active ≤ c.sequence → Reaches used (known_with p c)
+  reaches_more c high = go (c.sequence == p.active) refl
+    where
+      go : (b : Bool) → (c.sequence == p.active) ≡ b → Reaches used (cond b (record p { id = c.id }) (record p { later = with_cid p.later c }))
+      go true is = record { ascend = k.ascend; least = k.least }
+      go false is = (let other = eqb-false c.sequence p.active is in record { ascend = ascend_with c p.active p.later k.ascend (omega (arith, other)); least = k.least })
+
+  -- and where the first of them is used
+  pub reaches_next : Reaches used (after_next p)
+  reaches_next = go p.later k.ascend
+    where
+      go : (cs : List IssuedCid) → Ascend p.active cs → Reaches used (first_used cs p)
+      go [] up = k
+      go (c ∷ cs) up = record { ascend = up.1; least = (let low = k.least in let first = up.0 in omega arith) }

@@ -15,7 +15,7 @@ use Rattle.quic_headline.specs.Runs.{Run, In}
 use Rattle.quic_headline.specs.Observer.{Sent, Watch, watch}
 use Rattle.quic_headline.specs.Headline.{IsHonest, IsRun}
 use Rattle.quic_headline.specs.Polls.{GaveOne}
-use Rattle.quic_headline.specs.Requests.{Asking, asking_of, asking_at, count_requests, requests_in, request_said, IsAsked, RequestsSay}
+use Rattle.quic_headline.specs.Requests.{Asking, asking_of, asking_at, count_requests, requests_in, request_said, IsRequest, RequestsSay}
 use Rattle.quic_headline.proofs.Packets.CloseForms.{close_well}
 use Rattle.quic_headline.proofs.Places.Told.{in_append}
 use Rattle.quic_headline.proofs.Places.Parties.{Party, watch_of, with_shown, shown_at}
@@ -71,7 +71,7 @@ module _ (r : Run) (end : World) (honest : IsHonest r) (run : IsRun r end) (side
 
   -- the end is to ask, and its peer can be asked; the request says so, and is the only one
   abbrev Said : Type 0
-  Said = IsAsked r side i gave.sent f
+  Said = IsRequest r side i gave.sent f
 
   -- an open end composed the datagram
   module _ (gives : IsGiving (policy_at side r.keys) e now gave.transmit (polled (policy_at side r.keys) e now).end gave.sent) where

@@ -13,6 +13,7 @@ use Rattle.quic_headline.specs.Runs.{Run, In, AreServed, until}
 use Rattle.quic_headline.specs.Observer.{Sent, took, sents_until, watch}
 use Rattle.quic_headline.specs.InFlight.{all_offsets, waited_for, but_for_record}
 use Rattle.quic_headline.specs.Headline.{IsHonest, IsRun}
+use Rattle.quic_headline.specs.InUse.{in_use}
 use Rattle.quic_headline.specs.Duties.{Duty, Offset, Fin, IsOwed, AnyIn, StandsIn, IsCarried, HasCome, IsSomewhere}
 use Rattle.quic_headline.specs.Rest.{Rests, HaveRoom, HasNothingLeft, DeliveredAtRest}
 use Rattle.quic_headline.proofs.Places.Theorems.{tracks_in_flight, duties_stand}
@@ -92,7 +93,7 @@ module _ (r : Run) (end : World) (honest : IsHonest r) (run : IsRun r end) (side
       none_in duty own p none stands = absurd own
 
   -- so it has come
-  has_come : (duty : Duty) → OfStream duty → IsOwed (end_at side w) (sents_until r side i) (until r side i) duty → HasCome (took r (other_side side) i) (until r side i) duty
+  has_come : (duty : Duty) → OfStream duty → IsOwed (in_use r side i) (end_at side w) (sents_until r side i) (until r side i) duty → HasCome (took r (other_side side) i) (until r side i) duty
   has_come duty own owed = go duty own (duties_stand r end honest run i w served place.leads side duty owed)
     where
       go : (duty : Duty) → OfStream duty → IsSomewhere (end_at side w) (sents_until r side i) (took r (other_side side) i) (until r side i) duty → HasCome (took r (other_side side) i) (until r side i) duty

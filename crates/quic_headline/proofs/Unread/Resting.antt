@@ -177,7 +177,7 @@ module _ (x y : Party) (flying : List Sent) (rest : AtRest x.end flying) (packet
 
   -- each byte of a stream that wasn't reset
   pub offset_came : (id o : ℕ) → reset id x.told ≡ None → o < length (written id x.told) → HasArrived came id o
-  offset_came id o free below = go (duty_somewhere x y writes packets arrives f (Offset id o) (free, below))
+  offset_came id o free below = go (duty_somewhere x y writes packets arrives f 0 (omega arith) (Offset id o) (free, below))
     where
       go : IsSomewhere x.end x.sents came x.told (Offset id o) → HasArrived came id o
       go (inl there) = absurd (waits_not x.end flying rest there.queued)

@@ -1,0 +1,52 @@
+-- Ends that keep more of what came than they may: each took `hello`, and has settings that let less
+-- come, or one thing changed so that it keeps too much.
+use Rattle.std.specs.Prelude.{ℕ, ◌+◌, ◌*◌, List, [], ◌∷◌, map, Some}
+use Rattle.std.specs.List.{range_with_len}
+use Rattle.quic_config.specs.Transport.{Settings}
+use Rattle.quic_machine.specs.End.{End}
+use Rattle.quic_worked.specs.Settings.{plain_settings}
+use Rattle.quic_worked.specs.Worked.{once_taken, issued}
+
+-- an end that took five bytes of a stream, and its FIN
+abbrev pub took_five : End
+took_five = once_taken.server
+
+-- of a stream four bytes may come
+abbrev pub four_on_a_stream : Settings
+four_on_a_stream = record plain_settings { stream_receive_window = 4 }
+
+-- of all streams together
+abbrev pub four_on_all : Settings
+four_on_all = record plain_settings { receive_window = 4 }
+
+-- one two-way stream of the peer may be open
+abbrev pub one_at_once : Settings
+one_at_once = record plain_settings { max_bidi = 1 }
+
+-- two are
+abbrev pub two_opened : End
+two_opened = let e : End = took_five in record e { streams = record e.streams { opening = record e.streams.opening { remote = record { bi = 2; uni = 0 } } } }
+
+-- one byte of messages may wait
+abbrev pub room_of_one : Settings
+room_of_one = record plain_settings { datagram_receive_buffer_size = Some 1 }
+
+-- an end at which these messages wait
+abbrev pub waits_for : List (List ℕ) → End
+waits_for messages = let e : End = took_five in record e { messages = record e.messages { queues = record e.messages.queues { incoming = messages } } }
+
+-- a message of two bytes
+abbrev pub two_bytes : End
+two_bytes = waits_for ((7 ∷ 7 ∷ []) ∷ [])
+
+-- two messages without a byte
+abbrev pub two_empty : End
+two_empty = waits_for ([] ∷ [] ∷ [])
+
+-- 65 runs of one number each are to be acknowledged, all even ones
+abbrev pub too_many_runs : End
+too_many_runs = let e : End = took_five in record e { acknowledging = record e.acknowledging { runs = map (λ n. record { start = 2 * n; end = 2 * n + 1 }) (range_with_len 0 65) } }
+
+-- five ids of the peer are known beside the one in use
+abbrev pub too_many_known : End
+too_many_known = let e : End = took_five in record e { ids = record e.ids { peer = record e.ids.peer { later = map (λ n. issued n) (range_with_len 1 5) } } }
