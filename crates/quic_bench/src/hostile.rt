@@ -11,7 +11,7 @@ use crate::fault::Fault;
 use crate::figures::{Figures, Watch};
 use crate::hostile::attack::{Attack, Plan};
 use crate::hostile::peer::Peer;
-use crate::hostile::victim::Victim;
+use crate::hostile::victim::{Victim, queue_messages};
 use crate::lane::ONE_WAY;
 use crate::pair::{Pair, expire};
 use quic_connection::{DropReason, Instant, Received};
@@ -22,6 +22,12 @@ use std::time::CpuClock;
 /// How many packets ask for an acknowledgement before forgotten numbers are named: each second one
 /// is answered by a packet that asks for none, of which 1000 are tracked.
 const TO_FORGET: u64 = 5200;
+
+/// How many messages of a byte fill the window, and how many wait then while ids of other lengths
+/// come into use.
+const FILLING: u64 = 4_000;
+
+const WAITING: u64 = 10_000;
 
 /// A peer that attacks, and the end that it attacks.
 #[derive(Drop)]
@@ -78,19 +84,30 @@ impl Siege {
     }
 
     /// What comes before an attack.
-    fn prepare(&mut self, pair: &mut Pair, plan: &Plan) -> Result<(), Fault> {
+    fn prepare(&mut self, alloc: Global, pair: &mut Pair, plan: &Plan) -> Result<(), Fault> {
         match plan.attack {
             Attack::Forgotten => {
                 // This PING is never acknowledged.
                 pair.ends.as_mut().server.ping();
                 self.rounds(pair, &Plan::before(Attack::Pings, 0), TO_FORGET)?;
             }
+            Attack::LongerIds => self.fill(alloc, pair)?,
             Attack::LateIds => self.rounds(pair, &Plan::before(Attack::NewIds, 1200), 1)?,
             Attack::Repeated => self.take_first(pair, plan)?,
             _ => {}
         }
         self.peer.items = 0;
         Ok(())
+    }
+
+    /// Messages wait at the server that the window doesn't let go, and behind them one that is as
+    /// long as it may be.
+    fn fill(&mut self, alloc: Global, pair: &mut Pair) -> Result<(), Fault> {
+        let server = &mut pair.ends.as_mut().server;
+        queue_messages(server, alloc, FILLING, 1)?;
+        self.victim.transmit(server, pair.now, &mut self.peer.owed)?;
+        queue_messages(server, alloc, WAITING, 1)?;
+        queue_messages(server, alloc, 1, usize::MAX)
     }
 
     /// The datagram comes that is to be repeated.
@@ -120,7 +137,7 @@ pub fn run<R: Clock + CpuClock + AllocGlobal>(
     plan: &Plan,
 ) -> Result<Figures, Fault> {
     let mut siege = Siege::new(rt.alloc());
-    siege.prepare(pair, plan)?;
+    siege.prepare(rt.alloc(), pair, plan)?;
     pair.begin();
     let (sent, bytes) = (siege.victim.sent, siege.victim.bytes);
     let watch = Watch::start(rt)?;

@@ -73,7 +73,7 @@ use std::time::CpuClock;
 
 /// What `check` does: each line is a task. With 17,000 streams beside an idle one, its id falls out
 /// of the ring in which the others stand.
-const CHECKS: [&str; 40] = [
+const CHECKS: [&str; 41] = [
     "bulk bytes=300001 verify=1",
     "bulk bytes=300001 verify=1 loss=50 reorder=50 seed=7",
     "bulk bytes=300001 verify=1 threshold=9",
@@ -107,6 +107,7 @@ const CHECKS: [&str; 40] = [
     "hostile limits count=4 streams=100",
     "hostile challenges count=4 acks=1",
     "hostile new-ids count=4 acks=1",
+    "hostile longer-ids count=1",
     "hostile late-ids count=4 acks=1",
     "hostile retirements count=4 acks=1",
     "hostile empty-messages count=2 reads=0",

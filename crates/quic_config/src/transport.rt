@@ -313,7 +313,7 @@ impl TransportConfig {
     }
 
     /// How the peer is to be asked to acknowledge; `None` doesn't ask (QUIC Acknowledgement
-    /// Frequency). The default is `None`. A peer that told no min_ack_delay isn't asked.
+    /// Frequency). The default is `None`. A peer that advertised no min_ack_delay isn't asked.
     pub fn ack_frequency_config(&mut self, value: Option<AckFrequencyConfig>) -> &mut Self
         ensures same_reference { result.ghost_name ≡ self.entry.ghost_name }
         ensures value { result.now ≡ record self.old { ack_frequency_config = value } }

@@ -40,18 +40,19 @@ use Rattle.quic_machine.specs.Timeouts.{loss_judged}
 use Rattle.quic_machine.specs.Machine.{World, Policies, IsLeft, IsStep, after_call, after_delivered, says_last, reads_window, fails, end_at, policy_at, given_by}
 use Rattle.quic_machine.specs.FrameCases.{Settling, acked_keeps, losses_keep, frame_keeps, frame_leaves, items_keep, apart_leaves, named}
 use Rattle.quic_machine.specs.Steps as steps
-use Rattle.quic_machine.specs.LeaveCases.{Expired, by_timers, at_expiry}
+use Rattle.quic_machine.specs.LeaveCases.{Expired, by_timers}
 use Rattle.quic_machine.specs.LeaveCases as expiring
 use Rattle.quic_machine.specs.PollCases.{at_poll, by_poll, composes}
 use Rattle.quic_machine.specs.CallCases.{Plain, IsOwn, is_delivery, by_plain_call}
 use Rattle.quic_machine.specs.CallCases as cases
 use Rattle.quic_machine.specs.DraftLaws.{IsClose}
+use Rattle.quic_headline.proofs.Alone.Weights.{payload_fits}
 use Rattle.quic_headline.proofs.Packets.Apart.{by_next_id, by_waits}
 use Rattle.quic_headline.proofs.Packets.Closes.{by_closes}
 use Rattle.quic_headline.proofs.Packets.Owing.{closing_among}
 use Rattle.quic_headline.proofs.Packets.Probes.{may_leave}
 use Rattle.quic_connection.specs.Rooms.{told_len, len_of, handed_len}
-use Rattle.quic_connection.proofs.Texts.{text_in, item_text, AllFit, items_fit, payload_fits}
+use Rattle.quic_connection.proofs.Texts.{text_in, item_text, AllFit, items_fit}
 
 -- ---- frames
 

@@ -1,6 +1,6 @@
 -- No frame of a datagram has a text of more bytes than the datagram (RFC 9000, section 19.19).
-use Rattle.std.proofs.Common.{◌≡◌, ℕ, zero, suc, ◌+◌, ◌-◌, ◌≤◌, Bool, true, false, ltb, List, [], ◌∷◌, ◌++◌, length, take, drop, length-append, length-take, length-drop, Option, Some, None, Result, Ok, Err, refl, ap, arith}
-use Rattle.std.specs.Prelude.{slice_index, nat_lt, ◌^◌, if◌then◌else◌}
+use Rattle.std.proofs.Common.{◌≡◌, ℕ, zero, suc, ◌≤◌, Bool, true, false, ltb, List, [], ◌∷◌, length, take, drop, length-take, Option, Some, Result, Ok, Err, refl, arith}
+use Rattle.std.specs.Prelude.{if◌then◌else◌}
 use Rattle.quic_wire_core.specs.Taking.{◌>>=◌}
 use Rattle.quic_wire.specs.declared.frame.FrameError.{FrameError}
 use Rattle.quic_wire.specs.declared.frame.FrameError.TheVariants.{UnexpectedEnd}
@@ -12,9 +12,6 @@ use Rattle.quic_wire.specs.AckReading.{ack_at}
 use Rattle.quic_wire.specs.Items.{frame_at, behind_type, refused, first_and, items_within, items}
 use Rattle.quic_wire.proofs.FieldShrinks.{Leaves, var}
 use Rattle.quic_wire.proofs.FrameShrinks.{FrameLeavesFewer, frame_fewer}
-use Rattle.quic_packet.specs.Keys.{Protection, Aead, KeepsLength, OpensNoMore, width_in, sample, with_header, unshielded}
-use Rattle.quic_packet.specs.Number.{expanded}
-use Rattle.quic_packet.specs.Datagram.{Opening, opening_of, truncated_in, opened_packet}
 
 -- how many bytes the text of a frame has; 0 where it is no close
 abbrev pub text_in : FrameValue → ℕ
@@ -152,39 +149,3 @@ within_fit n (suc k) (b ∷ bytes) le = go (frame_at (b ∷ bytes)) (frame_text 
 pub items_fit : (n : ℕ) (payload : List ℕ) → length payload ≤ n → AllFit n (items payload)
 unfolding items
 items_fit n payload le = within_fit n (length payload) payload le
-
--- ---- a datagram
-
--- behind its header a packet has at most as many bytes as before
-header_fits : (at first : ℕ) (shown d : List ℕ) → length shown ≡ length (take (width_in first) (drop at d)) → length (drop (at + width_in first) (with_header at d first shown)) ≤ length d
-header_fits at first shown d same =
-    let left = drop (at + length shown) d in
-    let parts = length-append (take (at - 1) (drop 1 d)) (shown ++ left) in
-    omega (arith, same, length-drop (at + width_in first) (with_header at d first shown), parts, length-append shown left, length-take (at - 1) (drop 1 d), length-drop 1 d, length-drop (at + length shown) d, length-take (width_in first) (drop at d), length-drop at d)
-
--- a datagram opens to a payload of at most as many bytes
-pub payload_fits : (protection : Protection) (aead : Aead) (at expected : ℕ) (d : List ℕ) (o : Opening) → KeepsLength protection.reveal → OpensNoMore aead.unseal → opened_packet protection aead at expected d ≡ Some o → length o.payload ≤ length d
-payload_fits protection aead at expected d o keeps opens = go (nat_lt n (2 ^ 62)) (aead.unseal n (take header packet) (drop header packet)) refl
-  where
-    packet : List ℕ
-    packet = unshielded protection at d
-
-    header : ℕ
-    header = at + width_in (slice_index packet 0)
-
-    n : ℕ
-    n = expanded (truncated_in at packet) expected
-
-    shorter : length (drop header packet) ≤ length d
-    shorter =
-        let first = protection.unmask (sample at d) (slice_index d 0) in
-        header_fits at first (protection.reveal (sample at d) (take (width_in first) (drop at d))) d (keeps (sample at d) (take (width_in first) (drop at d)))
-
-    go : (b : Bool) (u : Option (List ℕ)) → aead.unseal n (take header packet) (drop header packet) ≡ u → (if b then opening_of (slice_index packet 0) n u else None) ≡ Some o → length o.payload ≤ length d
-    go false u is opened = cc
-    go true None is opened = cc
-    go true (Some p) is opened =
-        let same : ◌≡◌ {A = Opening} (record { first = slice_index packet 0; number = n; payload = p }) o = cc in
-        let few = opens n (take header packet) (drop header packet) p is in
-        let long = ap (λ (x : Opening). length x.payload) same in
-        omega (arith, few, long, shorter)

@@ -26,8 +26,8 @@ use Rattle.quic_machine.specs.declared.run.Answer.TheVariants as answers
 use Rattle.quic_machine.specs.Ids.{known}
 use Rattle.quic_machine.specs.Policy.{Policy}
 use Rattle.quic_machine.specs.End.{End, ConnectionValue, HasFailed, hearing, drawing, with_numbers}
-use Rattle.quic_machine.specs.Heard.{Heard, is_last, heard_datagram, heard_given}
-use Rattle.quic_machine.specs.Control.{Control, after_told}
+use Rattle.quic_machine.specs.Heard.{is_last, heard_datagram, heard_given}
+use Rattle.quic_machine.specs.Control.{after_told}
 use Rattle.quic_machine.specs.Opens.{own_id_length, in_phase, opens_behind, would_open}
 use Rattle.quic_machine.specs.Receive.{Outcome, received, received_in, headed, opened_as, dropped, unopened_in, by_state, opening, told_by_state, told_opened_as, told_headed, told_received_in, told_received}
 use Rattle.quic_machine.specs.Lacking.{TakesFrames}

@@ -5,12 +5,13 @@ ghost use Rattle.std.specs.List.{list_any};
 ghost use Rattle.quic_machine.specs.Machine.{gives, reads_window, fails};
 ghost use Rattle.quic_headline.specs.Alone.{IsLoneStep, IsNew, FollowsAlone, BytesCame, MessagesCame};
 ghost use Rattle.quic_headline.specs.Keeping.{KeepsWithin};
+ghost use Rattle.quic_headline.specs.FewEvents.{EventsAreFew};
 ghost use Rattle.quic_connection_parts.specs.Telling.{windows_of};
 ghost use Rattle.quic_connection_parts.specs.Drawn.{words_of};
 ghost use Rattle.quic_connection.specs.Ends.{GoesOn};
 ghost use Rattle.quic_connection.specs.Lone.{lone_of, AddsAlone};
 
-use crate::running::at_end;
+use crate::stepping::at_end;
 use quic_congestion::Controller;
 use quic_connection_core::Connection;
 use quic_headline::headline;
@@ -39,7 +40,9 @@ pub struct Alone {
 /// of memory. And such an end keeps no more of it than its settings let come: bytes within the
 /// windows, streams within their counts, messages within the receive buffer, 64 ranges of numbers
 /// to acknowledge, and five connection IDs of the peer (RFC 9000, sections 4.1, 4.6, 5.1.1 and
-/// 13.2.3; RFC 9221, section 3).
+/// 13.2.3; RFC 9221, section 3). Its application is told something no more often than bytes came
+/// in datagrams that weren't dropped and writes were blocked, beside that each stream is finished,
+/// and the end lost, once.
 pub fn run_alone<H: HeaderKey + Drop, K: PacketKey + Drop, R: Rng + Drop, C: Controller>(
     alloc: Global,
     end: &mut Connection<H, K, R, C>,
@@ -63,11 +66,13 @@ pub fn run_alone<H: HeaderKey + Drop, K: PacketKey + Drop, R: Rng + Drop, C: Con
         → MessagesCame (policy_of H.protection K.aead K.seal_limit K.refusal_limit (words_of R.stream) end.old) theirs.now
         (take (length result.answers.items) calls.now) result.answers.items }
     ensures bounded { (new : IsNew end.old.end) → list_any fails result.answers.items ≡ false → KeepsWithin new.settings end.new.end }
+    ensures few_events { IsNew end.old.end → EventsAreFew theirs.now (take (length result.answers.items) calls.now) result.answers.items }
 {
     // What the machine keeps at one end alone: laws, which do nothing.
     headline::bytes_come();
     headline::messages_come();
     headline::keeps_within();
+    headline::tells_few();
     make_calls(alloc, end, given, theirs, calls)
 }
 

@@ -14,6 +14,7 @@ mod on_streams;
 mod pair;
 mod running;
 mod settling;
+mod stepping;
 mod views;
 
 pub use alone::{Alone, run_alone};
@@ -51,5 +52,6 @@ pub use quic_wire_core::{
     Code, ConnectionId, Dir, EcnCodepoint, FrameType, Reason, Side, StreamId, TransportError,
     VarInt, VarIntBoundsExceeded,
 };
-pub use running::{Ends, Given, Outcome, call_at, run, step};
+pub use running::{Ends, Given, Outcome, run};
 pub use settling::settle;
+pub use stepping::{call_at, step};

@@ -11,7 +11,8 @@ ghost use Rattle.quic_connection.specs.Ends.{world_of, AreOf, GoOn};
 ghost use Rattle.quic_connection.specs.Settled.{Talks, Leads, asks, quiet, polled_on, IsPolled, IsHandled, IsHalfHandled, IsHalfPolled, IsCutOff, AreOpen, AreAtRest, HasClosed, Settles, end_wakes, wakes};
 ghost use Rattle.quic_connection.specs.declared.running.Given.{Given};
 
-use crate::running::{Ends, Given, step};
+use crate::running::{Ends, Given};
+use crate::stepping::step;
 use quic_congestion::Controller;
 use quic_connection_core::Connection;
 use quic_machine::{Answer, Call, Delivery, Instant, RunEvent, Timer};

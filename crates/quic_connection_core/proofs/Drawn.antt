@@ -1,12 +1,12 @@
 -- How many words of its random source an end has drawn behind a datagram that it takes.
-use Rattle.std.proofs.Common.{◌≡◌, ℕ, ◌+◌, ◌-◌, ◌*◌, ◌<◌, ◌≤◌, ◌^◌, ◌&&◌, Bool, true, false, cond, List, [], ◌∷◌, ◌++◌, length, min, Option, Some, None, Result, Ok, Err, refl, sym, ap, ◌∙◌, arith}
+use Rattle.std.proofs.Common.{◌≡◌, ℕ, ◌+◌, ◌-◌, ◌*◌, ◌<◌, ◌≤◌, ◌^◌, Bool, true, false, cond, List, [], ◌∷◌, length, min, Option, Some, None, Result, Ok, Err, refl, ap, ◌∙◌, arith}
 use Rattle.std.specs.Prelude.{if◌then◌else◌, nat_lt, not, ◌==◌, ◌||◌}
 use Rattle.std.specs.declared.ops.Range.{Range}
 use Rattle.std.proofs.lemmas.Bool.{and_parts, ltb-true}
 use Rattle.std.proofs.lemmas.List.{length-append}
 use Rattle.quic_wire_core.specs.declared.shared.EcnCodepoint.{EcnCodepoint}
 use Rattle.quic_wire_core.specs.TransportError.{ErrorValue}
-use Rattle.quic_wire.specs.Value.{FrameValue, NewConnectionIdValue, ack, datagram, new_connection_id, retire_connection_id, path_challenge, path_response, ack_frequency}
+use Rattle.quic_wire.specs.Value.{FrameValue, NewConnectionIdValue, ack, datagram, new_connection_id, retire_connection_id, path_response, ack_frequency}
 use Rattle.quic_wire.specs.Items.{items}
 use Rattle.quic_wire.specs.declared.frame.InvalidFrame.{InvalidFrame}
 use Rattle.quic_packet.specs.Header.{key_phase, reserved_bits}
@@ -34,7 +34,7 @@ use Rattle.quic_machine.specs.MessageCalls.{most_message}
 use Rattle.quic_machine.specs.Sizes.{without_longer_if, shortened}
 use Rattle.quic_machine.specs.Validation.{word_of, validated_if}
 use Rattle.quic_machine.specs.Steps as steps
-use Rattle.quic_machine.specs.Receive.{Fault, closed_by_peer, violation, is_empty, dropped, Outcome, retired_for, id_judged, retirement_judged, asks_too_soon, frequency_judged, take_frame, is_read, take_payload, take_items, ends_as, processed, by_state, opened_to, unopened_in, drawn_if, with_ids_drawn, opened_as, opening, headed, received_in, received}
+use Rattle.quic_machine.specs.Receive.{Fault, closed_by_peer, violation, is_empty, dropped, retired_for, id_judged, retirement_judged, asks_too_soon, frequency_judged, take_frame, is_read, take_payload, take_items, ends_as, by_state, opened_to, unopened_in, drawn_if, opened_as, opening, headed, received_in, received}
 use Rattle.quic_recovery_core.specs.AckFrequency.{is_stale}
 use Rattle.quic_machine.specs.FrameCases.{Settling, IsApart, acked_keeps, frame_keeps, frame_leaves, items_keep, issues_may}
 

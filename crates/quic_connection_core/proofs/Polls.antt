@@ -19,7 +19,7 @@ use Rattle.quic_machine.specs.Tracking.{Tracking}
 use Rattle.quic_machine.specs.Closing.{ticked}
 use Rattle.quic_machine.specs.End.{End, ConnectionValue, with_end, with_closing, most_payload, policy_of, closed_by, words_drawn}
 use Rattle.quic_machine.specs.Control.{is_window_full, pacer_asked, Gated, lets, holds, with_pacing_timer}
-use Rattle.quic_machine.specs.Poll.{Polled, gives_nothing, gives_datagram, datagram_of, after_given, bounds, may_seal, close_to_go, closes_if, closes, probed, request_queued, asks_to_go, is_gated, gated, probe, most_of, Ready, leaves, leaves_unless, ready, goes, goes_as, draft_left, draft_of, rests, sends, polled_if, polled_in, polled, told_polled_in, told_polled, told_if, told_draft, waits, IsSilent}
+use Rattle.quic_machine.specs.Poll.{Polled, gives_nothing, gives_datagram, datagram_of, after_given, bounds, may_seal, close_to_go, closes_if, closes, probed, request_queued, asks_to_go, is_gated, gated, probe, most_of, Ready, leaves, leaves_unless, goes, goes_as, draft_left, draft_of, rests, sends, polled_if, polled_in, polled, told_polled_in, told_polled, told_if, told_draft, waits, IsSilent}
 use Rattle.quic_machine.specs.Poll as poll
 use Rattle.quic_machine.specs.DraftLaws.{MayGo, MayLeave}
 use Rattle.quic_connection_parts.specs.declared.leaving.Leaving.{Leaving}

@@ -1,22 +1,20 @@
 -- Numbers of connection ids that live, and their ids.
-use Rattle.std.proofs.Common.{◌≡◌, ◌≢◌, ℕ, zero, suc, ◌+◌, ◌-◌, ◌*◌, ◌≤◌, ◌<◌, ◌^◌, ◌||◌, ◌==◌, ◌⊎◌, inl, inr, Bool, true, false, not, cond, ltb, leb, List, [], ◌∷◌, ◌++◌, length, take, drop, min, Option, Some, None, refl, sym, ap, subst, ◌∙◌, arith}
-use Rattle.std.specs.Prelude.{map, set, IfSome, IfOk, Ok, Err, if◌then◌else◌, nat_lt, replicate}
-use Rattle.std.specs.List.{filter, slice_get, prefix_len, position, position_or_len, remove, range_with_len, AllByRecursion}
-use Rattle.std.specs.Ordering.{nat_cmp, match_ordering}
+use Rattle.std.proofs.Common.{◌≡◌, ◌≢◌, ℕ, zero, suc, ◌+◌, ◌-◌, ◌≤◌, ◌<◌, ◌^◌, ◌||◌, ◌==◌, ◌⊎◌, inl, inr, Bool, true, false, not, cond, ltb, leb, List, [], ◌∷◌, ◌++◌, length, Option, Some, None, refl, sym, ap, subst, ◌∙◌, arith}
+use Rattle.std.specs.Prelude.{map, set, IfSome, IfOk, Ok, Err, nat_lt, replicate}
+use Rattle.std.specs.List.{filter, position, position_or_len, remove, range_with_len, AllByRecursion}
+use Rattle.std.specs.Ordering.{nat_cmp}
 use Rattle.std.specs.BTreeMap.{is_at}
 use Rattle.std.specs.BTreeSet.{insert_key}
 use Rattle.std.specs.Cmp.{unsigned_tied}
-use Rattle.std.specs.declared.ops.Range.{Range}
 use Rattle.std.proofs.lemmas.Bool.{le-ltb, lt-ltb, ltb-false, ne_eqb, eq-eqb}
 use Rattle.std.proofs.lemmas.Bool.Decides.{eqb_tells}
-use Rattle.std.proofs.lemmas.List.{append_assoc, append-nil}
-use Rattle.rand_core.specs.Stream.{Stream, u64_call, after}
+use Rattle.rand_core.specs.Stream.{Stream, u64_call}
 use Rattle.quic_wire_core.specs.declared.shared.IssuedCid.{IssuedCid}
 use Rattle.quic_wire.specs.declared.frame.NewConnectionId.{NewConnectionId}
 use Rattle.quic_ids.specs.CidState.{Rise, below, without}
 use Rattle.quic_ids.specs.CidQueue.{PeerIds, with_cid, from, brought, first_used, known_with, after_insert, left_by, after_accepted, exceeds, retires_active, retired_for, accepted_answer, insert_answer}
 use Rattle.quic_ids.specs.declared.cid_queue.InsertError.TheVariants as inserts
-use Rattle.quic_machine.specs.Ids.{NumberedId, numbered, AreAsMany, with_number, with_id, words_behind, words_of_id, drawn_id, drawn_ids, later_numbers, Drawing, drawn_one, drawn_places, retires_for}
+use Rattle.quic_machine.specs.Ids.{NumberedId, numbered, AreAsMany, with_number, with_id, words_behind, words_of_id, drawn_id, drawn_ids, later_numbers, retires_for}
 use Rattle.quic_connection_parts.specs.Drawn.{words_of, after_words}
 use Rattle.quic_connection_parts.specs.Living.{RiseBelow, HaveNumbers}
 

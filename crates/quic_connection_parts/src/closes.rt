@@ -17,8 +17,9 @@ use quic_wire::frame::{Ack, Frame, Stream, put_frame};
 use quic_wire_core::{Code, FrameType, VarInt};
 use std::alloc::{AllocError, Global};
 
-/// The peer closed: what it said, once to be kept and once for the application. Or memory lacks
-/// for a place where both lie.
+/// That the peer closed, with what it said: once to be kept, and once for the application. Both
+/// are boxed, so that an answer that is none of this stays small; [`Trouble::Memory`] where that
+/// allocation fails.
 fn closed(alloc: Global, kept: PeerClose, told: PeerClose) -> Trouble
     requires { told ≡ kept }
     ensures { IfSome (fault_view result) (λ fault. fault ≡ closed_by_peer kept) }
@@ -34,7 +35,7 @@ fn closed(alloc: Global, kept: PeerClose, told: PeerClose) -> Trouble
 ///
 /// # Errors
 ///
-/// - [`Trouble::Memory`]: an allocation fails, of room for the copies. Nothing changes.
+/// - [`Trouble::Memory`]: an allocation fails, for a copy or for the box of both. Nothing changes.
 /// - [`Trouble::Closed`]: always else, with what the peer said.
 pub fn take_connection_close(
     alloc: Global,
@@ -70,7 +71,7 @@ fn closed_by_transport(
 ///
 /// # Errors
 ///
-/// - [`Trouble::Memory`]: an allocation fails, of room for the copies. Nothing changes.
+/// - [`Trouble::Memory`]: an allocation fails, for a copy or for the box of both. Nothing changes.
 /// - [`Trouble::Closed`]: always else, with what the peer said.
 pub fn take_application_close(alloc: Global, error_code: u64, reason: &[u8]) -> Result<(), Trouble>
     requires { error_code < 2 ^ 62 }

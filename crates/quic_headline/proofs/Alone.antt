@@ -1,6 +1,7 @@
 -- What one end makes of any calls, whatever datagrams are handed to it.
 pub mod Halves
 pub mod Taking
+pub mod Ignored
 pub mod Calls
 pub mod Places
 pub mod Bytes
@@ -10,3 +11,9 @@ pub mod Within
 pub mod Asked
 pub mod Kept
 pub mod Keeping
+pub mod Weights
+pub mod Telling
+pub mod Told
+pub mod Finished
+pub mod Lost
+pub mod Few

@@ -231,11 +231,12 @@ abbrev pub is_retirement : FrameValue → Bool
 is_retirement (retire_connection_id n) = true
 is_retirement f = false
 
--- whether it may retire the peer's id of a number: it brings that one, which may come late (section
--- 19.15). Where it asks for some to be retired, which no honest peer does here, it isn't said which
-abbrev pub retires : ℕ → FrameValue → Bool
-retires number (new_connection_id f) = (f.sequence == number) || nat_lt 0 f.retire_prior_to
-retires number f = false
+-- whether it may retire the peer's id of a number where one is in use: it brings that one, which
+-- comes late, below the one in use (section 19.15). Where it asks for some to be retired, which no
+-- honest peer does here, it isn't said which
+abbrev pub retires : ℕ → ℕ → FrameValue → Bool
+retires used number (new_connection_id f) = (f.sequence == number && nat_lt number used) || nat_lt 0 f.retire_prior_to
+retires used number f = false
 
 -- whether a call uses the next id of the peer (section 5.1.2)
 abbrev pub uses_next : Call → Answer → Bool
@@ -273,7 +274,7 @@ asks_for s (LimitOf (StreamCount dir)) = uses_up s.now.call s.now.answer || brin
 asks_for s Blocked = finds_blocked (λ id. true) s.now.call s.now.answer
 asks_for s (BlockedOn id) = finds_blocked (λ j. j == id) s.now.call s.now.answer
 asks_for s (NewId number) = brings is_retirement s
-asks_for s (Retirement number) = passes_over s number || brings (retires number) s
+asks_for s (Retirement number) = passes_over s number || brings (retires s.using number) s
 asks_for s Request = is_poll s.now.call && wants_anew s.asking s.before.own s.before.flight
 
 -- ---- the causes

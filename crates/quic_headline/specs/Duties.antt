@@ -92,15 +92,16 @@ lacks_size (Some half) = is_none half.final
 -- what an end owes that uses the peer's id of a number, gave these datagrams and was told this: of
 -- each stream that it didn't reset, each offset that was written, and the end if it was finished;
 -- each reset; STOP_SENDING of each stream that it stopped, while the final size isn't known
--- (section 3.5); the retirement of each id of the peer below that in use (section 5.1.2); each own
--- id but the first, while it lives (section 5.1.1); each limit; and each request, in the place of
--- which a newer one may come
+-- (section 3.5); the retirement of each id of the peer below that in use (section 5.1.2), by the
+-- calls at it, and by what it has, which says more of an end that isn't open; each own id but the
+-- first, while it lives (section 5.1.1); each limit; and each request, in the place of which a
+-- newer one may come
 abbrev pub IsOwed : ℕ → End → List Sent → List Told → Duty → Type 0
 IsOwed used e own told (Offset id offset) = (reset id told ≡ None) × (offset < length (written id told))
 IsOwed used e own told (Fin id) = (reset id told ≡ None) × (ended id told ≡ true)
 IsOwed used e own told (Reset id) = IsSome (reset id told)
 IsOwed used e own told (Stop id) = (stopped id told ≡ true) × (lacks_size (at e.streams.receiving.halves.live id) ≡ true)
-IsOwed used e own told (Retire number) = number < used
+IsOwed used e own told (Retire number) = (number < used) ⊎ (number < e.ids.peer.active)
 IsOwed used e own told (NewId number) = (1 ≤ number) × (is_in number e.ids.own.living ≡ true)
 IsOwed used e own told (Limit what value) = IsSaid e own what value
 IsOwed used e own told (Frequency number) = IsAsked own number

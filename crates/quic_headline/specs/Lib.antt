@@ -41,4 +41,5 @@ pub mod Expiring
 pub mod Closes
 pub mod Alone
 pub mod Keeping
+pub mod FewEvents
 pub mod Promises

@@ -40,6 +40,7 @@ ghost use Rattle.quic_headline.specs.Sizes.{SizeIsOfHistory, SizesMove, Datagram
 ghost use Rattle.quic_headline.specs.Threefold.{Threefold};
 ghost use Rattle.quic_headline.specs.Alone.{Lone, IsNew, FollowsAlone, BytesCame, MessagesCame};
 ghost use Rattle.quic_headline.specs.Keeping.{StaysWithin};
+ghost use Rattle.quic_headline.specs.FewEvents.{TellsFew};
 ghost use Rattle.quic_headline.specs.Expiring.{IdleMoments, AliveMoments, PathMoments, ClosedTimers, CloseMoments, CloseMomentsStay, DrainsInTime};
 ghost use Rattle.quic_headline.specs.Closes.{ClosesSayWhy, PeerClosesCome, ClosesAreOwed, OwedClosesGo, DrainedAreSilent};
 ghost use Rattle.quic_headline.specs.Validated.{ValidatedByAnswer, AnswersValidate};
@@ -646,8 +647,8 @@ pub fn probes_hasten()
 /// asks for it, as a write of bytes, a finish, a reset, a stop, a message or PING; PING, where
 /// keep-alive asks for it, or it or IMMEDIATE_ACK, where a PTO probe waits at a poll that gives
 /// nothing; a write is blocked; bytes are read, or a frame that comes uses up what may come, or may
-/// end a stream; the peer retires an id, or the next id of the peer is used, or one comes; an ACK
-/// frame is due, as [`acks_are_due`] has it, or a packet came with the mark CE, or a poll finds
+/// end a stream; the peer retires an id, or the next id of the peer is used, or one comes late; an
+/// ACK frame is due, as [`acks_are_due`] has it, or a packet came with the mark CE, or a poll finds
 /// that more than ten came that aren't ack-eliciting; a poll finds that the peer is to be asked how
 /// often to acknowledge; a datagram that bore it is lost; or the loss timer expired, and a PTO
 /// probe says it again. At the other end nothing begins to wait (RFC 9000, sections 5.1, 13.2.1 and
@@ -790,6 +791,15 @@ pub fn messages_come()
 /// 5.1.1).
 pub fn keeps_within()
     ensures { (p : Policy) (theirs : List (List ℕ)) (x left : Lone) (calls : List Call) (told : List Answer) → StaysWithin p theirs x calls told left }
+{}
+
+/// Whatever datagrams are handed to an end, its application is told something no more often than
+/// bytes came in those that it took, or at which it closed, and writes were blocked, as long as it
+/// doesn't fail; and beside these of each stream once at most that it is finished, and once at most
+/// that the end is lost (RFC 9000, section 2.4). It wants that header keys show as many bytes as
+/// stand there, and that what packet keys open has no more than there were.
+pub fn tells_few()
+    ensures { (p : Policy) (theirs : List (List ℕ)) (x left : Lone) (calls : List Call) (told : List Answer) → TellsFew p theirs x calls told left }
 {}
 
 /// A run less any choice of its idle events, which are injections and deliveries that their end

@@ -11,6 +11,10 @@ module _ (size : List ℕ → ℕ) where
   left_for_all room len [] e = refl
   left_for_all room len (m ∷ ms) e = rw e refl
 
+  -- where it doesn't fit beside all of them, the oldest goes
+  pub left_for_fewer : (room len : ℕ) (m : List ℕ) (ms : List (List ℕ)) → nat_le (bytes_of size (m ∷ ms) + len) room ≡ false → left_for size room len (m ∷ ms) ≡ left_for size room len ms
+  left_for_fewer room len m ms e = rw e refl
+
   -- none is left of none
   pub left_for_none : (room len : ℕ) (ms : List (List ℕ)) → length ms ≡ 0 → left_for size room len ms ≡ ms
   left_for_none room len [] e = refl

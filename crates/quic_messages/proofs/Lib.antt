@@ -2,4 +2,5 @@ pub mod Fronts
 pub mod Leaving
 pub mod Unread
 pub mod Turning
+pub mod Longest
 pub mod Counting

@@ -15,7 +15,7 @@ module _ {X : Type 0} (keep : X → Bool) (xs : List X) (i : ℕ) (x : X) (rest 
   front = popped ∙ ap (λ ys. ys ++ filter keep (take i xs)) cut
 
   -- the first of the queue is the next of the list
-  next : get_or xs i x ≡ x
+  pub next : get_or xs i x ≡ x
   next = sym (ap (head_of x) front)
 
   -- the others stand as they did

@@ -19,7 +19,7 @@ use std::marker::Model;
 /// The messages of an end that came and weren't read, and those that wait to be sent, each in the
 /// order in which they came (quinn-proto's `DatagramState`). A call takes constant time, amortized,
 /// beside that for the message and for those that it drops; only
-/// [`drop_oversized`](Self::drop_oversized) walks all that wait.
+/// [`drop_oversized`](Self::drop_oversized) walks all that wait, where one of them may be too long.
 #[derive(Drop)]
 pub struct DatagramState {
     copies: Copies,
@@ -170,7 +170,10 @@ impl DatagramState {
     }
 
     /// Drops the messages that wait to be sent and are longer than `size` bytes, as a path that
-    /// takes less makes necessary (quinn-proto's `DatagramState::drop_oversized`).
+    /// takes less makes necessary (quinn-proto's `DatagramState::drop_oversized`). It walks all
+    /// that wait where one may be longer, and takes constant time else: each walk drops one, or
+    /// follows one as long that was sent. So nobody makes it walk more often than such ones were
+    /// queued.
     pub fn drop_oversized(&mut self, size: usize)
         ensures { self.new ≡ without_longer size self.old }
     {

@@ -20,7 +20,7 @@ use Rattle.quic_headline.specs.Waited.{stands, is_path_challenge}
 use Rattle.quic_headline.specs.Begins.{Seen, Control, Ack, Ping, Challenge, Response, Byte, Frame, LimitOf, NewId, Retirement, control_waits, byte_waits, brings, asks_for, may_hasten, makes_ping, acknowledged_by, IsPending, HasCause, WasLost, still, begins, BeginsAt}
 use Rattle.quic_worked.specs.Credit.{narrow_bytes, credit_written, credit_sent, credit_read, credit_given, ReadsEight}
 use Rattle.quic_worked.specs.Raised.{raised_events, raised_told, after_server_ping, first_ping, second_ping, third_came, third_due, limit_came, NeverComes}
-use Rattle.quic_worked.specs.Begun.{sending_seen, reading_seen, raising_seen, pinging_seen, waiting_seen, losing_seen, challenged_seen, using_seen, retired_seen, unanswered_server, limit_at_each_poll, ack_at_each_call, ping_at_each_timeout, bytes_at_each_poll, challenge_at_each_call, response_at_each_call, id_at_each_call, retirement_at_each_call, retires_the_next, NeverRenamed}
+use Rattle.quic_worked.specs.Begun.{sending_seen, reading_seen, raising_seen, pinging_seen, waiting_seen, losing_seen, challenged_seen, bringing_seen, using_seen, retired_seen, unanswered_server, limit_at_each_poll, ack_at_each_call, ping_at_each_timeout, bytes_at_each_poll, challenge_at_each_call, response_at_each_call, id_at_each_call, retirement_at_each_call, retires_the_next, retires_at_once, NeverBrought, NeverRenamed}
 use Rattle.quic_worked.specs.Acknowledged.{client_acked}
 use Rattle.quic_worked.specs.Worked.{both_steady}
 use Rattle.quic_worked.specs.Renamed.{renaming_events, renaming_answers, once_renamed}
@@ -374,6 +374,39 @@ not_next = step_on refl client_tells (step_on refl server_tells (step_on refl cl
 
 pub never_next : NeverRenamed retires_the_next
 never_next views f = not_next.never views retires_the_next f refl
+
+-- an id of the peer comes, and isn't late
+brought_flight : bringing_seen.before.flight.flying ≡ bringing_seen.behind.flight.flying
+unfolding client_acked
+brought_flight = refl
+
+brought_unasked : asks_for bringing_seen (Retirement 1) ≡ false
+unfolding client_acked
+brought_unasked = refl
+
+none_retired : control_waits (once_renamed 2).client.waiting.frames (Retirement 1) ≡ false
+unfolding once_renamed
+none_retired = refl
+
+retired_at_once : control_waits retires_at_once.client.waiting.frames (Retirement 1) ≡ true
+unfolding once_renamed
+retired_at_once = refl
+
+pub at_once_shows : BeginsAt bringing_seen (once_renamed 2).client retires_at_once.client → ⊥
+at_once_shows = control_unasked bringing_seen (Retirement 1) (once_renamed 2).client retires_at_once.client refl brought_flight brought_unasked none_retired retired_at_once
+
+still_unretired : control_waits (once_renamed 3).client.waiting.frames (Retirement 1) ≡ false
+unfolding once_renamed
+still_unretired = refl
+
+other_at_once : retires_at_once ≡ once_renamed 3 → ⊥
+other_at_once e = both_ways (control_waits retires_at_once.client.waiting.frames (Retirement 1)) (ap (λ (w : World). control_waits w.client.waiting.frames (Retirement 1)) e ∙ still_unretired) retired_at_once
+
+not_at_once : NeverEnds (λ w. retires_at_once ≡ w) both_steady (take 3 renaming_events) (take 3 renaming_answers)
+not_at_once = step_on refl client_tells (step_on refl server_tells (step_on refl client_takes (ends_here other_at_once)))
+
+pub never_at_once : NeverBrought retires_at_once
+never_at_once views f = not_at_once.never views retires_at_once f refl
 
 id_unasked : (read : ReadCall) → asks_for (pinging_seen read) (NewId 1) ≡ false
 unfolding limit_came

@@ -1,16 +1,16 @@
 -- What an end may keep, and ends that keep more.
-use Rattle.std.proofs.Common.{◌≡◌, ◌≤◌, ◌+◌, ℕ, Some, refl, arith}
+use Rattle.std.proofs.Common.{◌≡◌, ◌≤◌, ◌+◌, ℕ, List, [], ◌∷◌, Some, refl, arith}
 use Rattle.quic_streams_parts.specs.RecvHalf.{RecvHalf}
 use Rattle.quic_streams_parts.specs.Table.{at}
 use Rattle.quic_streams_parts.specs.Dirs.{of}
 use Rattle.quic_wire_core.specs.declared.stream_id.Dir.TheVariants.{Bi}
 use Rattle.quic_assembler.specs.Arrived.{bytes_read_of}
 use Rattle.quic_streams_state.specs.State.{seen, consumed}
-use Rattle.quic_machine.specs.End.{End}
 use Rattle.quic_headline.specs.Keeping.{KeepsWithin}
+use Rattle.quic_headline.specs.FewEvents.{TellFew, EventsAreFew}
 use Rattle.quic_worked.specs.Settings.{plain_settings}
 use Rattle.quic_worked.specs.Worked.{once_taken}
-use Rattle.quic_worked.specs.Kept.{took_five, four_on_a_stream, four_on_all, one_at_once, two_opened, room_of_one, two_bytes, two_empty, too_many_runs, too_many_known}
+use Rattle.quic_worked.specs.Kept.{took_five, four_on_a_stream, four_on_all, one_at_once, two_opened, room_of_one, two_bytes, two_empty, too_many_runs, too_many_known, asks_once, told_once, hands_in_before, taken_before, dropped_before, asks_twice, finished_twice, lost_twice}
 
 -- the half of the stream that came, and what is read of it
 the_half : (h : RecvHalf) × (at took_five.streams.receiving.halves.live 0 ≡ Some h) × (h.seen ≡ 5) × (bytes_read_of h.arrived ≡ 0)
@@ -60,3 +60,20 @@ runs_not k = let most : ◌≤◌ 65 64 = k.numbers in omega (arith, most)
 
 pub ids_not : KeepsWithin plain_settings too_many_known → ⊥
 ids_not k = let most : ◌≤◌ 5 4 = k.ids in omega (arith, most)
+
+-- ---- what an application is told
+
+pub nothing_not : EventsAreFew [] asks_once told_once → ⊥
+nothing_not few = let most : ◌≤◌ 1 0 = (few 1 refl).few in omega (arith, most)
+
+pub datagram_lets : (byte : ℕ) (bytes : List ℕ) → TellFew ((byte ∷ bytes) ∷ []) hands_in_before taken_before
+datagram_lets byte bytes = record { few = omega arith; finished = λ id. omega arith; lost = omega arith }
+
+pub dropped_not : (byte : ℕ) (bytes : List ℕ) → EventsAreFew ((byte ∷ bytes) ∷ []) hands_in_before dropped_before → ⊥
+dropped_not byte bytes few = let most : ◌≤◌ 1 0 = (few 2 refl).few in omega (arith, most)
+
+pub again_not : EventsAreFew [] asks_twice finished_twice → ⊥
+again_not few = let most : ◌≤◌ 2 1 = (few 2 refl).finished 0 in omega (arith, most)
+
+pub lost_not : EventsAreFew [] asks_twice lost_twice → ⊥
+lost_not few = let most : ◌≤◌ 2 1 = (few 2 refl).lost in omega (arith, most)

@@ -1,8 +1,8 @@
 -- Ends at which something waits without a cause: MAX_DATA and bytes behind the poll that gave them,
 -- PING behind a timeout, and an ACK frame though no packet came; and behind a call that asks for
 -- PING PATH_CHALLENGE, PATH_RESPONSE, NEW_CONNECTION_ID and RETIRE_CONNECTION_ID. They are those of
--- the run in which a limit is lost and goes again, but for that. And a client that retires another
--- id than that which it used, where it uses the next one.
+-- the run in which a limit is lost and goes again, but for that. And clients that retire another id
+-- of the peer than that which they used, where they use the next one, or one as it comes.
 use Rattle.std.specs.Prelude.{true, List, [], ◌∷◌, take, Some, None, Ok}
 use Rattle.quic_machine.specs.declared.run.ReadCall.{ReadCall}
 use Rattle.quic_machine.specs.declared.run.Call.TheVariants as calls
@@ -51,6 +51,10 @@ losing_seen read = seen_at (raised_run read) Server 16 (calls.Deliver (record { 
 -- the client takes the datagram in which the server asks it to answer
 abbrev pub challenged_seen : Seen
 challenged_seen = seen_at answered_run Client 5 (calls.Deliver delivery) (answers.Deliver receives.Taken)
+
+-- the client takes the datagram that brings ids of its peer
+abbrev pub bringing_seen : Seen
+bringing_seen = seen_at renaming_run Client 2 (calls.Deliver delivery) (answers.Deliver receives.Taken)
 
 -- the client uses the next id of its peer
 abbrev pub using_seen : Seen
@@ -109,6 +113,14 @@ retirement_at_each_call = telling (λ f. record f { retire_cids = 0 ∷ [] })
 -- the client that uses the next id of its peer retires that one, beside the one that it used
 abbrev pub retires_the_next : World
 retires_the_next = let w : World = once_renamed 4 in with_client w (let e : End = w.client in record e { waiting = record e.waiting { frames = record e.waiting.frames { retire_cids = 0 ∷ 1 ∷ [] } } })
+
+-- the client retires an id of its peer as it comes
+abbrev pub retires_at_once : World
+retires_at_once = let w : World = once_renamed 3 in with_client w (let e : End = w.client in record e { waiting = record e.waiting { frames = record e.waiting.frames { retire_cids = 1 ∷ [] } } })
+
+-- the first events lead to no such end
+abbrev pub NeverBrought : World → Type 0
+NeverBrought end = (views : List View) → Follows worked_policies both_steady (take 3 renaming_events) (take 3 renaming_answers) views end → ⊥
 
 -- the events up to there lead to no such end
 abbrev pub NeverRenamed : World → Type 0

@@ -4,8 +4,8 @@
 -- give their datagrams.
 use Rattle.std.specs.Prelude.{ℕ, List, [], ◌∷◌, ◌++◌, replicate, take, Option, Some, None, Ok}
 use Rattle.quic_wire_core.specs.declared.stream_id.Side.TheVariants.{Client, Server}
-use Rattle.quic_wire.specs.Close.{by_application}
-use Rattle.quic_wire.specs.Value.{ApplicationCloseValue, application_close}
+use Rattle.quic_wire.specs.Close.{CloseValue, by_transport, by_application, transport_close}
+use Rattle.quic_wire.specs.Value.{FrameValue, ApplicationCloseValue, connection_close, application_close}
 use Rattle.quic_machine.specs.declared.answers.LostReason.TheVariants as reasons
 use Rattle.quic_machine.specs.declared.answers.Received.TheVariants as receives
 use Rattle.quic_machine.specs.declared.answers.DropReason.TheVariants as drops
@@ -226,6 +226,14 @@ other_text = said_as (text_payload 7 hellp)
 -- a server that shows another code than came
 abbrev pub other_peer : Run
 other_peer = record closing_run { views = take 2 closing_run.views ++ record { client = closing_view; server = drained_view 1199 (reasons.Peer (close_read 8)) } ∷ [] }
+
+-- a close of QUIC that names the frame at fault by its type, or none where that is 0
+abbrev pub names_frame : ℕ → FrameValue
+names_frame ty = connection_close (record { code = 7; frame_type = ty; reason = [] })
+
+-- what is told of one, with the type of that frame where there is one
+abbrev pub told_frame : Option ℕ → CloseValue
+told_frame ty = by_transport (transport_close 7 ty [])
 
 -- ---- machines that say it too often, or too seldom
 

@@ -3,9 +3,18 @@
 use Rattle.std.specs.Prelude.{ℕ, ◌+◌, ◌*◌, List, [], ◌∷◌, map, Some}
 use Rattle.std.specs.List.{range_with_len}
 use Rattle.quic_config.specs.Transport.{Settings}
+use Rattle.quic_streams_parts.specs.declared.answers.StreamEvent.TheVariants.{Finished}
+use Rattle.quic_machine.specs.declared.answers.Event.TheVariants as events
+use Rattle.quic_machine.specs.declared.answers.LostReason.TheVariants as reasons
+use Rattle.quic_machine.specs.declared.answers.DropReason.TheVariants as drops
+use Rattle.quic_machine.specs.declared.answers.Received.TheVariants as receives
+use Rattle.quic_machine.specs.declared.run.Call.{Call}
+use Rattle.quic_machine.specs.declared.run.Call.TheVariants as calls
+use Rattle.quic_machine.specs.declared.run.Answer.{Answer}
+use Rattle.quic_machine.specs.declared.run.Answer.TheVariants as answers
 use Rattle.quic_machine.specs.End.{End}
 use Rattle.quic_worked.specs.Settings.{plain_settings}
-use Rattle.quic_worked.specs.Worked.{once_taken, issued}
+use Rattle.quic_worked.specs.Worked.{once_taken, issued, delivery}
 
 -- an end that took five bytes of a stream, and its FIN
 abbrev pub took_five : End
@@ -50,3 +59,37 @@ too_many_runs = let e : End = took_five in record e { acknowledging = record e.a
 -- five ids of the peer are known beside the one in use
 abbrev pub too_many_known : End
 too_many_known = let e : End = took_five in record e { ids = record e.ids { peer = record e.ids.peer { later = map (λ n. issued n) (range_with_len 1 5) } } }
+
+-- ---- what an application is told
+
+-- it asks what it is told
+abbrev pub asks_once : List Call
+asks_once = calls.Event ∷ []
+
+-- that a message came
+abbrev pub told_once : List Answer
+told_once = answers.Event (Some events.Message) ∷ []
+
+-- a datagram is handed in before that
+abbrev pub hands_in_before : List Call
+hands_in_before = calls.Deliver delivery ∷ asks_once
+
+-- and is taken
+abbrev pub taken_before : List Answer
+taken_before = answers.Deliver receives.Taken ∷ told_once
+
+-- or is dropped
+abbrev pub dropped_before : List Answer
+dropped_before = answers.Deliver (receives.Dropped drops.NotOpened) ∷ told_once
+
+-- it asks what it is told, and once more
+abbrev pub asks_twice : List Call
+asks_twice = calls.Event ∷ asks_once
+
+-- that a stream is finished, both times
+abbrev pub finished_twice : List Answer
+finished_twice = answers.Event (Some (events.Stream (Finished 0))) ∷ answers.Event (Some (events.Stream (Finished 0))) ∷ []
+
+-- that the end is lost
+abbrev pub lost_twice : List Answer
+lost_twice = answers.Event (Some (events.Lost reasons.Idle)) ∷ answers.Event (Some (events.Lost reasons.Idle)) ∷ []

@@ -6,7 +6,7 @@ ghost use Rattle.quic_headline.specs.Duties.{AllData};
 ghost use Rattle.quic_headline.specs.Begins.{Challenge, Response, Frame, LimitOf, NewId, Retirement, IsPending, HasCause, asks_for, WasLost, BeginsAt};
 ghost use Rattle.quic_worked.specs.Credit.{ReadsEight, credit_written, credit_read, credit_given};
 ghost use Rattle.quic_worked.specs.Raised.{raised_events, raised_told, third_came, NeverComes};
-ghost use Rattle.quic_worked.specs.Begun.{sending_seen, reading_seen, raising_seen, pinging_seen, waiting_seen, losing_seen, challenged_seen, using_seen, retired_seen, unanswered_server, limit_at_each_poll, ack_at_each_call, ping_at_each_timeout, bytes_at_each_poll, challenge_at_each_call, response_at_each_call, id_at_each_call, retirement_at_each_call, retires_the_next, NeverRenamed};
+ghost use Rattle.quic_worked.specs.Begun.{sending_seen, reading_seen, raising_seen, pinging_seen, waiting_seen, losing_seen, challenged_seen, bringing_seen, using_seen, retired_seen, unanswered_server, limit_at_each_poll, ack_at_each_call, ping_at_each_timeout, bytes_at_each_poll, challenge_at_each_call, response_at_each_call, id_at_each_call, retirement_at_each_call, retires_the_next, retires_at_once, NeverBrought, NeverRenamed};
 ghost use Rattle.quic_worked.specs.Renamed.{once_renamed};
 ghost use Rattle.quic_worked.specs.Unvalidated.{once_answered};
 
@@ -84,4 +84,11 @@ pub fn needless_frames_show()
 pub fn next_retired_shows()
     ensures retirement { BeginsAt using_seen (once_renamed 3).client retires_the_next.client → ⊥ }
     ensures machine { NeverRenamed retires_the_next }
+{}
+
+/// A client that retires an id of its peer as that comes, which isn't late, breaks the clause
+/// (section 19.15), and no run comes to it.
+pub fn retirement_at_once_shows()
+    ensures retirement { BeginsAt bringing_seen (once_renamed 2).client retires_at_once.client → ⊥ }
+    ensures machine { NeverBrought retires_at_once }
 {}

@@ -1,6 +1,6 @@
 //! Runs in which a client whose application closes it says so, and is drained, computed, and
 //! machines whose closes go wrong. Each function does nothing: its contract is the law.
-ghost use Rattle.std.specs.Prelude.{◌≡◌, true, false, ◌∷◌, [], Some};
+ghost use Rattle.std.specs.Prelude.{◌≡◌, true, false, ◌∷◌, [], Some, None};
 ghost use Rattle.quic_wire_core.specs.declared.stream_id.Side.TheVariants.{Client, Server};
 ghost use Rattle.quic_wire.specs.Close.{by_application};
 ghost use Rattle.quic_wire.specs.Value.{application_close};
@@ -11,12 +11,12 @@ ghost use Rattle.quic_headline.specs.Headline.{IsHonest, IsRun};
 ghost use Rattle.quic_headline.specs.Polls.{GaveOne, seen_at};
 ghost use Rattle.quic_headline.specs.Causes.{Shows};
 ghost use Rattle.quic_headline.specs.Expiring.{ClosedTimers, CloseMoments, CloseMomentsStay, DrainsInTime};
-ghost use Rattle.quic_headline.specs.Closes.{SaysWhy, ClosesSayWhy, GaveClose, PeerClosesCome, owed, ClosesAreOwed, MayClose, OwedClosesGo, DrainedAreSilent};
+ghost use Rattle.quic_headline.specs.Closes.{SaysWhy, ClosesSayWhy, GaveClose, IsToldAs, PeerClosesCome, owed, ClosesAreOwed, MayClose, OwedClosesGo, DrainedAreSilent};
 ghost use Rattle.quic_worked.specs.Broken.{IsNoRun};
 ghost use Rattle.quic_worked.specs.Machines.{NeverGives};
 ghost use Rattle.quic_worked.specs.Renamed.{ids_sent};
 ghost use Rattle.quic_worked.specs.Timed.{NeverShows};
-ghost use Rattle.quic_worked.specs.Ending.{once_silent, ending_run, close_said, close_sent, keeps_loss_timer, closes_briefly, closes_from_before, closes_anew, drains_at_once, never_drains, other_code, other_text, other_peer, closes_twice, closes_once, closes_drained};
+ghost use Rattle.quic_worked.specs.Ending.{once_silent, ending_run, close_said, close_sent, keeps_loss_timer, closes_briefly, closes_from_before, closes_anew, drains_at_once, never_drains, other_code, other_text, other_peer, names_frame, told_frame, closes_twice, closes_once, closes_drained};
 
 /// A client whose application closes gives its close once, and once more behind a datagram that
 /// came. The server takes it, and the client is drained three probe timeouts behind (RFC 9000,
@@ -104,6 +104,16 @@ pub fn wrong_peer_close_shows()
     ensures came { PeerClosesCome other_peer → ⊥ }
     ensures premises { IsHonest other_peer }
     ensures machine { NeverShows other_peer }
+{}
+
+/// Of a close that names no frame at fault none is told, and of one that does that one: no other,
+/// and not none (RFC 9000, section 19.19).
+pub fn frame_at_fault_is_told()
+    ensures none { IsToldAs (names_frame 0) (told_frame None) }
+    ensures named { IsToldAs (names_frame 8) (told_frame (Some 8)) }
+    ensures other { IsToldAs (names_frame 8) (told_frame (Some 9)) → ⊥ }
+    ensures made_up { IsToldAs (names_frame 0) (told_frame (Some 8)) → ⊥ }
+    ensures left_out { IsToldAs (names_frame 8) (told_frame None) → ⊥ }
 {}
 
 /// Closing: a client gives its close at each poll.

@@ -43,6 +43,10 @@ pub enum Attack {
     Challenges,
     /// NEW_CONNECTION_ID, each of which asks that one be retired.
     NewIds,
+    /// NEW_CONNECTION_ID, each of which brings another id into use, of a byte and of 20 in turn,
+    /// while 10,000 messages wait that the window doesn't let go, and one that is too long with the
+    /// longer id. No more than 50 retirements may wait, so that `count` is 1.
+    LongerIds,
     /// NEW_CONNECTION_ID of numbers that were retired.
     LateIds,
     /// RETIRE_CONNECTION_ID, of 40 that live in turn, and again of one that was retired.
@@ -59,7 +63,7 @@ pub enum Attack {
 }
 
 /// All of them, by their names.
-const NAMES: [(&str, Attack); 26] = [
+const NAMES: [(&str, Attack); 27] = [
     ("honest", Attack::Honest),
     ("unopened", Attack::Unopened),
     ("repeated", Attack::Repeated),
@@ -80,6 +84,7 @@ const NAMES: [(&str, Attack); 26] = [
     ("limits", Attack::Limits),
     ("challenges", Attack::Challenges),
     ("new-ids", Attack::NewIds),
+    ("longer-ids", Attack::LongerIds),
     ("late-ids", Attack::LateIds),
     ("retirements", Attack::Retirements),
     ("empty-messages", Attack::EmptyMessages),

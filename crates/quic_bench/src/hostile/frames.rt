@@ -159,6 +159,19 @@ fn put_forgotten(out: &mut Vec<u8>, room: usize) -> Result<u64, AllocError> {
     Ok(more.saturating_add(1))
 }
 
+/// Appends a NEW_CONNECTION_ID frame for the next number, with an id of a byte or of 20, which asks
+/// that all before be retired.
+fn put_longer_id(out: &mut Vec<u8>, index: u64) -> Result<(), AllocError> {
+    let sequence = index.saturating_add(NEXT_ID);
+    let len = if index % 2 == 0 { 1 } else { 20 };
+    put_two(out, 0x18, sequence, sequence)?;
+    out.push(len)?;
+    // The id, and a token of 16 bytes.
+    let byte = (index % 256) as u8;
+    out.resize(out.len().saturating_add(usize::from(len) + 16), byte)?;
+    Ok(())
+}
+
 /// Appends a NEW_CONNECTION_ID frame for a number, which asks that those below another be retired.
 fn put_id(out: &mut Vec<u8>, sequence: u64, least: u64) -> Result<(), AllocError> {
     put_two(out, 0x18, sequence, least)?;
@@ -243,6 +256,7 @@ fn put_control(out: &mut Vec<u8>, attack: Attack, index: u64) -> Result<(), Allo
     match attack {
         Attack::Challenges => put_challenge(out, index),
         Attack::NewIds => put_new_id(out, index),
+        Attack::LongerIds => put_longer_id(out, index),
         Attack::LateIds => put_id(out, index % LATE_IDS, 0),
         Attack::Retirements => put_one(out, 0x19, retired_by(index)),
         Attack::EmptyMessages => put_one(out, 0x31, 0),

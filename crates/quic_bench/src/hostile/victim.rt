@@ -1,8 +1,8 @@
 //! What the end does that is attacked, and its application.
-use crate::application::{Reader, accept, take_events};
+use crate::application::{Reader, accept, pattern, take_events};
 use crate::fault::Fault;
 use crate::pair::End;
-use quic_connection::{Dir, Event, Instant, StreamEvent, StreamId, VarInt};
+use quic_connection::{Copies, Dir, Event, Instant, StreamEvent, StreamId, VarInt};
 use std::alloc::Global;
 
 /// What goes on at the end that is attacked.
@@ -41,6 +41,23 @@ fn reset(end: &mut End, id: StreamId, code: VarInt) -> Result<(), Fault> {
         Ok(()) => Ok(()),
         Err(_) => Err(Fault::ClosedStream),
     }
+}
+
+/// Queues so many messages of so many bytes, but no more than one may have.
+///
+/// # Errors
+///
+/// - [`Fault::Memory`]: an allocation fails. Those before are queued.
+/// - [`Fault`]: as the endpoint answers.
+pub fn queue_messages(end: &mut End, alloc: Global, count: u64, size: usize) -> Result<(), Fault> {
+    let mut copies = Copies::new(alloc);
+    let mut data = pattern(alloc)?;
+    data.truncate(end.datagrams().max_size().unwrap_or(0).min(size));
+    for _ in 0..count {
+        let message = copies.copy(&data)?;
+        end.datagrams().send(message, false)?;
+    }
+    Ok(())
 }
 
 impl Victim {

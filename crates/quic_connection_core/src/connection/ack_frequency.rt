@@ -69,8 +69,8 @@ impl<H: HeaderKey + Drop, K: PacketKey + Drop, R: Rng + Drop, C: Controller> Con
     }
 
     /// Sees that ACK_FREQUENCY waits where the peer is to be asked anew how often to acknowledge:
-    /// at first, and where another delay is wanted by then. A peer that told no min_ack_delay isn't
-    /// asked (section 3).
+    /// at first, and where another delay is wanted by then. A peer that advertised no min_ack_delay
+    /// isn't asked (section 3).
     pub(crate) fn queue_ack_frequency(&mut self)
         ensures { self.new ≡ with_end self.old (request_queued self.old.end) }
     {

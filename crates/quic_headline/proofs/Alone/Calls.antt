@@ -1,11 +1,12 @@
 -- Each call at an end keeps that what waits of its streams came, where the frames of what is handed
 -- in did.
-use Rattle.std.proofs.Common.{◌≡◌, ℕ, ◌+◌, List, [], ◌∷◌, Some, None, Ok, Err, sym, subst, inl, inr}
+use Rattle.std.proofs.Common.{◌≡◌, ℕ, ◌+◌, List, [], ◌∷◌, Some, None, Ok, Err, refl, sym, subst, inl, inr}
 use Rattle.std.specs.Prelude.{slice_get}
 use Rattle.quic_wire.specs.Value.{StreamValue, stream}
 use Rattle.quic_sets.specs.Parts.{byte_from}
 use Rattle.quic_assembler.specs.declared.assembler.Chunk.{Chunk}
 use Rattle.quic_streams_state.specs.declared.state.StreamsState.{StreamsState}
+use Rattle.quic_streams_state.specs.State.{sending_half}
 use Rattle.quic_streams_state.specs.Reading.{Told, told_by, after_next}
 use Rattle.quic_streams_laws.specs.Quiet.{IsQuiet}
 use Rattle.quic_streams_laws.specs.QuietLaws.{is_quiet}
@@ -56,8 +57,8 @@ module _ (came : ℕ → ℕ → ℕ → Type 0) where
   came_keeps = record {
     kept = record { quiet = quiet; begun = λ s id ordered i. came_begun came s id ordered i; next = λ told s id most answer is i. came_next came told s id most answer is i; stop = λ s p id code i. came_stop came s p id code i; received_reset = λ s p id i. by_received_reset P (came_kept came) s p id i };
     accept = λ dir s i. by_accept P (came_kept came) dir s (λ may. may) i;
-    write = write_leaves P (by_blocked P (came_kept came)) (put_leaves came);
-    chunks = chunks_leave P (by_blocked P (came_kept came)) (put_leaves came);
+    write = λ b answer s p id bytes i. write_leaves P (put_leaves came) b answer s p id bytes (λ full. by_blocked P (came_kept came) s p id (sending_half s id) refl i) i;
+    chunks = λ b answer s p id chunks i. chunks_leave P (put_leaves came) b answer s p id chunks (λ full. by_blocked P (came_kept came) s p id (sending_half s id) refl i) i;
     stream = λ s p f brings i. came_stream came s p f brings i;
     reset = λ s p f i. came_reset came s p f i;
   }

@@ -1,7 +1,7 @@
 -- Each call at an end keeps a fact of its streams, whatever datagrams are handed to it, where each
 -- word about streams keeps it.
-use Rattle.std.proofs.Common.{◌≡◌, ℕ, zero, suc, Bool, true, false, List, [], ◌∷◌, length, take, Option, Some, None, Result, Ok, Err, refl, sym, subst, inl, inr}
-use Rattle.std.specs.Prelude.{◌==◌, slice_get}
+use Rattle.std.proofs.Common.{◌≡◌, ℕ, zero, suc, Bool, true, false, List, [], ◌∷◌, length, take, Option, Some, None, Result, Ok, Err, refl, sym, ap, subst, inl, inr}
+use Rattle.std.specs.Prelude.{ℤ, ◌==◌, slice_get}
 use Rattle.std.proofs.lemmas.Bool.{cond_both}
 use Rattle.quic_wire_core.specs.declared.stream_id.Dir.{Dir}
 use Rattle.quic_wire.specs.Value.{StreamValue, ResetStreamValue, stream}
@@ -13,10 +13,11 @@ use Rattle.quic_streams_parts.specs.declared.answers.Written.{Written}
 use Rattle.quic_streams_state.specs.declared.state.StreamsState.{StreamsState}
 use Rattle.quic_streams_state.specs.State.{sending_half}
 use Rattle.quic_streams_state.specs.Sends.{with_queued}
-use Rattle.quic_streams_state.specs.Opening.{after_accept}
+use Rattle.quic_streams_state.specs.Opening.{after_open, after_accept}
 use Rattle.quic_streams_state.specs.Taking.{after_stream, after_reset_frame}
-use Rattle.quic_streams_state.specs.Writing.{write_answer, write_chunks_answer, grown_by, accepted_at, blocked_at, written_by, after_write, chunks_accepted_at, after_write_chunks, reset_answer, after_reset, set_priority_answer, after_set_priority}
-use Rattle.quic_streams_state.specs.Reading.{Told, told_bytes, told_by, after_next, after_read_begun, stop_answer, after_stop}
+use Rattle.quic_streams_state.specs.Writing.{write_answer, write_chunks_answer, grown_by, accepted_at, blocked_at, after_write, chunks_accepted_at, after_write_chunks, after_finish, reset_answer, after_reset, set_priority_answer, after_set_priority}
+use Rattle.quic_streams_state.specs.Reading.{Told, told_bytes, told_by, after_next, after_read_begun, stop_answer, after_stop, after_received_reset}
+use Rattle.quic_streams_laws.specs.Content.{IsNextAnswer}
 use Rattle.quic_streams_laws.specs.KeepingLaws.{by_option}
 use Rattle.quic_machine.specs.declared.run.Call.{Call}
 use Rattle.quic_machine.specs.declared.run.Call.TheVariants as calls
@@ -35,6 +36,7 @@ use Rattle.quic_machine.specs.Steps as steps
 use Rattle.quic_machine.specs.LeaveCases.{by_expired, by_event}
 use Rattle.quic_machine.specs.CallCases.{is_delivery, by_call}
 use Rattle.quic_headline.specs.Runs.{Next}
+use Rattle.quic_headline.specs.FewEvents.{blocked_in}
 use Rattle.quic_headline.proofs.Packets.Apart.{by_waits, by_next_id}
 use Rattle.quic_headline.proofs.Packets.Probes.{poll_state}
 use Rattle.quic_headline.proofs.Halves.QuietSteps.{composed_quiet, frame_quiet}
@@ -44,30 +46,80 @@ use Rattle.quic_headline.proofs.Alone.Places.{Hands}
 
 -- ---- writes
 
--- a write leaves a fact that a write that is blocked leaves, and bytes on a sending half, however
--- many count as accepted
-module _ (P : StreamsState → Type 0) (blocks : (s : StreamsState) (p : Retransmits) (id : ℕ) (o : Option SendHalf) → sending_half s id ≡ o → P s → P (blocked_at o s p id).state)
-    (puts : (s : StreamsState) (id : ℕ) (h : SendHalf) (q : Queued) (n : ℕ) → sending_half s id ≡ Some h → P s → P (record s { sending = record (with_queued s.sending s.side id q) { accepted = n } })) where
-  refused_leaves : (s : StreamsState) (p : Retransmits) (id : ℕ) (bytes : List ℕ) (error : WriteError) → P s → P (written_by (Err error) s p id bytes).state
-  refused_leaves s p id bytes write_errors.Blocked i = blocks s p id (sending_half s id) refl i
-  refused_leaves s p id bytes (write_errors.Stopped code) i = i
-  refused_leaves s p id bytes write_errors.ClosedStream i = i
-  refused_leaves s p id bytes write_errors.Memory i = i
-
-  pub write_leaves : (b : Bool) (answer : Result ℕ WriteError) (s : StreamsState) (p : Retransmits) (id : ℕ) (bytes : List ℕ) → P s → P (after_write b answer s p id bytes).state
-  write_leaves false answer s p id bytes i = i
-  write_leaves true (Err error) s p id bytes i = refused_leaves s p id bytes error i
-  write_leaves true (Ok n) s p id bytes i = by_option (sending_half s id) (λ o. P (accepted_at o s id (take n bytes))) (λ e. i) (λ h e. cond_both (length (take n bytes) == 0) s (grown_by h s id (take n bytes)) P (λ z. i) (λ z. puts s id h _ _ e i))
+-- a write leaves a fact that bytes on a sending half leave, however many count as accepted, and
+-- that holds behind one that is blocked
+module _ (P : StreamsState → Type 0) (puts : (s : StreamsState) (id : ℕ) (h : SendHalf) (q : Queued) (n : ℕ) → sending_half s id ≡ Some h → P s → P (record s { sending = record (with_queued s.sending s.side id q) { accepted = n } })) where
+  pub write_leaves : (b : Bool) (answer : Result ℕ WriteError) (s : StreamsState) (p : Retransmits) (id : ℕ) (bytes : List ℕ) → (answer ≡ Err write_errors.Blocked → P (blocked_at (sending_half s id) s p id).state) → P s → P (after_write b answer s p id bytes).state
+  write_leaves false answer s p id bytes blocked i = i
+  write_leaves true (Err write_errors.Blocked) s p id bytes blocked i = blocked refl
+  write_leaves true (Err error) s p id bytes blocked i = i
+  write_leaves true (Ok n) s p id bytes blocked i = by_option (sending_half s id) (λ o. P (accepted_at o s id (take n bytes))) (λ e. i) (λ h e. cond_both (length (take n bytes) == 0) s (grown_by h s id (take n bytes)) P (λ z. i) (λ z. puts s id h _ _ e i))
 
   -- and so does one of several buffers
-  pub chunks_leave : (b : Bool) (answer : Result Written WriteError) (s : StreamsState) (p : Retransmits) (id : ℕ) (chunks : List (List ℕ)) → P s → P (after_write_chunks b answer s p id chunks).state
-  chunks_leave false answer s p id chunks i = i
-  chunks_leave true (Err error) s p id chunks i = refused_leaves s p id [] error i
-  chunks_leave true (Ok w) s p id chunks i = by_option (sending_half s id) (λ o. P (chunks_accepted_at o s id w.bytes chunks)) (λ e. i) (λ h e. accepts h e w.bytes)
+  pub chunks_leave : (b : Bool) (answer : Result Written WriteError) (s : StreamsState) (p : Retransmits) (id : ℕ) (chunks : List (List ℕ)) → (answer ≡ Err write_errors.Blocked → P (blocked_at (sending_half s id) s p id).state) → P s → P (after_write_chunks b answer s p id chunks).state
+  chunks_leave false answer s p id chunks blocked i = i
+  chunks_leave true (Err write_errors.Blocked) s p id chunks blocked i = blocked refl
+  chunks_leave true (Err error) s p id chunks blocked i = i
+  chunks_leave true (Ok w) s p id chunks blocked i = by_option (sending_half s id) (λ o. P (chunks_accepted_at o s id w.bytes chunks)) (λ e. i) (λ h e. accepts h e w.bytes)
     where
       accepts : (h : SendHalf) → sending_half s id ≡ Some h → (n : ℕ) → P (chunks_accepted_at (Some h) s id n chunks)
       accepts h e zero = i
       accepts h e (suc n) = puts s id h _ _ e i
+
+-- ---- calls on streams
+
+-- a write that finds no memory isn't blocked
+lacks_room : {A : Type 0} → ◌≡◌ {A = Result A WriteError} (Err write_errors.Memory) (Err write_errors.Blocked) → ⊥
+lacks_room is = cc
+
+-- A fact that each call on streams keeps: a write that is blocked where another holds.
+pub record CallsKeep (P Q : StreamsState → Type 0) : Type 0 where
+  pub opens : (is_open : Bool) (dir : Dir) (s : StreamsState) → P s → P (after_open is_open dir s)
+  pub accept : (dir : Dir) (s : StreamsState) → P s → P (after_accept dir s)
+  pub write : (b : Bool) (answer : Result ℕ WriteError) (s : StreamsState) (p : Retransmits) (id : ℕ) (bytes : List ℕ) → (answer ≡ Err write_errors.Blocked → Q s) → P s → P (after_write b answer s p id bytes).state
+  pub chunks : (b : Bool) (answer : Result Written WriteError) (s : StreamsState) (p : Retransmits) (id : ℕ) (chunks : List (List ℕ)) → (answer ≡ Err write_errors.Blocked → Q s) → P s → P (after_write_chunks b answer s p id chunks).state
+  pub finishes : (s : StreamsState) (id : ℕ) → P s → P (after_finish s id)
+  pub resets : (s : StreamsState) (p : Retransmits) (id code : ℕ) → P s → P (after_reset s p id code).state
+  pub sets_priority : (s : StreamsState) (id : ℕ) (priority : ℤ) → P s → P (after_set_priority s id priority)
+  pub begun : (s : StreamsState) (id : ℕ) (ordered : Bool) → P s → P (after_read_begun s id ordered)
+  pub next : (told : Told) (s : StreamsState) (id most : ℕ) (answer : Next) → IsNextAnswer told s id most answer → P s → P (after_next told answer s id most)
+  pub stop : (s : StreamsState) (p : Retransmits) (id code : ℕ) → P s → P (after_stop s p id code).state
+  pub received_reset : (s : StreamsState) (p : Retransmits) (id : ℕ) → P s → P (after_received_reset s p id).state
+
+module _ (P Q : StreamsState → Type 0) (c : CallsKeep P Q) where
+  -- reads, one behind another
+  nexts_leave : (told : Told) (s : StreamsState) (id : ℕ) (mosts : List ℕ) (said : List Next) → AreNexts told s id mosts said → P s → P (after_nexts told s id mosts said)
+  nexts_leave told s id [] [] a i = i
+  nexts_leave told s id [] (x ∷ said) a i = absurd a
+  nexts_leave told s id (most ∷ mosts) [] a i = absurd a
+  nexts_leave told s id (most ∷ mosts) (x ∷ said) a i = nexts_leave (told_by x told) (after_next told x s id most) id mosts said a.1 (c.next told s id most x a.0 i)
+
+  module _ (e : End) (i : P e.streams) where
+    -- any of them
+    pub streams_call : (b : Bool) (call : Call) (a : Answer) → IsStreamAnswer b e.streams call a → (blocked_in call a ≡ 1 → Q e.streams) → P (after_on_streams b (streams_at e) call a).state
+    streams_call b (calls.Open dir) a is full = c.opens b dir e.streams i
+    streams_call b (calls.Accept dir) a is full = c.accept dir e.streams i
+    streams_call b (calls.Write id bytes) a (inl is) full = subst (λ x. (blocked_in (calls.Write id bytes) x ≡ 1 → Q e.streams) → P (after_on_streams b (streams_at e) (calls.Write id bytes) x).state) (sym is)
+        (λ now. c.write b (write_answer b e.streams id (length bytes)) e.streams e.waiting.frames id bytes (λ same. now (ap (λ r. blocked_in (calls.Write id bytes) (answers.Write r)) same)) i) full
+    streams_call b (calls.Write id bytes) a (inr is) full = subst (λ x. P (after_on_streams b (streams_at e) (calls.Write id bytes) x).state) (sym is) (c.write b (Err write_errors.Memory) e.streams e.waiting.frames id bytes (λ same. absurd (lacks_room same)) i)
+    streams_call b (calls.WriteChunks id chunks) a (inl is) full = subst (λ x. (blocked_in (calls.WriteChunks id chunks) x ≡ 1 → Q e.streams) → P (after_on_streams b (streams_at e) (calls.WriteChunks id chunks) x).state) (sym is)
+        (λ now. c.chunks b (write_chunks_answer b e.streams id chunks.items) e.streams e.waiting.frames id chunks.items (λ same. now (ap (λ r. blocked_in (calls.WriteChunks id chunks) (answers.WriteChunks r)) same)) i) full
+    streams_call b (calls.WriteChunks id chunks) a (inr is) full = subst (λ x. P (after_on_streams b (streams_at e) (calls.WriteChunks id chunks) x).state) (sym is) (c.chunks b (Err write_errors.Memory) e.streams e.waiting.frames id chunks.items (λ same. absurd (lacks_room same)) i)
+    streams_call b (calls.Finish id) a (inl is) full = subst (λ x. P (after_on_streams b (streams_at e) (calls.Finish id) x).state) (sym is) (c.finishes e.streams id i)
+    streams_call b (calls.Finish id) a (inr is) full = subst (λ x. P (after_on_streams b (streams_at e) (calls.Finish id) x).state) (sym is) i
+    streams_call b (calls.Reset id code) a (inl is) full = subst (λ x. P (after_on_streams b (streams_at e) (calls.Reset id code) x).state) (sym is)
+        (if_done P (reset_answer e.streams id) (after_reset e.streams e.waiting.frames id code) (streams_at e) (c.resets e.streams e.waiting.frames id code i) i)
+    streams_call b (calls.Reset id code) a (inr is) full = subst (λ x. P (after_on_streams b (streams_at e) (calls.Reset id code) x).state) (sym is) i
+    streams_call b (calls.SetPriority id priority) a (inl is) full = subst (λ x. P (after_on_streams b (streams_at e) (calls.SetPriority id priority) x).state) (sym is)
+        (if_done P (set_priority_answer e.streams id) (record (streams_at e) { state = after_set_priority e.streams id priority }) (streams_at e) (c.sets_priority e.streams id priority i) i)
+    streams_call b (calls.SetPriority id priority) a (inr is) full = subst (λ x. P (after_on_streams b (streams_at e) (calls.SetPriority id priority) x).state) (sym is) i
+    streams_call b (calls.Read rd) (answers.Read (Ok said)) is full = nexts_leave told_bytes (after_read_begun e.streams rd.id rd.ordered) rd.id rd.nexts.items said is.1 (c.begun e.streams rd.id rd.ordered i)
+    streams_call b (calls.Read rd) a is full = i
+    streams_call b (calls.Stop id code) a (inl is) full = subst (λ x. P (after_on_streams b (streams_at e) (calls.Stop id code) x).state) (sym is)
+        (if_done P (stop_answer e.streams id) (after_stop e.streams e.waiting.frames id code) (streams_at e) (c.stop e.streams e.waiting.frames id code i) i)
+    streams_call b (calls.Stop id code) a (inr is) full = subst (λ x. P (after_on_streams b (streams_at e) (calls.Stop id code) x).state) (sym is) i
+    streams_call b (calls.ReceivedReset id) a is full = c.received_reset e.streams e.waiting.frames id i
+    streams_call b call a is full = absurd is
 
 -- ---- any call
 
@@ -81,37 +133,21 @@ pub record IsKeptAlone (Fits : StreamValue → Type 0) (P : StreamsState → Typ
   pub reset : (s : StreamsState) (p : Retransmits) (f : ResetStreamValue) → P s → P (after_reset_frame s p f).state
 
 module _ (Fits : StreamValue → Type 0) (P : StreamsState → Type 0) (c : IsKeptAlone Fits P) where
-  -- reads, one behind another
-  nexts_leave : (told : Told) (s : StreamsState) (id : ℕ) (mosts : List ℕ) (said : List Next) → AreNexts told s id mosts said → P s → P (after_nexts told s id mosts said)
-  nexts_leave told s id [] [] a i = i
-  nexts_leave told s id [] (x ∷ said) a i = absurd a
-  nexts_leave told s id (most ∷ mosts) [] a i = absurd a
-  nexts_leave told s id (most ∷ mosts) (x ∷ said) a i = nexts_leave (told_by x told) (after_next told x s id most) id mosts said a.1 (c.kept.next told s id most x a.0 i)
-
-  module _ (e : End) (i : P e.streams) where
-    -- a call on streams
-    streams_call : (b : Bool) (call : Call) (a : Answer) → IsStreamAnswer b e.streams call a → P (after_on_streams b (streams_at e) call a).state
-    streams_call b (calls.Open dir) a is = c.kept.quiet.opens b dir e.streams i
-    streams_call b (calls.Accept dir) a is = c.accept dir e.streams i
-    streams_call b (calls.Write id bytes) a (inl is) = subst (λ x. P (after_on_streams b (streams_at e) (calls.Write id bytes) x).state) (sym is) (c.write b (write_answer b e.streams id _) e.streams e.waiting.frames id bytes i)
-    streams_call b (calls.Write id bytes) a (inr is) = subst (λ x. P (after_on_streams b (streams_at e) (calls.Write id bytes) x).state) (sym is) (c.write b (Err write_errors.Memory) e.streams e.waiting.frames id bytes i)
-    streams_call b (calls.WriteChunks id chunks) a (inl is) = subst (λ x. P (after_on_streams b (streams_at e) (calls.WriteChunks id chunks) x).state) (sym is) (c.chunks b (write_chunks_answer b e.streams id chunks.items) e.streams e.waiting.frames id chunks.items i)
-    streams_call b (calls.WriteChunks id chunks) a (inr is) = subst (λ x. P (after_on_streams b (streams_at e) (calls.WriteChunks id chunks) x).state) (sym is) (c.chunks b (Err write_errors.Memory) e.streams e.waiting.frames id chunks.items i)
-    streams_call b (calls.Finish id) a (inl is) = subst (λ x. P (after_on_streams b (streams_at e) (calls.Finish id) x).state) (sym is) (c.kept.quiet.finishes e.streams id i)
-    streams_call b (calls.Finish id) a (inr is) = subst (λ x. P (after_on_streams b (streams_at e) (calls.Finish id) x).state) (sym is) i
-    streams_call b (calls.Reset id code) a (inl is) = subst (λ x. P (after_on_streams b (streams_at e) (calls.Reset id code) x).state) (sym is)
-        (if_done P (reset_answer e.streams id) (after_reset e.streams e.waiting.frames id code) (streams_at e) (c.kept.quiet.resets e.streams e.waiting.frames id code i) i)
-    streams_call b (calls.Reset id code) a (inr is) = subst (λ x. P (after_on_streams b (streams_at e) (calls.Reset id code) x).state) (sym is) i
-    streams_call b (calls.SetPriority id priority) a (inl is) = subst (λ x. P (after_on_streams b (streams_at e) (calls.SetPriority id priority) x).state) (sym is)
-        (if_done P (set_priority_answer e.streams id) (record (streams_at e) { state = after_set_priority e.streams id priority }) (streams_at e) (c.kept.quiet.sets_priority e.streams id priority i) i)
-    streams_call b (calls.SetPriority id priority) a (inr is) = subst (λ x. P (after_on_streams b (streams_at e) (calls.SetPriority id priority) x).state) (sym is) i
-    streams_call b (calls.Read rd) (answers.Read (Ok said)) is = nexts_leave told_bytes (after_read_begun e.streams rd.id rd.ordered) rd.id rd.nexts.items said is.1 (c.kept.begun e.streams rd.id rd.ordered i)
-    streams_call b (calls.Read rd) a is = i
-    streams_call b (calls.Stop id code) a (inl is) = subst (λ x. P (after_on_streams b (streams_at e) (calls.Stop id code) x).state) (sym is)
-        (if_done P (stop_answer e.streams id) (after_stop e.streams e.waiting.frames id code) (streams_at e) (c.kept.stop e.streams e.waiting.frames id code i) i)
-    streams_call b (calls.Stop id code) a (inr is) = subst (λ x. P (after_on_streams b (streams_at e) (calls.Stop id code) x).state) (sym is) i
-    streams_call b (calls.ReceivedReset id) a is = c.kept.received_reset e.streams e.waiting.frames id i
-    streams_call b call a is = absurd is
+  -- a call on streams
+  calls_keep : CallsKeep P P
+  calls_keep = record {
+    opens = c.kept.quiet.opens;
+    accept = c.accept;
+    write = λ b answer s p id bytes full i. c.write b answer s p id bytes i;
+    chunks = λ b answer s p id chunks full i. c.chunks b answer s p id chunks i;
+    finishes = c.kept.quiet.finishes;
+    resets = c.kept.quiet.resets;
+    sets_priority = c.kept.quiet.sets_priority;
+    begun = c.kept.begun;
+    next = c.kept.next;
+    stop = c.kept.stop;
+    received_reset = c.kept.received_reset;
+  }
 
   settles : Settling (λ (e : End). P e.streams)
   settles (steps.reset id) e i = c.kept.quiet.reset_acked e.streams e.waiting.frames id i
@@ -124,7 +160,7 @@ module _ (Fits : StreamValue → Type 0) (P : StreamsState → Type 0) (c : IsKe
     apart_call : (call : Call) (a : Answer) → IsAnswer p e theirs call a → is_delivery call ≡ false → P (after_call p e theirs call a).streams
     apart_call call a is apart = by_call p e theirs (λ (f : End). P f.streams) call a (record {
       same = i;
-      on_streams = λ on answer. streams_call e i (is_open e.closing.state) call a (answer is);
+      on_streams = λ on answer. streams_call P P calls_keep e i (is_open e.closing.state) call a (answer is) (λ full. i);
       on_messages = λ on answer. i;
       pings = i;
       closes = λ reason f now own. i;

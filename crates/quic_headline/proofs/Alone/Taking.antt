@@ -24,7 +24,7 @@ use Rattle.quic_machine.specs.Policy.{Policy}
 use Rattle.quic_machine.specs.End.{End, with_closing, closed_by, with_numbers}
 use Rattle.quic_machine.specs.Opens.{own_id_length, in_phase, opens_behind, opens}
 use Rattle.quic_machine.specs.IdFrames.{drawn}
-use Rattle.quic_machine.specs.Receive.{Fault, broke, too_many_pieces, closed_by_peer, drained_at, exhausted, unopened_in, violation, reason_of, Progress, take_frame, take_item, unless_fault, take_items, is_empty, take_payload, asks_in, after_taken, dropped, ends_as, by_state, opened_to, opened_as, opening, headed, received_in, is_read, drawn_if, received}
+use Rattle.quic_machine.specs.Receive.{Fault, broke, too_many_pieces, closed_by_peer, drained_at, exhausted, unopened_in, violation, reason_of, Progress, take_frame, unless_fault, take_items, is_empty, take_payload, asks_in, after_taken, dropped, ends_as, by_state, opened_to, opened_as, opening, headed, received_in, is_read, drawn_if, received}
 use Rattle.quic_machine.specs.FrameCases.{begun}
 use Rattle.quic_headline.specs.Runs.{In, frames_of, destination, opens_by_key}
 use Rattle.quic_headline.specs.Alone.{CameOpen}
@@ -47,7 +47,106 @@ came_open p ds e d f stands handed = (record { bytes = d; handed = handed; expec
     opened : opens_by_key p (expected e.numbers) d ≡ Some stands.opening
     opened = if_counted (is_known (destination d) (known e.ids)) (opens_by_key p (expected e.numbers) d) (sym (opens_by_id p (known e.ids) (expected e.numbers) d) ∙ stands.opened)
 
--- what each step keeps that a datagram makes of an end, of frames that stand in it
+-- what frames and refusals a payload has
+abbrev pub Items : Type 0
+Items = List (Result FrameValue InvalidFrame)
+
+-- What each step keeps that a datagram makes of an end, of frames that stand in it, where these
+-- items are still to be taken: none are at the end, since those behind a fault aren't.
+pub record TakesEach (stands : FrameValue → Type 0) (P : Items → End → Type 0) : Type 0 where
+  pub frame : (f : FrameValue) → stands f → (is : Items) (e : End) → P (Ok f ∷ is) e → P is (take_frame f e).end
+  pub stops : (is : Items) (e : End) → P is e → P [] e
+  pub notes : (n : ℕ) (e : End) → P [] e → P [] (with_numbers e (number_opened e.numbers n))
+  pub begins : (now n : ℕ) (is : Items) (e : End) → P is e → P is (begun e now n)
+  pub takes : (n : ℕ) (asks : Bool) (mark : Option EcnCodepoint) (e : End) → P [] e → P [] (after_taken n asks mark e)
+  pub closes : (reason : LostReason) (e : End) → P [] e → P [] (closed_by reason e)
+  pub drains : (close : ℕ × CloseValue) (e : End) → P [] e → P [] (drained_at close.0 close.1 e)
+  pub asks_close : (e : End) → P [] e → P [] (with_closing e (close_asked e.closing))
+  pub exhausts : (now : ℕ) (e : End) → P [] e → P [] (exhausted now e)
+  pub draws : (words : ℕ → ℕ) (e : End) → P [] e → P [] (drawn words e)
+
+module _ (stands : FrameValue → Type 0) (P : Items → End → Type 0) (c : TakesEach stands P) where
+  unless_came : (fault : Option Fault) (q : Progress) (is : Items) (next : End → Progress) → P is q.end → ((e : End) → P is e → P [] (next e).end) → P [] (unless_fault fault q next).end
+  unless_came None q is next i more = more q.end i
+  unless_came (Some fault) q is next i more = c.stops is q.end i
+
+  -- all items, up to the first fault
+  items_came : (is : Items) → ((f : FrameValue) → In f (frames_of is) → stands f) → (e : End) → P is e → P [] (take_items is e).end
+  items_came [] all e i = i
+  items_came (Ok f ∷ is) all e i = unless_came (take_frame f e).fault (take_frame f e) is (take_items is) (c.frame f (all f (inl refl)) is e i) (items_came is (λ g among. all g (inr among)))
+  items_came (Err x ∷ is) all e i = c.stops (Err x ∷ is) e i
+
+  payload_came : (first : ℕ) (is : Items) → ((f : FrameValue) → In f (frames_of is) → stands f) → (e : End) → P is e → P [] (take_payload first is e).end
+  payload_came first is all e i = go (not (reserved_bits first == 0) || is_empty is)
+    where
+      go : (b : Bool) → P [] (if b then record { end = e; fault = Some violation } else take_items is e).end
+      go true = c.stops is e i
+      go false = items_came is all e i
+
+  -- all frames were taken, or one was at fault
+  ends_came : (fault : Option Fault) (asks : Bool) (n : ℕ) (mark : Option EcnCodepoint) (e : End) → P [] e → P [] (ends_as fault asks n mark e).end
+  ends_came None asks n mark e i = c.takes n asks mark e i
+  ends_came (Some (closed_by_peer close)) asks n mark e i = c.drains (n, close) e i
+  ends_came (Some (broke error)) asks n mark e i = c.closes (reason_of (broke error)) e i
+  ends_came (Some too_many_pieces) asks n mark e i = c.closes (reason_of too_many_pieces) e i
+
+  -- a packet whose number is new
+  state_came : (state : State) (o : Opening) (arrival : Arrival) (e : End) → ((f : FrameValue) → In f (frames_of (items o.payload)) → stands f) → P (items o.payload) e → P [] e → P [] (by_state state o arrival (with_numbers e (number_opened e.numbers o.number))).end
+  state_came states.Open o arrival e all i j =
+      let taken = take_payload o.first (items o.payload) (begun e arrival.now o.number) in
+      ends_came taken.fault (asks_in (items o.payload)) o.number arrival.mark taken.end (payload_came o.first (items o.payload) all (begun e arrival.now o.number) (c.begins arrival.now o.number (items o.payload) e i))
+  state_came states.Closing o arrival e all i j = c.asks_close (with_numbers e (number_opened e.numbers o.number)) (c.notes o.number e j)
+  state_came states.Drained o arrival e all i j = c.notes o.number e j
+  state_came states.Failed o arrival e all i j = c.notes o.number e j
+
+  -- a packet that opened, in key phase 0 or not
+  opened_came : (o : Opening) (arrival : Arrival) (e : End) → (key_phase o.first ≡ false → (f : FrameValue) → In f (frames_of (items o.payload)) → stands f) → P (items o.payload) e → P [] e → P [] (opened_to o arrival e).end
+  opened_came o arrival e all i j = go (key_phase o.first) (is_duplicate e.numbers.opened o.number) refl
+    where
+      go : (a b : Bool) → key_phase o.first ≡ a → P [] (if a then dropped drops.KeyPhase e else (if b then dropped drops.Duplicate e else by_state e.closing.state o arrival (with_numbers e (number_opened e.numbers o.number)))).end
+      go true b is = j
+      go false true is = j
+      go false false is = state_came e.closing.state o arrival e (all is) i j
+
+  -- ids are drawn behind a packet whose frames were taken
+  drawn_came : (b : Bool) (p : Policy) (e : End) → P [] e → P [] (drawn_if b p e)
+  drawn_came true p e i = c.draws p.words e i
+  drawn_came false p e i = i
+
+  unopened_came : (state : State) (b : Bool) (arrival : Arrival) (e : End) → P [] e → P [] (unopened_in state b arrival e).end
+  unopened_came states.Open true arrival e i = c.exhausts arrival.now e i
+  unopened_came states.Open false arrival e i = i
+  unopened_came states.Closing b arrival e i = i
+  unopened_came states.Drained b arrival e i = i
+  unopened_came states.Failed b arrival e i = i
+
+  packet_came : (o : Option Opening) (p : Policy) (arrival : Arrival) (e : End) → ((x : Opening) → o ≡ Some x → key_phase x.first ≡ false → (f : FrameValue) → In f (frames_of (items x.payload)) → stands f) → ((x : Opening) → o ≡ Some x → P (items x.payload) e) → P [] e → P [] (opened_as o p arrival e).end
+  packet_came None p arrival e all starts i = unopened_came e.closing.state arrival.last arrival e i
+  packet_came (Some o) p arrival e all starts i = drawn_came (is_read (opened_to o arrival e).answer) p (opened_to o arrival e).end (opened_came o arrival e (all o refl) (starts o refl) i)
+
+module _ (p : Policy) (e : End) (arrival : Arrival) (d : List ℕ) where
+  -- what a packet opens to in key phase 0 is what its datagram opens to
+  opens_to : (id : List ℕ) (o : Opening) → decoded (fixed_length_id own_id_length) (known e.ids) d ≡ Ok id → opening p e d ≡ Some o → key_phase o.first ≡ false → opens p (known e.ids) (expected e.numbers) d ≡ Some o
+  opens_to id o header is phase =
+      ap (λ (r : Result (List ℕ) HeaderError). opens_behind r p (expected e.numbers) d) header
+      ∙ ap (λ (x : Option Opening). in_phase x) is
+      ∙ ap (λ (b : Bool). if b then None else Some o) phase
+
+  -- what each step keeps holds after a datagram, where it holds before with what that opens to
+  pub by_items : (P : Items → End → Type 0) → TakesEach (Stands p e d) P → ((o : Opening) → opening p e d ≡ Some o → P (items o.payload) e) → P [] e → P [] (received p e arrival d).end
+  by_items P c starts i = received_came e.closing.state
+    where
+      headed_came : (r : Result (List ℕ) HeaderError) → decoded (fixed_length_id own_id_length) (known e.ids) d ≡ r → P [] (headed r p e arrival d).end
+      headed_came (Err error) header = i
+      headed_came (Ok id) header = packet_came (Stands p e d) P c (opening p e d) p arrival e (λ o is phase f among. record { opening = o; opened = opens_to id o header is phase; carried = among }) starts i
+
+      received_came : (state : State) → P [] (received_in state p e arrival d).end
+      received_came states.Failed = i
+      received_came states.Drained = i
+      received_came states.Open = headed_came (decoded (fixed_length_id own_id_length) (known e.ids) d) refl
+      received_came states.Closing = headed_came (decoded (fixed_length_id own_id_length) (known e.ids) d) refl
+
+-- the same, whatever is still to be taken
 pub record Takes (stands : FrameValue → Type 0) (P : End → Type 0) : Type 0 where
   pub frame : (f : FrameValue) → stands f → (e : End) → P e → P (take_frame f e).end
   pub notes : (n : ℕ) (e : End) → P e → P (with_numbers e (number_opened e.numbers n))
@@ -59,92 +158,16 @@ pub record Takes (stands : FrameValue → Type 0) (P : End → Type 0) : Type 0 
   pub exhausts : (now : ℕ) (e : End) → P e → P (exhausted now e)
   pub draws : (words : ℕ → ℕ) (e : End) → P e → P (drawn words e)
 
-module _ (stands : FrameValue → Type 0) (P : End → Type 0) (c : Takes stands P) where
-  -- the first item of a payload
-  item_came : (item : Result FrameValue InvalidFrame) (is : List (Result FrameValue InvalidFrame)) → ((f : FrameValue) → In f (frames_of (item ∷ is)) → stands f) → (e : End) → P e → P (take_item item e).end
-  item_came (Ok f) is all e i = c.frame f (all f (inl refl)) e i
-  item_came (Err x) is all e i = i
-
-  -- those behind it
-  all_behind : (item : Result FrameValue InvalidFrame) (is : List (Result FrameValue InvalidFrame)) → ((f : FrameValue) → In f (frames_of (item ∷ is)) → stands f) → (f : FrameValue) → In f (frames_of is) → stands f
-  all_behind (Ok g) is all f j = all f (inr j)
-  all_behind (Err x) is all f j = all f j
-
-  unless_came : (fault : Option Fault) (q : Progress) (next : End → Progress) → P q.end → ((e : End) → P e → P (next e).end) → P (unless_fault fault q next).end
-  unless_came None q next i more = more q.end i
-  unless_came (Some fault) q next i more = i
-
-  -- all items, up to the first fault
-  items_came : (is : List (Result FrameValue InvalidFrame)) → ((f : FrameValue) → In f (frames_of is) → stands f) → (e : End) → P e → P (take_items is e).end
-  items_came [] all e i = i
-  items_came (item ∷ is) all e i = unless_came (take_item item e).fault (take_item item e) (take_items is) (item_came item is all e i) (items_came is (all_behind item is all))
-
-  payload_came : (first : ℕ) (is : List (Result FrameValue InvalidFrame)) → ((f : FrameValue) → In f (frames_of is) → stands f) → (e : End) → P e → P (take_payload first is e).end
-  payload_came first is all e i = go (not (reserved_bits first == 0) || is_empty is)
-    where
-      go : (b : Bool) → P (if b then record { end = e; fault = Some violation } else take_items is e).end
-      go true = i
-      go false = items_came is all e i
-
-  -- all frames were taken, or one was at fault
-  ends_came : (fault : Option Fault) (asks : Bool) (n : ℕ) (mark : Option EcnCodepoint) (e : End) → P e → P (ends_as fault asks n mark e).end
-  ends_came None asks n mark e i = c.takes n asks mark e i
-  ends_came (Some (closed_by_peer close)) asks n mark e i = c.drains (n, close) e i
-  ends_came (Some (broke error)) asks n mark e i = c.closes (reason_of (broke error)) e i
-  ends_came (Some too_many_pieces) asks n mark e i = c.closes (reason_of too_many_pieces) e i
-
-  -- a packet whose number is new
-  state_came : (state : State) (o : Opening) (arrival : Arrival) (e : End) → ((f : FrameValue) → In f (frames_of (items o.payload)) → stands f) → P e → P (by_state state o arrival (with_numbers e (number_opened e.numbers o.number))).end
-  state_came states.Open o arrival e all i =
-      let taken = take_payload o.first (items o.payload) (begun e arrival.now o.number) in
-      ends_came taken.fault (asks_in (items o.payload)) o.number arrival.mark taken.end (payload_came o.first (items o.payload) all (begun e arrival.now o.number) (c.begins arrival.now o.number e i))
-  state_came states.Closing o arrival e all i = c.asks_close (with_numbers e (number_opened e.numbers o.number)) (c.notes o.number e i)
-  state_came states.Drained o arrival e all i = c.notes o.number e i
-  state_came states.Failed o arrival e all i = c.notes o.number e i
-
-  -- a packet that opened, in key phase 0 or not
-  opened_came : (o : Opening) (arrival : Arrival) (e : End) → (key_phase o.first ≡ false → (f : FrameValue) → In f (frames_of (items o.payload)) → stands f) → P e → P (opened_to o arrival e).end
-  opened_came o arrival e all i = go (key_phase o.first) (is_duplicate e.numbers.opened o.number) refl
-    where
-      go : (a b : Bool) → key_phase o.first ≡ a → P (if a then dropped drops.KeyPhase e else (if b then dropped drops.Duplicate e else by_state e.closing.state o arrival (with_numbers e (number_opened e.numbers o.number)))).end
-      go true b is = i
-      go false true is = i
-      go false false is = state_came e.closing.state o arrival e (all is) i
-
-  -- ids are drawn behind a packet whose frames were taken
-  drawn_came : (b : Bool) (p : Policy) (e : End) → P e → P (drawn_if b p e)
-  drawn_came true p e i = c.draws p.words e i
-  drawn_came false p e i = i
-
-  unopened_came : (state : State) (b : Bool) (arrival : Arrival) (e : End) → P e → P (unopened_in state b arrival e).end
-  unopened_came states.Open true arrival e i = c.exhausts arrival.now e i
-  unopened_came states.Open false arrival e i = i
-  unopened_came states.Closing b arrival e i = i
-  unopened_came states.Drained b arrival e i = i
-  unopened_came states.Failed b arrival e i = i
-
-  packet_came : (o : Option Opening) (p : Policy) (arrival : Arrival) (e : End) → ((x : Opening) → o ≡ Some x → key_phase x.first ≡ false → (f : FrameValue) → In f (frames_of (items x.payload)) → stands f) → P e → P (opened_as o p arrival e).end
-  packet_came None p arrival e all i = unopened_came e.closing.state arrival.last arrival e i
-  packet_came (Some o) p arrival e all i = drawn_came (is_read (opened_to o arrival e).answer) p (opened_to o arrival e).end (opened_came o arrival e (all o refl) i)
-
-module _ (p : Policy) (e : End) (arrival : Arrival) (d : List ℕ) (P : End → Type 0) (c : Takes (Stands p e d) P) (i : P e) where
-  -- what a packet opens to in key phase 0 is what its datagram opens to
-  opens_to : (id : List ℕ) (o : Opening) → decoded (fixed_length_id own_id_length) (known e.ids) d ≡ Ok id → opening p e d ≡ Some o → key_phase o.first ≡ false → opens p (known e.ids) (expected e.numbers) d ≡ Some o
-  opens_to id o header is phase =
-      ap (λ (r : Result (List ℕ) HeaderError). opens_behind r p (expected e.numbers) d) header
-      ∙ ap (λ (x : Option Opening). in_phase x) is
-      ∙ ap (λ (b : Bool). if b then None else Some o) phase
-
-  headed_came : (r : Result (List ℕ) HeaderError) → decoded (fixed_length_id own_id_length) (known e.ids) d ≡ r → P (headed r p e arrival d).end
-  headed_came (Err error) header = i
-  headed_came (Ok id) header = packet_came (Stands p e d) P c (opening p e d) p arrival e (λ o is phase f among. record { opening = o; opened = opens_to id o header is phase; carried = among }) i
-
-  received_came : (state : State) → P (received_in state p e arrival d).end
-  received_came states.Failed = i
-  received_came states.Drained = i
-  received_came states.Open = headed_came (decoded (fixed_length_id own_id_length) (known e.ids) d) refl
-  received_came states.Closing = headed_came (decoded (fixed_length_id own_id_length) (known e.ids) d) refl
-
-  -- what each step keeps holds after a datagram
-  pub by_taking : P (received p e arrival d).end
-  by_taking = received_came e.closing.state
+pub by_taking : (p : Policy) (e : End) (arrival : Arrival) (d : List ℕ) (P : End → Type 0) → Takes (Stands p e d) P → P e → P (received p e arrival d).end
+by_taking p e arrival d P c i = by_items p e arrival d (λ is x. P x) (record {
+  frame = λ f stands is x j. c.frame f stands x j;
+  stops = λ is x j. j;
+  notes = c.notes;
+  begins = λ now n is x j. c.begins now n x j;
+  takes = c.takes;
+  closes = c.closes;
+  drains = c.drains;
+  asks_close = c.asks_close;
+  exhausts = c.exhausts;
+  draws = c.draws;
+}) (λ o is. i) i

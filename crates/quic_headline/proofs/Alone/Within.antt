@@ -264,8 +264,8 @@ module _ (settings : Settings) where
       received_reset = λ s p id i. by_received_reset AreHeld held_kept s p id i;
     };
     accept = λ dir s i. by_accept AreHeld held_kept dir s (λ may. may) i;
-    write = write_leaves AreHeld (by_blocked AreHeld held_kept) puts;
-    chunks = chunks_leave AreHeld (by_blocked AreHeld held_kept) puts;
+    write = λ b answer s p id bytes i. write_leaves AreHeld puts b answer s p id bytes (λ full. by_blocked AreHeld held_kept s p id (sending_half s id) refl i) i;
+    chunks = λ b answer s p id chunks i. chunks_leave AreHeld puts b answer s p id chunks (λ full. by_blocked AreHeld held_kept s p id (sending_half s id) refl i) i;
     stream = λ s p f fits i. by_stream AreHeld held_kept s p f (λ h e u b ended. frame_below s.receiving h f u b) i;
     reset = λ s p f i. by_reset_frame AreHeld held_kept s p f (λ h e u b ended. reset_below s.receiving h f.code f.final_size ended u b) i;
   }

@@ -5,13 +5,13 @@ use Rattle.std.specs.Prelude.{◌==◌, nat_le, nat_lt, if◌then◌else◌, con
 use Rattle.std.specs.List.{list_any, range_with_len}
 use Rattle.std.specs.Option.{is_some}
 use Rattle.std.specs.declared.ops.Range.{Range}
-use Rattle.std.proofs.lemmas.Bool.{or_left, or_right, and_from, eqb-true, ltb-true, lt-ltb, le-leb}
+use Rattle.std.proofs.lemmas.Bool.{or_left, or_right, or_cases, and_from, and_parts, eqb-true, ltb-true, lt-ltb, le-leb}
 use Rattle.std.proofs.Math.Bool.{or-false}
 use Rattle.quic_wire_core.specs.TransportError.{ErrorValue}
 use Rattle.quic_wire.specs.declared.frame.NewConnectionId.{NewConnectionId}
 use Rattle.quic_wire.specs.Value.{FrameValue, AckValue, ack, stream, reset_stream, stop_sending, max_data, max_stream_data, max_streams, datagram, path_challenge, path_response, new_connection_id, retire_connection_id, ack_frequency}
 use Rattle.quic_ids.specs.CidState.{retirement_answer}
-use Rattle.quic_ids.specs.CidQueue.{PeerIds, exceeds, retires_active, left_by, insert_answer, next_after}
+use Rattle.quic_ids.specs.CidQueue.{PeerIds, exceeds, retires_active, left_by, accepted_answer, insert_answer, next_after}
 use Rattle.quic_ids.specs.CidQueue as queue
 use Rattle.quic_ids.specs.declared.cid_queue.InsertError.{InsertError}
 use Rattle.quic_ids.specs.declared.cid_queue.InsertError.TheVariants as inserts
@@ -104,8 +104,32 @@ asks_some p g r = go (nat_lt g.sequence p.active) (exceeds p g) (retires_active 
     go false false true asks is = let less = ltb-true p.active g.retire_prior_to asks in lt-ltb 0 g.retire_prior_to (omega arith)
     go false false false asks is = cc
 
+-- one that comes late lies below the one in use
+late_below : (p : PeerIds) (g : NewConnectionId) → retires_for (insert_answer p g) ≡ Err inserts.Retired → nat_lt g.sequence p.active ≡ true
+late_below p g = go (nat_lt g.sequence p.active) (exceeds p g) refl
+  where
+    accepted : (o : Option (Range ℕ × List ℕ)) → retires_for (Ok o) ≡ Err inserts.Retired → ⊥
+    accepted None is = cc
+    accepted (Some r) is = cc
+
+    go : (late far : Bool) → nat_lt g.sequence p.active ≡ late → retires_for (cond late (Err inserts.Retired) (cond far (Err inserts.ExceedsLimit) (Ok (accepted_answer p g)))) ≡ Err inserts.Retired → nat_lt g.sequence p.active ≡ true
+    go true far low is = low
+    go false true low is = cc
+    go false false low is = absurd (accepted (accepted_answer p g) is)
+
+-- what a frame may retire where one id is in use, it may where one above is
+pub retires_more : (f : FrameValue) (used more n : ℕ) → used ≤ more → retires used n f ≡ true → retires more n f ≡ true
+retires_more (new_connection_id f) used more n above may = elim (or_cases ((f.sequence == n) && nat_lt n used) (nat_lt 0 f.retire_prior_to) may) [
+  | inl late ↦ (
+      let both = and_parts (f.sequence == n) (nat_lt n used) late in
+      let below = ltb-true n used both.1 in
+      or_left ((f.sequence == n) && nat_lt n more) (nat_lt 0 f.retire_prior_to) (and_from (f.sequence == n) (nat_lt n more) both.0 (lt-ltb n more (omega arith))))
+  | inr some ↦ or_right ((f.sequence == n) && nat_lt n more) (nat_lt 0 f.retire_prior_to) some
+]
+retires_more f used more n above may = may
+
 -- a frame apart from streams
-pub apart_waits : (f : FrameValue) (e : End) → IsApart f → LeavesBy (is_path_challenge f) (is_retirement f) (λ n. retires n f) e.waiting (take_frame f e).end.waiting
+pub apart_waits : (f : FrameValue) (e : End) → IsApart f → LeavesBy (is_path_challenge f) (is_retirement f) (λ n. retires e.ids.peer.active n f) e.waiting (take_frame f e).end.waiting
 apart_waits (ack a) e apart = absurd apart
 apart_waits (stream f) e apart = absurd apart
 apart_waits (reset_stream f) e apart = absurd apart
@@ -116,8 +140,11 @@ apart_waits (max_streams f) e apart = absurd apart
 apart_waits (datagram m) e apart = absurd apart
 apart_waits (new_connection_id f) e apart = judged (retires_for (insert_answer e.ids.peer (frame_of f))) refl
   where
+    used : ℕ
+    used = e.ids.peer.active
+
     its : ℕ → Bool
-    its n = retires n (new_connection_id f)
+    its n = retires used n (new_connection_id f)
 
     Left : End → Type 0
     Left x = LeavesBy false false its e.waiting x.waiting
@@ -126,17 +153,20 @@ apart_waits (new_connection_id f) e apart = judged (retires_for (insert_answer e
     fits b x i = subst (λ (v : Waiting). LeavesBy false false its e.waiting v) (sym (shortened_waiting b x)) i
 
     ranges : (b : Bool) (r : Range ℕ) → nat_lt 0 f.retire_prior_to ≡ true → Left (retired_for b r f e).end
-    ranges true r asks = fits _ (retiring r (with_taken_up f e)) (numbers_move its e.waiting (range_with_len r.start (r.end - r.start)) (λ n among. or_right (f.sequence == n) (nat_lt 0 f.retire_prior_to) asks))
+    ranges true r asks = fits _ (retiring r (with_taken_up f e)) (numbers_move its e.waiting (range_with_len r.start (r.end - r.start)) (λ n among. or_right ((f.sequence == n) && nat_lt n used) (nat_lt 0 f.retire_prior_to) asks))
     ranges false r asks = unmoved false false its e.waiting
 
-    late : (b : Bool) → Left (with_frames e (if b then e.waiting.frames else record e.waiting.frames { retire_cids = e.waiting.frames.retire_cids ++ f.sequence ∷ [] }))
-    late true = unmoved false false its e.waiting
-    late false = numbers_move its e.waiting (f.sequence ∷ []) (λ n among. or_left (f.sequence == n) (nat_lt 0 f.retire_prior_to) (sym (or-false (f.sequence == n)) ∙ among))
+    below : (n : ℕ) → nat_lt f.sequence used ≡ true → (f.sequence == n) ≡ true → ((f.sequence == n) && nat_lt n used) ≡ true
+    below n low is = and_from (f.sequence == n) (nat_lt n used) is (subst (λ (m : ℕ). nat_lt m used ≡ true) (eqb-true f.sequence n is) low)
+
+    late : (b : Bool) → nat_lt f.sequence used ≡ true → Left (with_frames e (if b then e.waiting.frames else record e.waiting.frames { retire_cids = e.waiting.frames.retire_cids ++ f.sequence ∷ [] }))
+    late true low = unmoved false false its e.waiting
+    late false low = numbers_move its e.waiting (f.sequence ∷ []) (λ n among. or_left ((f.sequence == n) && nat_lt n used) (nat_lt 0 f.retire_prior_to) (below n low (sym (or-false (f.sequence == n)) ∙ among)))
 
     judged : (r : Result (Option (Range ℕ)) InsertError) → retires_for (insert_answer e.ids.peer (frame_of f)) ≡ r → Left (id_judged r f e).end
     judged (Ok None) is = fits _ (with_taken_up f e) (unmoved false false its e.waiting)
     judged (Ok (Some r)) is = ranges (can_retire e.waiting.frames r.start r.end) r (asks_some e.ids.peer (frame_of f) r is)
-    judged (Err inserts.Retired) is = late (nat_le most_retirements (length e.waiting.frames.retire_cids) || list_any (λ m. m == f.sequence) e.waiting.frames.retire_cids)
+    judged (Err inserts.Retired) is = late (nat_le most_retirements (length e.waiting.frames.retire_cids) || list_any (λ m. m == f.sequence) e.waiting.frames.retire_cids) (late_below e.ids.peer (frame_of f) is)
     judged (Err inserts.ExceedsLimit) is = unmoved false false its e.waiting
 apart_waits (retire_connection_id n) e apart = judged (retirement_answer e.ids.own n e.ids.limit)
   where

@@ -367,17 +367,20 @@ Brings test i j = list_any (λ p. list_any test p.frames) (news i j) ≡ true
 record Arrived (x y : Party) (delivery : Delivery) (e : End) (j : Intake) : Type 0 where
   frames : List FrameValue
   brought : (test : FrameValue → Bool) → list_any test frames ≡ true → Brings test (came_to x y) j
-  begins : let v = with_delivery x.terms (watch_of x y) x.end.closing.state delivery j in Begun (λ q. IsPending x.end q) (watch_of x y).flight.flying (watch_of x y).flight.acked frames v.flight.flying v.flight.acked e
+  begins : let v = with_delivery x.terms (watch_of x y) x.end.closing.state delivery j in BegunAt (λ q. IsPending x.end q) x.end.ids.peer.active (watch_of x y).flight.flying (watch_of x y).flight.acked frames v.flight.flying v.flight.acked e.streams e.waiting.frames
 
 -- before anything came
-nothing_begun : (x y : Party) → Known x y → (frames : List FrameValue) → Begun (λ q. IsPending x.end q) (watch_of x y).flight.flying (watch_of x y).flight.acked frames (watch_of x y).flight.flying (watch_of x y).flight.acked x.end
-nothing_begun x y h frames = record {
-  new = [];
-  more = sym (append-nil (watch_of x y).flight.acked);
-  inside = λ u i. i;
-  apart = λ u i j. absurd j;
-  pends = pend_more (λ q. IsPending x.end q) (By (λ q. IsPending x.end q) (watch_of x y).flight.flying (watch_of x y).flight.acked frames (watch_of x y).flight.flying []) x.end.streams x.end.waiting.frames (λ q is. inl is) (pends_start x y h);
-}
+nothing_begun : (x y : Party) → Known x y → (frames : List FrameValue) → Begun (λ q. IsPending x.end q) x.end.ids.peer.active (watch_of x y).flight.flying (watch_of x y).flight.acked frames (watch_of x y).flight.flying (watch_of x y).flight.acked x.end
+nothing_begun x y h frames = (
+  record {
+    new = [];
+    more = sym (append-nil (watch_of x y).flight.acked);
+    inside = λ u i. i;
+    apart = λ u i j. absurd j;
+    pends = pend_more (λ q. IsPending x.end q) (By (λ q. IsPending x.end q) x.end.ids.peer.active (watch_of x y).flight.flying (watch_of x y).flight.acked frames (watch_of x y).flight.flying []) x.end.streams x.end.waiting.frames (λ q is. inl is) (pends_start x y h);
+  },
+  inl (omega arith),
+)
 
 -- ids that are drawn keep their numbers
 numbers_same : (words : ℕ → ℕ) (e : End) (n : ℕ) → has_new_id n (drawing words e).waiting ≡ has_new_id n e.waiting.frames.new_cids
@@ -398,8 +401,8 @@ module _ (x y : Party) (delivery : Delivery) (a : Answer) (s : Stepped x y (call
   same_arrived = record {
     frames = [];
     brought = λ test is. cc;
-    begins = subst (λ (v : Watch). Begun (λ q. IsPending x.end q) w.flight.flying w.flight.acked [] v.flight.flying v.flight.acked x.end)
-        (sym (ap (λ (j : Intake). with_delivery x.terms w x.end.closing.state delivery j) (sym intake) ∙ nothing_delivered x.terms w x.end.closing.state delivery)) (nothing_begun x y s.gives []);
+    begins = subst (λ (v : Watch). BegunAt (λ q. IsPending x.end q) x.end.ids.peer.active w.flight.flying w.flight.acked [] v.flight.flying v.flight.acked x.end.streams x.end.waiting.frames)
+        (sym (ap (λ (j : Intake). with_delivery x.terms w x.end.closing.state delivery j) (sym intake) ∙ nothing_delivered x.terms w x.end.closing.state delivery)) (nothing_begun x y s.gives []).0;
   }
 
   -- a packet is taken
@@ -408,10 +411,10 @@ module _ (x y : Party) (delivery : Delivery) (a : Answer) (s : Stepped x y (call
   taken_arrived d opened none f ids same streams waiting = record {
     frames = d.frames;
     brought = came;
-    begins = let all = frames_fly x.terms now d.frames (Begun Start flew before d.frames) (begun_flies Start flew before d.frames) w.flight (begun x.end delivery.now d.number) none (record { waits = begins; holds = nothing_begun x y s.gives d.frames }) in
-        subst (λ (v : Watch). BegunAt Start flew before d.frames v.flight.flying v.flight.acked f.streams f.waiting.frames) (sym there)
-        (subst (λ (p : _). BegunAt Start flew before d.frames after.flying after.acked f.streams p) (sym waiting)
-        (subst (λ (t : StreamsState). BegunAt Start flew before d.frames after.flying after.acked t (record left.waiting.frames { new_cids = ids })) (sym streams) (ids_begun Start flew before d.frames after.flying after.acked left ids same all.holds)));
+    begins = let all = frames_fly x.terms now d.frames (Begun Start used flew before d.frames) (begun_flies Start used flew before d.frames) w.flight (begun x.end delivery.now d.number) none (record { waits = begins; holds = nothing_begun x y s.gives d.frames }) in
+        subst (λ (v : Watch). BegunAt Start used flew before d.frames v.flight.flying v.flight.acked f.streams f.waiting.frames) (sym there)
+        (subst (λ (p : _). BegunAt Start used flew before d.frames after.flying after.acked f.streams p) (sym waiting)
+        (subst (λ (t : StreamsState). BegunAt Start used flew before d.frames after.flying after.acked t (record left.waiting.frames { new_cids = ids })) (sym streams) (ids_begun Start used flew before d.frames after.flying after.acked left ids same all.holds.0)));
   }
     where
       left : End
@@ -419,6 +422,9 @@ module _ (x y : Party) (delivery : Delivery) (a : Answer) (s : Stepped x y (call
 
       Start : Thing → Type 0
       Start q = IsPending x.end q
+
+      used : ℕ
+      used = x.end.ids.peer.active
 
       flew : List Sent
       flew = w.flight.flying
@@ -467,11 +473,15 @@ module _ (x y : Party) (delivery : Delivery) (a : Answer) (s : Stepped x y (call
 behind_acked : (before after new : List Sent) → after ≡ before ++ new → drop (length before) after ≡ new
 behind_acked before after new is = ap (λ (xs : List Sent). drop (length before) xs) is ∙ drop_all before new
 
+-- an observer finds which id of the peer an open end uses, and which it knows
+ids_hold : (x y : Party) (call : Call) (a : Answer) → Stepped x y call a → IdsHold (watch_of x y).intake.took (using_of x y).number x.end.ids.peer
+ids_hold x y call a s = subst (λ (i : Intake). IdsHold i.took (using_of x y).number x.end.ids.peer) (sym (watched_intake (lens x y) x.told (first_watch x.final x.began x.initial_rtt x.initial_delay))) (s.gives.0.1.1.holds (was x y call a s))
+
 -- where these are in flight behind the call, and these were acknowledged, and frames that it
 -- brought are among these
-module _ (x y : Party) (call : Call) (a : Answer) (frames : List FrameValue) (brought : (test : FrameValue → Bool) → list_any test frames ≡ true → brings test (seen_of x y call a) ≡ true) (new : List Sent)
+module _ (x y : Party) (call : Call) (a : Answer) (s : Stepped x y call a) (frames : List FrameValue) (brought : (test : FrameValue → Bool) → list_any test frames ≡ true → brings test (seen_of x y call a) ≡ true) (new : List Sent)
     (more : (seen_of x y call a).behind.flight.acked ≡ (watch_of x y).flight.acked ++ new) where
-  caused : (q : Thing) → By (λ z. IsPending x.end z) (watch_of x y).flight.flying (watch_of x y).flight.acked frames (seen_of x y call a).behind.flight.flying new q → Caused x y call a q
+  caused : (q : Thing) → By (λ z. IsPending x.end z) x.end.ids.peer.active (watch_of x y).flight.flying (watch_of x y).flight.acked frames (seen_of x y call a).behind.flight.flying new q → Caused x y call a q
   caused q (inl start) = inl start
   caused q (inr (inl lost)) = inr (by_kind q lost.bore (record {
     sent = lost.sent;
@@ -489,7 +499,10 @@ module _ (x y : Party) (call : Call) (a : Answer) (frames : List FrameValue) (br
   caused (Frame (LimitOf AllData)) (inr (inr raised)) = inr (inl (or_right _ (brings brings_data (seen_of x y call a)) (brought brings_data raised)))
   caused (Frame (LimitOf (StreamCount dir))) (inr (inr raised)) = inr (inl (or_right _ (brings may_end (seen_of x y call a)) (brought may_end raised)))
   caused (Frame (NewId number)) (inr (inr raised)) = inr (inl (brought is_retirement raised))
-  caused (Frame (Retirement number)) (inr (inr raised)) = inr (inl (or_right _ (brings (retires number) (seen_of x y call a)) (brought (retires number) raised)))
+  caused (Frame (Retirement number)) (inr (inr raised)) = (
+      let used : ℕ = (using_of x y).number in
+      let may : list_any (retires used number) frames ≡ true = subst (λ (n : ℕ). list_any (retires n number) frames ≡ true) (ids_hold x y call a s).used_is raised in
+      inr (inl (or_right _ (brings (retires used number) (seen_of x y call a)) (brought (retires used number) may))))
   caused q (inr (inr raised)) = absurd raised
 
 -- what waits of streams and beside their bytes
@@ -498,7 +511,7 @@ StreamsBegin x y call a = Left (Caused x y call a) (called x y.given call a).end
 
 -- a delivery
 delivery_begins : (x y : Party) (delivery : Delivery) (a : Answer) → Stepped x y (calls.Deliver delivery) a → StreamsBegin x y (calls.Deliver delivery) a
-delivery_begins x y delivery a s = left_of (Caused x y call a) (called x y.given call a).end (pend_more _ (Caused x y call a) _ _ (caused x y call a r.frames (λ test is. here test (r.brought test is)) at.new at.more) at.pends)
+delivery_begins x y delivery a s = left_of (Caused x y call a) (called x y.given call a).end (pend_more _ (Caused x y call a) _ _ (caused x y call a s r.frames (λ test is. here test (r.brought test is)) at.new at.more) at.pends)
   where
     call : Call
     call = calls.Deliver delivery
@@ -514,21 +527,24 @@ delivery_begins x y delivery a s = left_of (Caused x y call a) (called x y.given
         ∙ ap (λ (j : Intake). with_delivery x.terms (watch_of x y) x.end.closing.state delivery j)
         (ap (λ (i : Intake). and_told x.policy y.final (told_of call a x.end.closing.state) i) (watched_intake (lens x y) x.told (first_watch x.final x.began x.initial_rtt x.initial_delay)) ∙ sym (came_more x y call a))
 
-    at : BegunAt (λ q. IsPending x.end q) (watch_of x y).flight.flying (watch_of x y).flight.acked r.frames (seen_of x y call a).behind.flight.flying (seen_of x y call a).behind.flight.acked (called x y.given call a).end.streams (called x y.given call a).end.waiting.frames
-    at = subst (λ (v : Watch). BegunAt (λ q. IsPending x.end q) (watch_of x y).flight.flying (watch_of x y).flight.acked r.frames v.flight.flying v.flight.acked (called x y.given call a).end.streams (called x y.given call a).end.waiting.frames) (sym behind) r.begins
+    at : BegunAt (λ q. IsPending x.end q) x.end.ids.peer.active (watch_of x y).flight.flying (watch_of x y).flight.acked r.frames (seen_of x y call a).behind.flight.flying (seen_of x y call a).behind.flight.acked (called x y.given call a).end.streams (called x y.given call a).end.waiting.frames
+    at = subst (λ (v : Watch). BegunAt (λ q. IsPending x.end q) x.end.ids.peer.active (watch_of x y).flight.flying (watch_of x y).flight.acked r.frames v.flight.flying v.flight.acked (called x y.given call a).end.streams (called x y.given call a).end.waiting.frames) (sym behind) r.begins
 
     here : (test : FrameValue → Bool) → Brings test (came_to x y) (came_to (called x y.given call a) y) → brings test (seen_of x y call a) ≡ true
     here test is = ap (λ (ps : List Packet). list_any (λ p. list_any test p.frames) ps) (came_is x y call a s) ∙ is
 
 -- a timeout
 timeout_begins : (x y : Party) (now : ℕ) (a : Answer) → Stepped x y (calls.Timeout now) a → StreamsBegin x y (calls.Timeout now) a
-timeout_begins x y now a s = left_of (Caused x y call a) (called x y.given call a).end (pend_more _ (Caused x y call a) _ _ (caused x y call a [] (λ test is. cc) at.new at.more) at.pends)
+timeout_begins x y now a s = left_of (Caused x y call a) (called x y.given call a).end (pend_more _ (Caused x y call a) _ _ (caused x y call a s [] (λ test is. cc) at.new at.more) at.pends)
   where
     call : Call
     call = calls.Timeout now
 
     w : Watch
     w = watch_of x y
+
+    used : ℕ
+    used = x.end.ids.peer.active
 
     opened : x.end.closing.state ≡ states.Open
     opened = was x y call a s
@@ -541,14 +557,14 @@ timeout_begins x y now a s = left_of (Caused x y call a) (called x y.given call 
         told_timed (lens x y) t w (only_polls_give x.policy x.end y.given call a refl s.answer) (none_comes (lens x y) t w.intake refl)
         ∙ ap (λ (z : State). watch_moment (is_timely z call) x.terms (record w { clock = clock_behind w.clock (moment_of z false call) })) opened
 
-    flies : Begun (λ q. IsPending x.end q) w.flight.flying w.flight.acked [] (at_time x.terms w now).flight.flying (at_time x.terms w now).flight.acked (timed_out_in states.Open x.policy x.end now).end
-    flies = timeout_flies (Begun (λ q. IsPending x.end q) w.flight.flying w.flight.acked []) (begun_loses (λ q. IsPending x.end q) w.flight.flying w.flight.acked []) (λ flying acked c pending timers signals validation e i. i)
+    flies : Begun (λ q. IsPending x.end q) used w.flight.flying w.flight.acked [] (at_time x.terms w now).flight.flying (at_time x.terms w now).flight.acked (timed_out_in states.Open x.policy x.end now).end
+    flies = timeout_flies (Begun (λ q. IsPending x.end q) used w.flight.flying w.flight.acked []) (begun_loses (λ q. IsPending x.end q) used w.flight.flying w.flight.acked []) (λ flying acked c pending timers signals validation e i. i)
         x.policy x.terms w x.end now ((sight x y s.gives).stands opened) ((sight x y s.gives).watched.flight opened) (nothing_begun x y s.gives [])
 
-    at : BegunAt (λ q. IsPending x.end q) w.flight.flying w.flight.acked [] (seen_of x y call a).behind.flight.flying (seen_of x y call a).behind.flight.acked (timed_out x.policy x.end now).end.streams (timed_out x.policy x.end now).end.waiting.frames
+    at : BegunAt (λ q. IsPending x.end q) used w.flight.flying w.flight.acked [] (seen_of x y call a).behind.flight.flying (seen_of x y call a).behind.flight.acked (timed_out x.policy x.end now).end.streams (timed_out x.policy x.end now).end.waiting.frames
     at =
-        subst (λ (v : Watch). BegunAt (λ q. IsPending x.end q) w.flight.flying w.flight.acked [] v.flight.flying v.flight.acked (timed_out x.policy x.end now).end.streams (timed_out x.policy x.end now).end.waiting.frames) (sym behind)
-        (subst (λ (z : State). BegunAt (λ q. IsPending x.end q) w.flight.flying w.flight.acked [] (at_time x.terms w now).flight.flying (at_time x.terms w now).flight.acked (timed_out_in z x.policy x.end now).end.streams (timed_out_in z x.policy x.end now).end.waiting.frames) (sym opened) flies)
+        subst (λ (v : Watch). BegunAt (λ q. IsPending x.end q) used w.flight.flying w.flight.acked [] v.flight.flying v.flight.acked (timed_out x.policy x.end now).end.streams (timed_out x.policy x.end now).end.waiting.frames) (sym behind)
+        (subst (λ (z : State). BegunAt (λ q. IsPending x.end q) used w.flight.flying w.flight.acked [] (at_time x.terms w now).flight.flying (at_time x.terms w now).flight.acked (timed_out_in z x.policy x.end now).end.streams (timed_out_in z x.policy x.end now).end.waiting.frames) (sym opened) flies.0)
 
 -- a poll
 poll_begins : (x y : Party) (now : ℕ) (a : Answer) → Stepped x y (calls.Poll now) a → StreamsBegin x y (calls.Poll now) a
@@ -572,7 +588,7 @@ poll_begins x y now a s = polled_left (Caused x y call a) x.policy x.end now (wa
 -- an observer finds which ids of the peer are passed over where the next one is used
 skipped_is : (x y : Party) (call : Call) (a : Answer) → Stepped x y call a → (n : ℕ) → is_skipped call a x.end.ids.peer n ≡ passes_over (seen_of x y call a) n
 skipped_is x y call a s n =
-    let holds : IdsHold (watch_of x y).intake.took (using_of x y).number x.end.ids.peer = subst (λ (i : Intake). IdsHold i.took (using_of x y).number x.end.ids.peer) (sym (watched_intake (lens x y) x.told (first_watch x.final x.began x.initial_rtt x.initial_delay))) (s.gives.0.1.1.holds (was x y call a s)) in
+    let holds = ids_hold x y call a s in
     ap (λ (used : ℕ). uses_next call a && is_passed n used (next_after x.end.ids.peer)) holds.used_is
     ∙ ap (λ (next : Option ℕ). uses_next call a && is_passed n (using_of x y).number next) (next_above (watch_of x y).intake.took (using_of x y).number x.end.ids.peer holds)
 
@@ -611,7 +627,7 @@ other_begins x y call a apart silent other s = go (is_on_streams call) refl
     go : (b : Bool) → is_on_streams call ≡ b → Left (Almost x y call a) (called x y.given call a).end
     go true on = streams_left (Almost x y call a) x.policy x.end y.given start call a (λ c is. inr (inl (asked_is x y call a c is))) (λ id is. inr (inl is)) (λ id h is. sent_within (wrote x.told) x.end.streams (holds x y s.gives) id h is)
         (λ id h is none o above. inr (subst (λ (n : ℕ). n ≤ o) (written_is (wrote x.told id) h (half_holds (wrote x.told) x.end.streams (holds x y s.gives) id h is) none) above)) s.answer on
-    go false off = quiet_left (Almost x y call a) x.policy x.end y.given start call a (λ n skips. inr (inl (or_left (passes_over (seen_of x y call a) n) (brings (retires n) (seen_of x y call a)) (sym (skipped_is x y call a s n) ∙ skips)))) off apart silent other
+    go false off = quiet_left (Almost x y call a) x.policy x.end y.given start call a (λ n skips. inr (inl (or_left (passes_over (seen_of x y call a) n) (brings (retires (using_of x y).number n) (seen_of x y call a)) (sym (skipped_is x y call a s n) ∙ skips)))) off apart silent other
 
 -- ---- all of it
 

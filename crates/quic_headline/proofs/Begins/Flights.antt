@@ -1,18 +1,21 @@
 -- What begins to wait where a datagram comes or a timer expires: what waited before, what is lost
 -- by it, limits that its frames raise, and ids for which they ask.
-use Rattle.std.proofs.Common.{◌≡◌, ℕ, ◌<◌, ◌≤◌, Bool, true, List, [], ◌∷◌, ◌++◌, append-nil, refl, sym, ap, ◌∙◌, subst, ◌⊎◌, inl, inr}
+use Rattle.std.proofs.Common.{◌≡◌, ℕ, ◌<◌, ◌≤◌, ◌&&◌, Bool, true, false, List, [], ◌∷◌, ◌++◌, append-nil, refl, sym, ap, ◌∙◌, subst, ◌⊎◌, inl, inr, arith}
+use Rattle.std.specs.Prelude.{◌==◌, nat_lt}
 use Rattle.std.specs.List.{list_any}
-use Rattle.std.proofs.lemmas.Bool.{or_left, or_right, both_ways}
+use Rattle.std.proofs.lemmas.Bool.{or_left, or_right, both_ways, ltb-false}
 use Rattle.std.proofs.lemmas.List.{append_assoc}
-use Rattle.quic_wire.specs.Value.{FrameValue, StreamValue, ack, stream}
+use Rattle.quic_wire.specs.Value.{FrameValue, NewConnectionIdValue, StreamValue, ack, stream, new_connection_id}
+use Rattle.quic_ids.specs.CidQueue.{PeerIds}
 use Rattle.quic_send_buffer.specs.declared.stream_meta.StreamMeta.{StreamMeta}
 use Rattle.quic_streams_parts.specs.SendHalf.{meta_of}
 use Rattle.quic_streams_parts.specs.Table.{Table}
 use Rattle.quic_retransmits.specs.Retransmits.{Retransmits, nothing_waits}
 use Rattle.quic_streams_state.specs.declared.state.StreamsState.{StreamsState}
 use Rattle.quic_machine.specs.End.{End}
+use Rattle.quic_machine.specs.Ids.{frame_of}
 use Rattle.quic_wire_core.specs.declared.shared.IssuedCid.{IssuedCid}
-use Rattle.quic_machine.specs.FrameCases.{apart_leaves}
+use Rattle.quic_machine.specs.FrameCases.{packets_lost_keep, frame_leaves, apart_leaves}
 use Rattle.quic_machine.specs.Receive.{take_frame}
 use Rattle.quic_machine.specs.Tracking.{Carried, TrackedPacket, streams_in, retransmits_in}
 use Rattle.quic_headline.specs.Runs.{In}
@@ -24,12 +27,14 @@ use Rattle.quic_headline.proofs.Packets.Searches.{search_keeps}
 use Rattle.quic_headline.proofs.Packets.Invariant.{IsCarriedFrom, carried_stream, carried_again}
 use Rattle.quic_headline.proofs.Packets.Carried.{again_is}
 use Rattle.quic_headline.proofs.Packets.Waited.{IsWaited, AreWaited}
-use Rattle.quic_headline.proofs.Packets.Flying.{Loses, Flies}
+use Rattle.quic_headline.proofs.Packets.OfPeer.{peer_frame, peer_taken_up}
+use Rattle.quic_headline.proofs.Packets.Flying.{acked_keep, Loses, Flies}
 use Rattle.quic_headline.proofs.Places.Told.{in_append}
 use Rattle.quic_headline.proofs.Halves.Arrived.{meta_in}
+use Rattle.quic_headline.proofs.Duties.OfIds.{insert_keeps}
 use Rattle.quic_headline.proofs.Begins.Controls.{none_waits, again_said}
 use Rattle.quic_headline.proofs.Begins.Called.{IsRaised}
-use Rattle.quic_headline.proofs.Begins.Apart.{apart_waits, leaves_pend}
+use Rattle.quic_headline.proofs.Begins.Apart.{retires_more, apart_waits, leaves_pend}
 use Rattle.quic_headline.proofs.Begins.Walk.{PendsAt, pend_more, ids_pend, CarriedIs, acked_pend, lost_pend, taken_pend}
 
 -- ---- what a packet carried stands in its datagram
@@ -54,9 +59,9 @@ meta_borne s m i = go (meta_in s.frames m i)
 
 -- ---- the causes
 
--- what waited at first, by these datagrams in flight and those acknowledged before, while these
--- frames come
-module _ (Start : Thing → Type 0) (flew before : List Sent) (frames : List FrameValue) where
+-- what waited at first, by the number of the peer's id in use then, these datagrams in flight and
+-- those acknowledged before, while these frames come
+module _ (Start : Thing → Type 0) (used : ℕ) (flew before : List Sent) (frames : List FrameValue) where
   -- a datagram that bore it was in flight, and is neither still, nor was acknowledged since
   pub record Lost (flying new : List Sent) (q : Thing) : Type 0 where
     pub sent : Sent
@@ -66,12 +71,12 @@ module _ (Start : Thing → Type 0) (flew before : List Sent) (frames : List Fra
     pub bore : Bears sent q
 
   -- a limit that frames raise, an own id where one was retired, and a number to be retired where
-  -- the peer's id of that number came, or others were to be retired
+  -- the peer's id of that number came, below the one in use at first, or others were to be retired
   abbrev pub Raised : Thing → Type 0
   Raised (Frame (LimitOf AllData)) = list_any brings_data frames ≡ true
   Raised (Frame (LimitOf (StreamCount dir))) = list_any may_end frames ≡ true
   Raised (Frame (NewId number)) = list_any is_retirement frames ≡ true
-  Raised (Frame (Retirement number)) = list_any (retires number) frames ≡ true
+  Raised (Frame (Retirement number)) = list_any (retires used number) frames ≡ true
   Raised q = ⊥
 
   abbrev pub By : List Sent → List Sent → Thing → Type 0
@@ -85,8 +90,13 @@ module _ (Start : Thing → Type 0) (flew before : List Sent) (frames : List Fra
     pub apart : (u : Sent) → In u flying → In u new → ⊥
     pub pends : PendsAt (By flying new) s p
 
+  -- the peer's id in use isn't above that at first, or frames ask for some to be retired, so any
+  -- number may be
+  abbrev pub Stays : PeerIds → Type 0
+  Stays p = (p.active ≤ used) ⊎ ((number : ℕ) → list_any (retires used number) frames ≡ true)
+
   abbrev pub Begun : List Sent → List Sent → End → Type 0
-  Begun flying acked e = BegunAt flying acked e.streams e.waiting.frames
+  Begun flying acked e = BegunAt flying acked e.streams e.waiting.frames × Stays e.ids.peer
 
   -- where fewer are in flight, and these were acknowledged, which were
   by_fewer : (flying left new ss : List Sent) → ((u : Sent) → In u left → In u flying) → ((u : Sent) → In u ss → In u flying) → (q : Thing) → By flying new q → By left (new ++ ss) q
@@ -125,15 +135,18 @@ module _ (Start : Thing → Type 0) (flew before : List Sent) (frames : List Fra
   begun_loses = record {
     tracked = λ flying acked t e i. i;
     searches = λ flying acked lost e i. search_keeps (Begun flying acked) (λ d x j. j) (λ most x j. j) lost e i;
-    loses = λ flying acked gone left ps e inside stays apart waited i. record {
-      new = i.new;
-      more = i.more;
-      inside = λ u j. i.inside u (stays u j);
-      apart = λ u j. i.apart u (stays u j);
-      pends = lost_pend (By left i.new) ps e
-          (all_carried left i.new gone ps (λ u j. i.inside u (inside u j)) apart (λ u j. i.apart u (inside u j)) waited)
-          (pend_more (By flying i.new) (By left i.new) e.streams e.waiting.frames (fewer flying left i.new stays) i.pends);
-    };
+    loses = λ flying acked gone left ps e inside stays apart waited i. (
+      record {
+        new = i.0.new;
+        more = i.0.more;
+        inside = λ u j. i.0.inside u (stays u j);
+        apart = λ u j. i.0.apart u (stays u j);
+        pends = lost_pend (By left i.0.new) ps e
+            (all_carried left i.0.new gone ps (λ u j. i.0.inside u (inside u j)) apart (λ u j. i.0.apart u (inside u j)) waited)
+            (pend_more (By flying i.0.new) (By left i.0.new) e.streams e.waiting.frames (fewer flying left i.0.new stays) i.0.pends);
+      },
+      packets_lost_keep (λ (x : End). Stays x.ids.peer) (λ m x j. j) (λ c x j. j) ps e i.1,
+    );
   }
     where
       fewer : (flying left new : List Sent) → ((u : Sent) → In u left → In u flying) → (q : Thing) → By flying new q → By left new q
@@ -158,7 +171,7 @@ module _ (Start : Thing → Type 0) (flew before : List Sent) (frames : List Fra
   raised_by f among is flying new c raised = absurd raised
 
   -- ids that wait to be told are drawn, which keep their numbers
-  pub ids_begun : (flying acked : List Sent) (e : End) (ids : List IssuedCid) → ((n : ℕ) → has_new_id n ids ≡ true → has_new_id n e.waiting.frames.new_cids ≡ true) → Begun flying acked e → BegunAt flying acked e.streams (record e.waiting.frames { new_cids = ids })
+  pub ids_begun : (flying acked : List Sent) (e : End) (ids : List IssuedCid) → ((n : ℕ) → has_new_id n ids ≡ true → has_new_id n e.waiting.frames.new_cids ≡ true) → BegunAt flying acked e.streams e.waiting.frames → BegunAt flying acked e.streams (record e.waiting.frames { new_cids = ids })
   ids_begun flying acked e ids same i = record {
     new = i.new;
     more = i.more;
@@ -167,34 +180,60 @@ module _ (Start : Thing → Type 0) (flew before : List Sent) (frames : List Fra
     pends = ids_pend (By flying i.new) e.streams e.waiting.frames ids e.waiting.frames.retire_cids (λ n is. i.pends.controls (NewId n) (same n is)) (λ n is. i.pends.controls (Retirement n) is) i.pends;
   }
 
+  -- what a frame of these may retire by the id that is in use as it comes, these may by the one at
+  -- first
+  retired_by : (f : FrameValue) → In f frames → (p : PeerIds) → Stays p → (n : ℕ) → retires p.active n f ≡ true → list_any (retires used n) frames ≡ true
+  retired_by f among p (inl low) n may = one_passes (retires used n) frames f among (retires_more f p.active used n low may)
+  retired_by f among p (inr any) n may = any n
+
+  -- only one that asks for some to be retired has another id used
+  frame_stays : (f : FrameValue) → In f frames → (e : End) → Stays e.ids.peer → Stays (take_frame f e).end.ids.peer
+  frame_stays f among e i = peer_frame Stays f e (λ g is. brings g is (nat_lt 0 g.retire_prior_to) refl) i
+    where
+      brings : (g : NewConnectionIdValue) → f ≡ new_connection_id g → (b : Bool) → nat_lt 0 g.retire_prior_to ≡ b → Stays (take_frame (new_connection_id g) e).end.ids.peer
+      brings g is true asks = inr (λ n. one_passes (retires used n) frames f among (ap (λ (h : FrameValue). retires used n h) is ∙ or_right ((g.sequence == n) && nat_lt n used) (nat_lt 0 g.retire_prior_to) asks))
+      brings g is false none =
+          let low = ltb-false 0 g.retire_prior_to none in
+          let same = insert_keeps e.ids.peer (frame_of g) (omega arith) in
+          peer_taken_up Stays g e (subst (λ (n : ℕ). (n ≤ used) ⊎ ((number : ℕ) → list_any (retires used number) frames ≡ true)) (sym same) i) i
+
   pub begun_flies : Flies frames Begun
   begun_flies = record {
     losing = begun_loses;
     names = λ flying acked a e among i. i;
-    acks = λ flying acked ss left ps e a among inside stays apart waited i. record {
-      new = i.new ++ ss;
-      more = ap (λ (xs : List Sent). xs ++ ss) i.more ∙ append_assoc before i.new ss;
-      inside = λ u j. i.inside u (stays u j);
-      apart = λ u j k. elim (in_append u i.new ss k) [ inl old ↦ i.apart u (stays u j) old | inr here ↦ apart u here j ];
-      pends = acked_pend (By left (i.new ++ ss)) (λ dir. inr (inr (one_passes may_end frames (ack a) among refl))) ps e
-          (pend_more (By flying i.new) (By left (i.new ++ ss)) e.streams e.waiting.frames (by_fewer flying left i.new ss stays inside) i.pends);
-    };
+    acks = λ flying acked ss left ps e a among inside stays apart waited i. (
+      record {
+        new = i.0.new ++ ss;
+        more = ap (λ (xs : List Sent). xs ++ ss) i.0.more ∙ append_assoc before i.0.new ss;
+        inside = λ u j. i.0.inside u (stays u j);
+        apart = λ u j k. elim (in_append u i.0.new ss k) [ inl old ↦ i.0.apart u (stays u j) old | inr here ↦ apart u here j ];
+        pends = acked_pend (By left (i.0.new ++ ss)) (λ dir. inr (inr (one_passes may_end frames (ack a) among refl))) ps e
+            (pend_more (By flying i.0.new) (By left (i.0.new ++ ss)) e.streams e.waiting.frames (by_fewer flying left i.0.new ss stays inside) i.0.pends);
+      },
+      acked_keep (λ (x : End). Stays x.ids.peer) (λ d x j. j) (λ n x j. j) (λ n x j. j) (λ id x j. j) (λ m x j. j) ps e i.1,
+    );
     measured = λ flying acked r first e i. i;
     marked = λ flying acked counts marking e i. i;
-    on_streams = λ flying acked f e among on i. record {
-      new = i.new;
-      more = i.more;
-      inside = i.inside;
-      apart = i.apart;
-      pends = taken_pend (By flying i.new) f e on (λ is c raised. raised_by f among is flying i.new c raised) i.pends;
-    };
+    on_streams = λ flying acked f e among on i. (
+      record {
+        new = i.0.new;
+        more = i.0.more;
+        inside = i.0.inside;
+        apart = i.0.apart;
+        pends = taken_pend (By flying i.0.new) f e on (λ is c raised. raised_by f among is flying i.0.new c raised) i.0.pends;
+      },
+      frame_leaves (λ (x : End). Stays x.ids.peer) f e on (λ t. i.1),
+    );
     message = λ flying acked m e i. i;
-    apart = λ flying acked f e among is i. record {
-      new = i.new;
-      more = i.more;
-      inside = i.inside;
-      apart = i.apart;
-      pends = leaves_pend (By flying i.new) e (take_frame f e).end (is_path_challenge f) (is_retirement f) (λ n. retires n f) (apart_waits f e is) (apart_leaves (λ (x : End). x.streams ≡ e.streams) f e is (λ c. refl) (λ c most. refl))
-          (λ asks n. inr (inr (one_passes is_retirement frames f among asks))) (λ n asks. inr (inr (one_passes (retires n) frames f among asks))) i.pends;
-    };
+    apart = λ flying acked f e among is i. (
+      record {
+        new = i.0.new;
+        more = i.0.more;
+        inside = i.0.inside;
+        apart = i.0.apart;
+        pends = leaves_pend (By flying i.0.new) e (take_frame f e).end (is_path_challenge f) (is_retirement f) (λ n. retires e.ids.peer.active n f) (apart_waits f e is) (apart_leaves (λ (x : End). x.streams ≡ e.streams) f e is (λ c. refl) (λ c most. refl))
+            (λ asks n. inr (inr (one_passes is_retirement frames f among asks))) (λ n may. inr (inr (retired_by f among e.ids.peer i.1 n may))) i.0.pends;
+      },
+      frame_stays f among e i.1,
+    );
   }

@@ -302,7 +302,7 @@ module _ (x y : Party) (writes : WritesHold x y) (packets : PacketsHold x y) (ar
       (λ settled. elim settled [ inl all ↦ inr (inr (end_at_last id all.end)) | inr some ↦ settled_free id (Somewhere (Fin id)) some owed.0 ])
   duty_somewhere used reached (Reset id) owed = reset_somewhere id (flying.resets id owed)
   duty_somewhere used reached (Stop id) owed = stop_somewhere id (stop_stands id owed.0 owed.1)
-  duty_somewhere used reached (Retire number) owed = retirement_somewhere number (flying.ids (RetireOf number) (let below : number < used = owed in omega arith))
+  duty_somewhere used reached (Retire number) owed = retirement_somewhere number (flying.ids (RetireOf number) (elim owed [ inl below ↦ omega arith | inr below ↦ below ]))
   duty_somewhere used reached (NewId number) owed = id_somewhere number (flying.ids (NewIdOf number) owed)
   duty_somewhere used reached (Limit what value) owed = limit_somewhere what value owed
   duty_somewhere used reached (Frequency number) owed = request_somewhere number owed

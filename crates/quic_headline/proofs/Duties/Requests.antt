@@ -31,7 +31,7 @@ use Rattle.quic_machine.specs.Calls.{is_open, after_nexts}
 use Rattle.quic_machine.specs.StreamCalls.{if_ok, after_on_streams}
 use Rattle.quic_machine.specs.Acked.{stream_lost, streams_lost, carried_lost, packets_lost, verdict, losses_detected, measured, sampled, without_acked, after_named, losses_taken}
 use Rattle.quic_machine.specs.Receive.{is_above, names_ungiven, take_frame, Outcome}
-use Rattle.quic_machine.specs.Poll.{zeros_behind, Polled, Draft, no_frames, asking, packet_of, tracked, record_moved, polled, goes, draft_as, Leaving, probed, request_queued, asks_anew, leaves_unless, gated, request_of, written}
+use Rattle.quic_machine.specs.Poll.{zeros_behind, Polled, Draft, asking, packet_of, tracked, polled, goes, draft_as, Leaving, probed, request_queued, asks_anew, leaves_unless, gated, request_of, written}
 use Rattle.quic_machine.specs.Poll as poll
 use Rattle.quic_machine.specs.DraftLaws.{Writing, by_leave, MayLeave, IsClose}
 use Rattle.quic_machine.specs.Puts as puts

@@ -22,7 +22,7 @@ use Rattle.quic_machine.specs.End.{End}
 use Rattle.quic_machine.specs.StreamCalls.{IsRead}
 use Rattle.quic_machine.specs.Machine.{IsAnswer}
 use Rattle.quic_headline.specs.Runs as runs
-use Rattle.quic_headline.specs.Runs.{Next, chunks_of, nexts, nexts_by, reads}
+use Rattle.quic_headline.specs.Runs.{Next, chunks_of, nexts, nexts_by}
 use Rattle.quic_headline.proofs.Places.Told.{nexts_more, chunks_append}
 use Rattle.quic_headline.proofs.Places.Parties.{told_of}
 use Rattle.quic_headline.proofs.Halves.Ghosts.{read}

@@ -24,7 +24,7 @@ use Rattle.quic_machine.specs.End.{streams_at}
 use Rattle.quic_machine.specs.Machine.{World}
 use Rattle.quic_headline.specs.Runs.{Run, Told, Packet, Intake, In, written, until, AreServed, EndHasArrived}
 use Rattle.quic_headline.specs.Observer.{Sent}
-use Rattle.quic_headline.specs.Headline.{IsHonest, IsRun, IsAt, FinishedMeansArrived}
+use Rattle.quic_headline.specs.Headline.{IsHonest, IsRun, FinishedMeansArrived}
 use Rattle.quic_headline.specs.Headline as headline
 use Rattle.quic_headline.proofs.Packets.Invariant.{WereSent}
 use Rattle.quic_headline.proofs.Packets.Group.{PacketsHold}

@@ -36,7 +36,7 @@ use Rattle.quic_machine.specs.StreamCalls.{if_ok, IsRead}
 use Rattle.quic_machine.specs.Machine.{IsAnswer, after_call}
 use Rattle.quic_machine.specs.CallCases.{is_delivery}
 use Rattle.quic_headline.specs.Runs as runs
-use Rattle.quic_headline.specs.Runs.{Next, In, accepts, accepted_by, and_id}
+use Rattle.quic_headline.specs.Runs.{Next, In, accepts}
 use Rattle.quic_headline.proofs.Places.Told.{accepts_append, in_left, in_last}
 use Rattle.quic_headline.proofs.Places.Parties.{told_of}
 use Rattle.quic_headline.proofs.Halves.Ghosts.{read}

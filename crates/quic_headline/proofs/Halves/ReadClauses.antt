@@ -33,7 +33,7 @@ use Rattle.quic_machine.specs.End.{End}
 use Rattle.quic_machine.specs.StreamCalls.{IsRead}
 use Rattle.quic_machine.specs.Machine.{World}
 use Rattle.quic_headline.specs.Runs as runs
-use Rattle.quic_headline.specs.Runs.{Run, Next, Packet, Intake, In, until, AreServed, nexts, reads, chunks_of, bytes_of, offsets_of, accepts, WasTaken, WasNamed, HasArrived, EndHasArrived}
+use Rattle.quic_headline.specs.Runs.{Run, Next, Packet, Intake, In, AreServed, nexts, reads, chunks_of, bytes_of, accepts, WasTaken, WasNamed, EndHasArrived}
 use Rattle.quic_headline.specs.Observer.{took}
 use Rattle.quic_headline.specs.Headline.{IsHonest, read_before, NoneToGive, HasOffsets, EndAfterAll, BlockedOnlyWithoutBytes, AcceptsAll}
 use Rattle.quic_headline.proofs.Places.Told.{chunks_append}

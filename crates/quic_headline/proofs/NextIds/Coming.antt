@@ -10,16 +10,15 @@ use Rattle.quic_ids.specs.CidQueue.{PeerIds, known_with, brought, first_used, ex
 use Rattle.quic_ids.specs.CidQueue as queue
 use Rattle.quic_ids.specs.declared.cid_queue.InsertError.{InsertError}
 use Rattle.quic_ids.specs.declared.cid_queue.InsertError.TheVariants as inserts
-use Rattle.quic_retransmits.specs.Retransmits.{can_retire}
 use Rattle.quic_machine.specs.Ids.{frame_of, retires_for, next_used}
 use Rattle.quic_machine.specs.IdFrames.{retiring, with_taken_up, next_id_taken, after_next_id}
 use Rattle.quic_machine.specs.End.{End, with_ids}
-use Rattle.quic_machine.specs.Receive.{retired_for, id_judged, take_frame}
+use Rattle.quic_machine.specs.Receive.{id_judged, take_frame}
 use Rattle.quic_machine.specs.FrameCases.{passed, frames_taken, frames_leave}
 use Rattle.quic_headline.specs.Runs.{In}
 use Rattle.quic_headline.specs.InUse.{brought_by}
 use Rattle.quic_headline.proofs.Places.Told.{in_left, in_right, in_append}
-use Rattle.quic_headline.proofs.Packets.OfPeer.{peer_shortened, peer_frame}
+use Rattle.quic_headline.proofs.Packets.OfPeer.{peer_shortened, peer_frame, peer_taken_up}
 use Rattle.quic_headline.proofs.NextIds.Peer.{Knows, knows_past, knows_more, known_active, none_after, Reaches, reaches_more}
 use Rattle.quic_headline.proofs.NextIds.Asking.{AsksNone, AllAskNone}
 
@@ -126,20 +125,7 @@ module _ (used : ℕ) where
       go false false false is not = reaches_more used p k (brought g) (ltb-false g.sequence p.active is)
 
   taken_reaches : (f : NewConnectionIdValue) (e : End) → f.retire_prior_to ≡ 0 → Reaches used e.ids.peer → Reaches used (take_frame (new_connection_id f) e).end.ids.peer
-  taken_reaches f e none k = judged (retires_for (insert_answer e.ids.peer (frame_of f)))
-    where
-      up : Reaches used (with_taken_up f e).ids.peer
-      up = inserted_reaches e.ids.peer (frame_of f) none k
-
-      retires : (b : Bool) (r : Range ℕ) → Reaches used (retired_for b r f e).end.ids.peer
-      retires true r = peer_shortened (Reaches used) _ (retiring r (with_taken_up f e)) up
-      retires false r = up
-
-      judged : (r : Result (Option (Range ℕ)) InsertError) → Reaches used (id_judged r f e).end.ids.peer
-      judged (Ok None) = peer_shortened (Reaches used) _ (with_taken_up f e) up
-      judged (Ok (Some r)) = retires (can_retire e.waiting.frames r.start r.end) r
-      judged (Err inserts.Retired) = k
-      judged (Err inserts.ExceedsLimit) = k
+  taken_reaches f e none k = peer_taken_up (Reaches used) f e (inserted_reaches e.ids.peer (frame_of f) none k) k
 
   -- so it is behind the frames of a packet, up to the first that is wrong
   pub packet_reaches : (fs : List FrameValue) (e : End) → AllAskNone fs → Reaches used e.ids.peer → Reaches used (passed fs e).end.ids.peer

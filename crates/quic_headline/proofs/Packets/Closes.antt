@@ -3,7 +3,7 @@ use Rattle.std.proofs.Common.{◌≡◌, Option, Some, None, refl}
 use Rattle.quic_wire.specs.Value.{FrameValue}
 use Rattle.quic_machine.specs.Policy.{Policy}
 use Rattle.quic_machine.specs.End.{End}
-use Rattle.quic_machine.specs.Poll.{Polled, gives_nothing, gives_datagram, datagram_of, draft_as, Leaving, close_to_go, closes_if, closes, after_close}
+use Rattle.quic_machine.specs.Poll.{Polled, gives_nothing, gives_datagram, datagram_of, draft_as, close_to_go, closes_if, closes, after_close}
 use Rattle.quic_machine.specs.Poll as poll
 
 -- what holds in either case

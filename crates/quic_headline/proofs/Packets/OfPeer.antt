@@ -1,22 +1,26 @@
 -- What leaves the ids of the peer that an end knows: all but frames that bring one, and the call
 -- that changes to the next.
 use Rattle.std.proofs.Common.{◌≡◌, ℕ, Bool, true, false, List, Option, Some, None, Result, Ok, Err, refl, sym, ◌∙◌, subst}
+use Rattle.std.specs.declared.ops.Range.{Range}
 use Rattle.quic_wire_core.specs.TransportError.{ErrorValue}
 use Rattle.quic_wire.specs.Value.{FrameValue, NewConnectionIdValue, ack, datagram, new_connection_id, retire_connection_id, path_response, ack_frequency}
 use Rattle.quic_ids.specs.CidState.{retirement_answer}
-use Rattle.quic_ids.specs.CidQueue.{PeerIds}
+use Rattle.quic_ids.specs.CidQueue.{PeerIds, after_insert, insert_answer}
+use Rattle.quic_ids.specs.declared.cid_queue.InsertError.{InsertError}
+use Rattle.quic_ids.specs.declared.cid_queue.InsertError.TheVariants as inserts
 use Rattle.quic_paths.specs.Paths.{is_asked}
+use Rattle.quic_retransmits.specs.Retransmits.{can_retire}
 use Rattle.quic_machine.specs.declared.run.Call.{Call}
 use Rattle.quic_machine.specs.declared.run.Answer.{Answer}
 use Rattle.quic_machine.specs.Closing.{ticked}
 use Rattle.quic_machine.specs.Policy.{Policy}
 use Rattle.quic_machine.specs.MessageCalls.{most_message}
 use Rattle.quic_machine.specs.Sizes.{without_longer_if, shortened}
-use Rattle.quic_machine.specs.Ids.{Ids, retired}
-use Rattle.quic_machine.specs.IdFrames.{issued_if, issues_for, end_on_next_id}
+use Rattle.quic_machine.specs.Ids.{Ids, frame_of, retires_for, retired}
+use Rattle.quic_machine.specs.IdFrames.{retiring, with_taken_up, issued_if, issues_for, end_on_next_id}
 use Rattle.quic_machine.specs.Validation.{word_of, validated_if}
 use Rattle.quic_machine.specs.End.{End, with_ids, with_closing, closed_by}
-use Rattle.quic_machine.specs.Receive.{is_above, names_ungiven, retirement_judged, take_frame}
+use Rattle.quic_machine.specs.Receive.{is_above, names_ungiven, retired_for, id_judged, retirement_judged, take_frame}
 use Rattle.quic_machine.specs.Poll.{Polled, polled}
 use Rattle.quic_machine.specs.FrameCases.{Settling, acked_keeps, losses_keep, named, ack_taken, message_leaves}
 use Rattle.quic_machine.specs.Steps as steps
@@ -72,7 +76,21 @@ module _ (P : PeerIds → Type 0) where
   peer_frame (ack_frequency r) e brings i = by_frequency Of r e (λ threshold reordering frequency. i)
   peer_frame f e brings i = i
 
-  -- and a poll
+  -- and one that brings an id leaves them too, or takes it up
+  pub peer_taken_up : (g : NewConnectionIdValue) (e : End) → P (after_insert e.ids.peer (frame_of g)) → Of e → Of (take_frame (new_connection_id g) e).end
+  peer_taken_up g e up i = judged (retires_for (insert_answer e.ids.peer (frame_of g)))
+    where
+      ranges : (b : Bool) (r : Range ℕ) → Of (retired_for b r g e).end
+      ranges true r = peer_shortened _ (retiring r (with_taken_up g e)) up
+      ranges false r = up
+
+      judged : (r : Result (Option (Range ℕ)) InsertError) → Of (id_judged r g e).end
+      judged (Ok None) = peer_shortened _ (with_taken_up g e) up
+      judged (Ok (Some r)) = ranges (can_retire e.waiting.frames r.start r.end) r
+      judged (Err inserts.Retired) = i
+      judged (Err inserts.ExceedsLimit) = i
+
+  -- so does a poll
   polled_peer : (p : Policy) (e : End) (now : ℕ) → Of e → Of (polled p e now).end
   polled_peer p e now i = by_poll p e now (λ (q : Polled). Of q.end) (record {
     silent = i;

@@ -38,7 +38,7 @@ use Rattle.quic_config.specs.Transport.{Settings}
 use Rattle.quic_machine.specs.Parts.{Windows}
 use Rattle.quic_machine.specs.End.{End, side_of, with_closing, closed_by, new_end}
 use Rattle.quic_machine.specs.Receive.{Fault, closed_by_peer, fault_of, fault_at, names_ungiven, message_judged, retired_for, id_judged, retirement_judged, take_frame, unless_fault, take_items, received, asks_too_soon, frequency_judged}
-use Rattle.quic_machine.specs.Poll.{Polled, Draft, frame_room, zeros_behind, draft_as, may_close, fitted, close_to_go, polled}
+use Rattle.quic_machine.specs.Poll.{Polled, frame_room, zeros_behind, draft_as, may_close, fitted, close_to_go, polled}
 use Rattle.quic_machine.specs.Poll as poll
 use Rattle.quic_machine.specs.PollCases.{ready_at, draft_at, frames_at, frames_padded, by_poll, at_poll, composes}
 use Rattle.quic_machine.specs.DraftLaws.{IsClose}

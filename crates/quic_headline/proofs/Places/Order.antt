@@ -10,7 +10,7 @@ use Rattle.quic_assembler.specs.declared.assembler.Chunk.{Chunk}
 use Rattle.quic_assembler.specs.Arrived.{in_chunk}
 use Rattle.quic_assembler.specs.ArrivedHistory.{was_given}
 use Rattle.quic_streams_laws.specs.Written.{StandsAt}
-use Rattle.quic_streams_laws.specs.Reads.{Reads, AreSlices, AreDistinct, FollowOn, IsReadOf}
+use Rattle.quic_streams_laws.specs.Reads.{AreSlices, AreDistinct, FollowOn, IsReadOf}
 use Rattle.quic_streams_laws.specs.Reads as laws
 use Rattle.quic_streams_laws.specs.ReadsLaws.{follow_prefix}
 use Rattle.quic_headline.specs.Runs.{Run, In, AreServed, until, written, ended, reset, reads, only_in_order, bytes_of, offsets_from, offsets_of}

@@ -37,3 +37,12 @@ returns-clause-bounded g c = λ new served.
     let from : Lone = lone_of (windows_of g.C.Controller.steps g.C.Controller.window_of) c.args.end.now in
     let to : Lone = lone_of (windows_of g.C.Controller.steps g.C.Controller.window_of) c.make_calls.new.end in
     c.keeps_within.ensures p c.args.theirs.now from to (take (length c.make_calls.result.answers.items) c.args.calls.now) c.make_calls.result.answers.items new (returns-clause-follows g c) served
+
+pub returns-clause-few_events : goal.returns-clause-few_events
+returns-clause-few_events g c = λ new.
+    let p : Policy = policy_of g.H.HeaderKey.protection g.K.PacketKey.aead g.K.PacketKey.seal_limit g.K.PacketKey.refusal_limit (words_of g.R.Rng.stream) c.args.end.now in
+    let keys = c.args.end.now.keys in
+    let from : Lone = lone_of (windows_of g.C.Controller.steps g.C.Controller.window_of) c.args.end.now in
+    let to : Lone = lone_of (windows_of g.C.Controller.steps g.C.Controller.window_of) c.make_calls.new.end in
+    c.tells_few.ensures p c.args.theirs.now from to (take (length c.make_calls.result.answers.items) c.args.calls.now) c.make_calls.result.answers.items new (g.met.H.HeaderKey.shows_length keys.header.remote) (g.met.K.PacketKey.opens_no_more keys.packet.remote)
+    (returns-clause-follows g c)

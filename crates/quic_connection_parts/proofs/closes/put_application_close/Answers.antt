@@ -1,4 +1,4 @@
-use Rattle.std.proofs.Common.{◌≡◌, ◌++◌, ◌+◌, ◌-◌, ◌≤◌, ℕ, List, length, min, sym, ap, ◌∙◌, subst, arith}
+use Rattle.std.proofs.Common.{◌++◌, ◌+◌, ◌-◌, ◌≤◌, ℕ, List, length, min, sym, ap, ◌∙◌, subst, arith}
 use Rattle.quic_wire_core.specs.Varint.{shortest}
 use Rattle.quic_wire.specs.Writing.{spelling, frame_size}
 use Rattle.quic_machine.specs.Poll.{close_with}

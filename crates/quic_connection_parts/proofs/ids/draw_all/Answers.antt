@@ -1,8 +1,8 @@
 use Rattle.std.specs.Prelude.{slice_get, slice_index_or}
-use Rattle.std.proofs.Common.{◌≡◌, ◌+◌, ◌*◌, ℕ, List, [], Some, drop, length, refl, sym, ap, ◌∙◌, arith}
+use Rattle.std.proofs.Common.{◌≡◌, ◌*◌, ℕ, List, length, sym, ap, ◌∙◌, arith}
 use Rattle.quic_wire_core.specs.declared.shared.IssuedCid.{IssuedCid}
 use Rattle.quic_retransmits.specs.Retransmits.{Retransmits}
-use Rattle.quic_machine.specs.Ids.{Drawing, drawn_places, drawn_one, numbered}
+use Rattle.quic_machine.specs.Ids.{Drawing, drawn_one, numbered}
 use Rattle.quic_connection_parts.specs.Drawn.{words_of, after_words}
 use Rattle.quic_connection_parts.proofs.Issued.{places_next, places_random, places_end}
 use Rattle.quic_connection_parts.proofs.ids.draw_all.Goals as goal

@@ -1,15 +1,15 @@
-use Rattle.std.proofs.Common.{rules, ◌≡◌, ◌≢◌, ℕ, ◌-◌, ◌∙◌, List, ap, sym, subst, refl}
-use Rattle.std.specs.Prelude.{Result, Ok, Err, IfErr, None}
+use Rattle.std.proofs.Common.{◌≡◌, ◌≢◌, ℕ, ◌-◌, ◌∙◌, List, ap, sym, subst, refl}
+use Rattle.std.specs.Prelude.{Ok, None}
 use Rattle.std.proofs.lemmas.Result.{IfOk-from_err}
 use Rattle.quic_wire_core.specs.declared.stream_id.Side.TheVariants.{Client, Server}
 use Rattle.quic_packet.specs.declared.crypto.Keys.{Keys}
 use Rattle.quic_congestion.specs.Congestion.{Told, Steps, HasRoom, AreSized, last_size, after_calls}
 use Rattle.quic_parameters.specs.ParametersRead.{parameters_at}
-use Rattle.quic_config.specs.Transport.{Settings, parameters_of, first_mtu}
+use Rattle.quic_config.specs.Transport.{parameters_of, first_mtu}
 use Rattle.quic_machine.specs.declared.answers.ConfigError.{ConfigError}
 use Rattle.quic_machine.specs.declared.answers.ConfigError.TheVariants as config_errors
 use Rattle.quic_machine.specs.Policy.{Policy, keys_policy}
-use Rattle.quic_machine.specs.End.{MadeFrom, KeyLimits, limits_of, words_drawn}
+use Rattle.quic_machine.specs.End.{MadeFrom, limits_of, words_drawn}
 use Rattle.quic_machine.specs.Start.{IsLawful, AreKeys, AreControlled, Making}
 use Rattle.quic_connection.specs.Ends.{controller_for, first_world, IsRefused}
 use Rattle.quic_connection_parts.specs.Drawn.{words_of}

@@ -1,4 +1,4 @@
-use Rattle.std.proofs.Common.{◌≡◌, ◌+◌, ◌-◌, ◌*◌, ℕ, length, sym, ap, ◌∙◌}
+use Rattle.std.proofs.Common.{◌+◌, ◌-◌, ◌*◌, ℕ, length, sym, ap, ◌∙◌}
 use Rattle.quic_machine.specs.Ids.{Ids}
 use Rattle.quic_connection_parts.specs.Drawn.{after_words}
 use Rattle.quic_connection_parts.proofs.Drawing.{draws_ids, ids_words}

@@ -1,10 +1,10 @@
-use Rattle.std.proofs.Common.{rules, ◌≡◌, true, false, refl, sym, ap, ◌∙◌}
+use Rattle.std.proofs.Common.{◌≡◌, true, false, refl, sym, ap, ◌∙◌}
 use Rattle.std.specs.Prelude.{if◌then◌else◌}
 use Rattle.quic_time.specs.Timers.{has_come}
 use Rattle.quic_machine.specs.declared.answers.LostReason.TheVariants as reasons
 use Rattle.quic_machine.specs.End.{with_end, with_loss_timer, drained_by}
 use Rattle.quic_machine.specs.Timeouts.{told_expired}
-use Rattle.quic_connection_core.proofs.Expiries.{alive_step, pacing_step, acks_step, steps_behind_path, idle_is, idles, idles_draw, busy, draws}
+use Rattle.quic_connection_core.proofs.Expiries.{pacing_step, acks_step, idle_is, idles, idles_draw, busy, draws}
 use Rattle.quic_connection_core.proofs.connection.Connection.expire_timers.Goals as goal
 
 -- ---- the idle timeout is over

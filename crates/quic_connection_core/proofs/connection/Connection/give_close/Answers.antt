@@ -1,4 +1,4 @@
-use Rattle.std.proofs.Common.{◌≡◌, ◌++◌, ◌+◌, ◌-◌, ◌≤◌, ℕ, Bool, true, false, List, length, Some, None, refl, sym, ap, ◌∙◌, subst, arith}
+use Rattle.std.proofs.Common.{◌≡◌, ◌++◌, ◌+◌, ◌-◌, ℕ, true, false, List, length, sym, ap, ◌∙◌, subst, arith}
 use Rattle.std.specs.Prelude.{IfSome}
 use Rattle.std.proofs.lemmas.List.{append-nil}
 use Rattle.quic_parameters.specs.declared.transport_parameters.id.TransportParameterId.TheVariants.{MaxUdpPayloadSize}
@@ -7,7 +7,7 @@ use Rattle.quic_congestion.specs.SearchBounds.{IsSized}
 use Rattle.quic_machine.specs.Heard.{heard_sent}
 use Rattle.quic_machine.specs.Closing.{close_given}
 use Rattle.quic_machine.specs.End.{End, policy_of, hearing, with_closing, words_drawn}
-use Rattle.quic_machine.specs.Poll.{Polled, closing, draft_as, datagram_of, close_to_go, closes, mark_of}
+use Rattle.quic_machine.specs.Poll.{Polled, closing, draft_as, datagram_of, close_to_go, mark_of}
 use Rattle.quic_connection_parts.specs.Drawn.{words_of, after_words}
 use Rattle.quic_connection_parts.specs.Given.{given_bytes}
 use Rattle.quic_connection_parts.proofs.Closed.{some_is, close_none, close_leaves, close_appends, close_answers}

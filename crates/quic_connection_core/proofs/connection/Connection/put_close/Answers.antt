@@ -1,7 +1,5 @@
-use Rattle.std.proofs.Common.{◌≡◌, ◌≤◌, ◌<◌, ◌^◌, ◌+◌, ◌-◌, ◌*◌, ◌++◌, ℕ, true, false, List, length, take, drop, Option, Some, None, ap, sym, ◌∙◌, arith}
-use Rattle.std.specs.Prelude.{IfSome, IsSome, vec_len}
+use Rattle.std.proofs.Common.{◌≡◌, ◌+◌, ◌-◌, ◌*◌, ◌++◌, ℕ, List, length, take, drop, ap, sym, ◌∙◌, arith}
 use Rattle.std.proofs.lemmas.List.{append_assoc}
-use Rattle.quic_wire.specs.Value.{FrameValue, asks}
 use Rattle.quic_wire.specs.Writing.{spelling}
 use Rattle.quic_packet.specs.Datagram.{protected}
 use Rattle.quic_packet.specs.Number.{truncated}

@@ -1,4 +1,4 @@
-use Rattle.std.proofs.Common.{◌≡◌, ◌+◌, ℕ, Bool, true, false, refl, sym, ap, ◌∙◌, arith}
+use Rattle.std.proofs.Common.{◌≡◌, ◌+◌, ℕ, Bool, false, sym, ap, ◌∙◌, arith}
 use Rattle.quic_machine.specs.End.{with_end, drawing, challenged, challenged_unless, words_drawn}
 use Rattle.quic_connection_parts.specs.Drawn.{words_at}
 use Rattle.quic_connection_parts.proofs.Drawing.{first_word, draws_one}

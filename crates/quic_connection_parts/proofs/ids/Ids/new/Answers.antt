@@ -1,7 +1,7 @@
-use Rattle.std.proofs.Common.{◌≡◌, ◌+◌, ◌≤◌, ◌<◌, ◌^◌, ◌++◌, [], ◌∷◌, ℕ, suc, List, map, length, refl, sym, ap, subst, ◌∙◌, arith}
+use Rattle.std.proofs.Common.{◌≡◌, ◌+◌, ◌≤◌, ◌++◌, [], ◌∷◌, ℕ, suc, List, map, length, sym, ap, subst, ◌∙◌, arith}
 use Rattle.quic_ids.specs.CidState.{OwnIds, below}
 use Rattle.quic_ids.specs.CidQueue.{PeerIds}
-use Rattle.quic_machine.specs.Ids.{Ids, numbered, AreAsMany, most_ids, later_numbers, drawn_ids, with_number}
+use Rattle.quic_machine.specs.Ids.{most_ids, later_numbers, drawn_ids}
 use Rattle.quic_connection_parts.specs.Drawn.{words_of}
 use Rattle.quic_connection_parts.specs.Living.{RiseBelow, HaveNumbers}
 use Rattle.quic_connection_parts.proofs.Living.{first_numbers, below_rises, drawn_many}

@@ -1,7 +1,6 @@
-use Rattle.std.proofs.Common.{◌≡◌, ◌==◌, ◌+◌, ◌≤◌, ◌<◌, ◌^◌, ℕ, List, Some, None, length, subst, sym, refl, ap, ◌∙◌, arith}
+use Rattle.std.proofs.Common.{◌≡◌, ◌==◌, ℕ, List, subst, sym, refl, ap, ◌∙◌}
 use Rattle.std.specs.List.{position}
-use Rattle.quic_ids.specs.CidState.{OwnIds, without}
-use Rattle.quic_machine.specs.Ids.{AreAsMany, numbered}
+use Rattle.quic_ids.specs.CidState.{without}
 use Rattle.quic_connection_parts.specs.Living.{RiseBelow}
 use Rattle.quic_connection_parts.proofs.Living.{Goes, goes_at, rises, without_rises}
 use Rattle.quic_connection_parts.proofs.Issued.{retired_own}

@@ -6,7 +6,7 @@ use Rattle.quic_connection_parts.specs.Telling.{reading}
 use Rattle.quic_connection.specs.Ends.{kept}
 use Rattle.quic_connection.proofs.Windows.{poll_told, poll_heard, poll_answers}
 use Rattle.quic_connection.proofs.Words.{polled_goes, kept_gives}
-use Rattle.quic_connection.proofs.running.poll_at.Goals as goal
+use Rattle.quic_connection.proofs.stepping.poll_at.Goals as goal
 
 pub returns-clause-goes_on : goal.returns-clause-goes_on
 returns-clause-goes_on g c =

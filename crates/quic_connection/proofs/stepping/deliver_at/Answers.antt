@@ -8,7 +8,7 @@ use Rattle.quic_machine.specs.End.{policy_of}
 use Rattle.quic_connection_parts.specs.Drawn.{words_of}
 use Rattle.quic_connection.proofs.Windows.{delivery_answers, delivery_left, delivery_told, delivery_heard, counted}
 use Rattle.quic_connection.proofs.Words.{delivered_goes}
-use Rattle.quic_connection.proofs.running.deliver_at.Goals as goal
+use Rattle.quic_connection.proofs.stepping.deliver_at.Goals as goal
 
 pub returns-in_ok-copy-in-Some-clause-answer : goal.returns-in_ok-copy-in-Some-clause-answer
 returns-in_ok-copy-in-Some-clause-answer g c =

@@ -9,7 +9,7 @@ use Rattle.quic_machine.specs.Opens.{would_open}
 use Rattle.quic_connection_parts.specs.Drawn.{words_of}
 use Rattle.quic_connection.proofs.Windows.{injection_answers, injection_left, injection_told, injection_heard, counted}
 use Rattle.quic_connection.proofs.Words.{delivered_goes}
-use Rattle.quic_connection.proofs.running.inject_at.Goals as goal
+use Rattle.quic_connection.proofs.stepping.inject_at.Goals as goal
 
 pub returns-clause-answer : goal.returns-clause-answer
 returns-clause-answer g c =

@@ -3,7 +3,7 @@ use Rattle.quic_connection_parts.specs.Drawn.{words_of}
 use Rattle.quic_connection_parts.specs.Telling.{windows_of}
 use Rattle.quic_connection.specs.GoingOn.{goes_same}
 use Rattle.quic_connection.proofs.Words.{call_goes}
-use Rattle.quic_connection.proofs.running.make.Goals as goal
+use Rattle.quic_connection.proofs.stepping.make.Goals as goal
 
 pub returns-in-Client-clause-goes_on : goal.returns-in-Client-clause-goes_on
 returns-in-Client-clause-goes_on g c =

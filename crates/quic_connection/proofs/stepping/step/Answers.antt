@@ -3,7 +3,7 @@ use Rattle.quic_connection_parts.specs.Telling.{windows_of}
 use Rattle.quic_connection.specs.Ends.{world_of}
 use Rattle.quic_connection.proofs.Pairs.{if_ok_then}
 use Rattle.quic_connection.proofs.Words.{step_of}
-use Rattle.quic_connection.proofs.running.step.Goals as goal
+use Rattle.quic_connection.proofs.stepping.step.Goals as goal
 
 pub returns-clause-step : goal.returns-clause-step
 returns-clause-step g c =

@@ -2,7 +2,7 @@ use Rattle.quic_machine.specs.End.{policy_of}
 use Rattle.quic_connection_parts.specs.Drawn.{words_of}
 use Rattle.quic_connection.proofs.Windows.{timeout_answers, timeout_told, timeout_left, timeout_heard}
 use Rattle.quic_connection.proofs.Words.{timed_goes}
-use Rattle.quic_connection.proofs.running.timeout_at.Goals as goal
+use Rattle.quic_connection.proofs.stepping.timeout_at.Goals as goal
 
 pub returns-clause-answer : goal.returns-clause-answer
 returns-clause-answer g c =
